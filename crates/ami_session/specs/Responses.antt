@@ -1,0 +1,10 @@
+-- How a reply begins.
+use Rattle.std.specs.Prelude.{ℕ, List, codes}
+use Rattle.ami_session.specs.declared.reply.Response.{Response}
+use Rattle.ami_session.specs.declared.reply.Response.TheVariants.{Success, Error, Goodbye}
+
+-- the word for it
+abbrev pub response_text : Response → List ℕ
+response_text Success = codes "Success"
+response_text Error = codes "Error"
+response_text Goodbye = codes "Goodbye"

@@ -1,0 +1,19 @@
+//! Sessions of Asterisk's Manager Interface: what a client's messages ask of a site, and the replies.
+//!
+//! A session looks at one message at a time. It replies by itself, or says what is to be asked of the site; the
+//! reply then follows from the site's answer.
+#![tactic(auto)]
+
+mod act;
+mod action;
+mod fields;
+mod pending;
+mod reply;
+mod session;
+#[cfg(test)]
+mod tests;
+
+pub use act::Act;
+pub use dots::Memory;
+pub use pending::Pending;
+pub use session::Session;

@@ -1,0 +1,26 @@
+-- The first value of a name among kept fields.
+use Rattle.std.proofs.Common.{◌≡◌, ℕ, ◌+◌, ◌<◌, Bool, true, false, List, ◌∷◌, length, drop, map, get_or, Some, refl, sym, ◌∙◌, ap}
+use Rattle.std.specs.Bool.{Decides}
+use Rattle.std.proofs.lemmas.List.{drop_more}
+use Rattle.std.proofs.lemmas.Slice.Eq.{bytes_eq-Decides}
+use Rattle.std.proofs.lemmas.Bool.Decides.{same_from_decides}
+use Rattle.std.specs.Char.{to_ascii_lowercase}
+use Rattle.ami_text.specs.declared.field.Field.{Field}
+use Rattle.ami_text.specs.Field.{pair_of}
+use Rattle.ami_text.specs.Fields.{first_value, same_name}
+
+-- a test of two names gives what the definition does
+pub same_name-tested : (a b : List ℕ) (r : Bool) → Decides r (map to_ascii_lowercase a ≡ map to_ascii_lowercase b) → same_name a b ≡ r
+same_name-tested a b r test = same_from_decides (same_name a b) r (bytes_eq-Decides (map to_ascii_lowercase a) (map to_ascii_lowercase b)) test
+
+-- the first of these fields has the name
+pub first_value-found : (name : List ℕ) (fields : List Field) (k : ℕ) (field : Field) → k < length fields → field ≡ get_or fields k field
+    → same_name field.name.items name ≡ true
+    → first_value name (map pair_of (drop k fields)) ≡ Some field.value.items
+first_value-found name fields k field lt is e = rw (drop_more fields k field lt, ← is, e) refl
+
+-- the first of these fields has another name
+pub first_value-passed : (name : List ℕ) (fields : List Field) (k : ℕ) (field : Field) → k < length fields → field ≡ get_or fields k field
+    → same_name field.name.items name ≡ false
+    → first_value name (map pair_of (drop k fields)) ≡ first_value name (map pair_of (drop (k + 1) fields))
+first_value-passed name fields k field lt is e = rw (drop_more fields k field lt, ← is, e) refl

@@ -1,0 +1,7 @@
+use Rattle.std.proofs.Common.{◌≡◌, drop, map}
+use Rattle.ami_text.specs.Fields.{first_value}
+use Rattle.ami_text.specs.Field.{pair_of}
+use Rattle.ami_text.proofs.message.first_value.Given as goal
+
+abbrev pub invariant-loop-field : goal.invariant-loop-field
+invariant-loop-field l = first_value l.name (map pair_of l.fields) ≡ first_value l.name (map pair_of (drop l.field-index l.fields))

@@ -1,0 +1,19 @@
+use crate::Memory;
+use std::alloc::Global;
+
+/// A name and its value.
+#[derive(Drop)]
+pub struct Field {
+    pub name: Vec<u8>,
+    pub value: Vec<u8>,
+}
+
+impl Field {
+    /// The field with copies of the two texts.
+    pub fn new(alloc: Global, name: &[u8], value: &[u8]) -> Result<Self, Memory> {
+        Ok(Field {
+            name: name.to_vec(alloc)?,
+            value: value.to_vec(alloc)?,
+        })
+    }
+}

@@ -1,0 +1,37 @@
+//! The text that a manager client sends, and the devices that carry it.
+//!
+//! Bytes come in pieces of any size. A [`Feed`] cuts them into lines and gives the messages, whatever the pieces were. A
+//! [`Source`] gives bytes and a [`Sink`] takes them; both are made of std's readers and writers, or of memory.
+#![tactic(auto)]
+
+mod calls_left;
+mod failed;
+mod feed;
+mod feed_fault;
+mod field;
+mod found;
+mod line;
+mod line_kind;
+mod memory_sink;
+mod memory_source;
+mod message;
+mod progress;
+mod scan;
+mod sink;
+mod source;
+mod std_sink;
+mod std_source;
+#[cfg(test)]
+mod tests;
+
+pub use failed::Failed;
+pub use feed::Feed;
+pub use feed_fault::FeedFault;
+pub use memory_sink::MemorySink;
+pub use memory_source::MemorySource;
+pub use message::Message;
+pub use sink::Sink;
+pub use source::Source;
+pub use std::alloc::AllocError as Memory;
+pub use std_sink::StdSink;
+pub use std_source::StdSource;

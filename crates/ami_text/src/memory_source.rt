@@ -1,0 +1,98 @@
+ghost use Rattle.std.specs.Prelude.{◌≡◌, ◌<◌, ◌-◌, ◌==◌, min, [], ◌++◌, Bool, true, false, Some, None, ◌≤◌, length, take, drop, IfOk, OnOk, OnErr};
+ghost use Rattle.std.specs.Io.KnownBytes.{append_known};
+
+use crate::calls_left::count_down;
+use crate::{Failed, Source};
+use std::marker::Model;
+
+/// A source over bytes in memory, that gives at most so many bytes a read and may fail at one of its reads.
+#[derive(Drop)]
+pub struct MemorySource<'a> {
+    bytes: &'a [u8],
+    at: usize,
+    most: usize,
+    reads_left: Option<u64>,
+    ended: bool,
+    failed: bool,
+}
+
+impl<'a> Model for MemorySource<'a> {
+    ghost use Rattle.std.specs.Prelude.{◌<◌, ◌≤◌, length, take, drop};
+    ghost use Rattle.ami_text.specs.Devices.{Reading};
+
+    ghost Value = { Reading };
+
+    ghost view = { λ s. record {
+      given = take s.at s.bytes.now;
+      left = drop s.at s.bytes.now;
+      most = s.most;
+      reads_left = s.reads_left;
+      ended = s.ended;
+      failed = s.failed;
+    } };
+
+    ghost invariant = { λ s. (s.at ≤ length s.bytes.now) × (0 < s.most) };
+}
+
+impl<'a> MemorySource<'a> {
+    /// A source that gives these bytes, at most `most` of them a read.
+    pub fn new(bytes: &'a [u8], most: usize) -> Self
+        requires { 0 < most }
+        ensures { result ≡ record { given = []; left = bytes.now; most = most; reads_left = None; ended = false; failed = false } }
+    {
+        MemorySource {
+            bytes,
+            at: 0,
+            most,
+            reads_left: None,
+            ended: false,
+            failed: false,
+        }
+    }
+
+    /// The same, where so many reads succeed and the next one fails.
+    pub fn failing(bytes: &'a [u8], most: usize, reads: u64) -> Self
+        requires { 0 < most }
+        ensures { result ≡ record { given = []; left = bytes.now; most = most; reads_left = Some reads; ended = false; failed = false } }
+    {
+        MemorySource {
+            bytes,
+            at: 0,
+            most,
+            reads_left: Some(reads),
+            ended: false,
+            failed: false,
+        }
+    }
+}
+
+impl<'a> Source for MemorySource<'a> {
+    ghost given = { λ s. Some s.given };
+
+    ghost ended = { λ s. s.ended };
+
+    ghost failed = { λ s. s.failed };
+
+    fn read(&mut self, piece: &mut [u8]) -> Result<usize, Failed> {
+        if !count_down(&mut self.reads_left) {
+            self.failed = true;
+            return Err(Failed);
+        }
+        let count = copy_front(&self.bytes[self.at..], self.most, piece);
+        self.at += count;
+        if !piece.is_empty() {
+            self.ended = count == 0;
+        }
+        Ok(count)
+    }
+}
+
+/// Copies from the front of the bytes what the piece has room for, at most `most` bytes, and returns how many.
+fn copy_front(bytes: &[u8], most: usize, piece: &mut [u8]) -> usize
+    ensures count { result ≡ min (min (length bytes.now) most) (length piece.old) }
+    ensures bytes { take result piece.new ≡ take result bytes.now }
+{
+    let count = bytes.len().min(most).min(piece.len());
+    piece[..count].copy_from_slice(&bytes[..count]);
+    count
+}

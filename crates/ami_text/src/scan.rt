@@ -1,0 +1,63 @@
+//! What stands first in held bytes.
+
+ghost use Rattle.std.specs.Prelude.{◌≤◌, length};
+ghost use Rattle.ami_text.specs.Found.{IsWithin};
+
+use crate::FeedFault;
+use crate::found::Found;
+use crate::line::kind;
+use crate::line_kind::LineKind;
+use crate::progress::Progress;
+use bstr::ByteSlice;
+
+/// The most lines of a message, empty ones aside.
+pub const LINES_LIMIT: usize = 128;
+
+/// Looks at the held bytes from where it stopped the last time.
+pub fn scan(held: &[u8], from: Progress) -> Found
+    requires line { from.line ≤ from.looked }
+    requires looked { from.looked ≤ length held.now }
+    requires lines { from.lines ≤ 128 }
+    ensures { IsWithin (length held.now) result }
+{
+    let mut empty = 0;
+    let mut line = from.line;
+    let mut lines = from.lines;
+    let mut looked = from.looked;
+    'lines: while let Some(length) = (&held[looked..]).find_byte(b'\n') {
+        let end = looked + length;
+        match kind(&held[line..end]) {
+            LineKind::Empty if lines > 0 => {
+                return Found::Message {
+                    end: line,
+                    next: end + 1,
+                };
+            }
+            LineKind::Empty => empty = end + 1,
+            LineKind::Full if lines < LINES_LIMIT => lines += 1,
+            LineKind::Full => {
+                return Found::Fault {
+                    fault: FeedFault::TooManyFields,
+                };
+            }
+            LineKind::TooLong => {
+                return Found::Fault {
+                    fault: FeedFault::LineTooLong,
+                };
+            }
+        }
+        line = end + 1;
+        looked = line;
+    }
+    if kind(&held[line..]) == LineKind::TooLong {
+        return Found::Fault {
+            fault: FeedFault::LineTooLong,
+        };
+    }
+    let progress = Progress {
+        line: line - empty,
+        lines,
+        looked: held.len() - empty,
+    };
+    Found::Rest { empty, progress }
+}

@@ -1,0 +1,34 @@
+//! The values of Queue Sites within their limits: sites, dots, stamps, short texts, members and
+//! what is set of a member, with their orders, and bytes that are kept whole.
+//!
+//! A value that exists is within its limits, so no crate above tests them again.
+#![tactic(auto)]
+
+mod bytes;
+mod dot;
+mod interface;
+mod label;
+mod member;
+mod pause;
+mod penalty;
+mod queue_name;
+mod site_id;
+mod stamp;
+#[cfg(test)]
+mod tests;
+mod text80;
+mod text_fault;
+
+pub use bytes::Bytes;
+pub use dot::Dot;
+pub use interface::Interface;
+pub use label::Label;
+pub use member::Member;
+pub use pause::Pause;
+pub use penalty::Penalty;
+pub use queue_name::QueueName;
+pub use site_id::SiteId;
+pub use stamp::Stamp;
+pub use std::alloc::AllocError as Memory;
+pub use text_fault::TextFault;
+pub use text80::Text80;

@@ -1,0 +1,54 @@
+//! A script is read whole before any of its lines is run, and each line's output is written whole.
+ghost use Rattle.std.specs.Prelude.{◌≡◌, ◌≤◌, false, length, vec_len, IfOk, OnOk};
+
+use crate::script_fault::ScriptFault;
+use ami_text::{Sink, Source};
+use std::alloc::Global;
+
+// How many bytes are read at a time.
+const PIECE: usize = 1024;
+
+// How often a script is read from before it counts as having no end.
+const MOST_READS: u32 = 1_000_000;
+
+/// How many bytes a script may have.
+pub const MOST_BYTES: usize = 16_777_216;
+
+/// All bytes of the reader, from here to its end. Faults: `Read` where the reader fails, or doesn't end within
+/// 1,000,000 reads; `TooLong` where there are more than 16,777,216 bytes; `Memory`.
+pub fn read_script<S: Source>(alloc: Global, reader: &mut S) -> Result<Vec<u8>, ScriptFault>
+    requires { S.failed reader.old ≡ false }
+    ensures limit { IfOk result (λ bytes. vec_len bytes ≤ 16777216) }
+{
+    let mut script = Vec::new(alloc);
+    let mut piece = [0u8; PIECE];
+    for _ in 0..MOST_READS {
+        let count = reader.read(&mut piece).map_err(|_| ScriptFault::Read)?;
+        if count == 0 {
+            return Ok(script);
+        }
+        if script.len() + count > MOST_BYTES {
+            return Err(ScriptFault::TooLong);
+        }
+        script
+            .extend_from_slice(&piece[..count])
+            .map_err(|_| ScriptFault::Memory)?;
+    }
+    Err(ScriptFault::Read)
+}
+
+/// Writes all the bytes. Fault: `Write` where the writer fails or takes none; a prefix was written.
+pub fn write_all<W: Sink>(writer: &mut W, bytes: &[u8]) -> Result<(), ScriptFault>
+    requires { W.failed writer.old ≡ false }
+    ensures works { OnOk result (W.failed writer.new ≡ false) }
+{
+    let mut rest = bytes;
+    while !rest.is_empty() {
+        let count = writer.write(rest).map_err(|_| ScriptFault::Write)?;
+        if count == 0 {
+            return Err(ScriptFault::Write);
+        }
+        rest = &rest[count..];
+    }
+    Ok(())
+}

@@ -1,0 +1,18 @@
+use thiserror::Error;
+
+/// Why a script was not run to its end (this project's own).
+#[derive(Clone, Copy, Debug, PartialEq, Eq, Error)]
+pub enum ScriptFault {
+    /// The reader failed, or gave no end within 1,000,000 reads. Nothing was written.
+    #[error("read failed")]
+    Read,
+    /// The script has more than 16,777,216 bytes. Nothing was written.
+    #[error("script too long")]
+    TooLong,
+    /// The writer failed, or took no bytes. A prefix of the output was written.
+    #[error("write failed")]
+    Write,
+    /// Memory was wanting. A prefix of the output was written.
+    #[error("out of memory")]
+    Memory,
+}

@@ -1,0 +1,12 @@
+-- The list of queue names that a site is started with.
+use Rattle.std.specs.Prelude.{ℕ, ◌≡◌, ◌≢◌, ◌<◌, ◌≤◌, List, length, AllPairs}
+
+-- no two names are the same
+abbrev pub AreDistinct : List (List ℕ) → Type 0
+AreDistinct names = AllPairs (λ a b. a ≢ b) names
+
+-- a list of queues has from 1 to 256 names, no two of them the same
+pub record AreQueues (names : List (List ℕ)) : Type 0 where
+  pub some : 0 < length names
+  pub few : length names ≤ 256
+  pub distinct : AreDistinct names

@@ -1,0 +1,91 @@
+ghost use Rattle.std.specs.Prelude.{◌≡◌, ◌↔◌, ◌<◌, ◌≤◌, length, Some, slice_get, option_map, Contains, IfSome, IfNone, IfOk, OnOk, IsErrOf};
+ghost use Rattle.replica.specs.Queues.{AreDistinct, AreQueues};
+
+use dots::{Memory, QueueName};
+use indexmap::IndexSet;
+use std::alloc::Global;
+use std::marker::Model;
+
+/// Why names are no list of queues. Of several faults the first of this list is answered (this project's own).
+#[derive(Clone, Copy, Debug, PartialEq, Eq)]
+pub enum ListFault {
+    /// There is no name.
+    Empty,
+    /// There are more than 256 names.
+    TooMany,
+    /// A name comes twice.
+    Twice,
+    /// Memory was wanting.
+    Memory,
+}
+
+/// The queues of the call centre: 1 to 256 names, none twice, in the order in which they were handed in. Each
+/// site has the same list, and a queue's number is its place in it, from 0.
+#[derive(Drop)]
+pub struct QueueList {
+    names: IndexSet<QueueName>,
+}
+
+impl Model for QueueList {
+    ghost use Rattle.std.specs.Prelude.{ℕ, List};
+    ghost use Rattle.replica.specs.Queues.{AreQueues};
+
+    ghost Value = { List (List ℕ) };
+
+    ghost view = { λ l. l.names.keys };
+
+    ghost invariant = { λ l. AreQueues l.names.keys };
+}
+
+impl QueueList {
+    /// The list of these names. Faults, in order: `Empty` where there is none; `TooMany` where there are more
+    /// than 256; `Twice` where two are the same; `Memory`.
+    pub fn new(alloc: Global, names: &[QueueName]) -> Result<QueueList, ListFault>
+        ensures value { IfOk result (λ list. list ≡ names.now) }
+        ensures within { OnOk result (AreQueues names.now) }
+        ensures empty { IsErrOf result ListFault.Empty ↔ (length names.now ≡ 0) }
+        ensures too_many { IsErrOf result ListFault.TooMany ↔ (256 < length names.now) }
+        ensures twice { IsErrOf result ListFault.Twice
+            → (length names.now ≤ 256) × (AreDistinct names.now → ⊥) }
+    {
+        if names.is_empty() {
+            return Err(ListFault::Empty);
+        }
+        if names.len() > 256 {
+            return Err(ListFault::TooMany);
+        }
+        let mut held = IndexSet::new(alloc);
+        for name in names {
+            match held.insert(name.copy()) {
+                Ok(true) => {}
+                Ok(false) => return Err(ListFault::Twice),
+                Err(_) => return Err(ListFault::Memory),
+            }
+        }
+        Ok(QueueList { names: held })
+    }
+
+    /// The place of the queue of this name, from 0. `None` exactly where the name isn't in the list.
+    pub fn position(&self, name: &QueueName) -> Option<u16>
+        ensures value { IfSome result (λ place. slice_get self.now place ≡ Some name.now) }
+        ensures none { IfNone result (Contains self.now name.now → ⊥) }
+    {
+        let place = self.names.get_index_of(name)?;
+        Some(place as u16)
+    }
+
+    /// The name at this place. `None` exactly where the place isn't below the list's length.
+    pub fn name(&self, place: u16) -> Option<&QueueName>
+        ensures value { option_map (λ name. name.now) result ≡ slice_get self.now place }
+    {
+        self.names.get_index(usize::from(place))
+    }
+
+    /// How many queues there are, 1 to 256.
+    pub fn len(&self) -> u16
+        ensures value { result ≡ length self.now }
+        ensures limit { (0 < result) × (result ≤ 256) }
+    {
+        self.names.len() as u16
+    }
+}

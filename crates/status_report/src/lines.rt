@@ -1,0 +1,33 @@
+//! Lines of a message that is written: `Name: value`, ended by CR LF, and an empty line at the message's end.
+ghost use Rattle.std.specs.Prelude.{◌≡◌, ◌++◌, codes, decimal, OnOk};
+ghost use Rattle.status_report.specs.Lines.{field};
+
+use dots::Memory;
+use itoa::Buffer;
+
+/// Writes a field at the end: its name, a colon and one space, its value, CR LF. The one fault is want of memory;
+/// part of the field may then stand.
+pub fn push_field(out: &mut Vec<u8>, name: &str, value: &[u8]) -> Result<(), Memory>
+    ensures { OnOk result (out.new.items ≡ out.old.items ++ field name.now value.now) }
+{
+    out.extend_from_slice(name.as_bytes())?;
+    out.extend_from_slice(b": ")?;
+    out.extend_from_slice(value)?;
+    out.extend_from_slice(b"\r\n")
+}
+
+/// Writes a field whose value is a number, in decimal digits without leading zeros. The one fault is want of
+/// memory; part of the field may then stand.
+pub fn push_number(out: &mut Vec<u8>, name: &str, value: u64) -> Result<(), Memory>
+    ensures { OnOk result (out.new.items ≡ out.old.items ++ field name.now (decimal value)) }
+{
+    let mut buffer = Buffer::new();
+    push_field(out, name, buffer.format(value).as_bytes())
+}
+
+/// Writes the empty line that ends a message. The one fault is want of memory.
+pub fn push_end(out: &mut Vec<u8>) -> Result<(), Memory>
+    ensures { OnOk result (out.new.items ≡ out.old.items ++ codes "\r\n") }
+{
+    out.extend_from_slice(b"\r\n")
+}
