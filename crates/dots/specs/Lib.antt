@@ -1,3 +1,11 @@
-pub mod Values
+pub mod Conditions
+pub mod Counts
+pub mod DotSets
+pub mod Knowledge
+pub mod Operations
 pub mod Orders
+pub mod Registers
 pub mod Rows
+pub mod Shown
+pub mod Totals
+pub mod Values

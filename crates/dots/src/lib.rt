@@ -8,6 +8,7 @@ mod bytes;
 mod dot;
 mod interface;
 mod label;
+pub mod laws;
 mod member;
 mod pause;
 mod penalty;

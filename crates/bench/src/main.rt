@@ -1,0 +1,31 @@
+//! Workloads to be timed, each named by its word. Each prints its word and a checksum of what it computed, the same
+//! on each run: `bench join_65536_runs join_32768_runs`.
+#![tactic(auto)]
+
+mod joins;
+
+use joins::joined_often;
+use std::alloc::Global;
+use std::{env, io};
+
+/// How often each workload does its work.
+const TIMES: u32 = 100;
+
+/// What a workload computed, or why it has no checksum.
+fn checksum(alloc: Global, word: &str) -> Result<u64, &'static str> {
+    match word {
+        "join_65536_runs" => joined_often(alloc, 65_536, TIMES),
+        "join_32768_runs" => joined_often(alloc, 32_768, TIMES),
+        _ => Err("no such workload"),
+    }
+}
+
+fn main(rt: HostRuntime) -> io::Result<()> {
+    for word in env::args(&rt)?.skip(1) {
+        match checksum(rt.alloc(), word.as_str()) {
+            Ok(sum) => println!(rt; "{word} {sum}")?,
+            Err(fault) => println!(rt; "{word}: {fault}")?,
+        }
+    }
+    Ok(())
+}

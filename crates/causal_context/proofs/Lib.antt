@@ -1,0 +1,8 @@
+pub mod ListPlaces
+pub mod Places
+pub mod Members
+pub mod Covers
+pub mod Views
+pub mod Merging
+pub mod Uniting
+pub mod Unions

@@ -1,0 +1,212 @@
+ghost use Rattle.std.specs.Prelude.{◌≡◌, ◌+◌, ◌≤◌, ◌<◌, ◌^◌, ◌↔◌, IfErr, IfOk, IsOk, IsTrue, OnErr, OnOk, length};
+ghost use Rattle.std.specs.FinSet as set;
+ghost use Rattle.std.specs.List.{All};
+ghost use Rattle.std.specs.Slice.Iter.{iter_rest};
+ghost use Rattle.dots.specs.DotSets.{IsRunsOf, IsPrefix, dots_between, run_count};
+ghost use Rattle.causal_context.specs.Contexts.{IsPrepared, IsRun, most_runs};
+
+use crate::cover::covers_runs;
+use crate::merge::{absorb_runs, united_count};
+use crate::search::run_with;
+use crate::splice::{MOST_RUNS, unite_run};
+use crate::{ContextFault, Run};
+use dots::{Dot, SiteId};
+use std::alloc::Global;
+use std::marker::Model;
+use std::slice::Iter;
+
+/// A finite set of dots, with at most 65,536 runs: the dots that a replica has ever heard of. With it the optimized
+/// observed-remove set needs no tombstones (RR-8083): a dot that is known and not live was removed. Equal sets have
+/// equal runs.
+#[derive(Drop)]
+pub struct Context {
+    runs: Vec<Run>,
+}
+
+impl Model for Context {
+    ghost use Rattle.std.specs.Vec.{vec_capacity};
+    ghost use Rattle.dots.specs.DotSets.{set_of};
+    ghost use Rattle.causal_context.specs.Contexts.{Known, known_code, IsContext};
+
+    ghost Value = { Known };
+
+    ghost coded = { known_code };
+
+    ghost view = { λ c. record { dots = set_of c.runs.items; room = vec_capacity c.runs } };
+
+    ghost invariant = { λ c. IsContext c.runs.items };
+}
+
+impl Context {
+    /// The empty set. It takes no memory.
+    pub fn new(alloc: Global) -> Context
+        ensures { result.dots ≡ set.empty }
+    {
+        Context {
+            runs: Vec::new(alloc),
+        }
+    }
+
+    /// Whether the dot is in. It takes no memory, like all that only reads.
+    pub fn contains(&self, dot: Dot) -> bool
+        ensures { result ≡ set.contains self.now.dots dot }
+    {
+        run_with(&self.runs, dot.site(), dot.count()).is_some()
+    }
+
+    /// Whether all dots of the other context are in.
+    pub fn covers(&self, other: &Context) -> bool
+        ensures { result ≡ set.is_subset other.now.dots self.now.dots }
+    {
+        covers_runs(&self.runs, &other.runs)
+    }
+
+    /// The greatest n such that the counts 1 to n of the site are all in: 0 where the first isn't.
+    pub fn prefix(&self, site: SiteId) -> u64
+        ensures value { IsPrefix self.now.dots site result }
+        ensures limit { result ≤ 2 ^ 40 }
+    {
+        match run_with(&self.runs, site, 1) {
+            Some(run) => run.last,
+            None => 0,
+        }
+    }
+
+    /// How many runs the dots make.
+    pub fn runs(&self) -> usize
+        ensures value { result ≡ run_count self.now.dots }
+        ensures limit { result ≤ most_runs }
+    {
+        self.runs.len()
+    }
+
+    /// The runs: the longest stretches of counts, in order by site, then first.
+    pub fn as_slice(&self) -> &[Run]
+        ensures value { IsRunsOf result.now self.now.dots }
+        ensures limits { All IsRun result.now }
+        ensures few { length result.now ≤ most_runs }
+    {
+        self.runs.as_slice()
+    }
+
+    /// The runs of `as_slice`, one by one.
+    pub fn iter(&self) -> Iter<'_, Run>
+        ensures value { IsRunsOf (iter_rest result) self.now.dots }
+        ensures limits { All IsRun (iter_rest result) }
+        ensures few { length (iter_rest result) ≤ most_runs }
+    {
+        self.as_slice().iter()
+    }
+
+    /// Adds one dot. No fault changes the dots. 1 `RunsFull`, exactly where there would be more than 65,536 runs;
+    /// 2 `Memory`.
+    pub fn insert(&mut self, dot: Dot) -> Result<(), ContextFault>
+        ensures ok { OnOk result (self.new.dots ≡ set.insert self.old.dots dot) }
+        ensures full { (result ≡ Err ContextFault.RunsFull) ↔ (most_runs < run_count (set.insert self.old.dots dot)) }
+        ensures err { OnErr result (self.new.dots ≡ self.old.dots) }
+    {
+        let run = Run {
+            site: dot.site(),
+            first: dot.count(),
+            last: dot.count(),
+        };
+        unite_run(&mut self.runs, run)
+    }
+
+    /// Adds the dots of a site from a first count to a last. No fault changes the dots. 1 `RunsFull`, exactly where
+    /// there would be more than 65,536 runs; 2 `Memory`.
+    pub fn insert_run(&mut self, site: SiteId, first: u64, last: u64) -> Result<(), ContextFault>
+        requires least { 1 ≤ first }
+        requires ordered { first ≤ last }
+        requires most { last ≤ 2 ^ 40 }
+        ensures ok { OnOk result (self.new.dots ≡ set.union self.old.dots (dots_between site first last)) }
+        ensures full { (result ≡ Err ContextFault.RunsFull) ↔ (most_runs < run_count (set.union self.old.dots (dots_between site first last))) }
+        ensures err { OnErr result (self.new.dots ≡ self.old.dots) }
+    {
+        let _ = site.number();
+        let run = Run { site, first, last };
+        unite_run(&mut self.runs, run)
+    }
+
+    /// Makes room for the dots of another context, which `absorb` then adds. It leaves the dots as they are.
+    /// 1 `RunsFull`, exactly where the union has more than 65,536 runs; 2 `Memory`.
+    pub fn prepare(&mut self, other: &Context) -> Result<(), ContextFault>
+        ensures ready { OnOk result (IsPrepared self.new other.now.dots) }
+        ensures full { (result ≡ Err ContextFault.RunsFull) ↔ (most_runs < run_count (set.union self.old.dots other.now.dots)) }
+        ensures again { IsPrepared self.old other.now.dots → IsOk result }
+        ensures kept { self.new.dots ≡ self.old.dots }
+        ensures room { self.old.room ≤ self.new.room }
+    {
+        if united_count(&self.runs, &other.runs) > MOST_RUNS {
+            return Err(ContextFault::RunsFull);
+        }
+        if self.runs.reserve(other.runs.len()).is_err() {
+            return Err(ContextFault::Memory);
+        }
+        Ok(())
+    }
+
+    /// Whether the dots of another context can be absorbed: the union has at most 65,536 runs, and there is room.
+    pub fn prepared(&self, other: &Context) -> bool
+        ensures { IsTrue result ↔ IsPrepared self.now other.now.dots }
+    {
+        united_count(&self.runs, &other.runs) <= MOST_RUNS
+            && self.runs() + other.runs() <= self.runs.capacity()
+    }
+
+    /// Adds the dots of another context that was prepared. It takes no memory and can't fail.
+    pub fn absorb(&mut self, other: &Context)
+        requires { IsPrepared self.old other.now.dots }
+        ensures dots { self.new.dots ≡ set.union self.old.dots other.now.dots }
+        ensures room { self.old.room ≤ self.new.room }
+    {
+        absorb_runs(&mut self.runs, &other.runs);
+    }
+
+    /// Adds the dots of another context. No fault changes the dots. 1 `RunsFull`, exactly where the union has more
+    /// than 65,536 runs; 2 `Memory`.
+    pub fn join(&mut self, other: &Context) -> Result<(), ContextFault>
+        ensures ok { OnOk result (self.new.dots ≡ set.union self.old.dots other.now.dots) }
+        ensures full { (result ≡ Err ContextFault.RunsFull) ↔ (most_runs < run_count (set.union self.old.dots other.now.dots)) }
+        ensures prepared { IsPrepared self.old other.now.dots → IsOk result }
+        ensures err { OnErr result (self.new.dots ≡ self.old.dots) }
+    {
+        self.prepare(other)?;
+        self.absorb(other);
+        Ok(())
+    }
+
+    /// Another context with the same dots. The only fault is `Memory`.
+    pub fn copy(&self) -> Result<Context, ContextFault>
+        ensures ok { IfOk result (λ copy. copy.dots ≡ self.now.dots) }
+        ensures err { IfErr result (λ fault. fault ≡ ContextFault.Memory) }
+    {
+        match Vec::from_slice(*self.runs.allocator(), &self.runs) {
+            Ok(runs) => Ok(Context { runs }),
+            Err(_) => Err(ContextFault::Memory),
+        }
+    }
+
+    /// How many runs the dots of both contexts and one more dot make. The count may be one past the greatest of a
+    /// dot, 2^40 + 1: what a site would have that used up its counts. It takes no memory.
+    pub fn runs_with(&self, other: &Context, site: SiteId, count: u64) -> u64
+        requires least { 1 ≤ count }
+        requires most { count ≤ 2 ^ 40 + 1 }
+        ensures { result ≡ run_count (set.insert (set.union self.now.dots other.now.dots) (record { site = site; count = count })) }
+    {
+        let runs = united_count(&self.runs, &other.runs) as u64;
+        if self.has(other, site, count) {
+            return runs;
+        }
+        let next = self.has(other, site, count + 1);
+        let before = self.has(other, site, count - 1);
+        runs + 1 - u64::from(next) - u64::from(before)
+    }
+
+    /// Whether one of two contexts has a dot.
+    fn has(&self, other: &Context, site: SiteId, count: u64) -> bool
+        ensures { result ≡ set.contains (set.union self.now.dots other.now.dots) (record { site = site; count = count }) }
+    {
+        run_with(&self.runs, site, count).is_some() || run_with(&other.runs, site, count).is_some()
+    }
+}

@@ -1,0 +1,38 @@
+//! Laws of sets of dots. Each function does nothing; its contract is the law.
+
+ghost use Rattle.std.specs.Prelude.{◌≡◌, ◌↔◌, IsTrue, List, false, length};
+ghost use Rattle.std.specs.FinSet as set;
+ghost use Rattle.std.specs.List.{All};
+ghost use Rattle.dots.specs.Values.{Tag};
+ghost use Rattle.dots.specs.Orders.{dot_cmp};
+ghost use Rattle.dots.specs.DotSets.{IsRunsOf, Stretch, first_dot, last_dot, next_dot, run_count};
+
+/// The order in which contexts are joined doesn't matter, nor how they are grouped, nor how often one is joined.
+pub fn joins_in_any_order()
+    ensures commutative { (a b : set.FinSet dot_cmp) → set.union a b ≡ set.union b a }
+    ensures associative { (a b c : set.FinSet dot_cmp) → set.union (set.union a b) c ≡ set.union a (set.union b c) }
+    ensures idempotent { (a : set.FinSet dot_cmp) → set.union a a ≡ a }
+{}
+
+/// That one context covers another is the order of subsets.
+pub fn covers_by_subset()
+    ensures members { (a b : set.FinSet dot_cmp) → IsTrue (set.is_subset a b) ↔ ((d : Tag) → IsTrue (set.contains a d) → IsTrue (set.contains b d)) }
+    ensures reflexive { (a : set.FinSet dot_cmp) → IsTrue (set.is_subset a a) }
+    ensures antisymmetric { (a b : set.FinSet dot_cmp) → IsTrue (set.is_subset a b) → IsTrue (set.is_subset b a) → a ≡ b }
+    ensures transitive { (a b c : set.FinSet dot_cmp) → IsTrue (set.is_subset a b) → IsTrue (set.is_subset b c) → IsTrue (set.is_subset a c) }
+    ensures by_union { (a b : set.FinSet dot_cmp) → IsTrue (set.is_subset a b) ↔ (set.union a b ≡ b) }
+{}
+
+/// A set of dots has one list of runs, so that equal contexts have equal slices, and its length is how many runs the
+/// set has.
+pub fn has_one_list_of_runs()
+    ensures unique { (a b : List Stretch) (dots : set.FinSet dot_cmp) → IsRunsOf a dots → IsRunsOf b dots → a ≡ b }
+    ensures counted { (a : List Stretch) (dots : set.FinSet dot_cmp) → IsRunsOf a dots → run_count dots ≡ length a }
+{}
+
+/// The runs of a set are its longest stretches: neither the dot past the last one of a run nor the dot before its first
+/// one is in the set.
+pub fn has_longest_runs()
+    ensures past { (a : List Stretch) (dots : set.FinSet dot_cmp) → IsRunsOf a dots → All (λ run. set.contains dots (next_dot (last_dot run)) ≡ false) a }
+    ensures before { (a : List Stretch) (dots : set.FinSet dot_cmp) → IsRunsOf a dots → All (λ run. (d : Tag) → next_dot d ≡ first_dot run → set.contains dots d ≡ false) a }
+{}

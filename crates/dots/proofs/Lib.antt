@@ -1,0 +1,13 @@
+pub mod Apart
+pub mod CountLaws
+pub mod DotOrder
+pub mod FieldLaws
+pub mod Membership
+pub mod OneMoreDot
+pub mod RegisterLaws
+pub mod RowLaws
+pub mod RunCounts
+pub mod Stretches
+pub mod TotalsLaws
+pub mod UniqueRuns
+pub mod VisibleLaws

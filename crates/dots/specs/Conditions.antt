@@ -1,0 +1,63 @@
+-- The condition of a dot: unknown, below live with its fields, below dead. A delta has one for each dot that it has heard of.
+use Rattle.std.specs.Prelude.{ℕ, ◌≡◌, Option, Some, None, if◌then◌else◌}
+use Rattle.std.specs.Option.{option_map}
+use Rattle.std.specs.FinMap as map
+use Rattle.dots.specs.declared.label.Label.{Label}
+use Rattle.dots.specs.declared.member.Member.{Member}
+use Rattle.dots.specs.Values.{Tag, PauseState}
+use Rattle.dots.specs.Orders.{dot_cmp}
+use Rattle.dots.specs.Registers.{Entry, Agree, joined}
+use Rattle.dots.specs.Totals.{Entries, total_of}
+use Rattle.dots.specs.Operations.{Completed, Abandoned, penalty_field, pause_field, label_field}
+use Rattle.dots.specs.Knowledge.{Knowledge, is_named, member_of, field_of}
+use Rattle.dots.specs.Counts.{site_total}
+
+-- the fields of a live dot, each a register
+pub record DotFields : Type 0 where
+  pub penalty : Option (Entry ℕ)
+  pub pause : Option (Entry PauseState)
+  pub label : Option (Entry Label)
+
+-- what is known of a dot: it is live, with its member and fields, or dead. Of an unknown dot there is no condition.
+pub data Condition : Type 0 where
+  Live : (member : Member) (fields : DotFields) → Condition
+  Dead : Condition
+
+-- the fields of a dot in a knowledge
+abbrev pub fields_in : Knowledge → Tag → DotFields
+fields_in k dot = record { penalty = field_of penalty_field k dot; pause = field_of pause_field k dot; label = field_of label_field k dot }
+
+-- the condition of a dot in a knowledge: dead if it is named, else live if it is asserted, else unknown
+abbrev pub condition_in : Knowledge → Tag → Option Condition
+condition_in k dot = if is_named k dot then Some Dead else option_map (λ member. Live member (fields_in k dot)) (member_of k dot)
+
+-- fields agree where each of them has one value under one stamp
+pub record FieldsAgree (x y : DotFields) : Type 0 where
+  pub penalty : Agree x.penalty y.penalty
+  pub pause : Agree x.pause y.pause
+  pub label : Agree x.label y.label
+
+-- two live conditions agree in member and fields; all others agree
+abbrev pub ConditionsAgree : Option Condition → Option Condition → Type 0
+ConditionsAgree (Some (Live m f)) (Some (Live n g)) = (m ≡ n) × FieldsAgree f g
+ConditionsAgree (Some (Live m f)) (Some Dead) = Unit {0}
+ConditionsAgree (Some (Live m f)) None = Unit {0}
+ConditionsAgree (Some Dead) y = Unit {0}
+ConditionsAgree None y = Unit {0}
+
+-- field by field the greater stamp
+abbrev pub fields_joined : DotFields → DotFields → DotFields
+fields_joined x y = record { penalty = joined x.penalty y.penalty; pause = joined x.pause y.pause; label = joined x.label y.label }
+
+-- the least upper bound of two conditions: dead wins, live is above unknown, and two live ones join their fields
+abbrev pub condition_joined : Option Condition → Option Condition → Option Condition
+condition_joined None y = y
+condition_joined (Some Dead) y = Some Dead
+condition_joined (Some (Live m f)) None = Some (Live m f)
+condition_joined (Some (Live m f)) (Some Dead) = Some Dead
+condition_joined (Some (Live m f)) (Some (Live n g)) = Some (Live m (fields_joined f g))
+
+-- a map of conditions and one of totals stand for a knowledge: they say of each dot and total what it says
+pub record Represents (conditions : map.FinMap dot_cmp Condition) (counts : Entries) (k : Knowledge) : Type 0 where
+  pub dots : (dot : Tag) → map.get conditions dot ≡ condition_in k dot
+  pub totals : (site queue : ℕ) → total_of counts site queue ≡ (site_total k site queue Completed, site_total k site queue Abandoned)

@@ -1,0 +1,41 @@
+-- What a register holds, over any type of values: when two registers agree, and what they are joined
+-- (RR-7506's last-writer-wins register).
+use Rattle.std.specs.Prelude.{◌≡◌, ◌≢◌, ◌⊎◌, Option, Some, None, IsSome, if◌then◌else◌}
+use Rattle.std.specs.Ordering.{is_lt}
+use Rattle.std.specs.declared.cmp.Ordering.TheVariants.{Less}
+use Rattle.dots.specs.Values.{Timestamp}
+use Rattle.dots.specs.Orders.{stamp_cmp}
+
+-- a value, and the stamp under which it was written
+pub record Entry (T : Type 0) : Type 0 where
+  pub stamp : Timestamp
+  pub value : T
+
+-- one stamp has one value in both
+abbrev pub Agree : {T : Type 0} → Option (Entry T) → Option (Entry T) → Type 0
+Agree {T} x y = (a b : Entry T) → x ≡ Some a → y ≡ Some b → a.stamp ≡ b.stamp → a.value ≡ b.value
+
+-- both have one stamp, and two values under it
+pub record InConflict {T : Type 0} (x y : Option (Entry T)) : Type 0 where
+  pub first : Entry T
+  pub second : Entry T
+  pub in_first : x ≡ Some first
+  pub in_second : y ≡ Some second
+  pub one_stamp : first.stamp ≡ second.stamp
+  pub two_values : first.value ≢ second.value
+
+-- the entry of the greater stamp; under one stamp the first
+abbrev pub latest : {T : Type 0} → Entry T → Entry T → Entry T
+latest a b = if is_lt (stamp_cmp a.stamp b.stamp) then b else a
+
+-- two registers joined: the entry of the greatest stamp
+abbrev pub joined : {T : Type 0} → Option (Entry T) → Option (Entry T) → Option (Entry T)
+joined None y = y
+joined (Some a) None = Some a
+joined (Some a) (Some b) = Some (latest a b)
+
+-- `kept` has an entry where x or y has one, that of one of both, and none of either is later
+pub record KeepsLatest {T : Type 0} (x y kept : Option (Entry T)) : Type 0 where
+  pub has_one : (e : Entry T) → (x ≡ Some e) ⊎ (y ≡ Some e) → IsSome kept
+  pub of_either : (e : Entry T) → kept ≡ Some e → (x ≡ Some e) ⊎ (y ≡ Some e)
+  pub none_later : (k e : Entry T) → kept ≡ Some k → (x ≡ Some e) ⊎ (y ≡ Some e) → stamp_cmp k.stamp e.stamp ≢ Less

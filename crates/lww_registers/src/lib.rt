@@ -1,0 +1,12 @@
+//! Last-writer-wins registers (RR-7506): a register keeps the value that was written under the greatest
+//! stamp, and a dot's fields are three registers that are joined side by side. Nothing here takes memory.
+#![tactic(auto)]
+
+mod field_value;
+mod fields;
+pub mod laws;
+mod register;
+
+pub use field_value::FieldValue;
+pub use fields::Fields;
+pub use register::Register;

@@ -1,0 +1,44 @@
+ghost use Rattle.std.specs.Prelude.{◌≡◌};
+ghost use Rattle.std.specs.Iterator.{YieldsFirst, item_count};
+
+use crate::TotalKey;
+use crate::rows::Row;
+use std::marker::Model;
+
+/// The entries of totals, by site, then by queue: a key with how many calls were completed and how many
+/// abandoned.
+#[derive(Drop)]
+pub struct Iter<'a> {
+    rows: &'a [Row],
+}
+
+impl<'a> Model for Iter<'a> {
+    ghost use Rattle.std.specs.Prelude.{ℕ, List};
+    ghost use Rattle.dots.specs.Totals.{Key};
+
+    ghost Value = { List (Key × (ℕ × ℕ)) };
+
+    ghost view = { λ s. s.rows.now };
+}
+
+impl<'a> Iter<'a> {
+    pub(crate) fn new(rows: &'a [Row]) -> Iter<'a>
+        ensures { result ≡ rows.entry.now }
+    {
+        Iter { rows }
+    }
+}
+
+impl<'a> Iterator for Iter<'a> {
+    type Item = (TotalKey, (u64, u64));
+
+    ghost next_gives = { YieldsFirst (λ s. s) };
+
+    ghost remaining = { item_count (λ s. s) };
+
+    fn next(&mut self) -> Option<(TotalKey, (u64, u64))> {
+        let (first, rest) = self.rows.split_first()?;
+        self.rows = rest;
+        Some(*first)
+    }
+}

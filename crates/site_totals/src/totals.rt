@@ -1,0 +1,178 @@
+ghost use Rattle.std.specs.Prelude.{◌≡◌, ◌↔◌, ◌+◌, ◌≤◌, All, None, IsTrue, IsOk, IfOk, OnOk, OnErr, IsErrOf};
+ghost use Rattle.std.specs.FinMap as map;
+ghost use Rattle.dots.specs.Totals.{InLimits, IsTotal, total_of, sum_of, joined, single};
+ghost use Rattle.site_totals.specs.Tally.{HasRoomFor};
+ghost use Rattle.site_totals.specs.Kind.{number_of, raised};
+
+use crate::rows::{Row, count_missing, join_one, merge, pair_in, raise_one, same_rows};
+use crate::{Iter, Kind, Memory, TotalFault, TotalKey};
+use dots::SiteId;
+use std::alloc::Global;
+use std::marker::Model;
+
+/// The running totals of all sites: for each site and queue how many calls were completed and how many
+/// abandoned (RR-7506's grow-only counter). A site without an entry in a queue has two zeros there.
+#[derive(Debug, Drop)]
+pub struct Totals {
+    rows: Vec<Row>,
+}
+
+impl Model for Totals {
+    ghost use Rattle.std.specs.Prelude.{◌-◌};
+    ghost use Rattle.std.specs.Vec.{vec_capacity, vec_len};
+    ghost use Rattle.site_totals.specs.Tally.{Tally, tally_code};
+    ghost use Rattle.site_totals.specs.Rows.{IsKept, entries_of};
+
+    ghost Value = { Tally };
+
+    ghost coded = { tally_code };
+
+    ghost view = { λ t. record { entries = entries_of t.rows.items; room = vec_capacity t.rows - vec_len t.rows } };
+
+    ghost invariant = { λ t. IsKept t.rows.items };
+}
+
+impl Totals {
+    /// Nothing counted yet. It takes no memory.
+    pub fn new(alloc: Global) -> Totals
+        ensures { result.entries ≡ map.empty }
+    {
+        Totals {
+            rows: Vec::new(alloc),
+        }
+    }
+
+    /// How many calls of a site in a queue were completed and how many abandoned, each at most
+    /// 1,000,000,000. It takes no memory.
+    pub fn of(&self, site: SiteId, queue: u16) -> (u64, u64)
+        ensures value { result ≡ total_of self.now.entries site queue }
+        ensures limit { (result.0 ≤ 1000000000) × (result.1 ≤ 1000000000) }
+    {
+        pair_in(&self.rows, TotalKey::new(site, queue))
+    }
+
+    /// How many calls of a queue were completed and how many abandoned at all sites together: the sums of
+    /// their totals, each at most 64,000,000,000. It takes no memory.
+    pub fn sum(&self, queue: u16) -> (u64, u64)
+        ensures value { result ≡ sum_of self.now.entries queue }
+        ensures limit { (result.0 ≤ 64000000000) × (result.1 ≤ 64000000000) }
+    {
+        let mut completed = 0;
+        let mut abandoned = 0;
+        for number in 0..64 {
+            if let Some(site) = SiteId::new(number) {
+                let total = self.of(site, queue);
+                completed += total.0;
+                abandoned += total.1;
+            }
+        }
+        (completed, abandoned)
+    }
+
+    /// The entries by site, then by queue, none of two zeros. It takes no memory.
+    pub fn iter(&self) -> Iter<'_>
+        ensures entries { result ≡ map.entries self.now.entries }
+        ensures limits { All (λ entry. IsTotal entry.0 entry.1) (map.entries self.now.entries) }
+        ensures within { InLimits self.now.entries }
+    {
+        Iter::new(&self.rows)
+    }
+
+    /// Whether nothing is counted yet. It takes no memory.
+    pub fn is_empty(&self) -> bool
+        ensures { IsTrue result ↔ (self.now.entries ≡ map.empty) }
+    {
+        self.rows.is_empty()
+    }
+
+    /// Whether both have the same entries. It takes no memory.
+    pub fn same(&self, other: &Totals) -> bool
+        ensures { IsTrue result ↔ (self.now.entries ≡ other.now.entries) }
+    {
+        same_rows(&self.rows, &other.rows)
+    }
+
+    /// Counts one more call of a kind at a site in a queue, and answers the new total. Faults, in order, each
+    /// of which changes nothing: `TotalFull` exactly where the total is 1,000,000,000; `Memory`, for a first
+    /// entry that there is no room for.
+    pub fn raise(&mut self, site: SiteId, queue: u16, kind: Kind) -> Result<u64, TotalFault>
+        requires { queue ≤ 255 }
+        ensures value { IfOk result (λ total. total ≡ number_of kind (total_of self.old.entries site queue) + 1) }
+        ensures ok { OnOk result (self.new.entries
+            ≡ raised self.old.entries (record { site = site; queue = queue }) kind) }
+        ensures full { (result ≡ Err TotalFault.TotalFull)
+            ↔ (number_of kind (total_of self.old.entries site queue) ≡ 1000000000) }
+        ensures memory { result ≡ Err TotalFault.Memory
+            → (map.get self.old.entries (record { site = site; queue = queue }) ≡ None) × (self.old.room ≡ 0) }
+        ensures err { OnErr result (self.new.entries ≡ self.old.entries) }
+    {
+        raise_one(&mut self.rows, TotalKey::new(site, queue), kind)
+    }
+
+    /// Joins in one entry: the greater of each number is kept, and two zeros are no entry. The queue's number
+    /// is at most 255, and each of the pair's, completed and abandoned calls, at most 1,000,000,000. Where
+    /// there is no memory for a new entry, nothing changes.
+    pub fn reach(&mut self, site: SiteId, queue: u16, pair: (u64, u64)) -> Result<(), Memory>
+        requires queue { queue ≤ 255 }
+        requires completed { pair.0 ≤ 1000000000 }
+        requires abandoned { pair.1 ≤ 1000000000 }
+        ensures ok { OnOk result (self.new.entries
+            ≡ joined self.old.entries (single (record { site = site; queue = queue }) pair)) }
+        ensures err { OnErr result (self.new.entries ≡ self.old.entries) }
+        ensures succeeds { HasRoomFor self.old (single (record { site = site; queue = queue }) pair) → IsOk result }
+    {
+        join_one(&mut self.rows, TotalKey::new(site, queue), pair)
+    }
+
+    /// Reserves room for all that the others have and these lack, and changes no total. The one fault is want
+    /// of memory.
+    pub fn prepare(&mut self, other: &Totals) -> Result<(), Memory>
+        ensures ok { OnOk result (HasRoomFor self.new other.now.entries) }
+        ensures unchanged { self.new.entries ≡ self.old.entries }
+        ensures room { self.old.room ≤ self.new.room }
+        ensures succeeds { HasRoomFor self.old other.now.entries → IsOk result }
+    {
+        let missing = count_missing(&self.rows, &other.rows);
+        self.rows.reserve(missing)
+    }
+
+    /// Whether there is room for all that the others have and these lack, so that `absorb` can take them. It
+    /// takes no memory.
+    pub fn prepared(&self, other: &Totals) -> bool
+        ensures { IsTrue result ↔ HasRoomFor self.now other.now.entries }
+    {
+        count_missing(&self.rows, &other.rows) <= self.rows.capacity() - self.rows.len()
+    }
+
+    /// Joins the others in: the greater of each number is kept. There is room for them (`prepared`), so it
+    /// takes no memory and can't fail.
+    pub fn absorb(&mut self, other: &Totals)
+        requires { HasRoomFor self.old other.now.entries }
+        ensures { self.new.entries ≡ joined self.old.entries other.now.entries }
+    {
+        merge(&mut self.rows, &other.rows);
+    }
+
+    /// Joins the others in: the greater of each number is kept. The one fault is want of memory, and then no
+    /// total is changed.
+    pub fn join(&mut self, other: &Totals) -> Result<(), Memory>
+        ensures ok { OnOk result (self.new.entries ≡ joined self.old.entries other.now.entries) }
+        ensures err { OnErr result (self.new.entries ≡ self.old.entries) }
+        ensures succeeds { HasRoomFor self.old other.now.entries → IsOk result }
+    {
+        self.prepare(other)?;
+        self.absorb(other);
+        Ok(())
+    }
+
+    /// The totals once more. The one fault is want of memory.
+    pub fn copy(&self) -> Result<Totals, Memory>
+        ensures { IfOk result (λ copy. copy.entries ≡ self.now.entries) }
+    {
+        let rows = self.rows.clone()?;
+        Ok(Totals { rows })
+    }
+}
+
+#[cfg(test)]
+mod tests;
