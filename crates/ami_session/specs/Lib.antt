@@ -1,2 +1,6 @@
+pub mod Checks
+pub mod Logins
+pub mod Reading
 pub mod Replies
 pub mod Responses
+pub mod Seen

@@ -1,17 +1,12 @@
 -- The texts of replies. Their wording is this project's own; their lines are those of Asterisk's Manager Interface.
-use Rattle.std.specs.Prelude.{ℕ, List, [], ◌∷◌, ◌++◌, codes}
-use Rattle.status_report.specs.Lines.{field}
+use Rattle.std.specs.Prelude.{ℕ, List, [], ◌++◌, codes}
+use Rattle.status_report.specs.Lines.{field, action_id_line}
 use Rattle.status_report.specs.declared.asks.Answer.{Answer}
 use Rattle.status_report.specs.declared.asks.Answer.TheVariants.{Done, Refused, Report}
 use Rattle.replica.specs.declared.refusal.Refusal.{Refusal}
 use Rattle.replica.specs.declared.refusal.Refusal.TheVariants.{NoSuchQueue, AlreadyThere, NotThere, MembersFull, Exhausted, TotalFull, Memory}
 use Rattle.ami_session.specs.declared.action.Action.{Action}
 use Rattle.ami_session.specs.declared.action.Action.TheVariants.{QueueAdd, QueueStatus}
-
--- the line of an ActionID, where there is one
-abbrev pub action_id_line : List ℕ → List ℕ
-action_id_line [] = []
-action_id_line (b ∷ bs) = field (codes "ActionID") (b ∷ bs)
 
 -- a reply: how it went, the ActionID of the request, what it says, and an empty line
 abbrev pub reply : List ℕ → List ℕ → List ℕ → List ℕ

@@ -1,4 +1,5 @@
 //! The actions that a site answers, with their fields.
+use crate::reading::is_word;
 use ami_text::Message;
 
 /// An action of the Manager Interface that asks something of a site.
@@ -12,35 +13,32 @@ pub enum Action {
 
 impl Action {
     ghost use Rattle.std.specs.Prelude.{◌≡◌};
+    ghost use Rattle.std.specs.Option.{option_map};
     ghost use Rattle.ami_session.specs.Replies.{success_text};
+    ghost use Rattle.ami_session.specs.Checks.{action_named, missing};
 
     /// The action of this name, compared without ASCII case.
-    pub fn named(name: &[u8]) -> Option<Action> {
-        if name.eq_ignore_ascii_case(b"QueueAdd") {
+    pub fn named(name: &[u8]) -> Option<Action>
+        ensures { result ≡ action_named name.now }
+    {
+        if is_word(name, b"QueueAdd") {
             Some(Action::QueueAdd)
-        } else if name.eq_ignore_ascii_case(b"QueueStatus") {
+        } else if is_word(name, b"QueueStatus") {
             Some(Action::QueueStatus)
         } else {
             None
         }
     }
 
-    /// The fields that it must have, in the order in which they are looked for.
-    pub fn required(self) -> &'static [&'static str] {
+    /// The first field that the message must have and lacks, in the action's order.
+    pub fn missing(self, message: &Message) -> Option<&'static str>
+        ensures { option_map (λ name. name.now) result ≡ missing self message.now }
+    {
         match self {
-            Action::QueueAdd => &["Queue", "Interface"],
-            Action::QueueStatus => &[],
+            Action::QueueAdd if message.get(b"Queue").is_none() => Some("Queue"),
+            Action::QueueAdd if message.get(b"Interface").is_none() => Some("Interface"),
+            _ => None,
         }
-    }
-
-    /// The first required field that the message lacks.
-    pub fn missing(self, message: &Message) -> Option<&'static str> {
-        for name in self.required() {
-            if message.get(name.as_bytes()).is_none() {
-                return Some(name);
-            }
-        }
-        None
     }
 
     /// What a reply says where the site has done it.

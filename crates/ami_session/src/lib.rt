@@ -8,6 +8,7 @@ mod act;
 mod action;
 mod fields;
 mod pending;
+mod reading;
 mod reply;
 mod session;
 #[cfg(test)]

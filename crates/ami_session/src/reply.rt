@@ -1,10 +1,10 @@
 //! The replies: `Response`, then `ActionID` where the request has one, then `Message`.
-ghost use Rattle.std.specs.Prelude.{◌≡◌, ◌++◌, IfOk, OnOk};
-ghost use Rattle.ami_session.specs.Replies.{action_id_line, reply};
+ghost use Rattle.std.specs.Prelude.{◌≡◌, ◌++◌, codes, IfOk};
+ghost use Rattle.ami_session.specs.Replies.{reply};
 ghost use Rattle.ami_session.specs.Responses.{response_text};
 
 use dots::{Bytes, Memory};
-use status_report::{push_end, push_field};
+use status_report::{push_action_id_line, push_end, push_field};
 use std::alloc::Global;
 
 /// How a reply begins.
@@ -41,20 +41,10 @@ pub fn message_reply(
 {
     let mut out = Vec::new(alloc);
     push_field(&mut out, "Response", response.text())?;
-    push_action_id(&mut out, action_id.as_slice())?;
+    push_action_id_line(&mut out, action_id.as_slice())?;
     push_field(&mut out, "Message", message)?;
     push_end(&mut out)?;
     Ok(out)
-}
-
-// The ActionID's line, where there is one.
-fn push_action_id(out: &mut Vec<u8>, action_id: &[u8]) -> Result<(), Memory>
-    ensures { OnOk result (out.new.items ≡ out.old.items ++ action_id_line action_id.now) }
-{
-    if action_id.is_empty() {
-        return Ok(());
-    }
-    push_field(out, "ActionID", action_id)
 }
 
 /// An error about a field: what stands before its name, the name, and what stands after it. The one fault is want
@@ -65,7 +55,9 @@ pub fn field_error(
     before: &str,
     name: &str,
     after: &str,
-) -> Result<Vec<u8>, Memory> {
+) -> Result<Vec<u8>, Memory>
+    ensures { IfOk result (λ out. out.items ≡ reply (codes "Error") action_id.now (before.now ++ name.now ++ after.now)) }
+{
     let mut message = Vec::from_slice(alloc, before.as_bytes())?;
     message.extend_from_slice(name.as_bytes())?;
     message.extend_from_slice(after.as_bytes())?;

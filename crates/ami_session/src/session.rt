@@ -1,11 +1,19 @@
+ghost use Rattle.std.specs.Prelude.{◌≡◌, Some, None, Ok, Err, true, false, codes, IfOk, OnOk, OnErr, MatchResult};
+ghost use Rattle.ami_session.specs.Reading.{id_of};
+ghost use Rattle.ami_session.specs.Replies.{reply};
+ghost use Rattle.ami_session.specs.Checks.{accepts, Replies, Ends, login_reaction, named_reaction, ask_of, reaction, reaction_to, after, after_action};
+ghost use Rattle.ami_session.specs.Seen.{seen};
+
 use crate::action::Action;
-use crate::fields::{action_id, queue_add, queue_status};
+use crate::fields::{Unreadable, action_id, queue_add, queue_status, text_at};
+use crate::reading::is_word;
 use crate::reply::{Response, field_error, message_reply};
 use crate::{Act, Pending};
 use ami_text::Message;
 use dots::{Bytes, Memory, Text80};
 use status_report::Ask;
 use std::alloc::Global;
+use std::marker::Model;
 
 // Who may log in.
 #[derive(Drop)]
@@ -22,9 +30,21 @@ pub struct Session {
     logged_in: bool,
 }
 
+impl Model for Session {
+    ghost use Rattle.ami_session.specs.Checks.{SessionState};
+
+    ghost Value = { SessionState };
+
+    ghost use Rattle.ami_session.specs.Logins.{login_of};
+
+    ghost view = { λ s. record { login = login_of s.credentials; logged_in = s.logged_in } };
+}
+
 impl Session {
     /// A session that isn't logged in, for this user and secret.
-    pub fn new(user: Text80, secret: Text80) -> Session {
+    pub fn new(user: Text80, secret: Text80) -> Session
+        ensures { result ≡ record { login = Some (record { user = user; secret = secret }); logged_in = false } }
+    {
         Session {
             credentials: Some(Credentials { user, secret }),
             logged_in: false,
@@ -32,7 +52,9 @@ impl Session {
     }
 
     /// A session that needs no Login, and accepts every one.
-    pub fn trusted() -> Session {
+    pub fn trusted() -> Session
+        ensures { result ≡ record { login = None; logged_in = true } }
+    {
         Session {
             credentials: None,
             logged_in: true,
@@ -44,16 +66,35 @@ impl Session {
     /// session as it was; before a Login all else is an error; so is an action that isn't known, then a required field
     /// that is absent, then a field that can't be read; and then the site is asked. The one fault is want of memory,
     /// and leaves the session as it was.
-    pub fn handle(&mut self, alloc: Global, message: &Message) -> Result<Act, Memory> {
+    pub fn handle(&mut self, alloc: Global, message: &Message) -> Result<Act, Memory>
+        ensures reaction { IfOk result (λ act. seen act ≡ reaction self.old message.now) }
+        ensures after { OnOk result (self.new ≡ after self.old message.now) }
+        ensures err { OnErr result (self.new ≡ self.old) }
+    {
         let id = action_id(alloc, message)?;
-        let Some(name) = message.get(b"Action") else {
-            return error(alloc, &id, "Missing action in request");
-        };
-        if name.eq_ignore_ascii_case(b"Logoff") {
-            let bytes = message_reply(alloc, Response::Goodbye, &id, b"Thanks for all the fish.")?;
-            return Ok(Act::End(bytes));
+        match message.get(b"Action") {
+            None => error(alloc, &id, "Missing action in request"),
+            Some(name) => self.react(alloc, message, name, id),
         }
-        if name.eq_ignore_ascii_case(b"Login") {
+    }
+
+    // What the session does upon a message of this action.
+    fn react(
+        &mut self,
+        alloc: Global,
+        message: &Message,
+        name: &[u8],
+        id: Bytes,
+    ) -> Result<Act, Memory>
+        requires { id ≡ id_of message.now }
+        ensures reaction { IfOk result (λ act. seen act ≡ reaction_to self.old message.now (Some name.now)) }
+        ensures after { OnOk result (self.new ≡ after_action self.old message.now (Some name.now)) }
+        ensures err { OnErr result (self.new ≡ self.old) }
+    {
+        if is_word(name, b"Logoff") {
+            return goodbye(alloc, &id);
+        }
+        if is_word(name, b"Login") {
             return self.login(alloc, message, &id);
         }
         if !self.logged_in {
@@ -65,7 +106,14 @@ impl Session {
         }
     }
 
-    fn login(&mut self, alloc: Global, message: &Message, id: &Bytes) -> Result<Act, Memory> {
+    // A Login: accepted, or an error that leaves the session as it was.
+    fn login(&mut self, alloc: Global, message: &Message, id: &Bytes) -> Result<Act, Memory>
+        requires { id.now ≡ id_of message.now }
+        ensures reaction { IfOk result (λ act. seen act ≡ login_reaction self.old message.now) }
+        ensures accepted { OnOk result (accepts self.old.login message.now ≡ true → self.new ≡ record self.old { logged_in = true }) }
+        ensures refused { OnOk result (accepts self.old.login message.now ≡ false → self.new ≡ self.old) }
+        ensures err { OnErr result (self.new ≡ self.old) }
+    {
         if !self.accepts(message) {
             return error(alloc, id, "Authentication failed");
         }
@@ -75,37 +123,64 @@ impl Session {
     }
 
     // Whether user and secret are the session's, byte by byte; an absent one counts as empty.
-    fn accepts(&self, message: &Message) -> bool {
+    fn accepts(&self, message: &Message) -> bool
+        ensures { result ≡ accepts self.now.login message.now }
+    {
         match &self.credentials {
             None => true,
             Some(Credentials { user, secret }) => {
-                message.get(b"Username").unwrap_or(b"") == user.as_bytes()
-                    && message.get(b"Secret").unwrap_or(b"") == secret.as_bytes()
+                text_at(message, "Username") == user.as_bytes()
+                    && text_at(message, "Secret") == secret.as_bytes()
             }
         }
     }
 }
 
-fn error(alloc: Global, id: &Bytes, text: &str) -> Result<Act, Memory> {
+fn error(alloc: Global, id: &Bytes, text: &str) -> Result<Act, Memory>
+    ensures { IfOk result (λ act. seen act ≡ Replies (reply (codes "Error") id.now text.now)) }
+{
     let bytes = message_reply(alloc, Response::Error, id, text.as_bytes())?;
     Ok(Act::Reply(bytes))
 }
 
-// What a message of a known action asks of the site.
-fn asked(alloc: Global, action: Action, message: &Message, id: Bytes) -> Result<Act, Memory> {
+fn goodbye(alloc: Global, id: &Bytes) -> Result<Act, Memory>
+    ensures { IfOk result (λ act. seen act ≡ Ends (reply (codes "Goodbye") id.now (codes "Thanks for all the fish."))) }
+{
+    let bytes = message_reply(alloc, Response::Goodbye, id, b"Thanks for all the fish.")?;
+    Ok(Act::End(bytes))
+}
+
+// What a message of a known action asks of the site, or what is wrong with it.
+fn asked(alloc: Global, action: Action, message: &Message, id: Bytes) -> Result<Act, Memory>
+    requires { id ≡ id_of message.now }
+    ensures { IfOk result (λ act. seen act ≡ named_reaction (Some action) message.now) }
+{
     if let Some(name) = action.missing(message) {
         let bytes = field_error(alloc, &id, "'", name, "' not specified.")?;
         return Ok(Act::Reply(bytes));
     }
-    let made = match action {
-        Action::QueueAdd => queue_add(message).map(Ask::Command),
-        Action::QueueStatus => queue_status(message, id.copy()?).map(Ask::Status),
-    };
-    match made {
+    match ask_of(action, message, id.copy()?) {
         Ok(ask) => Ok(Act::Ask(ask, Pending::new(action, id))),
         Err(name) => {
             let bytes = field_error(alloc, &id, "Field not valid: ", name, "")?;
             Ok(Act::Reply(bytes))
         }
+    }
+}
+
+// What an action asks, or the field that can't be read.
+fn ask_of(action: Action, message: &Message, id: Bytes) -> Result<Ask, Unreadable>
+    requires { id ≡ id_of message.now }
+    ensures { MatchResult result (λ ask. ask_of action message.now ≡ Ok ask) (λ name. ask_of action message.now ≡ Err name.now) }
+{
+    match action {
+        Action::QueueAdd => match queue_add(message) {
+            Ok(command) => Ok(Ask::Command(command)),
+            Err(name) => Err(name),
+        },
+        Action::QueueStatus => match queue_status(message, id) {
+            Ok(request) => Ok(Ask::Status(request)),
+            Err(name) => Err(name),
+        },
     }
 }

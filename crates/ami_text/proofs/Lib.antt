@@ -1,2 +1,11 @@
+pub mod Bounds
+pub mod ByteSearch
+pub mod Existence
+pub mod Feeding
 pub mod FieldLemmas
 pub mod Lists
+pub mod Outcome
+pub mod Parsing
+pub mod Reading
+pub mod Scanning
+pub mod WholeLines

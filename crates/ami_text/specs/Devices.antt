@@ -1,8 +1,9 @@
 -- What the devices over memory are seen as.
-use Rattle.std.specs.Prelude.{ℕ, Bool, List, Option}
+use Rattle.std.specs.Prelude.{ℕ, ◌-◌, Bool, List, Option}
+use Rattle.std.specs.Option.{option_map}
 
--- a source: the bytes given and those left, the most of them a read gives, how many reads succeed before one fails (none fails where
--- that is None), whether it has ended and whether it has failed
+-- a source: the bytes given and those left, the most of them a read gives, how many reads succeed
+-- before one fails (none fails where that is None), whether it has ended and whether it has failed
 pub record Reading : Type 0 where
   pub given : List ℕ
   pub left : List ℕ
@@ -11,18 +12,14 @@ pub record Reading : Type 0 where
   pub ended : Bool
   pub failed : Bool
 
--- a sink: the bytes taken, the most of them a write takes, how many writes succeed before one fails, and whether it has failed
+-- a sink: the bytes taken, the most of them a write takes, how many writes succeed before one
+-- fails, and whether it has failed
 pub record Writing : Type 0 where
   pub taken : List ℕ
   pub most : ℕ
   pub writes_left : Option ℕ
   pub failed : Bool
 
--- a source over a reader of std's, whose bytes nobody tells: whether it has ended and whether it has failed
-pub record StdReading : Type 0 where
-  pub ended : Bool
-  pub failed : Bool
-
--- a sink over a writer of std's, whose bytes nobody tells: whether it has failed
-pub record StdWriting : Type 0 where
-  pub failed : Bool
+-- how many calls are left after one
+abbrev pub one_less : Option ℕ → Option ℕ
+one_less left = option_map (λ n. n - 1) left

@@ -1,5 +1,5 @@
 -- The fields of a message: what its lines say, and the value that a name has.
-use Rattle.std.specs.Prelude.{◌==◌, ◌||◌, ℕ, Bool, Option, Some, None, List, [], ◌∷◌, length, reverse, map, if◌then◌else◌}
+use Rattle.std.specs.Prelude.{◌==◌, ◌||◌, ℕ, Bool, Option, Some, None, List, [], ◌∷◌, reverse, map, if◌then◌else◌}
 use Rattle.std.specs.List.{after_first, before_first, filter_map, list_any}
 use Rattle.std.specs.Str.{bytes_eq}
 use Rattle.std.specs.Char.{to_ascii_lowercase}
@@ -30,7 +30,8 @@ trimmed_end bytes = reverse (trimmed_front (reverse bytes))
 abbrev pub trimmed : List ℕ → List ℕ
 trimmed bytes = trimmed_end (trimmed_front bytes)
 
--- the field that a content with a colon is: what stands before and after the first colon, each trimmed
+-- the field that a content with a colon is: what stands before and after the first colon, each
+-- trimmed
 abbrev pub field_of : List ℕ → Option (List ℕ × List ℕ)
 field_of text =
     if list_any is_colon text
@@ -48,7 +49,8 @@ same_name a b = bytes_eq (map to_ascii_lowercase a) (map to_ascii_lowercase b)
 -- the value of the first field of this name
 abbrev pub first_value : List ℕ → List (List ℕ × List ℕ) → Option (List ℕ)
 first_value name [] = None
-first_value name (field ∷ fields) = if same_name field.0 name then Some field.1 else first_value name fields
+first_value name (field ∷ fields) =
+    if same_name field.0 name then Some field.1 else first_value name fields
 
 -- an empty text counts as absent
 abbrev pub unless_empty : Option (List ℕ) → Option (List ℕ)

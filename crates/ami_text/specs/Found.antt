@@ -1,8 +1,36 @@
-use Rattle.std.specs.Prelude.{◌≤◌, ◌+◌, ℕ}
+-- What was found first in held bytes.
+use Rattle.std.specs.Prelude.{◌≡◌, ◌<◌, ◌≤◌, ℕ, List, ◌∷◌, ◌++◌, length, take, drop, All}
 use Rattle.ami_text.specs.declared.found.Found.{Found}
 use Rattle.ami_text.specs.declared.found.Found.TheVariants.{Message, Rest, Fault}
+use Rattle.ami_text.specs.declared.progress.Progress.{Progress}
+use Rattle.ami_text.specs.Lines.{IsEmptyLine, ended}
+use Rattle.ami_text.specs.Progress.{IsReached}
+use Rattle.ami_text.specs.Stream.{Begins, HasFault, IsRest}
 
-abbrev pub IsWithin : ℕ → Found → Type 0
-IsWithin n (Message end next) = (end ≤ n) × (next ≤ n)
-IsWithin n (Rest empty progress) = (progress.line ≤ progress.looked) × (progress.looked + empty ≤ n) × (progress.lines ≤ 128)
-IsWithin n (Fault fault) = Unit {0}
+-- a message's lines, with the empty ones before it, lie before `end`; its last line ends before
+-- `next`
+pub record EndsMessage (held : List ℕ) (end next : ℕ) : Type 0 where
+  pub lines : List (List ℕ)
+  pub last : List ℕ
+  pub begins : Begins held lines (last ++ 10 ∷ drop next held)
+  pub some : 0 < length lines
+  pub is_empty : IsEmptyLine last
+  pub front : take end held ≡ ended begins.empties ++ ended lines
+  pub end_within : end ≤ length held
+  pub next_within : next ≤ length held
+
+-- behind `empty` bytes of empty lines there is no whole message and no fault, and all of it was
+-- looked at
+pub record EndsInRest (held : List ℕ) (empty : ℕ) (progress : Progress) : Type 0 where
+  pub empties : List (List ℕ)
+  pub each_empty : All IsEmptyLine empties
+  pub whole : held ≡ ended empties ++ drop empty held
+  pub empty_within : empty ≤ length held
+  pub is_rest : IsRest (drop empty held)
+  pub reached : IsReached (drop empty held) progress
+
+-- by what was found
+abbrev pub IsFound : List ℕ → Found → Type 0
+IsFound held (Message end next) = EndsMessage held end next
+IsFound held (Rest empty progress) = EndsInRest held empty progress
+IsFound held (Fault fault) = HasFault fault held

@@ -3,4 +3,8 @@ pub mod Field
 pub mod Fields
 pub mod Found
 pub mod Holding
+pub mod LineKind
 pub mod Lines
+pub mod Progress
+pub mod StdDevices
+pub mod Stream

@@ -1,6 +1,7 @@
 use std::alloc::AllocError;
 
-/// Why a feed gives no message. The first two are faults of the stream and stay; after the last the feed is as before.
+/// Why a feed gives no message. The first two are faults of the stream and stay; after the last the
+/// feed is as before.
 #[derive(Clone, Copy, Debug, PartialEq, Eq)]
 pub enum FeedFault {
     /// A line's content has more than 1,024 bytes.

@@ -2,11 +2,12 @@ use crate::FeedFault;
 use crate::progress::Progress;
 
 /// What stands first in held bytes.
-#[derive(Clone, Copy)]
+#[derive(Clone, Copy, Debug)]
 pub enum Found {
     /// A message: its lines up to `end`; what follows its empty line begins at `next`.
     Message { end: usize, next: usize },
-    /// No whole message and no fault: the first `empty` bytes are empty lines, and the rest was looked at this far.
+    /// No whole message and no fault: the first `empty` bytes are empty lines, and the rest was
+    /// looked at this far.
     Rest { empty: usize, progress: Progress },
     /// A fault.
     Fault { fault: FeedFault },

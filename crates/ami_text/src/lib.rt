@@ -1,7 +1,11 @@
 //! The text that a manager client sends, and the devices that carry it.
 //!
-//! Bytes come in pieces of any size. A [`Feed`] cuts them into lines and gives the messages, whatever the pieces were. A
-//! [`Source`] gives bytes and a [`Sink`] takes them; both are made of std's readers and writers, or of memory.
+//! Bytes come in pieces of any size. A [`Feed`] cuts them into lines and gives the messages,
+//! whatever the pieces were. A [`Source`] gives bytes and a [`Sink`] takes them; both are made of
+//! std's readers and writers, or of memory.
+//!
+//! A message as lines `Name: value` with an empty line at its end is Asterisk's (its Manager action
+//! documents). The rules for lines, fields and limits in `specs/` are this project's own.
 #![tactic(auto)]
 
 mod calls_left;
@@ -10,6 +14,7 @@ mod feed;
 mod feed_fault;
 mod field;
 mod found;
+mod law;
 mod line;
 mod line_kind;
 mod memory_sink;
@@ -27,6 +32,7 @@ mod tests;
 pub use failed::Failed;
 pub use feed::Feed;
 pub use feed_fault::FeedFault;
+pub use law::{messages_so_far, stream_has_one_reading, stream_of_two_pieces};
 pub use memory_sink::MemorySink;
 pub use memory_source::MemorySource;
 pub use message::Message;

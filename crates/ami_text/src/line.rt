@@ -1,5 +1,12 @@
 //! One line, without the LF that ends it.
 
+ghost use Rattle.std.specs.Prelude.{◌≡◌, ℕ, List};
+ghost use Rattle.std.specs.Option.{option_map};
+ghost use Rattle.std.specs.Borrow.{Bor};
+ghost use Rattle.ami_text.specs.Fields.{field_of, trimmed as trimmed_of, trimmed_end as trimmed_end_of, trimmed_front as trimmed_front_of};
+ghost use Rattle.ami_text.specs.LineKind.{HasKind};
+ghost use Rattle.ami_text.specs.Lines.{content as content_of};
+
 use crate::line_kind::LineKind;
 use bstr::ByteSlice;
 
@@ -7,7 +14,9 @@ use bstr::ByteSlice;
 pub const CONTENT_LIMIT: usize = 1024;
 
 /// The line without one CR at its end.
-pub fn content(line: &[u8]) -> &[u8] {
+pub fn content(line: &[u8]) -> &[u8]
+    ensures { result.now ≡ content_of line.now }
+{
     match line {
         [content @ .., b'\r'] => content,
         _ => line,
@@ -15,7 +24,9 @@ pub fn content(line: &[u8]) -> &[u8] {
 }
 
 /// What the line is, by its content's length.
-pub fn kind(line: &[u8]) -> LineKind {
+pub fn kind(line: &[u8]) -> LineKind
+    ensures { HasKind line.now result }
+{
     match content(line).len() {
         0 => LineKind::Empty,
         1..=CONTENT_LIMIT => LineKind::Full,
@@ -24,7 +35,9 @@ pub fn kind(line: &[u8]) -> LineKind {
 }
 
 /// The bytes without spaces and tabs at their front.
-pub fn trimmed_front(bytes: &[u8]) -> &[u8] {
+pub fn trimmed_front(bytes: &[u8]) -> &[u8]
+    ensures { result.now ≡ trimmed_front_of bytes.now }
+{
     let mut rest = bytes;
     while let [b' ' | b'\t', behind @ ..] = rest {
         rest = behind;
@@ -33,7 +46,9 @@ pub fn trimmed_front(bytes: &[u8]) -> &[u8] {
 }
 
 /// The bytes without spaces and tabs at their end.
-pub fn trimmed_end(bytes: &[u8]) -> &[u8] {
+pub fn trimmed_end(bytes: &[u8]) -> &[u8]
+    ensures { result.now ≡ trimmed_end_of bytes.now }
+{
     let mut rest = bytes;
     while let [before @ .., b' ' | b'\t'] = rest {
         rest = before;
@@ -42,12 +57,18 @@ pub fn trimmed_end(bytes: &[u8]) -> &[u8] {
 }
 
 /// The bytes without spaces and tabs at both ends.
-pub fn trimmed(bytes: &[u8]) -> &[u8] {
+pub fn trimmed(bytes: &[u8]) -> &[u8]
+    ensures { result.now ≡ trimmed_of bytes.now }
+{
     trimmed_end(trimmed_front(bytes))
 }
 
-/// The name and the value of a line's content: what stands before and after its first colon. None without a colon.
-pub fn name_and_value(content: &[u8]) -> Option<(&[u8], &[u8])> {
+/// The name and the value of a line's content: what stands before and after its first colon. None
+/// without a colon.
+pub fn name_and_value(content: &[u8]) -> Option<(&[u8], &[u8])>
+    ensures { option_map (λ (p : Bor (List ℕ) × Bor (List ℕ)). (p.0.now, p.1.now)) result
+        ≡ field_of content.now }
+{
     let colon = content.find_byte(b':')?;
     Some((trimmed(&content[..colon]), trimmed(&content[colon + 1..])))
 }

@@ -1,13 +1,14 @@
-ghost use Rattle.std.specs.Prelude.{◌≡◌, ◌<◌, ◌≤◌, nat_lt, Bool, true, false, Some, None, [], length, take, IfOk, OnErr};
-ghost use Rattle.std.specs.Io.KnownBytes.{append_known};
+ghost use Rattle.std.specs.Prelude.{◌≡◌, ◌<◌, ◌≤◌, min, [], ◌++◌, nat_lt, true, false, Some, None, length, take, IsErr, IfOk, OnErr};
+ghost use Rattle.ami_text.specs.Devices.{one_less};
 
 use crate::calls_left::count_down;
 use crate::{Failed, Sink};
 use std::alloc::Global;
 use std::marker::Model;
 
-/// A sink that keeps what it takes in memory, at most so many bytes a write, and may fail at one of its writes.
-#[derive(Drop)]
+/// A sink that keeps what it takes in memory, at most so many bytes a write, and may fail at one of
+/// its writes.
+#[derive(Debug, Drop)]
 pub struct MemorySink {
     bytes: Vec<u8>,
     most: usize,
@@ -20,7 +21,12 @@ impl Model for MemorySink {
 
     ghost Value = { Writing };
 
-    ghost view = { λ s. record { taken = s.bytes.items; most = s.most; writes_left = s.writes_left; failed = s.failed } };
+    ghost view = { λ s. record {
+      taken = s.bytes.items;
+      most = s.most;
+      writes_left = s.writes_left;
+      failed = s.failed;
+    } };
 }
 
 impl MemorySink {
@@ -36,9 +42,10 @@ impl MemorySink {
         }
     }
 
-    /// The same, where so many writes succeed and the next one fails.
+    /// The same, where so many writes succeed, as far as memory goes, and the next one fails.
     pub fn failing(alloc: Global, most: usize, writes: u64) -> Self
-        ensures { result ≡ record { taken = []; most = most; writes_left = Some writes; failed = false } }
+        ensures { result
+            ≡ record { taken = []; most = most; writes_left = Some writes; failed = false } }
     {
         MemorySink {
             bytes: Vec::new(alloc),
@@ -61,7 +68,25 @@ impl Sink for MemorySink {
 
     ghost failed = { λ s. s.failed };
 
-    fn write(&mut self, bytes: &[u8]) -> Result<usize, Failed> {
+    /// Keeps the front of the bytes, up to the most of one write.
+    ///
+    /// `Failed`: no more writes were to succeed, or memory was refused.
+    fn write(&mut self, bytes: &[u8]) -> Result<usize, Failed>
+        requires { self.old.failed ≡ false }
+        ensures count { IfOk result (λ n. n ≤ length bytes.now) }
+        ensures bytes { IfOk result (λ n.
+            Some self.new.taken ≡ Some (self.old.taken ++ take n bytes.now)) }
+        ensures works { IfOk result (λ n. 0 < n → self.new.failed ≡ false) }
+        ensures stuck { IfOk result (λ n. n ≡ 0 → self.new.failed ≡ nat_lt 0 (length bytes.now)) }
+        ensures fails { OnErr result (self.new.failed ≡ true) }
+        ensures err_bytes { OnErr result (Some self.new.taken ≡ Some self.old.taken) }
+
+        // It takes as much as one write may take, until the write that is to fail.
+        ensures most { IfOk result (λ n. n ≡ min (length bytes.now) self.old.most) }
+        ensures due { self.old.writes_left ≡ Some 0 → IsErr result }
+        ensures writes { self.new.writes_left ≡ one_less self.old.writes_left }
+        ensures same { self.new.most ≡ self.old.most }
+    {
         if !count_down(&mut self.writes_left) {
             self.failed = true;
             return Err(Failed);

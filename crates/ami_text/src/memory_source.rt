@@ -1,12 +1,13 @@
-ghost use Rattle.std.specs.Prelude.{◌≡◌, ◌<◌, ◌-◌, ◌==◌, min, [], ◌++◌, Bool, true, false, Some, None, ◌≤◌, length, take, drop, IfOk, OnOk, OnErr};
-ghost use Rattle.std.specs.Io.KnownBytes.{append_known};
+ghost use Rattle.std.specs.Prelude.{◌≡◌, ◌<◌, ◌≤◌, ◌==◌, ◌↔◌, min, [], ◌++◌, true, false, Some, None, length, take, IsErr, IfOk, OnOk, OnErr};
+ghost use Rattle.ami_text.specs.Devices.{one_less};
 
 use crate::calls_left::count_down;
 use crate::{Failed, Source};
 use std::marker::Model;
 
-/// A source over bytes in memory, that gives at most so many bytes a read and may fail at one of its reads.
-#[derive(Drop)]
+/// A source over bytes in memory, that gives at most so many bytes a read and may fail at one of
+/// its reads.
+#[derive(Debug, Drop)]
 pub struct MemorySource<'a> {
     bytes: &'a [u8],
     at: usize,
@@ -38,7 +39,9 @@ impl<'a> MemorySource<'a> {
     /// A source that gives these bytes, at most `most` of them a read.
     pub fn new(bytes: &'a [u8], most: usize) -> Self
         requires { 0 < most }
-        ensures { result ≡ record { given = []; left = bytes.now; most = most; reads_left = None; ended = false; failed = false } }
+        ensures bytes { (result.given ≡ []) × (result.left ≡ bytes.now) }
+        ensures reads { (result.most ≡ most) × (result.reads_left ≡ None) }
+        ensures fresh { (result.ended ≡ false) × (result.failed ≡ false) }
     {
         MemorySource {
             bytes,
@@ -53,7 +56,9 @@ impl<'a> MemorySource<'a> {
     /// The same, where so many reads succeed and the next one fails.
     pub fn failing(bytes: &'a [u8], most: usize, reads: u64) -> Self
         requires { 0 < most }
-        ensures { result ≡ record { given = []; left = bytes.now; most = most; reads_left = Some reads; ended = false; failed = false } }
+        ensures bytes { (result.given ≡ []) × (result.left ≡ bytes.now) }
+        ensures reads { (result.most ≡ most) × (result.reads_left ≡ Some reads) }
+        ensures fresh { (result.ended ≡ false) × (result.failed ≡ false) }
     {
         MemorySource {
             bytes,
@@ -73,7 +78,31 @@ impl<'a> Source for MemorySource<'a> {
 
     ghost failed = { λ s. s.failed };
 
-    fn read(&mut self, piece: &mut [u8]) -> Result<usize, Failed> {
+    /// Gives the next bytes: as many as are left and the piece has room for, up to the most of one
+    /// read.
+    ///
+    /// `Failed`: no more reads were to succeed.
+    fn read(&mut self, piece: &mut [u8]) -> Result<usize, Failed>
+        requires { self.old.failed ≡ false }
+        ensures count { IfOk result (λ n. n ≤ length piece.new) }
+        ensures bytes { IfOk result (λ n.
+            Some self.new.given ≡ Some (self.old.given ++ take n piece.new)) }
+        ensures end { IfOk result (λ n. 0 < length piece.old → self.new.ended ≡ (n == 0)) }
+        ensures no_room { OnOk result (length piece.old ≡ 0 → self.new.ended ≡ self.old.ended) }
+        ensures works { OnOk result (self.new.failed ≡ false) }
+        ensures fails { OnErr result (self.new.failed ≡ true) }
+        ensures err_bytes { OnErr result (Some self.new.given ≡ Some self.old.given) }
+        ensures err_end { OnErr result (self.new.ended ≡ self.old.ended) }
+
+        // What is given comes from what is left, as much as one read may give, until the read that
+        // is to fail.
+        ensures all { self.new.given ++ self.new.left ≡ self.old.given ++ self.old.left }
+        ensures most { IfOk result (λ n.
+            n ≡ min (min (length self.old.left) self.old.most) (length piece.old)) }
+        ensures due { IsErr result ↔ (self.old.reads_left ≡ Some 0) }
+        ensures reads { self.new.reads_left ≡ one_less self.old.reads_left }
+        ensures same { self.new.most ≡ self.old.most }
+    {
         if !count_down(&mut self.reads_left) {
             self.failed = true;
             return Err(Failed);
@@ -87,7 +116,8 @@ impl<'a> Source for MemorySource<'a> {
     }
 }
 
-/// Copies from the front of the bytes what the piece has room for, at most `most` bytes, and returns how many.
+/// Copies from the front of the bytes what the piece has room for, at most `most` bytes, and
+/// returns how many.
 fn copy_front(bytes: &[u8], most: usize, piece: &mut [u8]) -> usize
     ensures count { result ≡ min (min (length bytes.now) most) (length piece.old) }
     ensures bytes { take result piece.new ≡ take result bytes.now }

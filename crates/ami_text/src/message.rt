@@ -1,7 +1,8 @@
-ghost use Rattle.std.specs.Prelude.{◌≡◌, map};
+ghost use Rattle.std.specs.Prelude.{◌≡◌, ℕ, List, [], ◌∷◌, ◌++◌, map, All, IfOk, OnOk};
 ghost use Rattle.std.specs.Option.{option_copied};
-ghost use Rattle.ami_text.specs.Fields.{first_value, value_of};
+ghost use Rattle.ami_text.specs.Fields.{fields_of, first_value, value_of};
 ghost use Rattle.ami_text.specs.Field.{pair_of};
+ghost use Rattle.ami_text.specs.Lines.{HasNoLf, ended};
 
 use crate::Memory;
 use crate::field::Field;
@@ -10,8 +11,11 @@ use bstr::ByteSlice;
 use std::alloc::Global;
 use std::marker::Model;
 
-/// A message: its fields in order. Lines without a colon are left out.
-#[derive(Drop)]
+/// A message: its fields in order, each a name and a value (the rules are this project's own).
+///
+/// A line with a colon is a field: its name stands before the first colon and its value after it,
+/// each without spaces and tabs at its ends. Lines without a colon are left out.
+#[derive(Debug, Drop)]
 pub struct Message {
     fields: Vec<Field>,
 }
@@ -26,8 +30,9 @@ impl Model for Message {
 }
 
 impl Message {
-    /// The value of the first field of this name, where ASCII letters of either case are the same. `None` where there is no such
-    /// field, and where its value is empty.
+    /// The value of the first field of this name, where ASCII letters of either case are the same.
+    /// `None` where there is no such field, and where its value is empty: a later field of the name
+    /// doesn't count. It takes no memory.
     pub fn get(&self, name: &[u8]) -> Option<&[u8]>
         ensures { option_copied result ≡ value_of name.now self.now }
     {
@@ -35,13 +40,14 @@ impl Message {
     }
 
     /// The message of these lines, each ended by LF.
-    pub(crate) fn parse(alloc: Global, lines: &[u8]) -> Result<Self, Memory> {
+    pub(crate) fn parse(alloc: Global, bytes: &[u8]) -> Result<Self, Memory>
+        ensures { IfOk result (λ m. (lines : List (List ℕ)) →
+            All HasNoLf lines → bytes.now ≡ ended lines → m ≡ fields_of lines) }
+    {
         let mut fields = Vec::new(alloc);
-        let mut rest = lines;
+        let mut rest = bytes;
         'lines: while let Some(end) = rest.find_byte(b'\n') {
-            if let Some((name, value)) = name_and_value(content(&rest[..end])) {
-                fields.push(Field::new(alloc, name, value)?)?;
-            }
+            push_field(alloc, &mut fields, &rest[..end])?;
             rest = &rest[end + 1..];
         }
         Ok(Message { fields })
@@ -58,4 +64,15 @@ fn first_value<'a>(fields: &'a [Field], name: &[u8]) -> Option<&'a [u8]>
         }
     }
     None
+}
+
+/// Adds the field that a line is; a line without a colon is none.
+fn push_field(alloc: Global, fields: &mut Vec<Field>, line: &[u8]) -> Result<(), Memory>
+    ensures { OnOk result (map pair_of fields.new.items
+        ≡ map pair_of fields.old.items ++ fields_of (line.now ∷ [])) }
+{
+    if let Some((name, value)) = name_and_value(content(line)) {
+        fields.push(Field::new(alloc, name, value)?)?;
+    }
+    Ok(())
 }

@@ -1,7 +1,7 @@
 //! What stands first in held bytes.
 
-ghost use Rattle.std.specs.Prelude.{◌≤◌, length};
-ghost use Rattle.ami_text.specs.Found.{IsWithin};
+ghost use Rattle.ami_text.specs.Found.{IsFound};
+ghost use Rattle.ami_text.specs.Progress.{IsReached};
 
 use crate::FeedFault;
 use crate::found::Found;
@@ -15,10 +15,8 @@ pub const LINES_LIMIT: usize = 128;
 
 /// Looks at the held bytes from where it stopped the last time.
 pub fn scan(held: &[u8], from: Progress) -> Found
-    requires line { from.line ≤ from.looked }
-    requires looked { from.looked ≤ length held.now }
-    requires lines { from.lines ≤ 128 }
-    ensures { IsWithin (length held.now) result }
+    requires { IsReached held.now from }
+    ensures { IsFound held.now result }
 {
     let mut empty = 0;
     let mut line = from.line;
@@ -49,15 +47,17 @@ pub fn scan(held: &[u8], from: Progress) -> Found
         line = end + 1;
         looked = line;
     }
-    if kind(&held[line..]) == LineKind::TooLong {
-        return Found::Fault {
+    match kind(&held[line..]) {
+        LineKind::TooLong => Found::Fault {
             fault: FeedFault::LineTooLong,
-        };
+        },
+        LineKind::Empty | LineKind::Full => Found::Rest {
+            empty,
+            progress: Progress {
+                line: line - empty,
+                lines,
+                looked: held.len() - empty,
+            },
+        },
     }
-    let progress = Progress {
-        line: line - empty,
-        lines,
-        looked: held.len() - empty,
-    };
-    Found::Rest { empty, progress }
 }

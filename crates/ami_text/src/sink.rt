@@ -11,14 +11,15 @@ pub trait Sink {
     /// Whether it has failed.
     ghost failed: { Self → Bool };
 
-    /// Takes bytes from the front of `bytes`, and returns how many: at most all of them. A device that takes none of bytes that
-    /// aren't empty has failed, though it answers `Ok(0)`.
+    /// Takes bytes from the front of `bytes`, and returns how many: at most all of them. A device
+    /// that takes none of bytes that aren't empty has failed, though it answers `Ok(0)`.
     ///
     /// `Failed`: the device failed, and took nothing; it may not be written to again.
     fn write(&mut self, bytes: &[u8]) -> Result<usize, Failed>
         requires { failed self.old ≡ false }
         ensures count { IfOk result (λ n. n ≤ length bytes.now) }
-        ensures bytes { IfOk result (λ n. taken self.new ≡ append_known (taken self.old) (take n bytes.now)) }
+        ensures bytes { IfOk result (λ n.
+            taken self.new ≡ append_known (taken self.old) (take n bytes.now)) }
         ensures works { IfOk result (λ n. 0 < n → failed self.new ≡ false) }
 
         // Nothing taken of bytes that aren't empty is a failure; nothing taken of none isn't.

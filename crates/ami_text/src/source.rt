@@ -14,14 +14,16 @@ pub trait Source {
     /// Whether it has failed.
     ghost failed: { Self → Bool };
 
-    /// Fills the front of the piece with the next bytes, and returns how many they are: at most the piece's length, and none
-    /// for a piece that isn't empty only at the end. What the piece holds behind them is left open.
+    /// Fills the front of the piece with the next bytes, and returns how many they are: at most the
+    /// piece's length, and none for a piece that isn't empty only at the end. What the piece holds
+    /// behind them is left open.
     ///
     /// `Failed`: the device failed, and gave nothing; it may not be read again.
     fn read(&mut self, piece: &mut [u8]) -> Result<usize, Failed>
         requires { failed self.old ≡ false }
         ensures count { IfOk result (λ n. n ≤ length piece.new) }
-        ensures bytes { IfOk result (λ n. given self.new ≡ append_known (given self.old) (take n piece.new)) }
+        ensures bytes { IfOk result (λ n.
+            given self.new ≡ append_known (given self.old) (take n piece.new)) }
         ensures end { IfOk result (λ n. 0 < length piece.old → ended self.new ≡ (n == 0)) }
 
         // A piece of length 0 tells nothing of the end.

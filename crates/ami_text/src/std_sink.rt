@@ -1,32 +1,26 @@
-ghost use Rattle.std.specs.Prelude.{◌≡◌, ◌<◌, ◌≤◌, true, false, None, length, take, nat_lt, IfSome};
-ghost use Rattle.std.specs.Io.KnownBytes.{append_known, WriteAppends};
+ghost use Rattle.std.specs.Prelude.{◌≡◌, ◌<◌, ◌≤◌, true, false, None, length, nat_lt, IfOk, OnErr};
+ghost use Rattle.std.specs.Io.KnownBytes.{WriteAppends};
+ghost use Rattle.ami_text.specs.StdDevices.{sink_writer, sink_failed};
 
 use crate::{Failed, Sink};
 use std::io::{ErrorKind, Write};
-use std::marker::Model;
 
-/// How often one write that was interrupted is tried before the device counts as failed.
+/// How often one write that is interrupted is tried before the device counts as failed.
 pub const WRITE_TRIES: u32 = 1000;
 
-/// A sink over a writer of std's.
-#[derive(Drop)]
+/// A sink over a writer of std's. It doesn't tell which bytes it has taken; that the writer has
+/// them is a clause of its `write`.
+#[derive(Debug, Drop)]
 pub struct StdSink<W> {
     writer: W,
     failed: bool,
 }
 
-impl<W> Model for StdSink<W> {
-    ghost use Rattle.ami_text.specs.Devices.{StdWriting};
-
-    ghost Value = { StdWriting };
-
-    ghost view = { λ s. record { failed = s.failed } };
-}
-
 impl<W> StdSink<W> {
     /// A sink that hands what it takes to the writer.
     pub fn new(writer: W) -> Self
-        ensures { result ≡ record { failed = false } }
+        ensures writer { sink_writer result ≡ writer }
+        ensures failed { sink_failed result ≡ false }
     {
         StdSink {
             writer,
@@ -35,7 +29,9 @@ impl<W> StdSink<W> {
     }
 
     /// The writer.
-    pub fn into_inner(self) -> W {
+    pub fn into_inner(self) -> W
+        ensures { result ≡ sink_writer self }
+    {
         self.writer
     }
 }
@@ -43,35 +39,50 @@ impl<W> StdSink<W> {
 impl<W: Write> Sink for StdSink<W> {
     ghost taken = { λ _. None };
 
-    ghost failed = { λ s. s.failed };
+    ghost failed = { λ s. sink_failed s };
 
-    fn write(&mut self, bytes: &[u8]) -> Result<usize, Failed> {
+    /// Writes once to the writer. A write that is interrupted is tried again, a thousand times in
+    /// all.
+    ///
+    /// `Failed`: the writer answered an error, or was interrupted a thousand times.
+    fn write(&mut self, bytes: &[u8]) -> Result<usize, Failed>
+        requires { sink_failed self.old ≡ false }
+        ensures count { IfOk result (λ n. n ≤ length bytes.now) }
+        ensures works { IfOk result (λ n. 0 < n → sink_failed self.new ≡ false) }
+        ensures stuck { IfOk result (λ n. n ≡ 0 → sink_failed self.new ≡ nat_lt 0 (length bytes.now)) }
+        ensures fails { OnErr result (sink_failed self.new ≡ true) }
+
+        // The writer has the bytes, where it tells them.
+        ensures writer { WriteAppends (W.contents (sink_writer self.old))
+            (W.contents (sink_writer self.new)) result bytes.now }
+    {
         match write_retrying(&mut self.writer, bytes) {
-            Some(count) => {
+            Ok(count) => {
                 self.failed = count == 0 && !bytes.is_empty();
                 Ok(count)
             }
-            None => {
+            Err(failed) => {
                 self.failed = true;
-                Err(Failed)
+                Err(failed)
             }
         }
     }
 }
 
-/// Writes once; tries again where the write was interrupted. `None` where it failed.
-fn write_retrying<W: Write>(writer: &mut W, bytes: &[u8]) -> Option<usize>
-    ensures count { IfSome result (λ n. n ≤ length bytes.now) }
+/// Writes once, and tries again where the write is interrupted.
+fn write_retrying<W: Write>(writer: &mut W, bytes: &[u8]) -> Result<usize, Failed>
+    ensures count { IfOk result (λ n. n ≤ length bytes.now) }
+    ensures writer { WriteAppends (W.contents writer.old) (W.contents writer.new) result bytes.now }
 {
     for _ in 0..WRITE_TRIES {
         match writer.write(bytes) {
-            Ok(count) => return Some(count),
+            Ok(count) => return Ok(count),
             Err(error) => {
                 if error.kind() != ErrorKind::Interrupted {
-                    return None;
+                    return Err(Failed);
                 }
             }
         }
     }
-    None
+    Err(Failed)
 }

@@ -1,33 +1,28 @@
-ghost use Rattle.std.specs.Prelude.{◌≡◌, ◌<◌, ◌≤◌, ◌==◌, true, false, None, length, take, IfSome};
-ghost use Rattle.std.specs.Io.KnownBytes.{append_known, ReadConsumes};
+ghost use Rattle.std.specs.Prelude.{◌≡◌, ◌<◌, ◌≤◌, ◌==◌, true, false, None, length, IfOk, OnOk, OnErr};
+ghost use Rattle.std.specs.Io.KnownBytes.{ReadConsumes};
+ghost use Rattle.ami_text.specs.StdDevices.{source_reader, source_ended, source_failed};
 
 use crate::{Failed, Source};
 use std::io::{ErrorKind, Read};
-use std::marker::Model;
 
-/// How often one read that was interrupted is tried before the device counts as failed.
+/// How often one read that is interrupted is tried before the device counts as failed.
 pub const READ_TRIES: u32 = 1000;
 
-/// A source over a reader of std's.
-#[derive(Drop)]
+/// A source over a reader of std's. It doesn't tell which bytes it has given; that they are the
+/// reader's is a clause of its `read`.
+#[derive(Debug, Drop)]
 pub struct StdSource<R> {
     reader: R,
     ended: bool,
     failed: bool,
 }
 
-impl<R> Model for StdSource<R> {
-    ghost use Rattle.ami_text.specs.Devices.{StdReading};
-
-    ghost Value = { StdReading };
-
-    ghost view = { λ s. record { ended = s.ended; failed = s.failed } };
-}
-
 impl<R> StdSource<R> {
     /// A source that gives what the reader gives from here on.
     pub fn new(reader: R) -> Self
-        ensures { result ≡ record { ended = false; failed = false } }
+        ensures reader { source_reader result ≡ reader }
+        ensures ended { source_ended result ≡ false }
+        ensures failed { source_failed result ≡ false }
     {
         StdSource {
             reader,
@@ -37,7 +32,9 @@ impl<R> StdSource<R> {
     }
 
     /// The reader.
-    pub fn into_inner(self) -> R {
+    pub fn into_inner(self) -> R
+        ensures { result ≡ source_reader self }
+    {
         self.reader
     }
 }
@@ -45,39 +42,57 @@ impl<R> StdSource<R> {
 impl<R: Read> Source for StdSource<R> {
     ghost given = { λ _. None };
 
-    ghost ended = { λ s. s.ended };
+    ghost ended = { λ s. source_ended s };
 
-    ghost failed = { λ s. s.failed };
+    ghost failed = { λ s. source_failed s };
 
-    fn read(&mut self, piece: &mut [u8]) -> Result<usize, Failed> {
+    /// Reads once from the reader. A read that is interrupted is tried again, a thousand times in
+    /// all.
+    ///
+    /// `Failed`: the reader answered an error, or was interrupted a thousand times.
+    fn read(&mut self, piece: &mut [u8]) -> Result<usize, Failed>
+        requires { source_failed self.old ≡ false }
+        ensures count { IfOk result (λ n. n ≤ length piece.new) }
+        ensures end { IfOk result (λ n. 0 < length piece.old → source_ended self.new ≡ (n == 0)) }
+        ensures no_room { OnOk result (length piece.old ≡ 0 →
+            source_ended self.new ≡ source_ended self.old) }
+        ensures works { OnOk result (source_failed self.new ≡ false) }
+        ensures fails { OnErr result (source_failed self.new ≡ true) }
+        ensures err_end { OnErr result (source_ended self.new ≡ source_ended self.old) }
+
+        // The bytes are those that the reader had left, where it tells them.
+        ensures reader { ReadConsumes (R.remaining (source_reader self.old))
+            (R.remaining (source_reader self.new)) result piece.new }
+    {
         match read_retrying(&mut self.reader, piece) {
-            Some(count) => {
+            Ok(count) => {
                 if !piece.is_empty() {
                     self.ended = count == 0;
                 }
                 Ok(count)
             }
-            None => {
+            Err(failed) => {
                 self.failed = true;
-                Err(Failed)
+                Err(failed)
             }
         }
     }
 }
 
-/// Reads once; tries again where the read was interrupted. `None` where it failed.
-fn read_retrying<R: Read>(reader: &mut R, piece: &mut [u8]) -> Option<usize>
-    ensures count { IfSome result (λ n. n ≤ length piece.new) }
+/// Reads once, and tries again where the read is interrupted.
+fn read_retrying<R: Read>(reader: &mut R, piece: &mut [u8]) -> Result<usize, Failed>
+    ensures count { IfOk result (λ n. n ≤ length piece.new) }
+    ensures reader { ReadConsumes (R.remaining reader.old) (R.remaining reader.new) result piece.new }
 {
     for _ in 0..READ_TRIES {
         match reader.read(piece) {
-            Ok(count) => return Some(count),
+            Ok(count) => return Ok(count),
             Err(error) => {
                 if error.kind() != ErrorKind::Interrupted {
-                    return None;
+                    return Err(Failed);
                 }
             }
         }
     }
-    None
+    Err(Failed)
 }

@@ -1,5 +1,5 @@
 -- Totals: they depend on what a knowledge contains alone, and don't fall as it grows.
-use Rattle.std.proofs.Common.{◌≡◌, ℕ, zero, suc, ◌+◌, ◌≤◌, ◌<◌, max, List, [], ◌∷◌, ◌++◌, Contains, refl, sym, ap, ◌∙◌, ◌⊎◌, inl, inr, arith}
+use Rattle.std.proofs.Common.{◌≡◌, ℕ, zero, suc, ◌≤◌, ◌<◌, [], ◌∷◌, Contains, ap, ◌⊎◌, inl, inr, arith}
 use Rattle.dots.specs.Operations.{Operation, Calls}
 use Rattle.dots.specs.Knowledge.{Knowledge, SameOperations}
 use Rattle.dots.specs.Totals.{sum_below}

@@ -1,6 +1,6 @@
 -- The field of a dot: the greatest stamp of what is set, and that it depends on what the knowledge contains alone.
-use Rattle.std.proofs.Common.{◌≡◌, ◌≢◌, ◌⊎◌, inl, inr, ℕ, Bool, true, false, List, [], ◌∷◌, Contains, Option, Some, None, IsSome, is_some, true≢false, refl, sym, ap, subst, ◌∙◌, if◌then◌else◌, arith}
-use Rattle.std.specs.List.{filter_map, find, list_any}
+use Rattle.std.proofs.Common.{◌≡◌, ◌≢◌, inl, inr, Bool, true, false, List, [], ◌∷◌, Contains, Option, Some, None, IsSome, is_some, true≢false, refl, sym, ap, subst, ◌∙◌, if◌then◌else◌, arith}
+use Rattle.std.specs.List.{find}
 use Rattle.std.specs.Option.{option_map}
 use Rattle.std.specs.Ordering.{ordering_reverse, is_eq, is_gt}
 use Rattle.std.specs.declared.cmp.Ordering.{Ordering}
@@ -9,7 +9,7 @@ use Rattle.std.proofs.lemmas.Cmp.{upto, tied_itself}
 use Rattle.dots.specs.declared.member.Member.{Member}
 use Rattle.dots.specs.Values.{Tag, Timestamp}
 use Rattle.dots.specs.Orders.{dot_cmp, stamp_cmp}
-use Rattle.dots.specs.Registers.{Entry, joined}
+use Rattle.dots.specs.Registers.{Entry}
 use Rattle.dots.specs.Operations.{Operation, Field, asserted}
 use Rattle.dots.specs.Knowledge.{Knowledge, SameOperations, OneValue, IsFieldOf, is_dot, asserts, all_asserted, member_of, settings_of, latest_of, field_of}
 use Rattle.dots.proofs.DotOrder.{dots_total, dots_exact}

@@ -1,5 +1,5 @@
 -- What lists contain that are filtered, mapped or put together, and tests of what they contain.
-use Rattle.std.proofs.Common.{◌≡◌, ℕ, ◌<◌, Bool, true, false, cond, ◌||◌, ◌⊎◌, inl, inr, List, [], ◌∷◌, ◌++◌, length, slice_index_or, Contains, Option, Some, None, refl, sym, ap, subst, ◌∙◌, arith, true≢false, map, is_some}
+use Rattle.std.proofs.Common.{◌≡◌, ℕ, ◌<◌, Bool, true, false, cond, ◌||◌, ◌⊎◌, inl, inr, List, [], ◌∷◌, slice_index_or, Contains, Option, Some, None, refl, sym, ap, subst, ◌∙◌, arith, true≢false, map, is_some}
 use Rattle.std.specs.List.{list_any, flat_map, filter_map, find, cons_option}
 use Rattle.std.proofs.lemmas.List.Elements.{Contains-get_or, Contains-append_left, Contains-append_right, Contains-append_cases}
 use Rattle.std.proofs.lemmas.List.Folds.{list_any-append}

@@ -1,6 +1,6 @@
 -- Rows: they depend on what a knowledge contains alone, and show the latest setting over a member's visible dots.
-use Rattle.std.proofs.Common.{◌≡◌, ◌≢◌, ◌⊎◌, inl, inr, ℕ, Bool, true, false, cond, filter, List, [], ◌∷◌, Contains, Option, Some, None, IsSome, refl, sym, ap, subst, ◌∙◌, true≢false, is_some, arith}
-use Rattle.std.specs.List.{filter_map, list_any}
+use Rattle.std.proofs.Common.{◌≡◌, ◌≢◌, inl, inr, Bool, true, false, cond, filter, List, [], ◌∷◌, Contains, Option, Some, None, IsSome, refl, sym, ap, subst, ◌∙◌, true≢false, is_some, arith}
+use Rattle.std.specs.List.{filter_map}
 use Rattle.std.specs.FinSet as set
 use Rattle.std.specs.Option.{option_map_or}
 use Rattle.std.specs.Ordering.{eq_by_cmp, is_eq}
@@ -13,8 +13,8 @@ use Rattle.dots.specs.Values.{Tag}
 use Rattle.dots.specs.Orders.{dot_cmp, member_cmp, stamp_cmp}
 use Rattle.dots.specs.Registers.{Entry}
 use Rattle.dots.specs.Operations.{Field}
-use Rattle.dots.specs.Knowledge.{Knowledge, SameOperations, IsConsistent, IsFieldOf, visible_dots, member_of, field_of, settings_of, latest_of}
-use Rattle.dots.specs.Rows.{DotReading, MemberRow, dots_read, is_of, dots_of, member_field, row_if, row_of, rows_of}
+use Rattle.dots.specs.Knowledge.{Knowledge, SameOperations, IsConsistent, IsFieldOf, visible_dots, member_of, field_of, settings_of}
+use Rattle.dots.specs.Rows.{MemberRow, dots_read, is_of, dots_of, row_if, row_of, rows_of}
 use Rattle.dots.specs.Shown.{ShowsLatest, ShowTheSame}
 use Rattle.dots.proofs.DotOrder.{dots_exact}
 use Rattle.dots.proofs.Membership.{first-in, later-in, cases-in, some-in, in-some, in-any}

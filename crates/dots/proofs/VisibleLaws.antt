@@ -1,11 +1,10 @@
 -- Which dots are visible.
-use Rattle.std.proofs.Common.{◌≡◌, ℕ, Bool, true, false, not, ◌&&◌, ◌||◌, List, [], ◌∷◌, ◌++◌, Contains, refl, sym, ap, ◌∙◌, true≢false, map, ◌↔◌}
+use Rattle.std.proofs.Common.{◌≡◌, Bool, true, false, not, ◌&&◌, ◌||◌, ◌++◌, refl, sym, ap, ◌∙◌, true≢false, map, ◌↔◌}
 use Rattle.std.specs.List.{list_any}
 use Rattle.std.specs.FinSet as set
 use Rattle.std.proofs.lemmas.List.Folds.{list_any-append}
 use Rattle.dots.specs.Values.{Tag}
-use Rattle.dots.specs.Orders.{dot_cmp}
-use Rattle.dots.specs.Operations.{Operation, asserted, named}
+use Rattle.dots.specs.Operations.{Operation, asserted}
 use Rattle.dots.specs.Knowledge.{Knowledge, SameOperations, is_dot, asserts, names, is_asserted, is_named, all_asserted, asserted_dots, visible_dots}
 use Rattle.dots.specs.Shown.{IsVisible}
 use Rattle.dots.proofs.DotOrder.{dots_total, dots_exact}

@@ -1,5 +1,5 @@
 -- The running totals of calls in a knowledge (RR-7506's grow-only counter).
-use Rattle.std.specs.Prelude.{ℕ, ◌==◌, ◌&&◌, max, Bool, true, false, List, [], ◌∷◌, if◌then◌else◌}
+use Rattle.std.specs.Prelude.{ℕ, ◌==◌, ◌&&◌, max, Bool, true, false, [], ◌∷◌, if◌then◌else◌}
 use Rattle.dots.specs.Operations.{Operation, Calls, Add, Write, Remove, Count, Completed, Abandoned}
 use Rattle.dots.specs.Knowledge.{Knowledge}
 use Rattle.dots.specs.Totals.{sum_below}

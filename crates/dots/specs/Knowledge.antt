@@ -1,6 +1,6 @@
 -- A knowledge is a set of operations: all that a site has made or taken. It is written as a list, and read by what it
 -- contains alone, so order and repetition don't matter.
-use Rattle.std.specs.Prelude.{ℕ, ◌≡◌, ◌≢◌, ◌↔◌, Bool, true, false, not, ◌&&◌, List, [], ◌∷◌, Option, Some, None, map, Contains, if◌then◌else◌}
+use Rattle.std.specs.Prelude.{◌≡◌, ◌≢◌, ◌↔◌, Bool, not, List, [], ◌∷◌, Option, Some, None, map, Contains, if◌then◌else◌}
 use Rattle.std.specs.List.{list_any, flat_map, filter_map, find}
 use Rattle.std.specs.Option.{option_map}
 use Rattle.std.specs.FinSet as set

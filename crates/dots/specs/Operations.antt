@@ -1,6 +1,6 @@
 -- Operations: the changes that sites make, each of which is made once (RR-7506). An add makes a new dot, and a remove
 -- names the dots that its site sees (RR-8083's observed-remove set).
-use Rattle.std.specs.Prelude.{ℕ, Bool, List, [], ◌∷◌, Option, Some, None}
+use Rattle.std.specs.Prelude.{ℕ, List, [], ◌∷◌, Option, Some, None}
 use Rattle.std.specs.FinSet as set
 use Rattle.dots.specs.declared.label.Label.{Label}
 use Rattle.dots.specs.declared.member.Member.{Member}

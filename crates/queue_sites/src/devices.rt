@@ -1,5 +1,6 @@
 //! A script is read whole before any of its lines is run, and each line's output is written whole.
-ghost use Rattle.std.specs.Prelude.{◌≡◌, ◌≤◌, false, length, vec_len, IfOk, OnOk};
+ghost use Rattle.std.specs.Prelude.{◌≡◌, ◌≤◌, true, false, vec_len, IfOk, IfErr, OnOk};
+ghost use Rattle.std.specs.Io.KnownBytes.{append_known};
 
 use crate::script_fault::ScriptFault;
 use ami_text::{Sink, Source};
@@ -18,7 +19,9 @@ pub const MOST_BYTES: usize = 16_777_216;
 /// 1,000,000 reads; `TooLong` where there are more than 16,777,216 bytes; `Memory`.
 pub fn read_script<S: Source>(alloc: Global, reader: &mut S) -> Result<Vec<u8>, ScriptFault>
     requires { S.failed reader.old ≡ false }
-    ensures limit { IfOk result (λ bytes. vec_len bytes ≤ 16777216) }
+    ensures whole { IfOk result (λ script. S.given reader.new ≡ append_known (S.given reader.old) script.items) }
+    ensures ended { OnOk result (S.ended reader.new ≡ true) }
+    ensures limit { IfOk result (λ script. vec_len script ≤ 16777216) }
 {
     let mut script = Vec::new(alloc);
     let mut piece = [0u8; PIECE];
@@ -40,7 +43,9 @@ pub fn read_script<S: Source>(alloc: Global, reader: &mut S) -> Result<Vec<u8>, 
 /// Writes all the bytes. Fault: `Write` where the writer fails or takes none; a prefix was written.
 pub fn write_all<W: Sink>(writer: &mut W, bytes: &[u8]) -> Result<(), ScriptFault>
     requires { W.failed writer.old ≡ false }
+    ensures written { OnOk result (W.taken writer.new ≡ append_known (W.taken writer.old) bytes.now) }
     ensures works { OnOk result (W.failed writer.new ≡ false) }
+    ensures fault { IfErr result (λ fault. fault ≡ ScriptFault.Write) }
 {
     let mut rest = bytes;
     while !rest.is_empty() {

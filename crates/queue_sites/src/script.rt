@@ -1,4 +1,4 @@
-ghost use Rattle.std.specs.Prelude.{◌≡◌, ◌≤◌, ◌<◌, false, length, vec_len};
+ghost use Rattle.std.specs.Prelude.{◌≡◌, ◌<◌, ◌++◌, true, false, codes, decimal, length, IfOk, IfErr, OnOk, IsErrOf};
 
 use crate::devices::{read_script, write_all};
 use crate::line::{Line, read_line};
@@ -26,6 +26,11 @@ pub fn run_script<S: Source, W: Sink>(
 ) -> Result<u64, ScriptFault>
     requires reader { S.failed reader.old ≡ false }
     requires writer { W.failed writer.old ≡ false }
+    ensures ended { OnOk result (S.ended reader.new ≡ true) }
+
+    // After these two nothing was written.
+    ensures unread { IsErrOf result ScriptFault.Read → W.taken writer.new ≡ W.taken writer.old }
+    ensures too_long { IsErrOf result ScriptFault.TooLong → W.taken writer.new ≡ W.taken writer.old }
 {
     let script = read_script(alloc, reader)?;
     let site = SiteId::new(0).unwrap();
@@ -64,7 +69,10 @@ fn cut_line(bytes: &[u8]) -> (&[u8], &[u8])
 }
 
 // What is written of a line that isn't understood.
-fn not_understood(alloc: Global, number: u64) -> Result<Vec<u8>, ScriptFault> {
+fn not_understood(alloc: Global, number: u64) -> Result<Vec<u8>, ScriptFault>
+    ensures text { IfOk result (λ text. text.items ≡ codes "line " ++ decimal number ++ codes ": not understood\n") }
+    ensures fault { IfErr result (λ fault. fault ≡ ScriptFault.Memory) }
+{
     let text = format!(in alloc; "line {number}: not understood\n").map_err(
         |_| ScriptFault::Memory,
     )?;
@@ -76,7 +84,9 @@ fn run_line(
     alloc: Global,
     replica: &mut Replica,
     line: &[u8],
-) -> Result<Option<Vec<u8>>, ScriptFault> {
+) -> Result<Option<Vec<u8>>, ScriptFault>
+    ensures { IfErr result (λ fault. fault ≡ ScriptFault.Memory) }
+{
     match read_line(line) {
         Line::Nothing => Ok(Some(Vec::new(alloc))),
         Line::Unknown => Ok(None),
@@ -121,7 +131,9 @@ fn run_message(
     alloc: Global,
     replica: &mut Replica,
     message: &Message,
-) -> Result<Vec<u8>, ScriptFault> {
+) -> Result<Vec<u8>, ScriptFault>
+    ensures { IfErr result (λ fault. fault ≡ ScriptFault.Memory) }
+{
     let mut session = Session::trusted();
     match session
         .handle(alloc, message)
@@ -138,7 +150,9 @@ fn run_message(
 }
 
 // The site's answer. Want of memory is no answer but the script's fault.
-fn answer_of(alloc: Global, replica: &mut Replica, asked: Ask) -> Result<Answer, ScriptFault> {
+fn answer_of(alloc: Global, replica: &mut Replica, asked: Ask) -> Result<Answer, ScriptFault>
+    ensures { IfErr result (λ fault. fault ≡ ScriptFault.Memory) }
+{
     match ask(alloc, replica, asked) {
         Answer::Refused(Refusal::Memory) => Err(ScriptFault::Memory),
         answer => Ok(answer),

@@ -1,1 +1,4 @@
+pub mod AddLemmas
+pub mod EntryLemmas
+pub mod HeldLemmas
 pub mod NameLemmas

@@ -1,5 +1,5 @@
 -- Lists of names: when two are the same, and what stands where a name is found.
-use Rattle.std.proofs.Common.{◌≡◌, ℕ, ◌<◌, ◌≤◌, ◌==◌, Bool, not, take, drop, suc, arith, AllPairs, true, false, ◌||◌, List, [], ◌∷◌, ◌++◌, Option, None, Some, slice_get, slice_index_or, position, refl, sym, ap, subst, ◌∙◌, nat_eq, true≢false, length, Contains}
+use Rattle.std.proofs.Common.{◌≡◌, ℕ, ◌<◌, ◌≤◌, ◌==◌, Bool, not, take, drop, suc, arith, true, false, ◌||◌, List, [], ◌∷◌, ◌++◌, Some, slice_get, slice_index_or, position, refl, sym, ap, subst, ◌∙◌, nat_eq, true≢false, length}
 use Rattle.std.specs.Bool.{Decides}
 use Rattle.std.specs.Cmp.{IsEquivalence}
 use Rattle.std.specs.Cmp.Lexicographic.{pointwise}
@@ -7,7 +7,6 @@ use Rattle.std.specs.List.{list_any, IsDistinct, AllByRecursion}
 use Rattle.std.proofs.lemmas.Bool.Decides.{Decides-eqb}
 use Rattle.std.proofs.lemmas.List.Quantifiers.{position-Some}
 use Rattle.std.proofs.Math.Seq.{split_at}
-use Rattle.std.proofs.lemmas.Bool.{eq-eqb}
 use Rattle.std.proofs.lemmas.Bool.Decides.{nat_tests}
 use Rattle.std.proofs.lemmas.Cmp.{nat_list_eq_equiv}
 use Rattle.std.proofs.lemmas.List.{take_all}

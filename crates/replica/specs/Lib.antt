@@ -1,3 +1,6 @@
+pub mod Commands
+pub mod Held
 pub mod Listed
 pub mod Queues
 pub mod Rows
+pub mod Site

@@ -1,5 +1,7 @@
 -- The list of queue names that a site is started with.
-use Rattle.std.specs.Prelude.{ℕ, ◌≡◌, ◌≢◌, ◌<◌, ◌≤◌, List, length, AllPairs}
+use Rattle.std.specs.Prelude.{ℕ, ◌≢◌, ◌<◌, ◌≤◌, List, Option, length, nat_eq, AllPairs}
+use Rattle.std.specs.List.{position}
+use Rattle.std.specs.Cmp.Lexicographic.{pointwise}
 
 -- no two names are the same
 abbrev pub AreDistinct : List (List ℕ) → Type 0
@@ -10,3 +12,7 @@ pub record AreQueues (names : List (List ℕ)) : Type 0 where
   pub some : 0 < length names
   pub few : length names ≤ 256
   pub distinct : AreDistinct names
+
+-- the number of the queue of this name: its place in the list of names
+abbrev pub number_of : List (List ℕ) → List ℕ → Option ℕ
+number_of names name = position (pointwise nat_eq name) names

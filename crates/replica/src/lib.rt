@@ -5,6 +5,7 @@
 #![tactic(auto)]
 
 mod command;
+mod entries;
 mod entry;
 mod queue_list;
 mod refusal;

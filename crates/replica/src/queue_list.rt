@@ -1,5 +1,5 @@
 ghost use Rattle.std.specs.Prelude.{◌≡◌, ◌↔◌, ◌<◌, ◌≤◌, length, Some, slice_get, option_map, Contains, IfSome, IfNone, IfOk, OnOk, IsErrOf};
-ghost use Rattle.replica.specs.Queues.{AreDistinct, AreQueues};
+ghost use Rattle.replica.specs.Queues.{AreDistinct, AreQueues, number_of};
 
 use dots::{Memory, QueueName};
 use indexmap::IndexSet;
@@ -67,6 +67,7 @@ impl QueueList {
 
     /// The place of the queue of this name, from 0. `None` exactly where the name isn't in the list.
     pub fn position(&self, name: &QueueName) -> Option<u16>
+        ensures number { result ≡ number_of self.now name.now }
         ensures value { IfSome result (λ place. slice_get self.now place ≡ Some name.now) }
         ensures none { IfNone result (Contains self.now name.now → ⊥) }
     {

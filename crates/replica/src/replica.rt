@@ -1,14 +1,21 @@
-ghost use Rattle.std.specs.Prelude.{◌≡◌, ◌≤◌, ◌^◌, IfErr, vec_len, length};
+ghost use Rattle.std.specs.Prelude.{◌≡◌, ◌≤◌, length, option_map, OnOk, OnErr, IsErrOf};
+ghost use Rattle.std.specs.FinMap as map;
+ghost use Rattle.replica.specs.Commands.{CanAdd, HasMember, HasQueue, IsExhausted, IsFull, IsNewMember, IsAnswer, after};
+ghost use Rattle.replica.specs.Rows.{row_of};
+ghost use Rattle.replica.specs.Site.{rows_of};
 
+use crate::entries::{of_queue, place, row_in};
 use crate::entry::Entry;
 use crate::{Command, QueueList, Refusal, Row, Rows};
 use dots::{Dot, Interface, Label, Member, Pause, Penalty, QueueName, SiteId, Stamp, Text80};
 use std::alloc::Global;
+use std::marker::Model;
 
 // How many members a replica may hold.
 const MOST_MEMBERS: usize = 16_384;
 
-/// What one site knows of the queue members.
+/// What one site knows of the queue members: its number, the list of the queues, the members of each queue with
+/// what is set of them, at most 16,384 in all, and how many adds it has made, at most 2^40.
 #[derive(Drop)]
 pub struct Replica {
     site: SiteId,
@@ -17,13 +24,30 @@ pub struct Replica {
     entries: Vec<Entry>,
     // The count of this site's last add, which is its last time too; 0 before the first.
     last: u64,
-    ghost counted: { last ≤ 2 ^ 40 },
-    ghost few: { vec_len entries ≤ 16384 },
+}
+
+impl Model for Replica {
+    ghost use Rattle.replica.specs.Site.{SiteState, site_code};
+
+    ghost Value = { SiteState };
+
+    ghost coded = { site_code };
+
+    ghost use Rattle.replica.specs.Held.{IsKept, members_of};
+
+    ghost view = { λ r. record { site = r.site; names = r.list; members = members_of r.entries.items; adds = r.last } };
+
+    ghost invariant = { λ r. IsKept r.list r.entries.items r.last };
 }
 
 impl Replica {
     /// The replica of a site that knows nothing yet. It takes no memory.
-    pub fn new(alloc: Global, site: SiteId, list: QueueList) -> Replica {
+    pub fn new(alloc: Global, site: SiteId, list: QueueList) -> Replica
+        ensures site { result.site ≡ site }
+        ensures names { result.names ≡ list }
+        ensures no_members { result.members ≡ map.empty }
+        ensures no_adds { result.adds ≡ 0 }
+    {
         Replica {
             site,
             list,
@@ -41,35 +65,46 @@ impl Replica {
 
     /// The queues.
     pub fn list(&self) -> &QueueList
-        ensures { result.now ≡ self.now.list }
+        ensures { result.now ≡ self.now.names }
     {
         &self.list
     }
 
     /// What is set of this member. `None` where it isn't in its queue.
-    pub fn row(&self, member: &Member) -> Option<Row<'_>> {
-        let place = self.place(member).ok()?;
-        let entry = self.entries.get(place)?;
-        Some(entry.row())
+    pub fn row(&self, member: &Member) -> Option<Row<'_>>
+        ensures { option_map row_of result ≡ map.get self.now.members member.now }
+    {
+        row_in(&self.entries, member)
     }
 
     /// The members of the queue of this number with their rows, in the order of their interfaces' bytes.
     pub fn rows(&self, queue: u16) -> Rows<'_>
+        ensures value { result ≡ rows_of self.now.members queue }
         ensures few { length result ≤ 16384 }
     {
-        let entries = self.entries.as_slice();
-        let start = entries.partition_point(|entry| entry.member.queue < queue);
-        let from_start = &entries[start..];
-        let count = from_start.partition_point(|entry| entry.member.queue == queue);
-        Rows::new(&from_start[..count])
+        Rows::new(of_queue(&self.entries, queue))
     }
 
     /// Does a command, or refuses it and changes nothing.
     ///
-    /// An add is refused, in this order, as `NoSuchQueue` where its queue isn't in the list, `AlreadyThere`
-    /// where the member is in the queue, `MembersFull` where the replica has 16,384 members, `Exhausted`
-    /// where the site's next count or time would pass 2^40, and `Memory`.
-    pub fn command(&mut self, command: Command) -> Result<(), Refusal> {
+    /// An add that is done makes the interface a member of the queue of that name, with what is set of it and an
+    /// empty reason, and counts one add more. It is refused, in this order, as `NoSuchQueue` where its queue isn't
+    /// in the list, `AlreadyThere` where the member is in the queue, `MembersFull` where the replica has 16,384
+    /// members, `Exhausted` where the site's next count or time would pass 2^40, and `Memory`.
+    pub fn command(&mut self, command: Command) -> Result<(), Refusal>
+        ensures done { OnOk result (self.new ≡ after self.old command) }
+        ensures possible { OnOk result (CanAdd self.old command) }
+        ensures no_such_queue { IsErrOf result Refusal.NoSuchQueue → HasQueue self.old command → ⊥ }
+        ensures already_there { IsErrOf result Refusal.AlreadyThere
+            → HasQueue self.old command × HasMember self.old command }
+        ensures members_full { IsErrOf result Refusal.MembersFull
+            → IsNewMember self.old command × IsFull self.old }
+        ensures exhausted { IsErrOf result Refusal.Exhausted
+            → IsNewMember self.old command × ((IsFull self.old → ⊥) × IsExhausted self.old) }
+        ensures memory { IsErrOf result Refusal.Memory → CanAdd self.old command }
+        ensures never { (IsErrOf result Refusal.NotThere → ⊥) × (IsErrOf result Refusal.TotalFull → ⊥) }
+        ensures unchanged { OnErr result (self.new ≡ self.old) }
+    {
         match command {
             Command::Add {
                 queue,
@@ -88,18 +123,27 @@ impl Replica {
         penalty: Penalty,
         paused: bool,
         label: Label,
-    ) -> Result<(), Refusal> {
-        let queue = self.list.position(&queue).ok_or(Refusal::NoSuchQueue)?;
-        let member = Member { queue, interface };
-        let Err(place) = self.place(&member) else {
+    ) -> Result<(), Refusal>
+        ensures { IsAnswer self.old (Command.Add queue interface penalty paused label) self.new result }
+    {
+        let Some(number) = self.list.position(&queue) else {
+            return Err(Refusal::NoSuchQueue);
+        };
+        let member = Member {
+            queue: number,
+            interface,
+        };
+        let Err(gap) = place(&self.entries, &member) else {
             return Err(Refusal::AlreadyThere);
         };
         if self.entries.len() >= MOST_MEMBERS {
             return Err(Refusal::MembersFull);
         }
         let next = self.last + 1;
-        let dot = Dot::new(self.site, next).ok_or(Refusal::Exhausted)?;
-        let stamp = Stamp::new(next, self.site).ok_or(Refusal::Exhausted)?;
+        let (Some(dot), Some(stamp)) = (Dot::new(self.site, next), Stamp::new(next, self.site))
+        else {
+            return Err(Refusal::Exhausted);
+        };
         let entry = Entry {
             dot,
             member,
@@ -108,19 +152,12 @@ impl Replica {
             pause: Pause::new(paused, Text80::empty()),
             label,
         };
-        self.entries
-            .insert(place, entry)
-            .map_err(|_| Refusal::Memory)?;
-        self.last = next;
-        Ok(())
-    }
-
-    // The place of the member among the entries, or else the one where it would stand.
-    fn place(&self, member: &Member) -> Result<usize, usize>
-        ensures { IfErr result (λ place. place ≤ vec_len self.now.entries) }
-    {
-        self.entries
-            .as_slice()
-            .binary_search_by(|entry| entry.member.cmp(member))
+        match self.entries.insert(gap, entry) {
+            Ok(()) => {
+                self.last = next;
+                Ok(())
+            }
+            Err(_) => Err(Refusal::Memory),
+        }
     }
 }

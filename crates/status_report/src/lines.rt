@@ -1,6 +1,6 @@
 //! Lines of a message that is written: `Name: value`, ended by CR LF, and an empty line at the message's end.
 ghost use Rattle.std.specs.Prelude.{◌≡◌, ◌++◌, codes, decimal, OnOk};
-ghost use Rattle.status_report.specs.Lines.{field};
+ghost use Rattle.status_report.specs.Lines.{field, action_id_line};
 
 use dots::Memory;
 use itoa::Buffer;
@@ -23,6 +23,17 @@ pub fn push_number(out: &mut Vec<u8>, name: &str, value: u64) -> Result<(), Memo
 {
     let mut buffer = Buffer::new();
     push_field(out, name, buffer.format(value).as_bytes())
+}
+
+/// Writes the line of an ActionID at the end, and nothing where it has no bytes. The one fault is want of memory; part
+/// of the line may then stand.
+pub fn push_action_id_line(out: &mut Vec<u8>, action_id: &[u8]) -> Result<(), Memory>
+    ensures { OnOk result (out.new.items ≡ out.old.items ++ action_id_line action_id.now) }
+{
+    if action_id.is_empty() {
+        return Ok(());
+    }
+    push_field(out, "ActionID", action_id)
 }
 
 /// Writes the empty line that ends a message. The one fault is want of memory.

@@ -1,20 +1,22 @@
-ghost use Rattle.std.specs.Prelude.{◌≤◌, IfOk};
+ghost use Rattle.std.specs.Prelude.{◌≡◌, ◌≤◌, ◌++◌, length, slice_get, IfOk, OnOk};
+ghost use Rattle.std.specs.List.{concat};
+ghost use Rattle.replica.specs.Rows.{row_of};
+ghost use Rattle.status_report.specs.Status.{blocks_named, closing, event_lines, is_member_wanted, is_queue_wanted, member_block, member_blocks, opening, queue_block, report_of, shown};
+ghost use Rattle.status_report.specs.Lines.{action_id_line};
 
 use crate::StatusRequest;
-use crate::lines::{push_end, push_field, push_number};
+use crate::lines::{push_action_id_line, push_end, push_field, push_number};
 use dots::{Interface, Memory, QueueName};
-use replica::{Replica, Row};
+use replica::{Replica, Row, Rows};
 use std::alloc::Global;
 
 /// The report of what the replica's queues show: a block that opens it, then for each queue of the list that the
 /// request doesn't leave out a block of its totals and one block a member, in the order of the interfaces' bytes,
 /// and a block that closes it with the number of blocks between (Asterisk's QueueStatus; which fields there are
 /// and their order are this project's own). The one fault is want of memory.
-pub fn report(
-    alloc: Global,
-    replica: &Replica,
-    request: &StatusRequest,
-) -> Result<Vec<u8>, Memory> {
+pub fn report(alloc: Global, replica: &Replica, request: &StatusRequest) -> Result<Vec<u8>, Memory>
+    ensures { IfOk result (λ out. out.items ≡ report_of replica.now request.now) }
+{
     let mut out = Vec::new(alloc);
     push_opening(&mut out, request)?;
     let mut events = 0;
@@ -26,15 +28,23 @@ pub fn report(
 }
 
 // The ActionID's line, where the request has one.
-fn push_action_id(out: &mut Vec<u8>, request: &StatusRequest) -> Result<(), Memory> {
-    let action_id = request.action_id.as_slice();
-    if action_id.is_empty() {
-        return Ok(());
-    }
-    push_field(out, "ActionID", action_id)
+fn push_action_id(out: &mut Vec<u8>, request: &StatusRequest) -> Result<(), Memory>
+    ensures { OnOk result (out.new.items ≡ out.old.items ++ action_id_line request.now.action_id) }
+{
+    push_action_id_line(out, request.action_id.as_slice())
 }
 
-fn push_opening(out: &mut Vec<u8>, request: &StatusRequest) -> Result<(), Memory> {
+// The lines that begin an event: its name, and the ActionID where the request has one.
+fn push_event(out: &mut Vec<u8>, request: &StatusRequest, event: &[u8]) -> Result<(), Memory>
+    ensures { OnOk result (out.new.items ≡ out.old.items ++ event_lines request.now.action_id event.now) }
+{
+    push_field(out, "Event", event)?;
+    push_action_id(out, request)
+}
+
+fn push_opening(out: &mut Vec<u8>, request: &StatusRequest) -> Result<(), Memory>
+    ensures { OnOk result (out.new.items ≡ out.old.items ++ opening request.now.action_id) }
+{
     push_field(out, "Response", b"Success")?;
     push_action_id(out, request)?;
     push_field(out, "EventList", b"start")?;
@@ -42,9 +52,10 @@ fn push_opening(out: &mut Vec<u8>, request: &StatusRequest) -> Result<(), Memory
     push_end(out)
 }
 
-fn push_closing(out: &mut Vec<u8>, request: &StatusRequest, events: u64) -> Result<(), Memory> {
-    push_field(out, "Event", b"QueueStatusComplete")?;
-    push_action_id(out, request)?;
+fn push_closing(out: &mut Vec<u8>, request: &StatusRequest, events: u64) -> Result<(), Memory>
+    ensures { OnOk result (out.new.items ≡ out.old.items ++ closing request.now.action_id events) }
+{
+    push_event(out, request, b"QueueStatusComplete")?;
     push_field(out, "EventList", b"Complete")?;
     push_number(out, "ListItems", events)?;
     push_end(out)
@@ -57,6 +68,10 @@ fn push_queue(
     request: &StatusRequest,
     number: u16,
 ) -> Result<u64, Memory>
+    ensures text { OnOk result (out.new.items
+        ≡ out.old.items ++ concat (blocks_named replica.now request.now number (slice_get replica.now.names number))) }
+    ensures count { IfOk result (λ events.
+        events ≡ length (blocks_named replica.now request.now number (slice_get replica.now.names number))) }
     ensures few { IfOk result (λ events. events ≤ 16385) }
 {
     let Some(name) = replica.list().name(number) else {
@@ -66,24 +81,46 @@ fn push_queue(
         return Ok(0);
     }
     push_totals(out, request, name)?;
-    let mut events = 1;
-    for (interface, row) in replica.rows(number) {
-        if is_member_wanted(request, interface, &row) {
-            push_member(out, request, name, interface, &row)?;
-            events += 1;
-        }
-    }
-    Ok(events)
+    let members = push_members(out, request, name, replica.rows(number))?;
+    Ok(1 + members)
 }
 
-fn is_queue_wanted(request: &StatusRequest, name: &QueueName) -> bool {
+// The blocks of the members of a queue that the request doesn't leave out, and how many they are.
+fn push_members(
+    out: &mut Vec<u8>,
+    request: &StatusRequest,
+    name: &QueueName,
+    rows: Rows<'_>,
+) -> Result<u64, Memory>
+    requires { length rows ≤ 16384 }
+    ensures text { OnOk result (out.new.items
+        ≡ out.old.items ++ concat (member_blocks request.now name.now rows.entry)) }
+    ensures count { IfOk result (λ members.
+        members ≡ length (member_blocks request.now name.now rows.entry)) }
+    ensures few { IfOk result (λ members. members ≤ 16384) }
+{
+    let mut members = 0;
+    for (interface, row) in rows {
+        if is_member_wanted(request, interface, &row) {
+            push_member(out, request, name, interface, &row)?;
+            members += 1;
+        }
+    }
+    Ok(members)
+}
+
+fn is_queue_wanted(request: &StatusRequest, name: &QueueName) -> bool
+    ensures { result ≡ is_queue_wanted request.now.queue name.now }
+{
     match &request.queue {
         None => true,
         Some(wanted) => wanted.as_bytes() == name.as_bytes(),
     }
 }
 
-fn is_member_wanted(request: &StatusRequest, interface: &Interface, row: &Row<'_>) -> bool {
+fn is_member_wanted(request: &StatusRequest, interface: &Interface, row: &Row<'_>) -> bool
+    ensures { result ≡ is_member_wanted request.now.member (interface.now, row_of row.now) }
+{
     match &request.member {
         None => true,
         Some(wanted) => {
@@ -94,7 +131,9 @@ fn is_member_wanted(request: &StatusRequest, interface: &Interface, row: &Row<'_
 }
 
 // A text of a member as it is shown: the interface where it is empty.
-fn shown<'a>(text: &'a [u8], interface: &'a Interface) -> &'a [u8] {
+fn shown<'a>(text: &'a [u8], interface: &'a Interface) -> &'a [u8]
+    ensures { result.now ≡ shown text.now interface.now }
+{
     if text.is_empty() {
         interface.as_bytes()
     } else {
@@ -102,9 +141,11 @@ fn shown<'a>(text: &'a [u8], interface: &'a Interface) -> &'a [u8] {
     }
 }
 
-fn push_totals(out: &mut Vec<u8>, request: &StatusRequest, name: &QueueName) -> Result<(), Memory> {
-    push_field(out, "Event", b"QueueParams")?;
-    push_action_id(out, request)?;
+// The block of a queue, in which no call is counted.
+fn push_totals(out: &mut Vec<u8>, request: &StatusRequest, name: &QueueName) -> Result<(), Memory>
+    ensures { OnOk result (out.new.items ≡ out.old.items ++ queue_block request.now.action_id name.now (0, 0)) }
+{
+    push_event(out, request, b"QueueParams")?;
     push_field(out, "Queue", name.as_bytes())?;
     push_number(out, "Completed", 0)?;
     push_number(out, "Abandoned", 0)?;
@@ -117,9 +158,11 @@ fn push_member(
     name: &QueueName,
     interface: &Interface,
     row: &Row<'_>,
-) -> Result<(), Memory> {
-    push_field(out, "Event", b"QueueMember")?;
-    push_action_id(out, request)?;
+) -> Result<(), Memory>
+    ensures { OnOk result (out.new.items
+        ≡ out.old.items ++ member_block request.now.action_id name.now (interface.now, row_of row.now)) }
+{
+    push_event(out, request, b"QueueMember")?;
     push_field(out, "Queue", name.as_bytes())?;
     push_field(out, "Name", shown(row.name, interface))?;
     push_field(out, "Location", interface.as_bytes())?;

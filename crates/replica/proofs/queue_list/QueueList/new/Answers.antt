@@ -1,6 +1,4 @@
-use Rattle.std.proofs.Common.{◌≡◌, true, false, not, Bool, ◌∙◌, sym, ap, arith, List, ℕ, refl}
-use Rattle.std.specs.List.{list_any}
-use Rattle.replica.specs.Queues.{AreQueues}
+use Rattle.std.proofs.Common.{◌∙◌, sym}
 use Rattle.replica.proofs.NameLemmas.{all_held, queues_held, comes_twice, not_false}
 use Rattle.replica.proofs.queue_list.QueueList.new.Goals as goal
 

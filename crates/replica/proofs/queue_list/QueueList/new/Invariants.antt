@@ -1,5 +1,4 @@
-use Rattle.std.proofs.Common.{◌≡◌, take, ℕ, List}
-use Rattle.std.specs.List.{IsDistinct}
+use Rattle.std.proofs.Common.{take}
 use Rattle.replica.proofs.queue_list.QueueList.new.Given as goal
 use Rattle.replica.proofs.NameLemmas.{HoldsNames}
 

@@ -1,4 +1,4 @@
-use Rattle.std.proofs.Common.{◌≡◌, sym, ap, subst, true≢false, ◌∙◌, Contains, slice_get, Some}
+use Rattle.std.proofs.Common.{sym, true≢false, ◌∙◌}
 use Rattle.std.proofs.lemmas.Map.Views.{list_any-from_Contains}
 use Rattle.std.proofs.lemmas.Cmp.{nat_list_eq_equiv}
 use Rattle.replica.proofs.NameLemmas.{found-at}

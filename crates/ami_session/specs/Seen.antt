@@ -1,0 +1,10 @@
+-- What an act of a session is, without where its bytes lie in memory.
+use Rattle.ami_session.specs.declared.act.Act.{Act}
+use Rattle.ami_session.specs.declared.act.Act.TheVariants as act
+use Rattle.ami_session.specs.Checks.{Reaction, Replies, Asks, Ends}
+
+-- the reaction that an act is
+abbrev pub seen : Act → Reaction
+seen (act.Reply bytes) = Replies bytes.items
+seen (act.Ask ask pending) = Asks ask pending
+seen (act.End bytes) = Ends bytes.items

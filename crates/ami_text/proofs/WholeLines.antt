@@ -1,0 +1,37 @@
+-- Bytes cut into their whole lines.
+use Rattle.std.proofs.Common.{◌≡◌, ◌≢◌, ℕ, ◌==◌, false, List, [], ◌∷◌, ◌++◌, refl, ◌∙◌, ap, All, append_assoc, cond}
+use Rattle.std.proofs.lemmas.Bool.{ne_eqb}
+use Rattle.std.proofs.lemmas.List.Elements.{All-head, All-tail}
+use Rattle.ami_text.specs.Lines.{HasNoLf, ended}
+
+-- the lines with a byte put before the first
+abbrev pub onto : ℕ → List (List ℕ) → List (List ℕ)
+onto b [] = []
+onto b (line ∷ lines) = (b ∷ line) ∷ lines
+
+-- the lines that LF ends, in order
+abbrev pub whole_lines : List ℕ → List (List ℕ)
+whole_lines [] = []
+whole_lines (b ∷ bytes) = cond (b == 10) ([] ∷ whole_lines bytes) (onto b (whole_lines bytes))
+
+-- a line, and then others
+pub whole_lines-line : (line rest : List ℕ) → HasNoLf line → whole_lines (line ++ 10 ∷ rest) ≡ line ∷ whole_lines rest
+whole_lines-line [] rest none = refl
+whole_lines-line (b ∷ line) rest none =
+    let other : (b == 10) ≡ false = ne_eqb b 10 (All-head (λ x. x ≢ 10) b line none) in
+    rw (other, whole_lines-line line rest (All-tail (λ x. x ≢ 10) b line none)) refl
+
+-- bytes without LF have no whole line
+pub whole_lines-part : (part : List ℕ) → HasNoLf part → whole_lines part ≡ []
+whole_lines-part [] none = refl
+whole_lines-part (b ∷ part) none =
+    let other : (b == 10) ≡ false = ne_eqb b 10 (All-head (λ x. x ≢ 10) b part none) in
+    rw (other, whole_lines-part part (All-tail (λ x. x ≢ 10) b part none)) refl
+
+-- lines, and then others
+pub whole_lines-ended : (lines : List (List ℕ)) (rest : List ℕ) → All HasNoLf lines → whole_lines (ended lines ++ rest) ≡ lines ++ whole_lines rest
+whole_lines-ended [] rest none = refl
+whole_lines-ended (line ∷ lines) rest none =
+    rw (append_assoc (line ++ 10 ∷ []) (ended lines) rest, append_assoc line (10 ∷ []) (ended lines ++ rest))
+    (whole_lines-line line (ended lines ++ rest) (All-head HasNoLf line lines none)
+    ∙ ap (λ ls. line ∷ ls) (whole_lines-ended lines rest (All-tail HasNoLf line lines none)))

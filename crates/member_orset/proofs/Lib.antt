@@ -1,0 +1,11 @@
+pub mod ConditionLaws
+pub mod DotTests
+pub mod CellLists
+pub mod Views
+pub mod FieldReadings
+pub mod Changes
+pub mod Asserting
+pub mod Places
+pub mod Agreeing
+pub mod Building
+pub mod Presence

@@ -1,0 +1,9 @@
+pub use Rattle.dots.specs.Values
+pub use Rattle.dots.specs.Orders
+pub use Rattle.dots.specs.DotSets
+pub use Rattle.dots.specs.Registers
+pub use Rattle.dots.specs.Conditions
+pub use Rattle.dots.specs.Rows
+pub mod Codes
+pub mod Members
+pub mod Cells

@@ -1,0 +1,132 @@
+-- What contracts see of a set of members: the dots that it knows, the live ones with member and fields, and, aside of
+-- what it means, how much room it has.
+use Rattle.std.specs.Prelude.{ℕ, ◌≡◌, ◌≢◌, ◌≤◌, ◌<◌, ◌+◌, ◌⊎◌, Bool, true, false, Option, Some, None, refl, if◌then◌else◌}
+use Rattle.std.specs.Option.{option_map, option_and_then}
+use Rattle.std.specs.FinMap as map
+use Rattle.std.specs.FinSet as set
+use Rattle.std.specs.Ordering.{eq_by_cmp}
+use Rattle.std.specs.Coded.{Coded, code_by, coded×, coded_ℕ}
+use Rattle.dots.specs.declared.member.Member.{Member}
+use Rattle.dots.specs.Values.{Tag}
+use Rattle.dots.specs.Orders.{dot_cmp}
+use Rattle.dots.specs.DotSets.{tag_code, run_count}
+use Rattle.dots.specs.Registers.{InConflict}
+use Rattle.dots.specs.Conditions.{DotFields, Condition, Live, Dead, condition_joined}
+use Rattle.dots.specs.Rows.{DotReading}
+use Rattle.causal_context.specs.Contexts.{most_runs}
+use Rattle.member_orset.specs.Codes.{member_code, fields_code}
+
+-- the member and the fields of a live dot
+abbrev pub Holding : Type 0
+Holding = Member × DotFields
+
+-- A set of members. A known dot that isn't live is dead; of the others nothing is known. `retired` and the rooms say
+-- nothing of members: how many places of dead dots aren't used again, and for how many live dots and runs there is room.
+pub record Members : Type 0 where
+  pub known : set.FinSet dot_cmp
+  pub live : map.FinMap dot_cmp Holding
+  pub retired : ℕ
+  pub cell_room : ℕ
+  pub run_room : ℕ
+
+-- it is stored as the tuple of these
+abbrev pub members_code : Coded Members
+members_code =
+    code_by (set.FinSet dot_cmp × (map.FinMap dot_cmp Holding × (ℕ × (ℕ × ℕ))))
+    (coded× (set.code tag_code) (coded× (map.code tag_code (coded× member_code fields_code)) (coded× coded_ℕ (coded× coded_ℕ coded_ℕ))))
+    (λ s. (s.known, (s.live, (s.retired, (s.cell_room, s.run_room)))))
+    (λ p. record { known = p.0; live = p.1.0; retired = p.1.1.0; cell_room = p.1.1.1.0; run_room = p.1.1.1.1 }) (λ _. refl)
+
+-- the greatest number of live dots
+abbrev pub most_cells : ℕ
+most_cells = 16384
+
+-- what is said of a dot by what is live and by whether it is known
+abbrev pub condition_at : Option Holding → Bool → Option Condition
+condition_at (Some h) known = Some (Live h.0 h.1)
+condition_at None true = Some Dead
+condition_at None false = None
+
+-- the condition of a dot
+abbrev pub condition_of : Members → Tag → Option Condition
+condition_of s dot = condition_at (map.get s.live dot) (set.contains s.known dot)
+
+-- the same conditions in both
+pub record IsUnchanged (old new : Members) : Type 0 where
+  pub known : new.known ≡ old.known
+  pub live : new.live ≡ old.live
+
+-- the fields of which none is set
+abbrev pub unset : DotFields
+unset = record { penalty = None; pause = None; label = None }
+
+-- some field is set
+abbrev pub HasField : DotFields → Type 0
+HasField fields = fields ≢ unset
+
+-- a live dot is known, and has a field
+pub record IsLiveIn (s : Members) (dot : Tag) (h : Holding) : Type 0 where
+  pub known : set.contains s.known dot ≡ true
+  pub set : HasField h.1
+
+-- what holds of every set: few enough live dots and runs, and of each live dot
+pub record IsWithinLimits (s : Members) : Type 0 where
+  pub cells : map.len s.live ≤ most_cells
+  pub runs : run_count s.known ≤ most_runs
+  pub held : (dot : Tag) (h : Holding) → map.get s.live dot ≡ Some h → IsLiveIn s dot h
+
+-- what is read of a set: its live dots are the visible ones
+abbrev pub reading_of : Members → DotReading
+reading_of s = record {
+  visible = set.from_list (map.keys s.live);
+  member = λ dot. option_map (λ h. h.0) (map.get s.live dot);
+  penalty = λ dot. option_and_then (λ h. h.1.penalty) (map.get s.live dot);
+  pause = λ dot. option_and_then (λ h. h.1.pause) (map.get s.live dot);
+  label = λ dot. option_and_then (λ h. h.1.label) (map.get s.live dot);
+}
+
+-- the conditions that are left where one dot is joined with one more condition
+abbrev pub joined_at : Members → Tag → Condition → Tag → Option Condition
+joined_at s dot condition q =
+    if eq_by_cmp dot_cmp q dot then condition_joined (condition_of s q) (Some condition) else condition_of s q
+
+-- some field has one stamp and two values
+abbrev pub FieldsConflict : DotFields → DotFields → Type 0
+FieldsConflict x y = InConflict x.penalty y.penalty ⊎ InConflict x.pause y.pause ⊎ InConflict x.label y.label
+
+-- both are live, with two members or with fields in conflict
+abbrev pub ConditionsConflict : Option Condition → Option Condition → Type 0
+ConditionsConflict (Some (Live m f)) (Some (Live n g)) = (m ≢ n) ⊎ FieldsConflict f g
+ConditionsConflict (Some (Live m f)) (Some Dead) = ⊥
+ConditionsConflict (Some (Live m f)) None = ⊥
+ConditionsConflict (Some Dead) y = ⊥
+ConditionsConflict None y = ⊥
+
+-- the greatest number of places of cells
+abbrev pub most_places : ℕ
+most_places = 1048576
+
+-- how many live dots there are once a dot is live that may be known already
+abbrev pub cells_with : Members → Tag → ℕ
+cells_with s dot = if set.contains s.known dot then map.len s.live else map.len s.live + 1
+
+-- a set can take what leaves so many live dots, of which the other side has so many: they are few enough, and so are
+-- the places that aren't used again with the live dots of both sides
+pub record HasPlaces (s : Members) (after other : ℕ) : Type 0 where
+  pub few : after ≤ most_cells
+  pub places : s.retired + map.len s.live + other ≤ most_places
+
+-- or it can't
+abbrev pub LacksPlaces : Members → ℕ → ℕ → Type 0
+LacksPlaces s after other = (most_cells < after) ⊎ (most_places < s.retired + map.len s.live + other)
+
+-- a dot whose conditions in two sets are in conflict
+pub record Conflicts (s t : Members) : Type 0 where
+  pub dot : Tag
+  pub conflict : ConditionsConflict (condition_of s dot) (condition_of t dot)
+
+-- a dot that is live with a member
+pub record IsPresent (s : Members) (member : Member) : Type 0 where
+  pub dot : Tag
+  pub fields : DotFields
+  pub live : map.get s.live dot ≡ Some (member, fields)

@@ -1,0 +1,186 @@
+ghost use Rattle.std.specs.Prelude.{◌≡◌, ◌≢◌, ◌≤◌, ◌<◌, ◌↔◌, IsTrue, IfErr, OnOk, OnErr, length, false, vec_len};
+ghost use Rattle.std.specs.FinMap as map;
+ghost use Rattle.std.specs.List.{insert};
+ghost use Rattle.std.specs.FinSet as set;
+ghost use Rattle.std.specs.Vec.{vec_capacity};
+ghost use Rattle.dots.specs.Values.{Tag};
+ghost use Rattle.dots.specs.Orders.{dot_cmp};
+ghost use Rattle.dots.specs.DotSets.{run_count};
+ghost use Rattle.dots.specs.Conditions.{Live, Dead, ConditionsAgree};
+ghost use Rattle.causal_context.specs.Contexts.{most_runs};
+ghost use Rattle.member_orset.specs.Members.{ConditionsConflict, HasField, condition_of, joined_at, most_cells};
+ghost use Rattle.member_orset.specs.Cells.{AreCells, ConflictsAt, IsGap, Meets, dot_fields, entries_of, live_of, seen};
+
+use crate::JoinFault;
+use crate::agreement::is_same_member;
+use crate::live_dot::LiveDot;
+use crate::search::find;
+use causal_context::{Context, ContextFault};
+use dots::{Dot, Member};
+use lww_registers::Fields;
+
+/// The greatest number of live dots.
+pub(crate) const MOST_CELLS: usize = 16_384;
+
+/// The greatest number of runs of known dots.
+const MOST_RUNS: u64 = 65_536;
+
+/// Takes out the cell of a dot, where it has one.
+fn take_out(cells: &mut Vec<LiveDot>, dot: Dot)
+    requires { IsTrue (map.is_sorted dot_cmp (entries_of cells.old.items)) }
+    ensures valid { (known : set.FinSet dot_cmp) → AreCells cells.old.items known → AreCells cells.new.items known }
+    ensures live { live_of cells.new.items ≡ map.remove (live_of cells.old.items) dot }
+{
+    match find(cells, dot) {
+        Ok(index) => {
+            cells.remove(index);
+        }
+        Err(_) => {}
+    }
+}
+
+/// Adds a dot to those that are known.
+fn learn(context: &mut Context, dot: Dot) -> Result<(), JoinFault>
+    ensures ok { OnOk result (context.new.dots ≡ set.insert context.old.dots dot) }
+    ensures full { (result ≡ Err JoinFault.RunsFull) ↔ (most_runs < run_count (set.insert context.old.dots dot)) }
+    ensures agrees { result ≢ Err JoinFault.Conflict }
+    ensures has_place { result ≢ Err JoinFault.CellsFull }
+    ensures err { OnErr result (context.new.dots ≡ context.old.dots) }
+{
+    match context.insert(dot) {
+        Ok(()) => Ok(()),
+        Err(ContextFault::RunsFull) => Err(JoinFault::RunsFull),
+        Err(ContextFault::Memory) => Err(JoinFault::Memory),
+    }
+}
+
+/// Lets a dot be dead.
+pub(crate) fn kill_dot(
+    context: &mut Context,
+    cells: &mut Vec<LiveDot>,
+    dot: Dot,
+) -> Result<(), JoinFault>
+    requires { AreCells cells.old.items context.old.dots }
+    ensures valid { AreCells cells.new.items context.new.dots }
+    ensures known { OnOk result (context.new.dots ≡ set.insert context.old.dots dot) }
+    ensures conditions { OnOk result ((q : Tag) → condition_of (seen cells.new.items context.new.dots) q ≡ joined_at (seen cells.old.items context.old.dots) dot Dead q) }
+    ensures full { (result ≡ Err JoinFault.RunsFull) ↔ (most_runs < run_count (set.insert context.old.dots dot)) }
+    ensures agrees { result ≢ Err JoinFault.Conflict }
+    ensures has_place { result ≢ Err JoinFault.CellsFull }
+    ensures err_known { OnErr result (context.new.dots ≡ context.old.dots) }
+    ensures err_live { OnErr result (live_of cells.new.items ≡ live_of cells.old.items) }
+{
+    learn(context, dot)?;
+    take_out(cells, dot);
+    Ok(())
+}
+
+/// Why one more dot can't be known and have a cell, where there is no room for the cell.
+fn fault_without_room(context: &Context, dot: Dot) -> JoinFault
+    ensures full { (result ≡ JoinFault.RunsFull) ↔ (most_runs < run_count (set.insert context.now.dots dot)) }
+    ensures agrees { result ≢ JoinFault.Conflict }
+    ensures has_place { result ≢ JoinFault.CellsFull }
+{
+    if context.runs_with(context, dot.site(), dot.count()) > MOST_RUNS {
+        return JoinFault::RunsFull;
+    }
+    JoinFault::Memory
+}
+
+/// Puts a cell in, where there is room.
+fn put_in(cells: &mut Vec<LiveDot>, place: usize, cell: LiveDot)
+    requires within { place ≤ vec_len cells.old }
+    requires room { vec_len cells.old < vec_capacity cells.old }
+    ensures { cells.new.items ≡ insert cells.old.items place cell }
+{
+    let _ = cells.insert(place, cell);
+}
+
+/// Lets an unknown dot be known and live, with the cell that goes in at a place.
+fn bring(
+    context: &mut Context,
+    cells: &mut Vec<LiveDot>,
+    place: usize,
+    cell: LiveDot,
+) -> Result<(), JoinFault>
+    requires gap { IsGap cells.old.items cell.dot place }
+    requires valid { AreCells cells.old.items context.old.dots }
+    requires field { HasField (dot_fields cell.fields) }
+    ensures valid { AreCells cells.new.items context.new.dots }
+    ensures ok { OnOk result (context.new.dots ≡ set.insert context.old.dots cell.dot) }
+    ensures cells { OnOk result (cells.new.items ≡ insert cells.old.items place cell) }
+    ensures cells_full { (result ≡ Err JoinFault.CellsFull) ↔ (most_cells ≤ length cells.old.items) }
+    ensures runs_full { (result ≡ Err JoinFault.RunsFull) ↔ ((length cells.old.items < most_cells) × (most_runs < run_count (set.insert context.old.dots cell.dot))) }
+    ensures agrees { result ≢ Err JoinFault.Conflict }
+    ensures err_known { OnErr result (context.new.dots ≡ context.old.dots) }
+    ensures err_live { OnErr result (cells.new.items ≡ cells.old.items) }
+{
+    if cells.len() >= MOST_CELLS {
+        return Err(JoinFault::CellsFull);
+    }
+    if cells.reserve(1).is_err() {
+        return Err(fault_without_room(context, cell.dot));
+    }
+    learn(context, cell.dot)?;
+    put_in(cells, place, cell);
+    Ok(())
+}
+
+/// Joins the cell at a place with a member and fields.
+fn meet(
+    cells: &mut Vec<LiveDot>,
+    place: usize,
+    member: &Member,
+    fields: &Fields,
+) -> Result<(), JoinFault>
+    requires { place < length cells.old.items }
+    ensures valid { (known : set.FinSet dot_cmp) → AreCells cells.old.items known → AreCells cells.new.items known }
+    ensures ok { OnOk result (Meets cells.old.items place member.now (dot_fields fields.now) cells.new.items) }
+    ensures conflict { (result ≡ Err JoinFault.Conflict) ↔ ConflictsAt cells.old.items place member.now (dot_fields fields.now) }
+    ensures only { IfErr result (λ fault. fault ≡ JoinFault.Conflict) }
+    ensures err { OnErr result (cells.new.items ≡ cells.old.items) }
+{
+    let cell = &mut cells[place];
+    if !is_same_member(&cell.member, member) || !cell.fields.agrees(fields) {
+        return Err(JoinFault::Conflict);
+    }
+    cell.fields.join(fields.copy());
+    Ok(())
+}
+
+/// Joins a dot's condition with that it is live, with a member and fields.
+pub(crate) fn assert_dot(
+    context: &mut Context,
+    cells: &mut Vec<LiveDot>,
+    dot: Dot,
+    member: &Member,
+    fields: &Fields,
+) -> Result<(), JoinFault>
+    requires valid { AreCells cells.old.items context.old.dots }
+    requires runs { run_count context.old.dots ≤ most_runs }
+    requires field { HasField (dot_fields fields.now) }
+    ensures valid { AreCells cells.new.items context.new.dots }
+    ensures known { OnOk result (context.new.dots ≡ set.insert context.old.dots dot) }
+    ensures conditions { OnOk result ((q : Tag) → condition_of (seen cells.new.items context.new.dots) q ≡ joined_at (seen cells.old.items context.old.dots) dot (Live member.now (dot_fields fields.now)) q) }
+    ensures agree { result ≢ Err JoinFault.Conflict → ConditionsAgree (condition_of (seen cells.old.items context.old.dots) dot) (Some (Live member.now (dot_fields fields.now))) }
+    ensures conflict { (result ≡ Err JoinFault.Conflict) ↔ ConditionsConflict (condition_of (seen cells.old.items context.old.dots) dot) (Some (Live member.now (dot_fields fields.now))) }
+    ensures cells_full { (result ≡ Err JoinFault.CellsFull) ↔ ((set.contains context.old.dots dot ≡ false) × (most_cells ≤ length cells.old.items)) }
+    ensures runs_full { (result ≡ Err JoinFault.RunsFull) ↔ ((length cells.old.items < most_cells) × (most_runs < run_count (set.insert context.old.dots dot))) }
+    ensures err_known { OnErr result (context.new.dots ≡ context.old.dots) }
+    ensures err_live { OnErr result (live_of cells.new.items ≡ live_of cells.old.items) }
+{
+    match find(cells, dot) {
+        Ok(place) => meet(cells, place, member, fields),
+        Err(place) => {
+            if context.contains(dot) {
+                return Ok(());
+            }
+            let cell = LiveDot {
+                dot,
+                member: member.copy(),
+                fields: fields.copy(),
+            };
+            bring(context, cells, place, cell)
+        }
+    }
+}

@@ -1,0 +1,16 @@
+/// Why a set can't take what it is joined with. Where several causes stand, the first in this order is told.
+#[derive(Clone, Copy, Debug, PartialEq, Eq, Hash)]
+pub enum JoinFault {
+    /// A dot is live on both sides with two members, or with a field of one stamp and two values.
+    Conflict,
+
+    /// There would be more than 16,384 live dots, or the places of dead dots that aren't used again and the live dots
+    /// of both sides would be more than 1,048,576.
+    CellsFull,
+
+    /// There would be more than 65,536 runs of known dots.
+    RunsFull,
+
+    /// Memory ran out.
+    Memory,
+}

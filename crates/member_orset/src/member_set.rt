@@ -1,0 +1,177 @@
+ghost use Rattle.std.specs.Prelude.{◌≡◌, ◌≢◌, ◌↔◌, ◌<◌, IfOk, IsFalse, IsTrue, OnOk, OnErr};
+ghost use Rattle.std.specs.Option.{option_map};
+ghost use Rattle.std.specs.FinMap as map;
+ghost use Rattle.std.specs.FinSet as set;
+ghost use Rattle.dots.specs.Values.{Tag};
+ghost use Rattle.dots.specs.DotSets.{run_count};
+ghost use Rattle.dots.specs.Conditions.{Live, Dead, ConditionsAgree};
+ghost use Rattle.causal_context.specs.Contexts.{most_runs};
+ghost use Rattle.member_orset.specs.Members.{Conflicts, ConditionsConflict, HasField, HasPlaces, IsPresent, IsUnchanged, IsWithinLimits, LacksPlaces, cells_with, condition_of, joined_at};
+ghost use Rattle.member_orset.specs.Cells.{AreCells, cell_read, dot_fields, live_of};
+
+use crate::agreement::cells_agree;
+use crate::copies::copy_cells;
+use crate::edits::{assert_dot, kill_dot};
+use crate::live_dot::LiveDot;
+use crate::search::{cell_at, has_member};
+use crate::{Cell, Cells, JoinFault};
+use causal_context::Context;
+use dots::{Dot, Member, Memory};
+use lww_registers::Fields;
+use std::alloc::Global;
+use std::marker::Model;
+
+/// No place is kept of a dead dot.
+const NONE_RETIRED: u32 = 0;
+
+/// A set of queue members that is joined with others in any order (the optimized observed-remove set of RR-8083): it
+/// knows dots, some of them live, each with its member and fields, and all others dead. Of an unknown dot nothing is
+/// said. At most 16,384 dots are live, the known ones make at most 65,536 runs, and each live dot is known and has a
+/// field that is set.
+#[derive(Drop)]
+pub struct MemberSet {
+    context: Context,
+    cells: Vec<LiveDot>,
+}
+
+impl Model for MemberSet {
+    ghost use Rattle.std.specs.Vec.{vec_capacity};
+    ghost use Rattle.member_orset.specs.Members.{Members, members_code};
+
+    ghost Value = { Members };
+
+    ghost coded = { members_code };
+
+    ghost use Rattle.member_orset.specs.Cells.{live_of, AreCells};
+
+    ghost view = { λ s. record {
+      known = s.context.dots;
+      live = live_of s.cells.items;
+      retired = 0;
+      cell_room = vec_capacity s.cells;
+      run_room = s.context.room;
+    } };
+
+    ghost invariant = { λ s. AreCells s.cells.items s.context.dots };
+}
+
+impl MemberSet {
+    /// The set that knows no dot. It takes no memory.
+    pub fn new(alloc: Global) -> MemberSet
+        ensures known { result.known ≡ set.empty }
+        ensures live { result.live ≡ map.empty }
+    {
+        MemberSet {
+            context: Context::new(alloc),
+            cells: Vec::new(alloc),
+        }
+    }
+
+    /// The set of a context and of cells.
+    pub(crate) fn of(context: Context, cells: Vec<LiveDot>) -> MemberSet
+        requires { AreCells cells.items context.dots }
+        ensures known { result.known ≡ context.dots }
+        ensures live { result.live ≡ live_of cells.items }
+    {
+        MemberSet { context, cells }
+    }
+
+    /// The dots that it knows. It takes no memory, like all that only reads.
+    pub fn context(&self) -> &Context
+        ensures { result.now.dots ≡ self.now.known }
+    {
+        &self.context
+    }
+
+    /// The member and the fields of a dot, where it is live.
+    pub fn live(&self, dot: Dot) -> Option<Cell<'_>>
+        ensures value { option_map cell_read result ≡ map.get self.now.live dot }
+        ensures limits { IsWithinLimits self.now }
+    {
+        let _ = self.context.runs(); // so that their limit is known
+        cell_at(&self.cells, dot)
+    }
+
+    /// Whether a member is there: some dot is live with it.
+    pub fn contains(&self, member: &Member) -> bool
+        ensures { IsTrue result ↔ IsPresent self.now member.now }
+    {
+        has_member(&self.cells, member)
+    }
+
+    /// How many dots are live: at most 16,384.
+    pub fn cells(&self) -> usize
+        ensures value { result ≡ map.len self.now.live }
+        ensures limits { IsWithinLimits self.now }
+    {
+        let _ = self.context.runs(); // so that their limit is known
+        self.cells.len()
+    }
+
+    /// The live dots in their order, each with its cell.
+    pub fn iter(&self) -> Cells<'_>
+        ensures value { result ≡ map.entries self.now.live }
+    {
+        Cells::of(&self.cells)
+    }
+
+    /// How many places of dead dots aren't used again: none.
+    pub fn retired(&self) -> u32
+        ensures { result ≡ self.now.retired }
+    {
+        let _ = &self.context; // so that it is seen what the set keeps
+        NONE_RETIRED
+    }
+
+    /// Joins what it says of a dot with that the dot is dead: it is known then, and not live. No fault changes what it
+    /// says. 1 `RunsFull`, exactly where the known dots would make more than 65,536 runs; 2 `Memory`.
+    pub fn kill(&mut self, dot: Dot) -> Result<(), JoinFault>
+        ensures known { OnOk result (self.new.known ≡ set.insert self.old.known dot) }
+        ensures conditions { OnOk result ((q : Tag) → condition_of self.new q ≡ joined_at self.old dot Dead q) }
+        ensures runs_full { (result ≡ Err JoinFault.RunsFull) ↔ (most_runs < run_count (set.insert self.old.known dot)) }
+        ensures agrees { result ≢ Err JoinFault.Conflict }
+        ensures has_place { result ≢ Err JoinFault.CellsFull }
+        ensures err { OnErr result (IsUnchanged self.old self.new) }
+    {
+        kill_dot(&mut self.context, &mut self.cells, dot)
+    }
+
+    /// Joins what it says of a dot with that the dot is live, with this member and these fields, of which one is set: an
+    /// unknown dot is live then, a live one has its fields joined with these, and a dead one stays dead. No fault changes
+    /// what it says. 1 `Conflict`, exactly where the dot is live with another member, or with another value under the
+    /// stamp of one of these fields; 2 `CellsFull`, exactly where there would be more than 16,384 live dots, or the places
+    /// that aren't used again and the live dots with one more pass 1,048,576; 3 `RunsFull`, exactly where the known dots
+    /// would make more than 65,536 runs; 4 `Memory`.
+    pub fn assert(&mut self, dot: Dot, member: &Member, fields: &Fields) -> Result<(), JoinFault>
+        requires { HasField (dot_fields fields.now) }
+        ensures known { OnOk result (self.new.known ≡ set.insert self.old.known dot) }
+        ensures conditions { OnOk result ((q : Tag) → condition_of self.new q ≡ joined_at self.old dot (Live member.now (dot_fields fields.now)) q) }
+        ensures agree { result ≢ Err JoinFault.Conflict → ConditionsAgree (condition_of self.old dot) (Some (Live member.now (dot_fields fields.now))) }
+        ensures conflict { (result ≡ Err JoinFault.Conflict) ↔ ConditionsConflict (condition_of self.old dot) (Some (Live member.now (dot_fields fields.now))) }
+        ensures cells_full { (result ≡ Err JoinFault.CellsFull) ↔ (ConditionsAgree (condition_of self.old dot) (Some (Live member.now (dot_fields fields.now))) × LacksPlaces self.old (cells_with self.old dot) 1) }
+        ensures runs_full { (result ≡ Err JoinFault.RunsFull) ↔ (HasPlaces self.old (cells_with self.old dot) 1 × (most_runs < run_count (set.insert self.old.known dot))) }
+        ensures err { OnErr result (IsUnchanged self.old self.new) }
+    {
+        let _ = self.context.runs(); // so that their limit is known
+        assert_dot(&mut self.context, &mut self.cells, dot, member, fields)
+    }
+
+    /// Whether both can be joined: no dot is live in both with two members, or with a field of one stamp and two values.
+    pub fn agrees(&self, other: &MemberSet) -> bool
+        ensures agree { IsTrue result ↔ ((q : Tag) → ConditionsAgree (condition_of self.now q) (condition_of other.now q)) }
+        ensures conflict { IsFalse result ↔ Conflicts self.now other.now }
+    {
+        cells_agree(&self.cells, &other.cells)
+    }
+
+    /// Another set that says the same of each dot. The one fault is want of memory.
+    pub fn copy(&self) -> Result<MemberSet, Memory>
+        ensures { IfOk result (λ copy. IsUnchanged self.now copy) }
+    {
+        let cells = copy_cells(*self.cells.allocator(), &self.cells)?;
+        match self.context.copy() {
+            Ok(context) => Ok(MemberSet { context, cells }),
+            Err(_) => Err(Memory),
+        }
+    }
+}

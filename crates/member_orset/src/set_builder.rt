@@ -1,0 +1,85 @@
+ghost use Rattle.std.specs.Prelude.{◌≡◌, ◌<◌, IsSome, OnErr, OnOk, true};
+ghost use Rattle.std.specs.FinMap as map;
+ghost use Rattle.std.specs.FinSet as set;
+ghost use Rattle.std.specs.declared.cmp.Ordering.TheVariants.{Less};
+ghost use Rattle.dots.specs.Values.{Tag};
+ghost use Rattle.dots.specs.Orders.{dot_cmp};
+ghost use Rattle.member_orset.specs.Members.{HasField, IsUnchanged, most_cells};
+ghost use Rattle.member_orset.specs.Cells.{dot_fields};
+
+use crate::MemberSet;
+use crate::live_dot::LiveDot;
+use causal_context::Context;
+use dots::{Dot, Member, Memory};
+use lww_registers::Fields;
+use std::alloc::Global;
+use std::marker::Model;
+
+/// A set that is being made of its known dots: they are dead, but for those that are given a cell, one by one in their
+/// order.
+#[derive(Drop)]
+pub struct SetBuilder {
+    context: Context,
+    cells: Vec<LiveDot>,
+}
+
+impl Model for SetBuilder {
+    ghost use Rattle.std.specs.Vec.{vec_capacity};
+    ghost use Rattle.member_orset.specs.Members.{Members, members_code};
+
+    ghost Value = { Members };
+
+    ghost coded = { members_code };
+
+    ghost use Rattle.member_orset.specs.Cells.{live_of, AreCells};
+
+    ghost view = { λ b. record {
+      known = b.context.dots;
+      live = live_of b.cells.items;
+      retired = 0;
+      cell_room = vec_capacity b.cells;
+      run_room = b.context.room;
+    } };
+
+    ghost invariant = { λ b. AreCells b.cells.items b.context.dots };
+}
+
+impl SetBuilder {
+    /// All dots of the context are dead so far. It takes no memory.
+    pub fn new(alloc: Global, context: Context) -> SetBuilder
+        ensures known { result.known ≡ context.dots }
+        ensures live { result.live ≡ map.empty }
+    {
+        SetBuilder {
+            context,
+            cells: Vec::new(alloc),
+        }
+    }
+
+    /// Makes a dot live, with its member and fields. It is one of the context and greater than those before, a field is
+    /// set, and fewer than 16,384 dots are live so far. The one fault is want of memory, which changes nothing.
+    pub fn cell(&mut self, dot: Dot, member: &Member, fields: &Fields) -> Result<(), Memory>
+        requires in_context { set.contains self.old.known dot ≡ true }
+        requires greater { (q : Tag) → IsSome (map.get self.old.live q) → dot_cmp q dot ≡ Less }
+        requires field { HasField (dot_fields fields.now) }
+        requires room { map.len self.old.live < most_cells }
+        ensures ok { OnOk result (self.new.live ≡ map.insert self.old.live dot (member.now, dot_fields fields.now)) }
+        ensures known { self.new.known ≡ self.old.known }
+        ensures err { OnErr result (self.new.live ≡ self.old.live) }
+    {
+        self.cells.push(LiveDot {
+            dot,
+            member: member.copy(),
+            fields: fields.copy(),
+        })?;
+        Ok(())
+    }
+
+    /// The set: the given dots are live, and the others of the context dead.
+    pub fn finish(self) -> MemberSet
+        ensures { IsUnchanged self result }
+    {
+        let SetBuilder { context, cells } = self;
+        MemberSet::of(context, cells)
+    }
+}
