@@ -1,5 +1,6 @@
 -- What a session does upon a message: the checks, in their order (the actions and their fields are Asterisk's, the texts this project's own).
 use Rattle.std.specs.Prelude.{ℕ, Bool, true, false, not, ◌&&◌, List, [], ◌++◌, codes, Option, Some, None, unwrap_or, is_none, Result, Ok, Err, if◌then◌else◌}
+use Rattle.std.specs.Option.{option_map}
 use Rattle.std.specs.Str.{bytes_eq}
 use Rattle.ami_text.specs.Fields.{value_of}
 use Rattle.replica.specs.declared.command.Command.{Command as Change}
@@ -60,11 +61,7 @@ add_asked m =
 -- a text that may be absent
 abbrev pub optional_text : Option (List ℕ) → Option (Option (List ℕ))
 optional_text None = Some None
-optional_text (Some value) = some_text (text_of value)
-  where
-    some_text : Option (List ℕ) → Option (Option (List ℕ))
-    some_text None = None
-    some_text (Some text) = Some (Some text)
+optional_text (Some value) = option_map (λ text. Some text) (text_of value)
 
 -- what a QueueStatus asks, or the first field that can't be read
 abbrev pub status_asked : Fields → Result StatusRequest (List ℕ)

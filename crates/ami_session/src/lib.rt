@@ -7,6 +7,7 @@
 mod act;
 mod action;
 mod fields;
+pub mod laws;
 mod pending;
 mod reading;
 mod reply;

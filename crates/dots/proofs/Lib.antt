@@ -2,6 +2,7 @@ pub mod Apart
 pub mod CountLaws
 pub mod DotOrder
 pub mod FieldLaws
+pub mod ItemOrder
 pub mod Membership
 pub mod OneMoreDot
 pub mod RegisterLaws

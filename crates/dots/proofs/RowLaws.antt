@@ -16,7 +16,9 @@ use Rattle.dots.specs.Operations.{Field}
 use Rattle.dots.specs.Knowledge.{Knowledge, SameOperations, IsConsistent, IsFieldOf, visible_dots, member_of, field_of, settings_of}
 use Rattle.dots.specs.Rows.{MemberRow, dots_read, is_of, dots_of, row_if, row_of, rows_of}
 use Rattle.dots.specs.Shown.{ShowsLatest, ShowTheSame}
-use Rattle.dots.proofs.DotOrder.{dots_exact}
+use Rattle.dots.specs.SetItems.{in_order}
+use Rattle.dots.proofs.DotOrder.{dots_total, dots_exact}
+use Rattle.dots.proofs.ItemOrder.{in_order-has}
 use Rattle.dots.proofs.Membership.{first-in, later-in, cases-in, some-in, in-some, in-any}
 use Rattle.dots.proofs.VisibleLaws.{same-visible}
 use Rattle.dots.proofs.FieldLaws.{latest-in, latest-some, latest-greatest, field-is, same-field, same-member, same_stamp}
@@ -55,10 +57,10 @@ filter-has {X} p (y ∷ ys) x h q = elim (cases-in y ys x h) [
     kept false h = h
 
 -- a visible dot is among the items of its set
-item-has : (k : Knowledge) (dot : Tag) → set.contains (visible_dots k) dot ≡ true → Contains (set.items (visible_dots k)) dot
+item-has : (k : Knowledge) (dot : Tag) → set.contains (visible_dots k) dot ≡ true → Contains (in_order (visible_dots k)) dot
 item-has k dot h =
-    let one = in-any (eq_by_cmp dot_cmp dot) (set.items (visible_dots k)) (sym (set.contains-items (visible_dots k) dot) ∙ h) in
-    subst (Contains (set.items (visible_dots k))) (sym (dots_exact dot one.0 (equal (dot_cmp dot one.0) one.2))) one.1
+    let one = in-any (eq_by_cmp dot_cmp dot) (in_order (visible_dots k)) (in_order-has dots_total (visible_dots k) dot ∙ h) in
+    subst (Contains (in_order (visible_dots k))) (sym (dots_exact dot one.0 (equal (dot_cmp dot one.0) one.2))) one.1
   where
     equal : (o : Ordering) → is_eq o ≡ true → o ≡ Equal
     equal Less h = absurd (true≢false (sym h))
@@ -68,7 +70,7 @@ item-has k dot h =
 -- a visible dot of a member is among its dots
 pub dot-of : (k : Knowledge) (member : Member) (dot : Tag) → set.contains (visible_dots k) dot ≡ true → member_of k dot ≡ Some member → Contains (dots_of (dots_read k) member) dot
 dot-of k member dot visible is =
-    filter-has (is_of (dots_read k) member) (set.items (visible_dots k)) dot (item-has k dot visible)
+    filter-has (is_of (dots_read k) member) (in_order (visible_dots k)) dot (item-has k dot visible)
     (ap (λ o. option_map_or (eq_by_cmp member_cmp member) o false) is ∙ ap is_eq (tied_itself members_total member))
 
 row-some : (dots : List Tag) (row : MemberRow) (dot : Tag) → Contains dots dot → IsSome (row_if dots row)

@@ -22,7 +22,7 @@ none : (b : Bool) (c first : ℕ) → false ≡ (b && (nat_le first c && nat_le 
 none true c first = grind (arith, nat_tests)
 none false c first = refl
 
-any_from : (q : Tag) (site first n : ℕ) → list_any (eq_by_cmp dot_cmp q) (dots_from site first n) ≡ (nat_eq site q.site && (nat_le first q.count && nat_le (suc q.count) (first + n)))
+pub any_from : (q : Tag) (site first n : ℕ) → list_any (eq_by_cmp dot_cmp q) (dots_from site first n) ≡ (nat_eq site q.site && (nat_le first q.count && nat_le (suc q.count) (first + n)))
 unfolding dots_from
 any_from q site first zero = none (nat_eq site q.site) q.count first
 any_from q site first (suc n) = either _ _ _ _ _ _ (same_dot q (record { site = site; count = first })) (any_from q site (suc first) n) (counts q.count first n)

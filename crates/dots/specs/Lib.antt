@@ -6,6 +6,7 @@ pub mod Operations
 pub mod Orders
 pub mod Registers
 pub mod Rows
+pub mod SetItems
 pub mod Shown
 pub mod Totals
 pub mod Values

@@ -11,6 +11,7 @@ use Rattle.dots.specs.Orders.{dot_cmp, member_cmp, text_cmp}
 use Rattle.dots.specs.Registers.{Entry}
 use Rattle.dots.specs.Operations.{penalty_field, pause_field, label_field}
 use Rattle.dots.specs.Knowledge.{Knowledge, visible_dots, member_of, field_of, latest_of}
+use Rattle.dots.specs.SetItems.{in_order}
 
 -- the row of a member: for each field the value that was set last
 pub record MemberRow : Type 0 where
@@ -44,7 +45,7 @@ is_of r member dot = option_map_or (eq_by_cmp member_cmp member) (r.member dot) 
 
 -- the dots of a member that are visible, in their order
 abbrev pub dots_of : DotReading → Member → List Tag
-dots_of r member = filter (is_of r member) (set.items r.visible)
+dots_of r member = filter (is_of r member) (in_order r.visible)
 
 -- a field of a member: the entry of the greatest stamp over its visible dots, of equal stamps that of the least dot
 abbrev pub member_field : {T : Type 0} → (Tag → Option (Entry T)) → DotReading → Member → Option (Entry T)
@@ -82,8 +83,8 @@ interface_in queue member = if nat_eq queue member.queue then Some member.interf
 
 -- the interfaces in a queue
 unfoldable pub interfaces_of : DotReading → ℕ → set.FinSet text_cmp
-interfaces_of r queue = set.from_list (filter_map (λ dot. option_and_then (interface_in queue) (r.member dot)) (set.items r.visible))
+interfaces_of r queue = set.from_list (filter_map (λ dot. option_and_then (interface_in queue) (r.member dot)) (in_order r.visible))
 
 -- the rows of a queue, in the order of the interfaces' bytes
 abbrev pub rows_of : DotReading → ℕ → List (List ℕ × MemberRow)
-rows_of r queue = filter_map (λ interface. option_map (λ row. (interface, row)) (row_of r (record { queue = queue; interface = interface }))) (set.items (interfaces_of r queue))
+rows_of r queue = filter_map (λ interface. option_map (λ row. (interface, row)) (row_of r (record { queue = queue; interface = interface }))) (in_order (interfaces_of r queue))

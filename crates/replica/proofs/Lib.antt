@@ -1,4 +1,9 @@
 pub mod AddLemmas
 pub mod EntryLemmas
 pub mod HeldLemmas
+pub mod Meanings
 pub mod NameLemmas
+pub mod OneMoreAdd
+pub mod ReadingLaws
+pub mod RowsShown
+pub mod StepLaws

@@ -1,6 +1,11 @@
+pub mod Changes
 pub mod Commands
 pub mod Held
 pub mod Listed
+pub mod Promises
 pub mod Queues
+pub mod Readings
 pub mod Rows
 pub mod Site
+pub mod Standing
+pub mod Steps

@@ -7,6 +7,7 @@
 mod command;
 mod entries;
 mod entry;
+pub mod laws;
 mod queue_list;
 mod refusal;
 mod replica;

@@ -1,8 +1,12 @@
 ghost use Rattle.std.specs.Prelude.{◌≡◌, ◌≤◌, length, option_map, OnOk, OnErr, IsErrOf};
 ghost use Rattle.std.specs.FinMap as map;
+ghost use Rattle.dots.specs.Rows.{dots_read, row_of as row_read, rows_of as rows_read};
 ghost use Rattle.replica.specs.Commands.{CanAdd, HasMember, HasQueue, IsExhausted, IsFull, IsNewMember, IsAnswer, after};
+ghost use Rattle.replica.specs.Changes.{change_of};
 ghost use Rattle.replica.specs.Rows.{row_of};
 ghost use Rattle.replica.specs.Site.{rows_of};
+ghost use Rattle.replica.specs.Standing.{StandsFor, IsMeant};
+ghost use Rattle.replica.specs.Steps.{SiteKnowledge, Do, new_site, step};
 
 use crate::entries::{of_queue, place, row_in};
 use crate::entry::Entry;
@@ -47,6 +51,7 @@ impl Replica {
         ensures names { result.names ≡ list }
         ensures no_members { result.members ≡ map.empty }
         ensures no_adds { result.adds ≡ 0 }
+        ensures meaning { StandsFor result new_site }
     {
         Replica {
             site,
@@ -72,7 +77,8 @@ impl Replica {
 
     /// What is set of this member. `None` where it isn't in its queue.
     pub fn row(&self, member: &Member) -> Option<Row<'_>>
-        ensures { option_map row_of result ≡ map.get self.now.members member.now }
+        ensures value { option_map row_of result ≡ map.get self.now.members member.now }
+        ensures meaning { (s : SiteKnowledge) → StandsFor self.now s → option_map row_of result ≡ row_read (dots_read s.known) member.now }
     {
         row_in(&self.entries, member)
     }
@@ -80,6 +86,7 @@ impl Replica {
     /// The members of the queue of this number with their rows, in the order of their interfaces' bytes.
     pub fn rows(&self, queue: u16) -> Rows<'_>
         ensures value { result ≡ rows_of self.now.members queue }
+        ensures meaning { (s : SiteKnowledge) → StandsFor self.now s → result ≡ rows_read (dots_read s.known) queue }
         ensures few { length result ≤ 16384 }
     {
         Rows::new(of_queue(&self.entries, queue))
@@ -104,6 +111,16 @@ impl Replica {
         ensures memory { IsErrOf result Refusal.Memory → CanAdd self.old command }
         ensures never { (IsErrOf result Refusal.NotThere → ⊥) × (IsErrOf result Refusal.TotalFull → ⊥) }
         ensures unchanged { OnErr result (self.new ≡ self.old) }
+
+        // Where the replica stands for what a site knows, all this is the command's meaning there.
+        ensures meaning { (s : SiteKnowledge) → StandsFor self.old s
+            → IsMeant self.old self.new result (step self.old.site self.old.names s (Do (change_of command))) }
+    {
+        self.run(command)
+    }
+
+    fn run(&mut self, command: Command) -> Result<(), Refusal>
+        ensures { IsAnswer self.old command self.new result }
     {
         match command {
             Command::Add {

@@ -1,2 +1,4 @@
+pub mod AskLemmas
 pub mod BlockLemmas
+pub mod KnowingLemmas
 pub mod TextLemmas

@@ -1,3 +1,4 @@
 pub mod Answers
+pub mod Knowing
 pub mod Lines
 pub mod Status

@@ -3,9 +3,14 @@
 //! A report is read from a replica alone: two replicas that show the same rows give the same bytes.
 #![tactic(auto)]
 
+ghost use Rattle.std.specs.Prelude.{◌≡◌};
+ghost use Rattle.replica.specs.Standing.{StandsFor};
+ghost use Rattle.replica.specs.Steps.{SiteKnowledge};
 ghost use Rattle.status_report.specs.Answers.{AnswersCommand, AnswersStatus, KeepsAtStatus};
+ghost use Rattle.status_report.specs.Knowing.{IsAnswered, answer_in};
 
 mod asks;
+pub mod laws;
 mod lines;
 mod request;
 mod status;
@@ -16,7 +21,7 @@ pub use asks::{Answer, Ask};
 use dots::Bytes;
 pub use dots::Memory;
 pub use lines::{push_action_id_line, push_end, push_field, push_number};
-use replica::{Refusal, Replica};
+use replica::{Command, Refusal, Replica};
 pub use request::StatusRequest;
 pub use status::report;
 use std::alloc::Global;
@@ -27,15 +32,39 @@ pub fn ask(alloc: Global, replica: &mut Replica, asked: Ask) -> Answer
     ensures command { AnswersCommand replica.old asked replica.new result }
     ensures status { AnswersStatus replica.old asked result }
     ensures status_unchanged { KeepsAtStatus replica.old asked replica.new }
+    ensures site { replica.new.site ≡ replica.old.site }
+    ensures names { replica.new.names ≡ replica.old.names }
+
+    // Where the replica stands for what a site knows, the answer is that site's.
+    ensures meaning { (s : SiteKnowledge) → StandsFor replica.old s
+        → IsAnswered replica.old replica.new result (answer_in replica.old.site replica.old.names s asked) }
 {
     match asked {
-        Ask::Command(command) => match replica.command(command) {
-            Ok(()) => Answer::Done,
-            Err(refusal) => Answer::Refused(refusal),
-        },
-        Ask::Status(request) => match report(alloc, replica, &request) {
-            Ok(text) => Answer::Report(Bytes::new(text)),
-            Err(_) => Answer::Refused(Refusal::Memory),
-        },
+        Ask::Command(command) => answer_command(replica, command),
+        Ask::Status(request) => answer_status(alloc, replica, &request),
+    }
+}
+
+fn answer_command(replica: &mut Replica, command: Command) -> Answer
+    ensures command { AnswersCommand replica.old (Ask.Command command) replica.new result }
+    ensures site { replica.new.site ≡ replica.old.site }
+    ensures names { replica.new.names ≡ replica.old.names }
+    ensures meaning { (s : SiteKnowledge) → StandsFor replica.old s
+        → IsAnswered replica.old replica.new result (answer_in replica.old.site replica.old.names s (Ask.Command command)) }
+{
+    match replica.command(command) {
+        Ok(()) => Answer::Done,
+        Err(refusal) => Answer::Refused(refusal),
+    }
+}
+
+fn answer_status(alloc: Global, replica: &Replica, request: &StatusRequest) -> Answer
+    ensures status { AnswersStatus replica.now (Ask.Status request.now) result }
+    ensures meaning { (s : SiteKnowledge) → StandsFor replica.now s
+        → IsAnswered replica.now replica.now result (answer_in replica.now.site replica.now.names s (Ask.Status request.now)) }
+{
+    match report(alloc, replica, request) {
+        Ok(text) => Answer::Report(Bytes::new(text)),
+        Err(_) => Answer::Refused(Refusal::Memory),
     }
 }

@@ -1,0 +1,55 @@
+-- The text of a whole session: what it writes upon messages, one after another, and upon the answers to what it asks of the site. (A
+-- Manager session begins with a greeting; its words are this project's own.)
+use Rattle.std.specs.Prelude.{ℕ, ◌≡◌, List, [], ◌∷◌, ◌++◌, codes}
+use Rattle.status_report.specs.declared.asks.Answer.{Answer}
+use Rattle.status_report.specs.declared.asks.Ask.{Ask}
+use Rattle.ami_session.specs.Checks.{SessionState, Reaction, Replies, Asks, Ends, reaction, after}
+use Rattle.ami_session.specs.Reading.{Fields}
+use Rattle.ami_session.specs.Replies.{answer_reply}
+
+-- the line that greets a client
+abbrev pub greeting : List ℕ
+greeting = codes "Queue Sites Call Manager/1.0.0\r\n"
+
+-- what a reaction writes before the rest; an ask takes the first of the answers, and without one nothing more is written
+abbrev pub written : Reaction → (List Answer → List ℕ) → List Answer → List ℕ
+written (Replies bytes) rest answers = bytes ++ rest answers
+written (Ends bytes) rest answers = bytes
+written (Asks ask waiting) rest [] = []
+written (Asks ask waiting) rest (answer ∷ answers) = answer_reply waiting answer ++ rest answers
+
+-- the replies to messages, up to the first Logoff or the end
+abbrev pub replies : SessionState → List Fields → List Answer → List ℕ
+replies s [] answers = []
+replies s (m ∷ ms) answers = written (reaction s m) (replies (after s m) ms) answers
+
+-- the session's text
+abbrev pub session_text : SessionState → List Fields → List Answer → List ℕ
+session_text s ms answers = greeting ++ replies s ms answers
+
+-- what the site is asked before the rest; nothing after the end
+abbrev pub asked : Reaction → List Ask → List Ask
+asked (Replies bytes) more = more
+asked (Ends bytes) more = []
+asked (Asks ask waiting) more = ask ∷ more
+
+-- all that the site is asked, in order
+abbrev pub asks : SessionState → List Fields → List Ask
+asks s [] = []
+asks s (m ∷ ms) = asked (reaction s m) (asks (after s m) ms)
+
+-- a session after messages
+abbrev pub after_all : SessionState → List Fields → SessionState
+after_all s [] = s
+after_all s (m ∷ ms) = after_all (after s m) ms
+
+-- once a message has ended the session, nothing behind it counts: neither in the text nor in what is asked
+pub record NothingFollows (s : SessionState) (before : List Fields) (last : Fields) : Type 0 where
+  pub text : (bytes : List ℕ) → reaction (after_all s before) last ≡ Ends bytes → (others more : List Fields) (answers : List Answer)
+      → session_text s (before ++ last ∷ others) answers ≡ session_text s (before ++ last ∷ more) answers
+  pub asks : (bytes : List ℕ) → reaction (after_all s before) last ≡ Ends bytes → (others more : List Fields) → asks s (before ++ last ∷ others) ≡ asks s (before ++ last ∷ more)
+
+-- what is written upon some answers is the front of what is written upon more of them
+pub record IsFrontOfMore (s : SessionState) (ms : List Fields) (answers more : List Answer) : Type 0 where
+  pub rest : List ℕ
+  pub is : session_text s ms (answers ++ more) ≡ session_text s ms answers ++ rest

@@ -1,0 +1,54 @@
+-- The answer to an ask is what a site that knows the same answers.
+use Rattle.std.proofs.Common.{◌≡◌, ◌⊎◌, ℕ, zero, suc, ◌+◌, List, Result, Ok, Err, refl, sym, ap, subst, ◌∙◌, inl, inr, arith}
+use Rattle.std.specs.FinMap as map
+use Rattle.dots.specs.Totals.{sum_below}
+use Rattle.dots.specs.Operations.{Completed, Abandoned}
+use Rattle.dots.specs.Knowledge.{Knowledge}
+use Rattle.dots.specs.Rows.{dots_read, rows_of as rows_read}
+use Rattle.dots.specs.Counts.{site_total, queue_total}
+use Rattle.replica.specs.declared.command.Command.{Command}
+use Rattle.replica.specs.declared.refusal.Refusal.{Refusal}
+use Rattle.replica.specs.declared.refusal.Refusal.TheVariants.{Memory}
+use Rattle.replica.specs.Changes.{Meaning, Refused as Denied, Makes, change_of, meaning}
+use Rattle.replica.specs.Commands.{IsAnswer}
+use Rattle.replica.specs.Readings.{reading_in}
+use Rattle.replica.specs.Site.{SiteState, rows_of}
+use Rattle.replica.specs.Standing.{StandsFor, IsMeant}
+use Rattle.replica.specs.Steps.{SiteKnowledge, after_meaning}
+use Rattle.replica.proofs.RowsShown.{rows_shown}
+use Rattle.status_report.specs.declared.asks.Answer.{Answer}
+use Rattle.status_report.specs.declared.asks.Answer.TheVariants.{Refused, Report}
+use Rattle.status_report.specs.declared.request.StatusRequest.{StatusRequest}
+use Rattle.status_report.specs.Answers.{answer_of}
+use Rattle.status_report.specs.Knowing.{status_in, totals_in, answer_of_meaning, IsAnswered}
+use Rattle.status_report.specs.Status.{no_calls, status_text, report_of}
+
+-- a result that is meant is the answer of its meaning
+pub by-meaning : (old new : SiteState) (r : Result (Unit {0}) Refusal) (s : SiteKnowledge) → StandsFor old s → (m : Meaning) → IsMeant old new r (after_meaning s m)
+    → IsAnswered old new (answer_of r) ((after_meaning s m).0, answer_of_meaning m)
+by-meaning old new r s stands (Denied refusal) is = inl (subst (λ x. StandsFor x s) (sym is.1) stands, ap answer_of is.0)
+by-meaning old new r s stands (Makes o) (inl h) = inl (h.1, ap answer_of h.0)
+by-meaning old new r s stands (Makes o) (inr h) = inr (h.1, ap answer_of h.0)
+
+none_below : (n : ℕ) → sum_below n (λ site. 0) ≡ 0
+unfolding sum_below
+none_below zero = refl
+none_below (suc n) = let none = none_below n in omega arith
+
+-- no calls are counted
+totals_none : (state : SiteState) (s : SiteKnowledge) → StandsFor state s → (queue : ℕ) → no_calls queue ≡ totals_in s.known queue
+totals_none state s stands queue = sym (λ i. ((ap (sum_below 64) (λ j site. stands.uncounted site queue Completed j) ∙ none_below 64) i, (ap (sum_below 64) (λ j site. stands.uncounted site queue Abandoned j) ∙ none_below 64) i))
+
+-- the report of a state is the text of the knowledge that it stands for
+pub report-is : (state : SiteState) (s : SiteKnowledge) → StandsFor state s → (request : StatusRequest) → report_of state request ≡ status_in s.known state.names request
+report-is state s stands request =
+    λ i. status_text state.names (λ queue. totals_none state s stands queue i) (λ queue. rows_shown s.known state.members stands.rows queue i) request
+
+-- a command changes neither the site nor its queues
+pub same-site : (old : SiteState) (command : Command) (new : SiteState) (r : Result (Unit {0}) Refusal) → IsAnswer old command new r → new.site ≡ old.site
+same-site old command new (Ok u) a = ap (λ x. x.site) a.done
+same-site old command new (Err e) a = ap (λ x. x.site) a.unchanged
+
+pub same-names : (old : SiteState) (command : Command) (new : SiteState) (r : Result (Unit {0}) Refusal) → IsAnswer old command new r → new.names ≡ old.names
+same-names old command new (Ok u) a = ap (λ x. x.names) a.done
+same-names old command new (Err e) a = ap (λ x. x.names) a.unchanged

@@ -1,0 +1,8 @@
+use Rattle.std.proofs.Common.{◌∙◌, ap, inl}
+use Rattle.status_report.specs.declared.asks.Answer.TheVariants.{Report}
+use Rattle.status_report.proofs.AskLemmas.{report-is}
+use Rattle.status_report.proofs.answer_status.Goals as goal
+
+-- the report is the text of what the site knows
+pub returns-in-Ok-clause-meaning : goal.returns-in-Ok-clause-meaning
+returns-in-Ok-clause-meaning c = λ s stands. inl (stands, ap Report (c.new.ensures ∙ c.in-Ok.ensures ∙ report-is c.args.replica.now s stands c.args.request.now))
