@@ -1,6 +1,7 @@
 //! A script is read whole before any of its lines is run, and each line's output is written whole.
-ghost use Rattle.std.specs.Prelude.{◌≡◌, ◌≤◌, true, false, vec_len, IfOk, IfErr, OnOk};
+ghost use Rattle.std.specs.Prelude.{◌≡◌, ◌≢◌, ◌≤◌, true, false, vec_len, IfOk, IfErr, OnOk};
 ghost use Rattle.std.specs.Io.KnownBytes.{append_known};
+ghost use Rattle.queue_sites.specs.Script.{HasTaken};
 
 use crate::script_fault::ScriptFault;
 use ami_text::{Sink, Source};
@@ -22,6 +23,7 @@ pub fn read_script<S: Source>(alloc: Global, reader: &mut S) -> Result<Vec<u8>, 
     ensures whole { IfOk result (λ script. S.given reader.new ≡ append_known (S.given reader.old) script.items) }
     ensures ended { OnOk result (S.ended reader.new ≡ true) }
     ensures limit { IfOk result (λ script. vec_len script ≤ 16777216) }
+    ensures fault { IfErr result (λ fault. fault ≢ ScriptFault.Write) }
 {
     let mut script = Vec::new(alloc);
     let mut piece = [0u8; PIECE];
@@ -46,14 +48,19 @@ pub fn write_all<W: Sink>(writer: &mut W, bytes: &[u8]) -> Result<(), ScriptFaul
     ensures written { OnOk result (W.taken writer.new ≡ append_known (W.taken writer.old) bytes.now) }
     ensures works { OnOk result (W.failed writer.new ≡ false) }
     ensures fault { IfErr result (λ fault. fault ≡ ScriptFault.Write) }
+    ensures begun { IfErr result (λ _. HasTaken (W.taken writer.old) (W.taken writer.new) bytes.now) }
 {
     let mut rest = bytes;
     while !rest.is_empty() {
-        let count = writer.write(rest).map_err(|_| ScriptFault::Write)?;
-        if count == 0 {
-            return Err(ScriptFault::Write);
+        match writer.write(rest) {
+            Err(_) => return Err(ScriptFault::Write),
+            Ok(count) => {
+                if count == 0 {
+                    return Err(ScriptFault::Write);
+                }
+                rest = &rest[count..];
+            }
         }
-        rest = &rest[count..];
     }
     Ok(())
 }

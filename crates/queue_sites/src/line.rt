@@ -1,4 +1,11 @@
 //! The lines of a script (this project's own).
+ghost use Rattle.std.specs.Prelude.{◌≡◌, ◌<◌, ◌∷◌, length};
+ghost use Rattle.std.specs.Option.{option_copied};
+ghost use Rattle.queue_sites.specs.Lines.{behind, lines_of, sense_of, words_sense};
+ghost use Rattle.ami_text.specs.Lines.{content};
+ghost use Rattle.queue_sites.specs.Seen.{sense};
+
+use bstr::ByteSlice;
 
 /// What a line of a script asks.
 #[derive(Clone, Copy, Debug, PartialEq, Eq)]
@@ -11,23 +18,57 @@ pub enum Line<'a> {
     Unknown,
 }
 
+/// The first line, without its LF and one CR before that, and what follows it. The last line may lack its end.
+pub fn cut_line(bytes: &[u8]) -> (&[u8], &[u8])
+    requires { 0 < length bytes.now }
+    ensures lines { lines_of bytes.now ≡ result.0.now ∷ lines_of result.1.now }
+    ensures shorter { length result.1.now < length bytes.now }
+{
+    match bytes.find_byte(b'\n') {
+        None => (bytes, &[]),
+        Some(end) => (without_cr(&bytes[..end]), &bytes[end + 1..]),
+    }
+}
+
+// A line without one CR at its end.
+fn without_cr(line: &[u8]) -> &[u8]
+    ensures { result.now ≡ content line.now }
+{
+    match line {
+        [content @ .., b'\r'] => content,
+        _ => line,
+    }
+}
+
 /// What a line asks, seen without its end.
-pub fn read_line(line: &[u8]) -> Line<'_> {
+pub fn read_line(line: &[u8]) -> Line<'_>
+    ensures { sense result ≡ sense_of line.now }
+{
     if line.is_empty() || line[0] == b'#' {
         return Line::Nothing;
     }
-    for site in [b"0 ".as_slice(), b"00 ".as_slice()] {
-        if let Some(words) = line.strip_prefix(site) {
-            return read_words(words);
-        }
+    match behind(b"0 ", line) {
+        Some(words) => read_words(words),
+        None => match behind(b"00 ", line) {
+            Some(words) => read_words(words),
+            None => Line::Unknown,
+        },
     }
-    Line::Unknown
 }
 
 // What stands behind the site's number and its space.
-fn read_words(words: &[u8]) -> Line<'_> {
-    match words.strip_prefix(b"ami ".as_slice()) {
+fn read_words(words: &[u8]) -> Line<'_>
+    ensures { sense result ≡ words_sense words.now }
+{
+    match behind(b"ami ", words) {
         Some(fields) => Line::Message(fields),
         None => Line::Unknown,
     }
+}
+
+// What stands behind a front, where the bytes begin with it.
+fn behind<'a>(front: &[u8], bytes: &'a [u8]) -> Option<&'a [u8]>
+    ensures { option_copied result ≡ behind front.now bytes.now }
+{
+    bytes.strip_prefix(front)
 }

@@ -4,7 +4,9 @@
 mod command_line;
 mod devices;
 mod exit;
+mod laws;
 mod line;
+mod message;
 mod script;
 mod script_fault;
 #[cfg(test)]

@@ -1,23 +1,37 @@
-ghost use Rattle.std.specs.Prelude.{◌≡◌, ◌<◌, ◌++◌, true, false, codes, decimal, length, IfOk, IfErr, OnOk, IsErrOf};
+ghost use Rattle.std.specs.Prelude.{◌≡◌, ◌≢◌, ◌≤◌, ◌++◌, ◌⊎◌, true, false, codes, decimal, length, vec_len, IfOk, IfErr, OnOk, IsErrOf};
+ghost use Rattle.replica.specs.Standing.{StandsFor};
+ghost use Rattle.replica.specs.Steps.{SiteKnowledge};
+ghost use Rattle.ami_session.specs.Seen.{seen};
+ghost use Rattle.queue_sites.specs.Lines.{Message as asks_message, sense_of};
+ghost use Rattle.queue_sites.specs.Script.{HasBegun, HasWritten, IsRun, IsRunInPart};
+ghost use Rattle.queue_sites.specs.Steps.{BeganLine, GaveLine, IsActed, IsAnswer, IsOutput, IsReplied, IsUnknown, place_of};
 
 use crate::devices::{read_script, write_all};
-use crate::line::{Line, read_line};
+use crate::laws::script_has_one_text;
+use crate::line::{Line, cut_line, read_line};
+use crate::message::message_of;
 use crate::script_fault::ScriptFault;
 use ami_session::{Act, Session};
-use ami_text::{Feed, FeedFault, Message, Sink, Source};
-use bstr::ByteSlice;
-use dots::{Memory, SiteId};
+use ami_text::{Message, Sink, Source};
+use dots::SiteId;
 use replica::{QueueList, Refusal, Replica};
 use status_report::{Answer, Ask, ask};
 use std::alloc::Global;
 
+// What a line gives.
+#[derive(Drop)]
+struct Output {
+    text: Vec<u8>,
+    understood: bool,
+}
+
 /// Runs a script of one site: reads the reader to its end in pieces of at most 1,024 bytes, runs the lines in their
 /// order, and writes what each gives. It answers how many lines were not understood; each of them gives
-/// `line N: not understood`, N counting all lines from 1.
+/// `line N: not understood`, N counting all lines from 1 (this project's own).
 ///
 /// Faults: `Read` where the reader fails or gives no end within 1,000,000 reads, `TooLong` where the script has more
 /// than 16,777,216 bytes, `Write` where the writer fails or takes no bytes, `Memory` where memory is wanting. After the
-/// first two nothing was written, after the others a prefix of the output.
+/// first two nothing was written, after the others a front of the script's text.
 pub fn run_script<S: Source, W: Sink>(
     alloc: Global,
     reader: &mut S,
@@ -28,102 +42,136 @@ pub fn run_script<S: Source, W: Sink>(
     requires writer { W.failed writer.old ≡ false }
     ensures ended { OnOk result (S.ended reader.new ≡ true) }
 
+    // The script's text was written, and so many lines were not understood.
+    ensures text { IfOk result (λ unknown. IsRun list (S.given reader.old) (S.given reader.new) (W.taken writer.old) (W.taken writer.new) unknown) }
+
     // After these two nothing was written.
     ensures unread { IsErrOf result ScriptFault.Read → W.taken writer.new ≡ W.taken writer.old }
     ensures too_long { IsErrOf result ScriptFault.TooLong → W.taken writer.new ≡ W.taken writer.old }
+
+    // After these a front of the text was; or memory was wanting before the script was read, and nothing was.
+    ensures unwritten { IsErrOf result ScriptFault.Write → IsRunInPart list (S.given reader.old) (S.given reader.new) (W.taken writer.old) (W.taken writer.new) }
+    ensures memory { IsErrOf result ScriptFault.Memory → (W.taken writer.new ≡ W.taken writer.old) ⊎ IsRunInPart list (S.given reader.old) (S.given reader.new) (W.taken writer.old) (W.taken writer.new) }
 {
     let script = read_script(alloc, reader)?;
     let site = SiteId::new(0).unwrap();
     let mut replica = Replica::new(alloc, site, list);
-    let mut rest = script.as_slice();
+    run_lines(alloc, &mut replica, writer, &script)
+}
+
+// Runs the lines of a script.
+fn run_lines<W: Sink>(
+    alloc: Global,
+    replica: &mut Replica,
+    writer: &mut W,
+    script: &[u8],
+) -> Result<u64, ScriptFault>
+    requires writer { W.failed writer.old ≡ false }
+    requires short { length script.now ≤ 16777216 }
+    ensures ok { IfOk result (λ unknown. (s : SiteKnowledge) → StandsFor replica.old s
+        → HasWritten (place_of replica.old) s script.now (W.taken writer.old) (W.taken writer.new) unknown) }
+    ensures err { IfErr result (λ _. (s : SiteKnowledge) → StandsFor replica.old s
+        → HasBegun (place_of replica.old) s script.now (W.taken writer.old) (W.taken writer.new)) }
+    ensures fault { IfErr result (λ fault. (fault ≡ ScriptFault.Write) ⊎ (fault ≡ ScriptFault.Memory)) }
+{
+    script_has_one_text();
+    let mut rest = script;
     let mut number = 0u64;
     let mut unknown = 0u64;
     while !rest.is_empty() {
         let (line, others) = cut_line(rest);
         rest = others;
         number += 1;
-        match run_line(alloc, &mut replica, line)? {
-            Some(output) => write_all(writer, &output)?,
-            None => {
-                unknown += 1;
-                write_all(writer, &not_understood(alloc, number)?)?;
-            }
+        if !give_line(alloc, replica, writer, line, number)? {
+            unknown += 1;
         }
     }
     Ok(unknown)
 }
 
-// The first line, without its LF and one CR before that, and what follows it. The last line may lack its end.
-fn cut_line(bytes: &[u8]) -> (&[u8], &[u8])
-    requires { 0 < length bytes.now }
-    ensures shorter { length result.1.now < length bytes.now }
+// Runs the line of this number and writes what it gives. It answers whether the line was understood.
+fn give_line<W: Sink>(
+    alloc: Global,
+    replica: &mut Replica,
+    writer: &mut W,
+    line: &[u8],
+    number: u64,
+) -> Result<bool, ScriptFault>
+    requires writer { W.failed writer.old ≡ false }
+    ensures works { OnOk result (W.failed writer.new ≡ false) }
+    ensures place { place_of replica.new ≡ place_of replica.old }
+    ensures ok { IfOk result (λ understood. (s : SiteKnowledge) → StandsFor replica.old s
+        → GaveLine (place_of replica.old) s number line.now replica.new (W.taken writer.old) (W.taken writer.new) understood) }
+    ensures memory { IsErrOf result ScriptFault.Memory → W.taken writer.new ≡ W.taken writer.old }
+    ensures begun { IsErrOf result ScriptFault.Write → (s : SiteKnowledge) → StandsFor replica.old s
+        → BeganLine (place_of replica.old) s number line.now (W.taken writer.old) (W.taken writer.new) }
+    ensures fault { IfErr result (λ fault. (fault ≡ ScriptFault.Write) ⊎ (fault ≡ ScriptFault.Memory)) }
 {
-    match bytes.find_byte(b'\n') {
-        None => (bytes, &[]),
-        Some(end) => {
-            let line = &bytes[..end];
-            let line = line.strip_suffix(b"\r".as_slice()).unwrap_or(line);
-            (line, &bytes[end + 1..])
+    let output = run_line(alloc, replica, line, number)?;
+    write_all(writer, &output.text)?;
+    Ok(output.understood)
+}
+
+// Runs the line of this number. The one fault is `Memory`.
+fn run_line(
+    alloc: Global,
+    replica: &mut Replica,
+    line: &[u8],
+    number: u64,
+) -> Result<Output, ScriptFault>
+    ensures ok { IfOk result (λ output. (s : SiteKnowledge) → StandsFor replica.old s
+        → IsOutput (place_of replica.old) s number (sense_of line.now) replica.new output) }
+    ensures place { place_of replica.new ≡ place_of replica.old }
+    ensures fault { IfErr result (λ fault. fault ≡ ScriptFault.Memory) }
+{
+    match read_line(line) {
+        Line::Nothing => Ok(Output {
+            text: Vec::new(alloc),
+            understood: true,
+        }),
+        Line::Unknown => not_understood(alloc, number),
+        Line::Message(fields) => run_fields(alloc, replica, fields, number),
+    }
+}
+
+// Runs the line of this number that has a message of these fields, if they are one.
+fn run_fields(
+    alloc: Global,
+    replica: &mut Replica,
+    fields: &[u8],
+    number: u64,
+) -> Result<Output, ScriptFault>
+    ensures ok { IfOk result (λ output. (s : SiteKnowledge) → StandsFor replica.old s
+        → IsOutput (place_of replica.old) s number (asks_message fields.now) replica.new output) }
+    ensures place { place_of replica.new ≡ place_of replica.old }
+    ensures fault { IfErr result (λ fault. fault ≡ ScriptFault.Memory) }
+{
+    match message_of(alloc, fields) {
+        Err(_) => Err(ScriptFault::Memory),
+        Ok(None) => not_understood(alloc, number),
+        Ok(Some(message)) => {
+            let text = run_message(alloc, replica, &message)?;
+            Ok(Output {
+                text,
+                understood: true,
+            })
         }
     }
 }
 
-// What is written of a line that isn't understood.
-fn not_understood(alloc: Global, number: u64) -> Result<Vec<u8>, ScriptFault>
-    ensures text { IfOk result (λ text. text.items ≡ codes "line " ++ decimal number ++ codes ": not understood\n") }
+// What is written of a line that isn't understood. The one fault is `Memory`.
+fn not_understood(alloc: Global, number: u64) -> Result<Output, ScriptFault>
+    ensures ok { IfOk result (λ output. IsUnknown number output) }
     ensures fault { IfErr result (λ fault. fault ≡ ScriptFault.Memory) }
 {
     let text = format!(in alloc; "line {number}: not understood\n").map_err(
         |_| ScriptFault::Memory,
     )?;
-    Vec::from_slice(alloc, text.as_bytes()).map_err(|_| ScriptFault::Memory)
-}
-
-// Runs a line: its output, or `None` where it isn't understood. The one fault is `Memory`.
-fn run_line(
-    alloc: Global,
-    replica: &mut Replica,
-    line: &[u8],
-) -> Result<Option<Vec<u8>>, ScriptFault>
-    ensures { IfErr result (λ fault. fault ≡ ScriptFault.Memory) }
-{
-    match read_line(line) {
-        Line::Nothing => Ok(Some(Vec::new(alloc))),
-        Line::Unknown => Ok(None),
-        Line::Message(fields) => {
-            match message_of(alloc, fields).map_err(|_| ScriptFault::Memory)? {
-                None => Ok(None),
-                Some(message) => Ok(Some(run_message(alloc, replica, &message)?)),
-            }
-        }
-    }
-}
-
-// The message whose lines stand between bars; `None` where they are not exactly one message.
-fn message_of(alloc: Global, fields: &[u8]) -> Result<Option<Message>, Memory> {
-    let mut feed = Feed::new(alloc);
-    for line in fields.split(|b| *b == b'|') {
-        feed.feed(line)?;
-        feed.feed(b"\r\n")?;
-    }
-    feed.feed(b"\r\n")?;
-    let first = next_message(&mut feed)?;
-    let Some(Some(message)) = first else {
-        return Ok(None);
-    };
-    match next_message(&mut feed)? {
-        Some(None) => Ok(Some(message)),
-        _ => Ok(None),
-    }
-}
-
-// The feed's next message, if there is one; `None` where the stream has a fault.
-fn next_message(feed: &mut Feed) -> Result<Option<Option<Message>>, Memory> {
-    match feed.next_message() {
-        Ok(message) => Ok(Some(message)),
-        Err(FeedFault::Memory) => Err(Memory),
-        Err(_) => Ok(None),
-    }
+    let text = Vec::from_slice(alloc, text.as_bytes()).map_err(|_| ScriptFault::Memory)?;
+    Ok(Output {
+        text,
+        understood: false,
+    })
 }
 
 // What the site replies to a message, in a trusted session of its own. The one fault is `Memory`.
@@ -132,13 +180,26 @@ fn run_message(
     replica: &mut Replica,
     message: &Message,
 ) -> Result<Vec<u8>, ScriptFault>
-    ensures { IfErr result (λ fault. fault ≡ ScriptFault.Memory) }
+    ensures ok { IfOk result (λ text. (s : SiteKnowledge) → StandsFor replica.old s
+        → IsReplied (place_of replica.old) s message.now replica.new text.items) }
+    ensures place { place_of replica.new ≡ place_of replica.old }
+    ensures fault { IfErr result (λ fault. fault ≡ ScriptFault.Memory) }
 {
     let mut session = Session::trusted();
-    match session
-        .handle(alloc, message)
-        .map_err(|_| ScriptFault::Memory)?
-    {
+    match session.handle(alloc, message) {
+        Ok(act) => run_act(alloc, replica, act),
+        Err(_) => Err(ScriptFault::Memory),
+    }
+}
+
+// What is written of what a session does. The one fault is `Memory`.
+fn run_act(alloc: Global, replica: &mut Replica, act: Act) -> Result<Vec<u8>, ScriptFault>
+    ensures ok { IfOk result (λ text. (s : SiteKnowledge) → StandsFor replica.old s
+        → IsActed (place_of replica.old) s (seen act) replica.new text.items) }
+    ensures place { place_of replica.new ≡ place_of replica.old }
+    ensures fault { IfErr result (λ fault. fault ≡ ScriptFault.Memory) }
+{
+    match act {
         Act::Reply(bytes) | Act::End(bytes) => Ok(bytes),
         Act::Ask(asked, pending) => {
             let answer = answer_of(alloc, replica, asked)?;
@@ -151,9 +212,22 @@ fn run_message(
 
 // The site's answer. Want of memory is no answer but the script's fault.
 fn answer_of(alloc: Global, replica: &mut Replica, asked: Ask) -> Result<Answer, ScriptFault>
-    ensures { IfErr result (λ fault. fault ≡ ScriptFault.Memory) }
+    ensures ok { IfOk result (λ answer. (s : SiteKnowledge) → StandsFor replica.old s
+        → IsAnswer (place_of replica.old) s asked replica.new answer) }
+    ensures place { place_of replica.new ≡ place_of replica.old }
+    ensures fault { IfErr result (λ fault. fault ≡ ScriptFault.Memory) }
 {
-    match ask(alloc, replica, asked) {
+    let answer = ask(alloc, replica, asked);
+    not_memory(answer)
+}
+
+// An answer that isn't refused for want of memory.
+fn not_memory(answer: Answer) -> Result<Answer, ScriptFault>
+    ensures ok { IfOk result (λ same. same ≡ answer) }
+    ensures other { OnOk result (answer ≢ Answer.Refused Refusal.Memory) }
+    ensures fault { IfErr result (λ fault. fault ≡ ScriptFault.Memory) }
+{
+    match answer {
         Answer::Refused(Refusal::Memory) => Err(ScriptFault::Memory),
         answer => Ok(answer),
     }

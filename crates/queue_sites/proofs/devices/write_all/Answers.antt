@@ -1,0 +1,12 @@
+use Rattle.std.proofs.Common.{arith}
+use Rattle.queue_sites.proofs.Taking.{front-grows, taken-grows}
+use Rattle.queue_sites.proofs.devices.write_all.Goals as goal
+
+pub loop-rest-preserved : goal.loop-rest-preserved
+loop-rest-preserved g c =
+    let was = c.loop-rest.invariant.so_far in
+    let more = c.in-Ok.ensures in
+    record {
+      works = more.works (omega (arith, c.if-count-eq0.false));
+      so_far = (_, front-grows c.args.bytes.now was.0 c.loop-rest.rest.now c.in-Ok.count was.1, taken-grows _ _ _ was.0 _ was.2 more.bytes);
+    }
