@@ -3,8 +3,10 @@
 #![tactic(auto)]
 
 mod joins;
+mod sets;
 
 use joins::joined_often;
+use sets::{rows_read, sets_joined_often};
 use std::alloc::Global;
 use std::{env, io};
 
@@ -16,6 +18,9 @@ fn checksum(alloc: Global, word: &str) -> Result<u64, &'static str> {
     match word {
         "join_65536_runs" => joined_often(alloc, 65_536, TIMES),
         "join_32768_runs" => joined_often(alloc, 32_768, TIMES),
+        "join_16384_cells" => sets_joined_often(alloc, (0, 0), 16_384, TIMES),
+        "join_8192_and_8192_cells" => sets_joined_often(alloc, (0, 1), 8_192, TIMES),
+        "rows_of_2048_members" => rows_read(alloc, 2_048),
         _ => Err("no such workload"),
     }
 }

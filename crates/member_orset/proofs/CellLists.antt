@@ -33,7 +33,7 @@ below_at d [] h k e l = absurd (omega arith)
 below_at d (c ∷ cs) h zero e l = (and_parts (is_lt (dot_cmp d c.dot)) (below_all dot_cmp d (entries_of cs)) h).0
 below_at d (c ∷ cs) h (suc k) e l = below_at d cs (and_parts (is_lt (dot_cmp d c.dot)) (below_all dot_cmp d (entries_of cs)) h).1 k e (omega arith)
 
-below_from : (d x : Tag) (cs : List LiveDot) → is_lt (dot_cmp d x) ≡ true → below_all dot_cmp x (entries_of cs) ≡ true → below_all dot_cmp d (entries_of cs) ≡ true
+pub below_from : (d x : Tag) (cs : List LiveDot) → is_lt (dot_cmp d x) ≡ true → below_all dot_cmp x (entries_of cs) ≡ true → below_all dot_cmp d (entries_of cs) ≡ true
 below_from d x [] l h = refl
 below_from d x (c ∷ cs) l h =
     let p = and_parts (is_lt (dot_cmp x c.dot)) (below_all dot_cmp x (entries_of cs)) h in
@@ -53,7 +53,7 @@ ahead-tail d c cs i a k e lo hi = a (suc k) e (omega arith) (omega arith)
 ahead-head : (d : Tag) (c : LiveDot) (cs : List LiveDot) (i : ℕ) → Ahead d (c ∷ cs) (suc i) → is_lt (dot_cmp c.dot d) ≡ true
 ahead-head d c cs i a = a 0 c (omega arith) (omega arith)
 
-none_below : (d : Tag) (cs : List LiveDot) → below_all dot_cmp d (entries_of cs) ≡ true → find dot_cmp d (entries_of cs) ≡ None
+pub none_below : (d : Tag) (cs : List LiveDot) → below_all dot_cmp d (entries_of cs) ≡ true → find dot_cmp d (entries_of cs) ≡ None
 none_below d [] h = refl
 none_below d (c ∷ cs) h =
     let p = and_parts (is_lt (dot_cmp d c.dot)) (below_all dot_cmp d (entries_of cs)) h in

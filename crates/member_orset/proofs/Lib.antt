@@ -9,3 +9,10 @@ pub mod Places
 pub mod Agreeing
 pub mod Building
 pub mod Presence
+pub mod JoinSteps
+pub mod JoinedCells
+pub mod Joins
+pub mod MemberCells
+pub mod Shows
+pub mod SeenDots
+pub mod Pieces

@@ -7,3 +7,6 @@ pub use Rattle.dots.specs.Rows
 pub mod Codes
 pub mod Members
 pub mod Cells
+pub mod Joining
+pub mod Shown
+pub mod Seen

@@ -1,6 +1,6 @@
 -- What contracts see of a set of members: the dots that it knows, the live ones with member and fields, and, aside of
 -- what it means, how much room it has.
-use Rattle.std.specs.Prelude.{ℕ, ◌≡◌, ◌≢◌, ◌≤◌, ◌<◌, ◌+◌, ◌⊎◌, Bool, true, false, Option, Some, None, refl, if◌then◌else◌}
+use Rattle.std.specs.Prelude.{ℕ, ◌≡◌, ◌≢◌, ◌≤◌, ◌<◌, ◌+◌, ◌⊎◌, Bool, true, false, Option, Some, None, Result, Ok, Err, refl, if◌then◌else◌}
 use Rattle.std.specs.Option.{option_map, option_and_then}
 use Rattle.std.specs.FinMap as map
 use Rattle.std.specs.FinSet as set
@@ -11,9 +11,10 @@ use Rattle.dots.specs.Values.{Tag}
 use Rattle.dots.specs.Orders.{dot_cmp}
 use Rattle.dots.specs.DotSets.{tag_code, run_count}
 use Rattle.dots.specs.Registers.{InConflict}
-use Rattle.dots.specs.Conditions.{DotFields, Condition, Live, Dead, condition_joined}
+use Rattle.dots.specs.Conditions.{DotFields, Condition, Live, Dead, ConditionsAgree, condition_joined}
 use Rattle.dots.specs.Rows.{DotReading}
 use Rattle.causal_context.specs.Contexts.{most_runs}
+use Rattle.member_orset.specs.declared.join_fault.JoinFault.{JoinFault}
 use Rattle.member_orset.specs.Codes.{member_code, fields_code}
 
 -- the member and the fields of a live dot
@@ -130,3 +131,48 @@ pub record IsPresent (s : Members) (member : Member) : Type 0 where
   pub dot : Tag
   pub fields : DotFields
   pub live : map.get s.live dot ≡ Some (member, fields)
+
+-- both can be joined: each dot's conditions agree
+abbrev pub CanBeJoined : Members → Members → Type 0
+CanBeJoined s t = (dot : Tag) → ConditionsAgree (condition_of s dot) (condition_of t dot)
+
+-- the condition of a dot that two sets leave together
+abbrev pub both_joined : Members → Members → Tag → Option Condition
+both_joined s t dot = condition_joined (condition_of s dot) (condition_of t dot)
+
+-- whether a condition is that a dot is live
+abbrev pub is_live : Option Condition → Bool
+is_live None = false
+is_live (Some Dead) = false
+is_live (Some (Live member fields)) = true
+
+-- the dots that are live in the join of two sets
+unfoldable pub joined_dots : Members → Members → set.FinSet dot_cmp
+joined_dots s t = set.retain (set.union s.known t.known) (λ dot. is_live (both_joined s t dot))
+
+-- how many these are
+abbrev pub cells_joined : Members → Members → ℕ
+cells_joined s t = set.len (joined_dots s t)
+
+-- how many runs of known dots the join has
+abbrev pub runs_joined : Members → Members → ℕ
+runs_joined s t = run_count (set.union s.known t.known)
+
+-- nothing is left that could refuse the join with another set: they agree, the join is small enough, and there is room
+-- for the live dots and the runs of both
+pub record IsPrepared (s t : Members) : Type 0 where
+  pub agree : CanBeJoined s t
+  pub places : HasPlaces s (cells_joined s t) (map.len t.live)
+  pub runs : runs_joined s t ≤ most_runs
+  pub cell_room : map.len s.live + map.len t.live ≤ s.cell_room
+  pub run_room : run_count s.known + run_count t.known ≤ s.run_room
+
+-- a set is the join of two: it knows the dots of both, and each dot has the join of its conditions
+pub record IsJoinOf (s t joined : Members) : Type 0 where
+  pub known : joined.known ≡ set.union s.known t.known
+  pub conditions : (dot : Tag) → condition_of joined dot ≡ both_joined s t dot
+
+-- a set that came back was refused for this cause
+abbrev pub IsRefusedFor : Result (Unit {0}) (JoinFault × Members) → JoinFault → Type 0
+IsRefusedFor (Ok u) fault = ⊥
+IsRefusedFor (Err refused) fault = refused.0 ≡ fault

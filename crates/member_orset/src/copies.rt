@@ -5,7 +5,7 @@ use dots::Memory;
 use std::alloc::Global;
 
 /// The same cell once more.
-fn copy_of(cell: &LiveDot) -> LiveDot
+pub(crate) fn copy_of(cell: &LiveDot) -> LiveDot
     ensures { result ≡ cell.now }
 {
     LiveDot {

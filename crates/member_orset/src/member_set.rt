@@ -1,21 +1,27 @@
-ghost use Rattle.std.specs.Prelude.{◌≡◌, ◌≢◌, ◌↔◌, ◌<◌, IfOk, IsFalse, IsTrue, OnOk, OnErr};
+ghost use Rattle.std.specs.Prelude.{◌≡◌, ◌≢◌, ◌↔◌, ◌<◌, ◌≤◌, IfErr, IfOk, IsFalse, IsOk, IsTrue, OnOk, OnErr};
 ghost use Rattle.std.specs.Option.{option_map};
 ghost use Rattle.std.specs.FinMap as map;
 ghost use Rattle.std.specs.FinSet as set;
 ghost use Rattle.dots.specs.Values.{Tag};
 ghost use Rattle.dots.specs.DotSets.{run_count};
+ghost use Rattle.dots.specs.Rows.{dots_of, row_of, rows_of};
 ghost use Rattle.dots.specs.Conditions.{Live, Dead, ConditionsAgree};
 ghost use Rattle.causal_context.specs.Contexts.{most_runs};
-ghost use Rattle.member_orset.specs.Members.{Conflicts, ConditionsConflict, HasField, HasPlaces, IsPresent, IsUnchanged, IsWithinLimits, LacksPlaces, cells_with, condition_of, joined_at};
+ghost use Rattle.member_orset.specs.Members.{CanBeJoined, Conflicts, ConditionsConflict, HasField, HasPlaces, IsJoinOf, IsPrepared, IsPresent, IsRefusedFor, IsUnchanged, IsWithinLimits, LacksPlaces, cells_joined, cells_with, condition_of, joined_at, reading_of, runs_joined};
 ghost use Rattle.member_orset.specs.Cells.{AreCells, cell_read, dot_fields, live_of};
+ghost use Rattle.member_orset.specs.Shown.{row_read};
+ghost use Rattle.member_orset.specs.Seen.{dots_seen_below};
 
 use crate::agreement::cells_agree;
 use crate::copies::copy_cells;
-use crate::edits::{assert_dot, kill_dot};
+use crate::edits::{MOST_CELLS, assert_dot, kill_dot};
+use crate::joining::{absorb_cells, joined_count, make_room};
+use crate::latest::row_in;
 use crate::live_dot::LiveDot;
 use crate::search::{cell_at, has_member};
-use crate::{Cell, Cells, JoinFault};
-use causal_context::Context;
+use crate::seen::gather;
+use crate::{Cell, Cells, Dots, JoinFault, Row, Rows};
+use causal_context::{Context, ContextFault};
 use dots::{Dot, Member, Memory};
 use lww_registers::Fields;
 use std::alloc::Global;
@@ -115,6 +121,29 @@ impl MemberSet {
         Cells::of(&self.cells)
     }
 
+    /// The live dots of a member, in their order.
+    pub fn dots<'a>(&'a self, member: &'a Member) -> Dots<'a>
+        ensures { result ≡ dots_of (reading_of self.now) member.now }
+    {
+        Dots::of(&self.cells, member)
+    }
+
+    /// The row of a member, where it has a live dot: each field is that of the greatest stamp over its live dots, of equal
+    /// stamps that of the least dot, and its default where none is set (RR-7506's last-writer registers).
+    pub fn row(&self, member: &Member) -> Option<Row<'_>>
+        ensures { option_map row_read result ≡ row_of (reading_of self.now) member.now }
+    {
+        row_in(&self.cells, member)
+    }
+
+    /// The rows of a queue, one by one: each interface that has a live dot there once, with its row, in the order of the
+    /// interfaces' bytes. Each step goes over all live dots.
+    pub fn rows(&self, queue: u16) -> Rows<'_>
+        ensures { result ≡ rows_of (reading_of self.now) queue }
+    {
+        Rows::of(&self.cells, queue)
+    }
+
     /// How many places of dead dots aren't used again: none.
     pub fn retired(&self) -> u32
         ensures { result ≡ self.now.retired }
@@ -162,6 +191,97 @@ impl MemberSet {
         ensures conflict { IsFalse result ↔ Conflicts self.now other.now }
     {
         cells_agree(&self.cells, &other.cells)
+    }
+
+    /// Makes room for what another set says, which `absorb` then joins. It leaves what is said as it is. 1 `Conflict`,
+    /// exactly where `agrees` is false; 2 `CellsFull`, exactly where the join has more than 16,384 live dots, or the places
+    /// that aren't used again and the live dots of both sets pass 1,048,576; 3 `RunsFull`, exactly where the known dots of
+    /// both make more than 65,536 runs; 4 `Memory`.
+    pub fn prepare(&mut self, other: &MemberSet) -> Result<(), JoinFault>
+        ensures ready { OnOk result (IsPrepared self.new other.now) }
+        ensures conflict { (result ≡ Err JoinFault.Conflict) ↔ Conflicts self.old other.now }
+        ensures cells_full { (result ≡ Err JoinFault.CellsFull) ↔ (CanBeJoined self.old other.now × LacksPlaces self.old (cells_joined self.old other.now) (map.len other.now.live)) }
+        ensures runs_full { (result ≡ Err JoinFault.RunsFull) ↔ (CanBeJoined self.old other.now × HasPlaces self.old (cells_joined self.old other.now) (map.len other.now.live) × (most_runs < runs_joined self.old other.now)) }
+        ensures again { IsPrepared self.old other.now → IsOk result }
+        ensures kept { IsUnchanged self.old self.new }
+        ensures cell_room { self.old.cell_room ≤ self.new.cell_room }
+        ensures run_room { self.old.run_room ≤ self.new.run_room }
+    {
+        if !self.agrees(other) {
+            return Err(JoinFault::Conflict);
+        }
+        if self.joined_cells(other) > MOST_CELLS {
+            return Err(JoinFault::CellsFull);
+        }
+        make_room(
+            &mut self.context,
+            &mut self.cells,
+            &other.context,
+            other.cells.len(),
+        )
+    }
+
+    /// Whether another set can be absorbed: the two agree, the join is small enough, and there is room.
+    pub fn prepared(&self, other: &MemberSet) -> bool
+        ensures { IsTrue result ↔ IsPrepared self.now other.now }
+    {
+        if !self.agrees(other) {
+            return false;
+        }
+        if self.joined_cells(other) > MOST_CELLS {
+            return false;
+        }
+        if !self.context.prepared(&other.context) {
+            return false;
+        }
+        self.cells() + other.cells() <= self.cells.capacity()
+    }
+
+    /// Joins what another set says that was prepared: each dot has the join of its two conditions. It takes no memory
+    /// and can't fail.
+    pub fn absorb(&mut self, other: MemberSet)
+        requires { IsPrepared self.old other }
+        ensures { IsJoinOf self.old other self.new }
+    {
+        absorb_cells(&self.context, &mut self.cells, &other.context, &other.cells);
+        self.context.absorb(&other.context);
+    }
+
+    /// Joins what another set says: each dot has the join of its two conditions. A refused set comes back as it was, and
+    /// no fault changes what this one says. 1 `Conflict`, exactly where `agrees` is false; 2 `CellsFull`, exactly where
+    /// the join has more than 16,384 live dots, or the places that aren't used again and the live dots of both sets pass
+    /// 1,048,576; 3 `RunsFull`, exactly where the known dots of both make more than 65,536 runs; 4 `Memory`.
+    pub fn join(&mut self, other: MemberSet) -> Result<(), (JoinFault, MemberSet)>
+        ensures joined { OnOk result (IsJoinOf self.old other self.new) }
+        ensures conflict { IsRefusedFor result JoinFault.Conflict ↔ Conflicts self.old other }
+        ensures cells_full { IsRefusedFor result JoinFault.CellsFull ↔ (CanBeJoined self.old other × LacksPlaces self.old (cells_joined self.old other) (map.len other.live)) }
+        ensures runs_full { IsRefusedFor result JoinFault.RunsFull ↔ (CanBeJoined self.old other × HasPlaces self.old (cells_joined self.old other) (map.len other.live) × (most_runs < runs_joined self.old other)) }
+        ensures prepared { IsPrepared self.old other → IsOk result }
+        ensures back { IfErr result (λ refused. IsUnchanged other refused.1) }
+        ensures err { OnErr result (IsUnchanged self.old self.new) }
+    {
+        if let Err(fault) = self.prepare(&other) {
+            return Err((fault, other));
+        }
+        self.absorb(other);
+        Ok(())
+    }
+
+    /// The given dots, with all that are dead here and of the site of a given dot, with a lesser count: what an operation
+    /// that asserts the given dots names besides. The set is only read. 1 `RunsFull`, exactly where these dots make more
+    /// than 65,536 runs; 2 `Memory`.
+    pub fn seen_below(&self, given: &[Dot]) -> Result<Context, ContextFault>
+        ensures ok { IfOk result (λ seen. seen.dots ≡ dots_seen_below self.now given.now) }
+        ensures full { (result ≡ Err ContextFault.RunsFull) ↔ (most_runs < run_count (dots_seen_below self.now given.now)) }
+    {
+        gather(*self.cells.allocator(), &self.context, &self.cells, given)
+    }
+
+    /// How many dots are live in the join with another set.
+    fn joined_cells(&self, other: &MemberSet) -> usize
+        ensures { result ≡ cells_joined self.now other.now }
+    {
+        joined_count(&self.context, &self.cells, &other.context, &other.cells)
     }
 
     /// Another set that says the same of each dot. The one fault is want of memory.

@@ -33,7 +33,7 @@ use Rattle.replica.specs.Steps.{SiteKnowledge, new_site, Do, after_meaning, step
 use Rattle.replica.proofs.AddLemmas.{named_at}
 use Rattle.replica.proofs.HeldLemmas.{members_total}
 use Rattle.replica.proofs.NameLemmas.{same_names, found-at}
-use Rattle.replica.proofs.OneMoreAdd.{listed, still_unnamed, one_more_visible, visible_count, rows_again}
+use Rattle.replica.proofs.OneMoreAdd.{or_false, listed, still_unnamed, one_more_visible, visible_count, rows_again}
 use Rattle.replica.proofs.ReadingLaws.{known-dot, one-more, older-named}
 
 -- a name that has no number isn't in the list
@@ -119,12 +119,8 @@ module _ (old : SiteState) (s : SiteKnowledge) (stands : StandsFor old s) (queue
         alike true = refl
         alike false = refl
 
-    or_false : (b : Bool) → b ≡ (b || false)
-    or_false true = refl
-    or_false false = refl
-
     one_run : (dots : set.FinSet dot_cmp) (r : Stretch) → r.first ≤ r.last → ((dot : Tag) → set.contains dots dot ≡ in_stretch dot r) → run_count dots ≡ 1
-    one_run dots r rises is = run_count-runs (r ∷ []) dots (record { apart = (rises, (λ k d h. absurd (omega (arith, h))), tt); same = λ d. is d ∙ or_false (in_stretch d r) })
+    one_run dots r rises is = run_count-runs (r ∷ []) dots (record { apart = (rises, (λ k d h. absurd (omega (arith, h))), tt); same = λ d. is d ∙ sym (or_false (in_stretch d r)) })
 
     one_run_then : run_count (known_dots grown) ≡ 1
     one_run_then = one_run (known_dots grown) (record { site = old.site; first = 1; last = suc read.last_count }) (omega arith) (λ dot. known_is grown unnamed_then dot ∙ visible_then dot)
@@ -154,7 +150,7 @@ module _ (old : SiteState) (s : SiteKnowledge) (stands : StandsFor old s) (queue
     unfolding too_many
     full_is =
         let more = one-more old.site s.known made in
-        (λ i. is_past_limits (more.visible i) (more.known i)) ∙ (λ i. nat_lt 16384 (as_many_then i) || nat_lt 65536 (one_run_then i)) ∙ sym (or_false (nat_lt 16384 (map.len old.members + 1)))
+        (λ i. is_past_limits (more.visible i) (more.known i)) ∙ (λ i. nat_lt 16384 (as_many_then i) || nat_lt 65536 (one_run_then i)) ∙ or_false (nat_lt 16384 (map.len old.members + 1))
 
     used_up_is : is_exhausted made ≡ used_up
     unfolding used_up

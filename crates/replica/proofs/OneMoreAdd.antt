@@ -1,5 +1,5 @@
 -- What one more add, of a dot greater than all others of its site, does to what a knowledge of such adds shows.
-use Rattle.std.proofs.Common.{◌≡◌, ℕ, zero, suc, ◌+◌, ◌<◌, Bool, true, false, cond, not, ◌&&◌, ◌||◌, List, [], ◌∷◌, ◌++◌, Contains, Option, Some, None, filter, T, refl, sym, ap, subst, ◌∙◌, arith, true≢false, inl, inr, if◌then◌else◌, append-nil}
+use Rattle.std.proofs.Common.{◌≡◌, ℕ, zero, suc, ◌+◌, ◌<◌, Bool, true, false, cond, not, ◌&&◌, ◌||◌, List, [], ◌∷◌, ◌++◌, Contains, Option, Some, None, filter, refl, sym, ap, subst, ◌∙◌, arith, true≢false, inl, inr, if◌then◌else◌, append-nil}
 use Rattle.std.specs.Prelude.{nat_eq, nat_le}
 use Rattle.std.specs.List.{filter_map, cons_option, find}
 use Rattle.std.specs.Option.{option_map, option_map_or}
@@ -28,17 +28,12 @@ use Rattle.dots.proofs.ItemOrder.{units, in_order-list}
 use Rattle.dots.proofs.Membership.{first-in, later-in, cases-in, any-in}
 use Rattle.dots.proofs.Stretches.{any_from}
 use Rattle.dots.proofs.VisibleLaws.{visible-dot}
+use Rattle.replica.proofs.HeldLemmas.{both, truth}
 use Rattle.replica.proofs.HeldLemmas.{members_total, exact_members}
 
-or_false : (b : Bool) → (b || false) ≡ b
+pub or_false : (b : Bool) → (b || false) ≡ b
 or_false true = refl
 or_false false = refl
-
-and_true : (a b : Bool) → a ≡ true → b ≡ true → (a && b) ≡ true
-and_true a b p q = λ i. p i && q i
-
-truth : (b : Bool) → b ≡ true → T b
-truth b h = subst T (sym h) tt
 
 -- dots of one site are in the order of their counts
 lesser_first : (site a b : ℕ) → a < b → is_lt (dot_cmp (record { site = site; count = a }) (record { site = site; count = b })) ≡ true
@@ -48,14 +43,14 @@ below_from : (site a first n : ℕ) → a < first → below_all dot_cmp (record 
 unfolding dots_from
 below_from site a first zero h = refl
 below_from site a first (suc n) h =
-    and_true (is_lt (dot_cmp (record { site = site; count = a }) (record { site = site; count = first }))) (below_all dot_cmp (record { site = site; count = a }) (units (dots_from site (suc first) n)))
+    both (is_lt (dot_cmp (record { site = site; count = a }) (record { site = site; count = first }))) (below_all dot_cmp (record { site = site; count = a }) (units (dots_from site (suc first) n)))
     (lesser_first site a first h) (below_from site a (suc first) n (omega (arith, h)))
 
 rising_from : (site first n : ℕ) → map.is_sorted dot_cmp (units (dots_from site first n)) ≡ true
 unfolding dots_from
 rising_from site first zero = refl
 rising_from site first (suc n) =
-    and_true (below_all dot_cmp (record { site = site; count = first }) (units (dots_from site (suc first) n))) (map.is_sorted dot_cmp (units (dots_from site (suc first) n)))
+    both (below_all dot_cmp (record { site = site; count = first }) (units (dots_from site (suc first) n))) (map.is_sorted dot_cmp (units (dots_from site (suc first) n)))
     (below_from site first (suc first) n (omega arith)) (rising_from site (suc first) n)
 
 -- one more of them stands at the end

@@ -1,5 +1,5 @@
 -- The rows of a queue in a map of members are those that a knowledge shows, where each member's row is.
-use Rattle.std.proofs.Common.{◌≡◌, ℕ, Bool, true, false, cond, ◌&&◌, ◌||◌, ◌==◌, List, [], ◌∷◌, Contains, Option, Some, None, filter, map as each, is_some, T, refl, sym, ap, subst, ◌∙◌, arith, true≢false, inl, inr, if◌then◌else◌, nat_eq}
+use Rattle.std.proofs.Common.{◌≡◌, ℕ, Bool, true, false, cond, ◌&&◌, ◌||◌, ◌==◌, List, [], ◌∷◌, Contains, Option, Some, None, filter, map as each, is_some, refl, sym, ap, subst, ◌∙◌, arith, true≢false, inl, inr, if◌then◌else◌, nat_eq}
 use Rattle.std.specs.List.{list_any, filter_map, cons_option}
 use Rattle.std.specs.Option.{option_map, option_map_or, option_and_then}
 use Rattle.std.specs.FinMap as map
@@ -21,6 +21,7 @@ use Rattle.dots.proofs.ItemOrder.{in_order-keys}
 use Rattle.dots.proofs.Membership.{cases-in, first-in, later-in}
 use Rattle.replica.specs.Held.{Held}
 use Rattle.replica.specs.Site.{Members, rows_of}
+use Rattle.replica.proofs.HeldLemmas.{both, both_left, both_right, fact, truth}
 
 -- members of one queue are in the order of their interfaces
 tied_of : (a b : ℕ) → nat_eq a b ≡ true → nat_cmp a b ≡ Equal
@@ -45,43 +46,25 @@ of_queue queue es = filter (λ e. e.0.queue == queue) es
 abbrev rows_in : ℕ → List Held → List (List ℕ × MemberRow)
 rows_in queue es = each row_at (of_queue queue es)
 
-first : (a b : Bool) → (a && b) ≡ true → a ≡ true
-first true b h = refl
-first false b h = h
-
-second : (a b : Bool) → (a && b) ≡ true → b ≡ true
-second true b h = h
-second false b h = absurd (true≢false (sym h))
-
-both : (a b : Bool) → a ≡ true → b ≡ true → (a && b) ≡ true
-both a b p q = λ i. p i && q i
-
-is_true : (b : Bool) → T b → b ≡ true
-is_true true h = refl
-is_true false h = absurd h
-
-as_true : (b : Bool) → b ≡ true → T b
-as_true b h = subst T (sym h) tt
-
 -- what is below in the order of members is so in that of interfaces, in one queue
 below_rows : (queue : ℕ) (m : Member) (es : List Held) → (m.queue == queue) ≡ true → below_all member_cmp m es ≡ true → below_all text_cmp m.interface (rows_in queue es) ≡ true
 below_rows queue m [] here h = refl
-below_rows queue m (e ∷ es) here h = by (e.0.queue == queue) refl (below_rows queue m es here (second (is_lt (member_cmp m e.0)) (below_all member_cmp m es) h))
+below_rows queue m (e ∷ es) here h = by (e.0.queue == queue) refl (below_rows queue m es here (both_right (is_lt (member_cmp m e.0)) (below_all member_cmp m es) h))
   where
     by : (b : Bool) → (e.0.queue == queue) ≡ b → below_all text_cmp m.interface (rows_in queue es) ≡ true → below_all text_cmp m.interface (each row_at (cond b (e ∷ of_queue queue es) (of_queue queue es))) ≡ true
     by true is rest =
         let same : nat_eq m.queue e.0.queue ≡ true = grind (arith, nat_tests, here, is) in
         both (is_lt (text_cmp m.interface e.0.interface)) (below_all text_cmp m.interface (rows_in queue es))
-        (sym (ap (λ o. is_lt (ordering_then o (text_cmp m.interface e.0.interface))) (tied_of m.queue e.0.queue same)) ∙ first (is_lt (member_cmp m e.0)) (below_all member_cmp m es) h) rest
+        (sym (ap (λ o. is_lt (ordering_then o (text_cmp m.interface e.0.interface))) (tied_of m.queue e.0.queue same)) ∙ both_left (is_lt (member_cmp m e.0)) (below_all member_cmp m es) h) rest
     by false is rest = rest
 
 rising_rows : (queue : ℕ) (es : List Held) → map.is_sorted member_cmp es ≡ true → map.is_sorted text_cmp (rows_in queue es) ≡ true
 rising_rows queue [] h = refl
-rising_rows queue (e ∷ es) h = by (e.0.queue == queue) refl (rising_rows queue es (second (below_all member_cmp e.0 es) (map.is_sorted member_cmp es) h))
+rising_rows queue (e ∷ es) h = by (e.0.queue == queue) refl (rising_rows queue es (both_right (below_all member_cmp e.0 es) (map.is_sorted member_cmp es) h))
   where
     by : (b : Bool) → (e.0.queue == queue) ≡ b → map.is_sorted text_cmp (rows_in queue es) ≡ true → map.is_sorted text_cmp (each row_at (cond b (e ∷ of_queue queue es) (of_queue queue es))) ≡ true
     by true is rest = both (below_all text_cmp e.0.interface (rows_in queue es)) (map.is_sorted text_cmp (rows_in queue es))
-        (below_rows queue e.0 es is (first (below_all member_cmp e.0 es) (map.is_sorted member_cmp es) h)) rest
+        (below_rows queue e.0 es is (both_left (below_all member_cmp e.0 es) (map.is_sorted member_cmp es) h)) rest
     by false is rest = rest
 
 -- a row is found by its interface where the member is found
@@ -134,8 +117,8 @@ shown_where r queue interface row (dot ∷ dots) = by (r.member dot) (shown_wher
 all_above : {K X : Type 0} (R : K → K → Ordering) (k : K) (es : List (K × X)) (e : K × X) → below_all R k es ≡ true → Contains es e → is_lt (R k e.0) ≡ true
 all_above R k [] e h here = absurd (omega (arith, here.1))
 all_above R k (x ∷ es) e h here = elim (cases-in x es e here) [
-  | inl p ↦ ap (λ y. is_lt (R k y.0)) (sym p) ∙ first (is_lt (R k x.0)) (below_all R k es) h
-  | inr rest ↦ all_above R k es e (second (is_lt (R k x.0)) (below_all R k es) h) rest
+  | inl p ↦ ap (λ y. is_lt (R k y.0)) (sym p) ∙ both_left (is_lt (R k x.0)) (below_all R k es) h
+  | inr rest ↦ all_above R k es e (both_right (is_lt (R k x.0)) (below_all R k es) h) rest
 ]
 
 finds : {K X : Type 0} {R : K → K → Ordering} → IsTotalOrder R → (es : List (K × X)) (e : K × X) → map.is_sorted R es ≡ true → Contains es e → find R e.0 es ≡ Some e.1
@@ -143,8 +126,8 @@ finds o [] e h here = absurd (omega (arith, here.1))
 finds {R = R} o (x ∷ es) e h here = elim (cases-in x es e here) [
   | inl p ↦ subst (λ y. find R y.0 (x ∷ es) ≡ Some y.1) p (ap (λ t. cond (is_eq t) (Some x.1) (find R x.0 es)) (tied_itself o x.0))
   | inr rest ↦
-      ap (λ b. cond b (Some x.1) (find R e.0 es)) (apart (R x.0 e.0) (R e.0 x.0) (o.antisymm e.0 x.0) (all_above R x.0 es e (first (below_all R x.0 es) (map.is_sorted R es) h) rest))
-      ∙ finds o es e (second (below_all R x.0 es) (map.is_sorted R es) h) rest
+      ap (λ b. cond b (Some x.1) (find R e.0 es)) (apart (R x.0 e.0) (R e.0 x.0) (o.antisymm e.0 x.0) (all_above R x.0 es e (both_left (below_all R x.0 es) (map.is_sorted R es) h) rest))
+      ∙ finds o es e (both_right (below_all R x.0 es) (map.is_sorted R es) h) rest
 ]
   where
     apart : (p q : Ordering) → q ≡ ordering_reverse p → is_lt p ≡ true → is_eq q ≡ false
@@ -163,13 +146,13 @@ module _ (k : Knowledge) (members : Members) (same : (m : Member) → row_of (do
   listed = rows_in queue (map.entries members)
 
   rises : map.is_sorted text_cmp listed ≡ true
-  rises = rising_rows queue (map.entries members) (is_true (map.is_sorted member_cmp (map.entries members)) (map.entries_sorted members))
+  rises = rising_rows queue (map.entries members) (fact (map.is_sorted member_cmp (map.entries members)) (map.entries_sorted members))
 
   abbrev rows_map : map.FinMap text_cmp MemberRow
   rows_map = map.from_sorted listed
 
   entries : map.entries rows_map ≡ listed
-  entries = map.entries-from_sorted text_cmp listed (as_true (map.is_sorted text_cmp listed) rises)
+  entries = map.entries-from_sorted text_cmp listed (truth (map.is_sorted text_cmp listed) rises)
 
   row_found : (interface : List ℕ) → find text_cmp interface listed ≡ row_of (dots_read k) (member_in queue interface)
   row_found interface = find_row queue interface (map.entries members) ∙ sym (map.get-entries members (member_in queue interface)) ∙ sym (same (member_in queue interface))

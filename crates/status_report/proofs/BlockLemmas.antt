@@ -1,14 +1,23 @@
 -- The blocks of a report, written one after the other.
-use Rattle.std.proofs.Common.{◌≡◌, ℕ, zero, suc, ◌+◌, ◌<◌, ◌≤◌, Bool, true, false, cond, List, [], ◌∷◌, ◌++◌, length, drop, map as each, filter, slice_get, append_assoc, append-nil, length-append, refl, sym, ap, ◌∙◌, arith}
+use Rattle.std.proofs.Common.{◌≡◌, ℕ, zero, suc, ◌+◌, ◌<◌, ◌≤◌, Bool, true, false, cond, List, [], ◌∷◌, ◌++◌, length, get_or, drop, drop-cons, map as each, filter, slice_get, Option, Some, None, append_assoc, append-nil, length-append, refl, sym, ap, ◌∙◌, arith}
 use Rattle.std.specs.List.{concat}
 use Rattle.std.proofs.lemmas.List.{drop_all}
-use Rattle.replica.specs.Site.{SiteState, rows_of}
 use Rattle.status_report.specs.declared.request.StatusRequest.{StatusRequest}
-use Rattle.status_report.specs.Status.{Row, no_calls, is_member_wanted, member_block, member_blocks, blocks, blocks_named, opening, closing, report_of}
+use Rattle.status_report.specs.Status.{Row, Totals, is_member_wanted, is_queue_wanted, member_block, member_blocks, queue_block, blocks, blocks_named, opening, closing, status_text}
 
 -- ---- the members of a queue
 choose : (request : StatusRequest) (name : List ℕ) (row : Row) (rest : List Row) → Bool → List (List ℕ)
 choose request name row rest b = each (member_block request.action_id name) (cond b (row ∷ filter (is_member_wanted request.member) rest) (filter (is_member_wanted request.member) rest))
+
+-- the element at a place, before those that follow it
+pub next_element : {A B : Type 0} (f : A → B) (xs : List A) (i : ℕ) (x : A) → i < length xs → x ≡ get_or xs i x → each f (drop i xs) ≡ f x ∷ each f (drop (i + 1) xs)
+next_element f xs i x lt is =
+    let next : suc i ≡ i + 1 = omega arith in
+    ap (each f) (drop-cons xs i x lt ∙ (λ j. sym is j ∷ drop (next j) xs))
+
+-- a block has bytes
+has_bytes : (action_id name : List ℕ) (row : Row) → 1 ≤ length (member_block action_id name row)
+has_bytes action_id name row = omega arith
 
 module _ (request : StatusRequest) (name : List ℕ) (row : Row) (left rest : List Row) (is : left ≡ row ∷ rest) where
   -- a member that is shown has the first block
@@ -30,6 +39,12 @@ module _ (request : StatusRequest) (name : List ℕ) (row : Row) (left rest : Li
   pub shown_count : (n : ℕ) → is_member_wanted request.member row ≡ true → (n + 1) + length (member_blocks request name rest) ≡ n + length (member_blocks request name left)
   shown_count n wanted = let e = ap length (shown_first wanted) in omega (arith, e)
 
+  pub shown_few : (old new : List ℕ) (n first : ℕ) → new ≡ old ++ member_block request.action_id name row → first + n ≤ length old → first + (n + 1) ≤ length new
+  shown_few old new n first e few =
+      let written = ap length e ∙ length-append old (member_block request.action_id name row) in
+      let some = has_bytes request.action_id name row in
+      omega (arith, written, some, few)
+
 -- nothing is left
 pub none_text : (request : StatusRequest) (name : List ℕ) (left : List Row) (out all : List ℕ) → left ≡ [] → out ++ concat (member_blocks request name left) ≡ all → out ≡ all
 none_text request name left out all e h = sym (append-nil out) ∙ ap (λ rows. out ++ concat (member_blocks request name rows)) (sym e) ∙ h
@@ -39,57 +54,75 @@ none_count request name left n all e h = let k = ap (λ rows. length (member_blo
 
 -- ---- the queues
 -- the blocks of the queues from a number on
-abbrev pub blocks_from : SiteState → StatusRequest → ℕ → List (List ℕ)
-blocks_from site request number = blocks request no_calls (rows_of site.members) number (drop number site.names)
+abbrev pub blocks_from : StatusRequest → (ℕ → Totals) → (ℕ → List Row) → List (List ℕ) → ℕ → List (List ℕ)
+blocks_from request totals rows names number = blocks request totals rows number (drop number names)
 
-blocks_first : (site : SiteState) (request : StatusRequest) (names : List (List ℕ)) (i n : ℕ) → i < length names
-    → blocks request no_calls (rows_of site.members) n (drop i names) ≡ blocks_named site request n (slice_get names i) ++ blocks request no_calls (rows_of site.members) (n + 1) (drop (suc i) names)
-blocks_first site request [] i n lt = absurd (omega arith)
-blocks_first site request (name ∷ names) zero n lt = refl
-blocks_first site request (name ∷ names) (suc i) n lt = blocks_first site request names i n (omega arith)
-
--- those of a queue, and of the queues after it
-pub blocks_from-more : (site : SiteState) (request : StatusRequest) (number : ℕ) → number < length site.names → blocks_from site request number ≡ blocks_named site request number (slice_get site.names number) ++ blocks_from site request (number + 1)
-blocks_from-more site request number lt =
-    let next : suc number ≡ number + 1 = omega arith in
-    blocks_first site request site.names number number lt
-    ∙ ap (λ i. blocks_named site request number (slice_get site.names number) ++ blocks request no_calls (rows_of site.members) (number + 1) (drop i site.names)) next
-
-pub blocks_from-none : (site : SiteState) (request : StatusRequest) (number : ℕ) → length site.names ≤ number → blocks_from site request number ≡ []
-blocks_from-none site request number past = ap (blocks request no_calls (rows_of site.members) number) (drop_all number site.names past)
+-- a queue that is shown has its own block, and then its members'
+pub whole_queue : (request : StatusRequest) (totals : ℕ → Totals) (rows : ℕ → List Row) (number : ℕ) (slot : Option (List ℕ)) (name : List ℕ) (counted : Totals) (listed : List Row) (out between new : List ℕ)
+    → slot ≡ Some name → is_queue_wanted request.queue name ≡ true → counted ≡ totals number → listed ≡ rows number
+    → between ≡ out ++ queue_block request.action_id name counted → new ≡ between ++ concat (member_blocks request name listed)
+    → new ≡ out ++ concat (blocks_named request totals rows number slot)
+whole_queue request totals rows number slot name counted listed out between new is wanted same_totals same_rows first rest =
+    let shown : Bool → List (List ℕ) = λ b. cond b (queue_block request.action_id name (totals number) ∷ member_blocks request name (rows number)) [] in
+    rest
+    ∙ (λ i. first i ++ concat (member_blocks request name (same_rows i)))
+    ∙ append_assoc out (queue_block request.action_id name counted) (concat (member_blocks request name (rows number)))
+    ∙ (λ i. out ++ (queue_block request.action_id name (same_totals i) ++ concat (member_blocks request name (rows number))))
+    ∙ (λ i. out ++ concat (shown (sym wanted i)))
+    ∙ (λ i. out ++ concat (blocks_named request totals rows number (sym is i)))
 
 concat-append : (xs ys : List (List ℕ)) → concat (xs ++ ys) ≡ concat xs ++ concat ys
 concat-append [] ys = refl
 concat-append (x ∷ xs) ys = ap (λ rest. x ++ rest) (concat-append xs ys) ∙ sym (append_assoc x (concat xs) (concat ys))
 
-module _ (site : SiteState) (request : StatusRequest) (number : ℕ) (lt : number < length site.names) where
-  pub queue_text : (old new : List ℕ) → new ≡ old ++ concat (blocks_named site request number (slice_get site.names number)) → new ++ concat (blocks_from site request (number + 1)) ≡ old ++ concat (blocks_from site request number)
-  queue_text old new e =
-      let here = blocks_named site request number (slice_get site.names number) in
-      let rest = blocks_from site request (number + 1) in
-      ap (λ o. o ++ concat rest) e
-      ∙ append_assoc old (concat here) (concat rest)
-      ∙ ap (λ t. old ++ t) (sym (concat-append here rest))
-      ∙ ap (λ bs. old ++ concat bs) (sym (blocks_from-more site request number lt))
+module _ (request : StatusRequest) (totals : ℕ → Totals) (rows : ℕ → List Row) where
+  blocks_first : (names : List (List ℕ)) (i n : ℕ) → i < length names
+      → blocks request totals rows n (drop i names) ≡ blocks_named request totals rows n (slice_get names i) ++ blocks request totals rows (n + 1) (drop (suc i) names)
+  blocks_first [] i n lt = absurd (omega arith)
+  blocks_first (name ∷ names) zero n lt = refl
+  blocks_first (name ∷ names) (suc i) n lt = blocks_first names i n (omega arith)
 
-  pub queue_count : (n k : ℕ) → k ≡ length (blocks_named site request number (slice_get site.names number)) → (n + k) + length (blocks_from site request (number + 1)) ≡ n + length (blocks_from site request number)
-  queue_count n k e =
-      let here = blocks_named site request number (slice_get site.names number) in
-      let rest = blocks_from site request (number + 1) in
-      let all = ap length (blocks_from-more site request number lt) ∙ length-append here rest in
-      omega (arith, all, e)
+  module _ (names : List (List ℕ)) (number : ℕ) where
+    -- those of a queue, and of the queues after it
+    pub blocks_from-more : number < length names → blocks_from request totals rows names number ≡ blocks_named request totals rows number (slice_get names number) ++ blocks_from request totals rows names (number + 1)
+    blocks_from-more lt =
+        let next : suc number ≡ number + 1 = omega arith in
+        blocks_first names number number lt
+        ∙ ap (λ i. blocks_named request totals rows number (slice_get names number) ++ blocks request totals rows (number + 1) (drop i names)) next
 
--- when all queues are written, and the end
-pub whole_report : (site : SiteState) (request : StatusRequest) (number events : ℕ) (out new : List ℕ) → length site.names ≤ number
-    → out ++ concat (blocks_from site request number) ≡ opening request.action_id ++ concat (blocks_from site request 0)
-    → events + length (blocks_from site request number) ≡ length (blocks_from site request 0)
-    → new ≡ out ++ closing request.action_id events
-    → new ≡ report_of site request
-whole_report site request number events out new past text count closed =
-    let left = blocks_from-none site request number past in
-    let none = ap length left in
-    let written : out ≡ opening request.action_id ++ concat (blocks_from site request 0) = sym (append-nil out) ∙ ap (λ bs. out ++ concat bs) (sym left) ∙ text in
-    let items : events ≡ length (blocks_from site request 0) = omega (arith, none, count) in
-    closed
-    ∙ (λ k. written k ++ closing request.action_id (items k))
-    ∙ append_assoc (opening request.action_id) (concat (blocks_from site request 0)) (closing request.action_id (length (blocks_from site request 0)))
+    pub blocks_from-none : length names ≤ number → blocks_from request totals rows names number ≡ []
+    blocks_from-none past = ap (blocks request totals rows number) (drop_all number names past)
+
+    pub queue_text : number < length names → (old new : List ℕ) → new ≡ old ++ concat (blocks_named request totals rows number (slice_get names number))
+        → new ++ concat (blocks_from request totals rows names (number + 1)) ≡ old ++ concat (blocks_from request totals rows names number)
+    queue_text lt old new e =
+        let here = blocks_named request totals rows number (slice_get names number) in
+        let rest = blocks_from request totals rows names (number + 1) in
+        ap (λ o. o ++ concat rest) e
+        ∙ append_assoc old (concat here) (concat rest)
+        ∙ ap (λ t. old ++ t) (sym (concat-append here rest))
+        ∙ ap (λ bs. old ++ concat bs) (sym (blocks_from-more lt))
+
+    pub queue_count : number < length names → (n k : ℕ) → k ≡ length (blocks_named request totals rows number (slice_get names number))
+        → (n + k) + length (blocks_from request totals rows names (number + 1)) ≡ n + length (blocks_from request totals rows names number)
+    queue_count lt n k e =
+        let here = blocks_named request totals rows number (slice_get names number) in
+        let rest = blocks_from request totals rows names (number + 1) in
+        let all = ap length (blocks_from-more lt) ∙ length-append here rest in
+        omega (arith, all, e)
+
+    -- when all queues are written, and the end
+    pub whole_report : (events : ℕ) (out new : List ℕ) → length names ≤ number
+        → out ++ concat (blocks_from request totals rows names number) ≡ opening request.action_id ++ concat (blocks_from request totals rows names 0)
+        → events + length (blocks_from request totals rows names number) ≡ length (blocks_from request totals rows names 0)
+        → new ≡ out ++ closing request.action_id events
+        → new ≡ status_text names totals rows request
+    whole_report events out new past text count closed =
+        let left = blocks_from-none past in
+        let none = ap length left in
+        let all = blocks_from request totals rows names 0 in
+        let written : out ≡ opening request.action_id ++ concat all = sym (append-nil out) ∙ ap (λ bs. out ++ concat bs) (sym left) ∙ text in
+        let items : events ≡ length all = omega (arith, none, count) in
+        closed
+        ∙ (λ k. written k ++ closing request.action_id (items k))
+        ∙ append_assoc (opening request.action_id) (concat all) (closing request.action_id (length all))

@@ -108,6 +108,6 @@ abbrev pub report_of : SiteState → StatusRequest → List ℕ
 report_of site request = status_text site.names no_calls (rows_of site.members) request
 
 -- the blocks of the queue of this number and name, none where there is no such name
-abbrev pub blocks_named : SiteState → StatusRequest → ℕ → Option (List ℕ) → List (List ℕ)
-blocks_named site request number None = []
-blocks_named site request number (Some name) = queue_blocks request name (no_calls number) (rows_of site.members number)
+abbrev pub blocks_named : StatusRequest → (ℕ → Totals) → (ℕ → List Row) → ℕ → Option (List ℕ) → List (List ℕ)
+blocks_named request totals rows number None = []
+blocks_named request totals rows number (Some name) = queue_blocks request name (totals number) (rows number)

@@ -1,6 +1,7 @@
 //! The report that answers QueueStatus, and the asks that a site answers.
 //!
-//! A report is read from a replica alone: two replicas that show the same rows give the same bytes.
+//! A report is written from what queues show alone: their names, totals and rows. Two replicas that show the same give the
+//! same bytes.
 #![tactic(auto)]
 
 ghost use Rattle.std.specs.Prelude.{◌≡◌};
@@ -12,6 +13,7 @@ ghost use Rattle.status_report.specs.Knowing.{IsAnswered, answer_in};
 mod asks;
 pub mod laws;
 mod lines;
+mod queues;
 mod request;
 mod status;
 #[cfg(test)]
@@ -21,9 +23,10 @@ pub use asks::{Answer, Ask};
 use dots::Bytes;
 pub use dots::Memory;
 pub use lines::{push_action_id_line, push_end, push_field, push_number};
+pub use queues::Queues;
 use replica::{Command, Refusal, Replica};
 pub use request::StatusRequest;
-pub use status::report;
+pub use status::{report, write_report};
 use std::alloc::Global;
 
 /// Does what is asked of a site: a command changes the replica or is refused and changes nothing; a status

@@ -1,27 +1,39 @@
-ghost use Rattle.std.specs.Prelude.{◌≡◌, ◌≤◌, ◌++◌, length, slice_get, IfOk, OnOk};
+ghost use Rattle.std.specs.Prelude.{◌≡◌, ◌≤◌, ◌+◌, ◌++◌, length, map as each, slice_get, IfOk, OnOk};
 ghost use Rattle.std.specs.List.{concat};
-ghost use Rattle.replica.specs.Rows.{row_of};
-ghost use Rattle.status_report.specs.Status.{blocks_named, closing, event_lines, is_member_wanted, is_queue_wanted, member_block, member_blocks, opening, queue_block, report_of, shown};
+ghost use Rattle.replica.specs.Rows.{row_of, listed_row_of};
+ghost use Rattle.status_report.specs.Status.{blocks_named, closing, event_lines, is_member_wanted, is_queue_wanted, member_block, member_blocks, opening, queue_block, report_of, shown, status_text};
 ghost use Rattle.status_report.specs.Lines.{action_id_line};
 
-use crate::StatusRequest;
 use crate::lines::{push_action_id_line, push_end, push_field, push_number};
+use crate::{Queues, StatusRequest};
 use dots::{Interface, Memory, QueueName};
-use replica::{Replica, Row, Rows};
+use replica::{Replica, Row};
 use std::alloc::Global;
 
-/// The report of what the replica's queues show: a block that opens it, then for each queue of the list that the
-/// request doesn't leave out a block of its totals and one block a member, in the order of the interfaces' bytes,
-/// and a block that closes it with the number of blocks between (Asterisk's QueueStatus; which fields there are
-/// and their order are this project's own). The one fault is want of memory.
+/// The report of what the replica's queues show, as `write_report` writes it. The one fault is want of memory.
 pub fn report(alloc: Global, replica: &Replica, request: &StatusRequest) -> Result<Vec<u8>, Memory>
     ensures { IfOk result (λ out. out.items ≡ report_of replica.now request.now) }
+{
+    write_report(alloc, replica, request)
+}
+
+/// The report of what queues show: a block that opens it, then for each queue of the list that the request doesn't
+/// leave out a block of its totals and one block a member, in the order of the interfaces' bytes, and a block that
+/// closes it with the number of blocks between (Asterisk's QueueStatus; which fields there are and their order are
+/// this project's own). The one fault is want of memory.
+pub fn write_report<Q: Queues>(
+    alloc: Global,
+    queues: &Q,
+    request: &StatusRequest,
+) -> Result<Vec<u8>, Memory>
+    ensures { IfOk result (λ out. out.items
+        ≡ status_text (Q.names queues.now) (Q.totals queues.now) (Q.rows queues.now) request.now) }
 {
     let mut out = Vec::new(alloc);
     push_opening(&mut out, request)?;
     let mut events = 0;
-    for number in 0..replica.list().len() {
-        events += push_queue(&mut out, replica, request, number)?;
+    for number in 0..queues.list().len() {
+        events += push_queue(alloc, &mut out, queues, request, number)?;
     }
     push_closing(&mut out, request, events)?;
     Ok(out)
@@ -62,26 +74,28 @@ fn push_closing(out: &mut Vec<u8>, request: &StatusRequest, events: u64) -> Resu
 }
 
 // The blocks of the queue of this number, and how many they are: none where the request leaves it out.
-fn push_queue(
+fn push_queue<Q: Queues>(
+    alloc: Global,
     out: &mut Vec<u8>,
-    replica: &Replica,
+    queues: &Q,
     request: &StatusRequest,
     number: u16,
 ) -> Result<u64, Memory>
-    ensures text { OnOk result (out.new.items
-        ≡ out.old.items ++ concat (blocks_named replica.now request.now number (slice_get replica.now.names number))) }
-    ensures count { IfOk result (λ events.
-        events ≡ length (blocks_named replica.now request.now number (slice_get replica.now.names number))) }
-    ensures few { IfOk result (λ events. events ≤ 16385) }
+    ensures text { OnOk result (out.new.items ≡ out.old.items
+        ++ concat (blocks_named request.now (Q.totals queues.now) (Q.rows queues.now) number (slice_get (Q.names queues.now) number))) }
+    ensures count { IfOk result (λ events. events
+        ≡ length (blocks_named request.now (Q.totals queues.now) (Q.rows queues.now) number (slice_get (Q.names queues.now) number))) }
+    ensures few { IfOk result (λ events. length out.old.items + events ≤ length out.new.items) }
 {
-    let Some(name) = replica.list().name(number) else {
+    let Some(name) = queues.list().name(number) else {
         return Ok(0);
     };
     if !is_queue_wanted(request, name) {
         return Ok(0);
     }
-    push_totals(out, request, name)?;
-    let members = push_members(out, request, name, replica.rows(number))?;
+    push_totals(out, request, name, queues.totals(number))?;
+    let rows = queues.rows(alloc, number)?;
+    let members = push_members(out, request, name, &rows)?;
     Ok(1 + members)
 }
 
@@ -90,19 +104,18 @@ fn push_members(
     out: &mut Vec<u8>,
     request: &StatusRequest,
     name: &QueueName,
-    rows: Rows<'_>,
+    rows: &[(&Interface, Row<'_>)],
 ) -> Result<u64, Memory>
-    requires { length rows ≤ 16384 }
     ensures text { OnOk result (out.new.items
-        ≡ out.old.items ++ concat (member_blocks request.now name.now rows.entry)) }
+        ≡ out.old.items ++ concat (member_blocks request.now name.now (each listed_row_of rows.now))) }
     ensures count { IfOk result (λ members.
-        members ≡ length (member_blocks request.now name.now rows.entry)) }
-    ensures few { IfOk result (λ members. members ≤ 16384) }
+        members ≡ length (member_blocks request.now name.now (each listed_row_of rows.now))) }
+    ensures few { IfOk result (λ members. length out.old.items + members ≤ length out.new.items) }
 {
     let mut members = 0;
     for (interface, row) in rows {
-        if is_member_wanted(request, interface, &row) {
-            push_member(out, request, name, interface, &row)?;
+        if is_member_wanted(request, interface, row) {
+            push_member(out, request, name, interface, row)?;
             members += 1;
         }
     }
@@ -141,14 +154,20 @@ fn shown<'a>(text: &'a [u8], interface: &'a Interface) -> &'a [u8]
     }
 }
 
-// The block of a queue, in which no call is counted.
-fn push_totals(out: &mut Vec<u8>, request: &StatusRequest, name: &QueueName) -> Result<(), Memory>
-    ensures { OnOk result (out.new.items ≡ out.old.items ++ queue_block request.now.action_id name.now (0, 0)) }
+// The block of a queue, with how many of its calls were completed and how many abandoned.
+fn push_totals(
+    out: &mut Vec<u8>,
+    request: &StatusRequest,
+    name: &QueueName,
+    totals: (u64, u64),
+) -> Result<(), Memory>
+    ensures { OnOk result (out.new.items ≡ out.old.items ++ queue_block request.now.action_id name.now totals) }
 {
+    let (completed, abandoned) = totals;
     push_event(out, request, b"QueueParams")?;
     push_field(out, "Queue", name.as_bytes())?;
-    push_number(out, "Completed", 0)?;
-    push_number(out, "Abandoned", 0)?;
+    push_number(out, "Completed", completed)?;
+    push_number(out, "Abandoned", abandoned)?;
     push_end(out)
 }
 

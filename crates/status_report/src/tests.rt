@@ -1,7 +1,9 @@
 //! Reports under each filter.
-use crate::{Answer, Ask, StatusRequest, ask, report};
-use dots::{Bytes, Interface, Label, Penalty, QueueName, SiteId, Text80};
-use replica::{Command, QueueList, Refusal, Replica};
+ghost use Rattle.std.specs.Prelude.{[]};
+
+use crate::{Answer, Ask, Queues, StatusRequest, ask, report, write_report};
+use dots::{Bytes, Interface, Label, Memory, Penalty, QueueName, SiteId, Text80};
+use replica::{Command, QueueList, Refusal, Replica, Row};
 use std::alloc::Global;
 use std::test::Fail;
 
@@ -123,6 +125,55 @@ fn what_is_asked_is_answered(rt: HostRuntime) -> Result<(), Fail> {
     let wanted =
         b"Response: Success\r\nActionID: a1\r\nEventList: start\r\nMessage: Queue status will follow\r\n\r\n\
 Event: QueueStatusComplete\r\nActionID: a1\r\nEventList: Complete\r\nListItems: 0\r\n\r\n";
+    assert_eq!(rt; given.as_slice(), wanted.as_slice());
+    Ok(())
+}
+
+// Queues with no member, and with these totals each.
+#[derive(Drop)]
+struct Counted<'a> {
+    list: &'a QueueList,
+    totals: (u64, u64),
+}
+
+impl Queues for Counted<'_> {
+    ghost names = { λ c. c.list.now };
+
+    ghost totals = { λ c _. c.totals };
+
+    ghost rows = { λ _ _. [] };
+
+    fn list(&self) -> &QueueList {
+        self.list
+    }
+
+    fn totals(&self, _number: u16) -> (u64, u64) {
+        self.totals
+    }
+
+    fn rows(&self, alloc: Global, _number: u16) -> Result<Vec<(&Interface, Row<'_>)>, Memory> {
+        Ok(Vec::new(alloc))
+    }
+}
+
+#[test]
+fn the_totals_of_other_queues(rt: HostRuntime) -> Result<(), Fail> {
+    let alloc = rt.alloc();
+    let mut names = Vec::new(alloc);
+    names.push(QueueName::new(b"sales")?)?;
+    let list = QueueList::new(alloc, &names)?;
+    let request = StatusRequest {
+        queue: None,
+        member: None,
+        action_id: Bytes::new(Vec::new(alloc)),
+    };
+    let counted = Counted {
+        list: &list,
+        totals: (3, 1),
+    };
+    let given = write_report(alloc, &counted, &request)?;
+    let block = "Event: QueueParams\r\nQueue: sales\r\nCompleted: 3\r\nAbandoned: 1\r\n\r\n";
+    let wanted = wanted_report(alloc, &[block], 1)?;
     assert_eq!(rt; given.as_slice(), wanted.as_slice());
     Ok(())
 }

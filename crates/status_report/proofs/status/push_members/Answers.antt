@@ -1,31 +1,42 @@
-use Rattle.std.proofs.Common.{◌+◌, ◌++◌, length, ap, arith, sym, ◌∙◌}
+use Rattle.std.proofs.Common.{◌≡◌, ◌<◌, ◌≤◌, ◌+◌, ◌++◌, [], length, drop, map as each, ap, arith, sym, ◌∙◌}
 use Rattle.std.specs.List.{concat}
-use Rattle.replica.specs.Rows.{row_of}
-use Rattle.status_report.proofs.BlockLemmas.{hidden_first, shown_text, shown_count, none_text, none_count}
+use Rattle.std.proofs.lemmas.List.{drop_all}
+use Rattle.replica.specs.Rows.{listed_row_of}
+use Rattle.status_report.specs.Status.{member_blocks}
+use Rattle.status_report.proofs.BlockLemmas.{next_element, hidden_first, shown_text, shown_count, shown_few, none_text, none_count}
 use Rattle.status_report.proofs.status.push_members.Goals as goal
+use Rattle.status_report.proofs.status.push_members.Goals.{then-is_member_wanted+in_ok-push_member, else-is_member_wanted}
 
--- a member that is left out has no block
+-- a member that is shown has its block, and one that is left out has none
 pub loop-interface-preserved : goal.loop-interface-preserved
 loop-interface-preserved c =
-    let same = hidden_first c.args.request.now c.args.name.now (c.in-Some.interface.now, row_of c.in-Some.row) _ _ c.in-Some.ensures.steps (sym c.is_member_wanted.ensures ∙ c.if-is_member_wanted.false) in
+    let request = c.args.request.now in
+    let name = c.args.name.now in
+    let row = listed_row_of c.loop-interface-item.result in
+    let next = next_element listed_row_of c.args.rows.now c.loop-interface.interface-index c.loop-interface-item.result c.loop-interface-test.true c.loop-interface-item.is in
+    elim c.if-is_member_wanted.branch [
+      | then-is_member_wanted+in_ok-push_member w ↦
+          let wanted = sym c.is_member_wanted.ensures ∙ w.if-is_member_wanted.true in
+          let written = ap (λ o. o.items) w.out-is ∙ w.in_ok-push_member.ensures in
+          record {
+            text = shown_text request name row _ _ next c.loop-interface.out.items c.if-is_member_wanted.out.items wanted written ∙ c.loop-interface.invariant.text;
+            count = ap (λ n. n + length (member_blocks request name (each listed_row_of (drop (c.loop-interface.interface-index + 1) c.args.rows.now)))) w.members-is ∙ shown_count request name row _ _ next c.loop-interface.members wanted ∙ c.loop-interface.invariant.count;
+            few = let few = shown_few request name row _ _ next c.loop-interface.out.items c.if-is_member_wanted.out.items c.loop-interface.members (length c.args.out.now.items) written c.loop-interface.invariant.few in omega (arith, few, w.members-is);
+          }
+      | else-is_member_wanted w ↦
+          let same = hidden_first request name row _ _ next (sym c.is_member_wanted.ensures ∙ w.if-is_member_wanted.false) in
+          record {
+            text = (λ i. (w.out-is i).items ++ concat (sym same i)) ∙ c.loop-interface.invariant.text;
+            count = (λ i. w.members-is i + length (sym same i)) ∙ c.loop-interface.invariant.count;
+            few = let e = ap (λ o. length o.items) w.out-is in omega (arith, e, w.members-is, c.loop-interface.invariant.few);
+          }
+    ]
+
+pub returns : goal.returns
+returns c =
+    let none = ap (each listed_row_of) (drop_all c.loop-interface.interface-index c.args.rows.now c.loop-interface-test.false) in
     record {
-      text = ap (λ bs. c.loop-interface.out.items ++ concat bs) (sym same) ∙ c.loop-interface.invariant.text;
-      count = ap (λ bs. c.loop-interface.members + length bs) (sym same) ∙ c.loop-interface.invariant.count;
-      few = let n = ap length c.in-Some.ensures.steps in omega (arith, n, c.loop-interface.invariant.few);
+      text = none_text c.args.request.now c.args.name.now _ _ _ none c.loop-interface.invariant.text;
+      count = none_count c.args.request.now c.args.name.now _ _ _ none c.loop-interface.invariant.count;
+      few = c.loop-interface.invariant.few;
     }
-
--- one that is shown has its block
-pub loop-interface-preserved-then-is_member_wanted : goal.loop-interface-preserved-then-is_member_wanted
-loop-interface-preserved-then-is_member_wanted c =
-    let wanted = sym c.is_member_wanted.ensures ∙ c.if-is_member_wanted.true in
-    record {
-      text = shown_text c.args.request.now c.args.name.now (c.in-Some.interface.now, row_of c.in-Some.row) _ _ c.in-Some.ensures.steps _ _ wanted c.in_ok-push_member.ensures ∙ c.loop-interface.invariant.text;
-      count = shown_count c.args.request.now c.args.name.now (c.in-Some.interface.now, row_of c.in-Some.row) _ _ c.in-Some.ensures.steps _ wanted ∙ c.loop-interface.invariant.count;
-      few = let n = ap length c.in-Some.ensures.steps in omega (arith, n, c.loop-interface.invariant.few);
-    }
-
-pub returns-clause-text : goal.returns-clause-text
-returns-clause-text c = none_text c.args.request.now c.args.name.now _ _ _ c.in-None.ensures.steps.0 c.loop-interface.invariant.text
-
-pub returns-clause-count : goal.returns-clause-count
-returns-clause-count c = none_count c.args.request.now c.args.name.now _ _ _ c.in-None.ensures.steps.0 c.loop-interface.invariant.count

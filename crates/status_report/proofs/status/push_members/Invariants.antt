@@ -1,12 +1,13 @@
-use Rattle.std.proofs.Common.{◌≡◌, ◌≤◌, ◌+◌, ◌++◌, length}
+use Rattle.std.proofs.Common.{◌≡◌, ◌≤◌, ◌+◌, ◌++◌, length, drop, map as each}
 use Rattle.std.specs.List.{concat}
+use Rattle.replica.specs.Rows.{listed_row_of}
 use Rattle.status_report.specs.Status.{member_blocks}
 use Rattle.status_report.proofs.status.push_members.Given as goal
 
 -- what was written, and the blocks of what is left, make the blocks of all
 abbrev pub invariant-loop-interface : goal.invariant-loop-interface
 invariant-loop-interface l = record {
-  text : l.out.items ++ concat (member_blocks l.request l.name l.interface-iterator) ≡ l.initial.out.items ++ concat (member_blocks l.request l.name l.fn.rows);
-  count : l.members + length (member_blocks l.request l.name l.interface-iterator) ≡ length (member_blocks l.request l.name l.fn.rows);
-  few : l.members + length l.interface-iterator ≤ 16384;
+  text : l.out.items ++ concat (member_blocks l.request l.name (each listed_row_of (drop l.interface-index l.rows))) ≡ l.initial.out.items ++ concat (member_blocks l.request l.name (each listed_row_of l.rows));
+  count : l.members + length (member_blocks l.request l.name (each listed_row_of (drop l.interface-index l.rows))) ≡ length (member_blocks l.request l.name (each listed_row_of l.rows));
+  few : length l.initial.out.items + l.members ≤ length l.out.items;
 }

@@ -1,0 +1,67 @@
+use Rattle.std.proofs.Common.{◌≡◌, ◌<◌, length, vec_len, rules, arith, ap, sym, subst, ◌∙◌}
+use Rattle.std.specs.FinSet as set
+use Rattle.std.specs.Vec.{vec_capacity}
+use Rattle.dots.specs.DotSets.{run_count}
+use Rattle.causal_context.specs.Contexts.{most_runs}
+use Rattle.member_orset.specs.Members.{runs_joined}
+use Rattle.member_orset.specs.Cells.{live_of}
+use Rattle.member_orset.proofs.Asserting.{on_ok_both}
+use Rattle.member_orset.proofs.Joins.{len_cells, is_prepared, context_prepared, has_places, lacks_none}
+use Rattle.member_orset.proofs.member_set.MemberSet.prepare.Goals as goal
+
+pub returns-clause-ready : goal.returns-clause-ready
+returns-clause-ready c = on_ok_both c.make_room.result _ _ _ (λ cells runs.
+    let ours = len_cells c.args.self.now c.self.inside.cells.items c.self.inside.context.dots c.self.invariant (ap (λ s. s.live) c.self.view_is) in
+    let theirs = len_cells c.args.other.now c.other.inside.cells.items c.other.inside.context.dots c.other.invariant (ap (λ s. s.live) c.other.view_is) in
+    let few_ours = c.self.invariant.few in
+    let few_theirs = c.other.invariant.few in
+    let there : c.other.inside.context.dots ≡ c.args.other.now.known = ap (λ s. s.known) c.other.view_is in
+    let united = ap (λ k. run_count (set.union c.make_room.new.context.dots k)) there in
+    let runs_there = ap run_count there in
+    let same = ap length c.make_room.ensures.same_cells in
+    let len : vec_len c.make_room.new.cells ≡ length c.make_room.new.cells.items = search rules in
+    let len2 : vec_len c.other.inside.cells ≡ length c.other.inside.cells.items = search rules in
+    is_prepared c.args.self.now (record { known = c.make_room.new.context.dots; live = live_of c.make_room.new.cells.items; retired = 0; cell_room = vec_capacity c.make_room.new.cells; run_room = c.make_room.new.context.room }) c.args.other.now
+    (c.make_room.ensures.same_dots ∙ ap (λ s. s.known) c.self.view_is) (ap live_of c.make_room.ensures.same_cells ∙ ap (λ s. s.live) c.self.view_is) (search rules) (c.agrees.ensures.agree.0 c.if-not-agrees.false)
+    (omega (arith, c.joined_cells.ensures, c.if-joined_cells-gt-MOST_CELLS.false)) (omega (arith, ours, few_ours)) (omega (arith, theirs, few_theirs))
+    (omega (arith, united, runs.few)) (omega (arith, runs_there, runs.room)) (omega (arith, ours, theirs, same, len, len2, cells, c.len.ensures)))
+    c.make_room.ensures.cells c.make_room.ensures.runs
+
+pub returns-clause-cells_full : goal.returns-clause-cells_full
+returns-clause-cells_full c =
+    let ours = len_cells c.args.self.now c.self.inside.cells.items c.self.inside.context.dots c.self.invariant (ap (λ s. s.live) c.self.view_is) in
+    let theirs = len_cells c.args.other.now c.other.inside.cells.items c.other.inside.context.dots c.other.invariant (ap (λ s. s.live) c.other.view_is) in
+    let few_ours = c.self.invariant.few in
+    let few_theirs = c.other.invariant.few in (
+      λ h. absurd (c.make_room.ensures.has_place h),
+      λ h. absurd (lacks_none c.args.self.now c.args.other.now (sym (ap (λ s. s.retired) c.self.view_is)) (omega (arith, c.joined_cells.ensures, c.if-joined_cells-gt-MOST_CELLS.false))
+          (omega (arith, ours, few_ours)) (omega (arith, theirs, few_theirs)) h.1),
+    )
+
+pub returns-clause-runs_full : goal.returns-clause-runs_full
+returns-clause-runs_full c =
+    let ours = len_cells c.args.self.now c.self.inside.cells.items c.self.inside.context.dots c.self.invariant (ap (λ s. s.live) c.self.view_is) in
+    let theirs = len_cells c.args.other.now c.other.inside.cells.items c.other.inside.context.dots c.other.invariant (ap (λ s. s.live) c.other.view_is) in
+    let few_ours = c.self.invariant.few in
+    let few_theirs = c.other.invariant.few in
+    let same : run_count (set.union c.self.inside.context.dots c.other.inside.context.dots) ≡ runs_joined c.args.self.now c.args.other.now =
+    λ i. run_count (set.union (ap (λ s. s.known) c.self.view_is i) (ap (λ s. s.known) c.other.view_is i)) in (
+      λ h. (
+        c.agrees.ensures.agree.0 c.if-not-agrees.false,
+        has_places c.args.self.now c.args.other.now (sym (ap (λ s. s.retired) c.self.view_is)) (omega (arith, c.joined_cells.ensures, c.if-joined_cells-gt-MOST_CELLS.false))
+            (omega (arith, ours, few_ours)) (omega (arith, theirs, few_theirs)),
+        subst (λ n. most_runs < n) same (c.make_room.ensures.full.0 h),
+      ),
+      λ h. c.make_room.ensures.full.1 (subst (λ n. most_runs < n) (sym same) h.2),
+    )
+
+pub returns-clause-again : goal.returns-clause-again
+returns-clause-again c h =
+    let ours = len_cells c.args.self.now c.self.inside.cells.items c.self.inside.context.dots c.self.invariant (ap (λ s. s.live) c.self.view_is) in
+    let theirs = len_cells c.args.other.now c.other.inside.cells.items c.other.inside.context.dots c.other.invariant (ap (λ s. s.live) c.other.view_is) in
+    let room : vec_capacity c.self.inside.cells ≡ c.args.self.now.cell_room = ap (λ s. s.cell_room) c.self.view_is in
+    let len : vec_len c.self.inside.cells ≡ length c.self.inside.cells.items = search rules in
+    let len2 : vec_len c.other.inside.cells ≡ length c.other.inside.cells.items = search rules in
+    c.make_room.ensures.again
+    (context_prepared c.args.self.now c.args.other.now c.self.inside.context c.other.inside.context.dots (ap (λ s. s.known) c.self.view_is) (ap (λ s. s.run_room) c.self.view_is) (ap (λ s. s.known) c.other.view_is) h)
+    (omega (arith, ours, theirs, room, len, len2, h.cell_room, c.len.ensures))

@@ -1,0 +1,11 @@
+use Rattle.std.proofs.Common.{None, ap, ◌∙◌}
+use Rattle.dots.specs.Rows.{rows_of}
+use Rattle.member_orset.specs.Members.{reading_of}
+use Rattle.member_orset.specs.Shown.{cells_read, rows_after}
+use Rattle.member_orset.proofs.Shows.{all_rows}
+use Rattle.member_orset.proofs.member_set.MemberSet.rows.Goals as goal
+
+pub returns : goal.returns
+returns c =
+    c.of.ensures ∙ ap (λ cs. rows_after (cells_read cs) c.args.queue None) c.deref.ensures.value ∙ all_rows c.self.inside.cells.items c.args.queue c.self.invariant.sorted
+    ∙ ap (λ s. rows_of (reading_of s) c.args.queue) c.self.view_is

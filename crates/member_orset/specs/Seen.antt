@@ -1,0 +1,57 @@
+-- The dots that given ones stand for: themselves, and the dead ones of their sites with lesser counts.
+use Rattle.std.specs.Prelude.{ℕ, ◌≡◌, ◌<◌, ◌≤◌, ◌+◌, Bool, true, false, not, ◌&&◌, ◌||◌, nat_eq, nat_lt, List, Option, Some, None, if◌then◌else◌}
+use Rattle.std.specs.List.{All, list_any}
+use Rattle.std.specs.FinMap as map
+use Rattle.std.specs.FinSet as set
+use Rattle.std.specs.Ordering.{eq_by_cmp}
+use Rattle.dots.specs.Values.{Tag}
+use Rattle.dots.specs.Orders.{dot_cmp}
+use Rattle.dots.specs.DotSets.{run_count}
+use Rattle.causal_context.specs.Contexts.{most_runs}
+use Rattle.causal_context.specs.declared.context_fault.ContextFault.{ContextFault}
+use Rattle.causal_context.specs.declared.context_fault.ContextFault.TheVariants.{RunsFull}
+use Rattle.member_orset.specs.declared.gathered.Gathered.{Gathered}
+use Rattle.member_orset.specs.declared.piece.Piece.{Piece}
+use Rattle.member_orset.specs.Members.{Members, Holding}
+
+-- whether a dot is of the site of some given dot, with a lesser count
+abbrev pub is_older : List Tag → Tag → Bool
+is_older given dot = list_any (λ g. nat_eq g.site dot.site && nat_lt dot.count g.count) given
+
+-- given dots, with the dead ones that are older: known, and not live
+unfoldable pub seen_dots : set.FinSet dot_cmp → map.FinMap dot_cmp Holding → List Tag → set.FinSet dot_cmp
+seen_dots known live given = set.union (set.from_list given) (set.retain known (λ dot. not (map.contains_key live dot) && is_older given dot))
+
+-- what a set has seen below given dots: these, with all dots that are dead in the set and older
+abbrev pub dots_seen_below : Members → List Tag → set.FinSet dot_cmp
+dots_seen_below s given = seen_dots s.known s.live given
+
+-- whether a dot is given
+abbrev pub is_given : List Tag → Tag → Bool
+is_given given dot = list_any (eq_by_cmp dot_cmp dot) given
+
+-- the greatest count of the given dots of a site, or 0 where none is of it; all of theirs are from 1
+pub record IsGreatest (given : List Tag) (site greatest : ℕ) : Type 0 where
+  pub least : All (λ d. d.site ≡ site → 1 ≤ d.count) given
+  pub most : All (λ d. d.site ≡ site → d.count ≤ greatest) given
+  pub reached : 0 < greatest → is_given given (record { site = site; count = greatest }) ≡ true
+
+-- counts from a first one to the piece's last one, and no further than a last one: all pass a test, or none does
+pub record IsPiece (test : ℕ → Bool) (first last : ℕ) (piece : Piece) : Type 0 where
+  pub some : first ≤ piece.last
+  pub within : piece.last ≤ last
+  pub same : (n : ℕ) → first ≤ n → n ≤ piece.last → test n ≡ piece.inside
+
+-- the dots of a set that lie before the dot of a site and a count
+unfoldable pub part_before : set.FinSet dot_cmp → ℕ → ℕ → set.FinSet dot_cmp
+part_before dots site count = set.retain dots (λ d. nat_lt d.site site || (nat_eq d.site site && nat_lt d.count count))
+
+-- what was gathered: so many runs, and a context of the dots, unless it failed; it is full only where there are too many runs
+pub record IsGathered (g : Gathered) (dots : set.FinSet dot_cmp) : Type 0 where
+  pub counted : g.runs ≡ run_count dots
+  pub kept : g.fault ≡ None → g.context.dots ≡ dots
+  pub full : g.fault ≡ Some RunsFull → most_runs < g.runs
+
+-- how many runs there are with one that begins, or with one that goes on
+abbrev pub runs_after : ℕ → Bool → ℕ
+runs_after runs begins = if begins then runs + 1 else runs

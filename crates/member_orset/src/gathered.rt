@@ -1,0 +1,72 @@
+ghost use Rattle.std.specs.Prelude.{◌≡◌, ◌+◌, ◌<◌, ◌≤◌, ◌^◌, ◌↔◌, IfOk};
+ghost use Rattle.std.specs.FinSet as set;
+ghost use Rattle.dots.specs.Orders.{dot_cmp};
+ghost use Rattle.dots.specs.DotSets.{dots_between, run_count};
+ghost use Rattle.causal_context.specs.Contexts.{most_runs};
+ghost use Rattle.member_orset.specs.Seen.{IsGathered, runs_after};
+
+use causal_context::{Context, ContextFault};
+use dots::SiteId;
+use std::alloc::Global;
+
+/// The greatest number of runs of a context.
+const MOST_RUNS: u64 = 65_536;
+
+/// Dots that are gathered run by run in their order, and how many runs they make. Where the context can't take more,
+/// the runs are counted all the same.
+#[derive(Drop)]
+pub(crate) struct Gathered {
+    pub(crate) context: Context,
+    pub(crate) runs: u64,
+    pub(crate) fault: Option<ContextFault>,
+}
+
+impl Gathered {
+    /// No dots. It takes no memory.
+    pub(crate) fn none(alloc: Global) -> Gathered
+        ensures none { IsGathered result set.empty }
+        ensures runs { result.runs ≡ 0 }
+    {
+        Gathered {
+            context: Context::new(alloc),
+            runs: 0,
+            fault: None,
+        }
+    }
+
+    /// Adds the dots of a site from a first count to a last, which begin a run or go on with one.
+    pub(crate) fn add(&mut self, site: SiteId, first: u64, last: u64, begins: bool)
+        requires least { 1 ≤ first }
+        requires ordered { first ≤ last }
+        requires most { last ≤ 2 ^ 40 }
+        requires few { self.old.runs < 2 ^ 60 }
+        ensures gathered { (dots : set.FinSet dot_cmp) → IsGathered self.old dots → run_count (set.union dots (dots_between site first last)) ≡ runs_after (run_count dots) begins → IsGathered self.new (set.union dots (dots_between site first last)) }
+        ensures runs { self.new.runs ≡ runs_after self.old.runs begins }
+    {
+        if begins {
+            self.runs += 1;
+        }
+        if self.fault.is_none() {
+            self.fault = self.context.insert_run(site, first, last).err();
+        }
+    }
+
+    /// The context of the dots. `RunsFull` exactly where they have too many runs.
+    pub(crate) fn finish(self) -> Result<Context, ContextFault>
+        ensures ok { (dots : set.FinSet dot_cmp) → IsGathered self dots → IfOk result (λ context. context.dots ≡ dots) }
+        ensures full { (dots : set.FinSet dot_cmp) → IsGathered self dots → (result ≡ Err ContextFault.RunsFull) ↔ (most_runs < run_count dots) }
+    {
+        let Gathered {
+            context,
+            runs,
+            fault,
+        } = self;
+        if runs > MOST_RUNS {
+            return Err(ContextFault::RunsFull);
+        }
+        if fault.is_some() {
+            return Err(ContextFault::Memory);
+        }
+        Ok(context)
+    }
+}

@@ -1,0 +1,120 @@
+ghost use Rattle.std.specs.Prelude.{◌≡◌, IsTrue};
+ghost use Rattle.std.specs.FinMap as map;
+ghost use Rattle.std.specs.Option.{option_map};
+ghost use Rattle.dots.specs.Registers.{joined};
+ghost use Rattle.dots.specs.Conditions.{fields_joined};
+ghost use Rattle.dots.specs.Orders.{dot_cmp};
+ghost use Rattle.dots.specs.Rows.{row_of, row_of_fields};
+ghost use Rattle.member_orset.specs.Cells.{dot_fields, entries_of};
+ghost use Rattle.member_orset.specs.Shown.{cells_of, cells_read, fields_after, fields_shown, latest_fields, row_read};
+
+use crate::Row;
+use crate::agreement::is_same_member;
+use crate::live_dot::LiveDot;
+use dots::{Label, Member, Pause, Penalty};
+use lww_registers::{Fields, Register};
+
+/// The registers of the latest stamps over some cells, lent.
+#[derive(Clone, Copy)]
+pub(crate) struct Latest<'a> {
+    pub(crate) penalty: &'a Register<Penalty>,
+    pub(crate) pause: &'a Register<Pause>,
+    pub(crate) label: &'a Register<Label>,
+}
+
+/// The register of the later stamp; of equal stamps the first.
+fn later<'a, T>(first: &'a Register<T>, second: &'a Register<T>) -> &'a Register<T>
+    ensures { result.now ≡ joined first.now second.now }
+{
+    let Some(stamp) = first.stamp() else {
+        return second;
+    };
+    let Some(other) = second.stamp() else {
+        return first;
+    };
+    if stamp < other { second } else { first }
+}
+
+/// The text where none was set.
+const EMPTY: &[u8] = &[];
+
+impl<'a> Latest<'a> {
+    /// Those of one cell.
+    fn of(fields: &'a Fields) -> Latest<'a>
+        ensures { latest_fields result ≡ dot_fields fields.now }
+    {
+        Latest {
+            penalty: &fields.penalty,
+            pause: &fields.pause,
+            label: &fields.label,
+        }
+    }
+
+    /// These, with those of a cell that follows.
+    fn and(self, fields: &'a Fields) -> Latest<'a>
+        ensures { latest_fields result ≡ fields_joined (latest_fields self.entry) (dot_fields fields.now) }
+    {
+        Latest {
+            penalty: later(self.penalty, &fields.penalty),
+            pause: later(self.pause, &fields.pause),
+            label: later(self.label, &fields.label),
+        }
+    }
+
+    /// The row that they show.
+    pub(crate) fn row(self) -> Row<'a>
+        ensures { row_read result ≡ row_of_fields self.entry.penalty.now self.entry.pause.now self.entry.label.now }
+    {
+        let (paused, reason) = match self.pause.value() {
+            Some(pause) => (pause.paused(), pause.reason().as_bytes()),
+            None => (false, EMPTY),
+        };
+        let (name, state) = match self.label.value() {
+            Some(label) => (label.name.as_bytes(), label.state.as_bytes()),
+            None => (EMPTY, EMPTY),
+        };
+        let penalty = match self.penalty.value() {
+            Some(penalty) => penalty.get(),
+            None => 0,
+        };
+        Row {
+            penalty,
+            paused,
+            reason,
+            name,
+            state,
+        }
+    }
+}
+
+/// Those of the cells before, if any, with those of a cell that follows.
+fn after<'a>(latest: Option<Latest<'a>>, fields: &'a Fields) -> Latest<'a>
+    ensures { latest_fields result ≡ fields_after (option_map latest_fields latest.entry) (dot_fields fields.now) }
+{
+    match latest {
+        Some(latest) => latest.and(fields),
+        None => Latest::of(fields),
+    }
+}
+
+/// Those of a member over all of its cells, where it has one.
+pub(crate) fn latest_in<'a>(cells: &'a [LiveDot], member: &Member) -> Option<Latest<'a>>
+    ensures { option_map latest_fields result ≡ fields_shown (cells_of member.now cells.now) }
+{
+    let mut latest = None;
+    for cell in cells {
+        if is_same_member(&cell.member, member) {
+            latest = Some(after(latest, &cell.fields));
+        }
+    }
+    latest
+}
+
+/// The row of a member over its cells, where it has one.
+pub(crate) fn row_in<'a>(cells: &'a [LiveDot], member: &Member) -> Option<Row<'a>>
+    requires { IsTrue (map.is_sorted dot_cmp (entries_of cells.now)) }
+    ensures { option_map row_read result ≡ row_of (cells_read cells.now) member.now }
+{
+    let latest = latest_in(cells, member)?;
+    Some(latest.row())
+}

@@ -1,0 +1,14 @@
+/// What a queue shows of one member: for each field the latest value that was set.
+#[derive(Clone, Copy, Debug, PartialEq, Eq)]
+pub struct Row<'a> {
+    /// The penalty; 0 where none was set.
+    pub penalty: u32,
+    /// Whether the member is paused.
+    pub paused: bool,
+    /// Why it is paused; empty where it isn't.
+    pub reason: &'a [u8],
+    /// The member name; empty where none was set.
+    pub name: &'a [u8],
+    /// The state interface; empty where none was set.
+    pub state: &'a [u8],
+}

@@ -1,0 +1,11 @@
+pub mod ArenaSteps
+pub mod Counts
+pub mod Crossing
+pub mod Filled
+pub mod FreeCells
+pub mod Laying
+pub mod Lending
+pub mod LeaseSteps
+pub mod RowSteps
+pub mod Updates
+pub mod Views

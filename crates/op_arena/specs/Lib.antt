@@ -1,0 +1,11 @@
+pub mod Cells
+pub mod ChunksLends
+pub mod ColumnLends
+pub mod Columns
+pub mod Ids
+pub mod RowLends
+pub mod Rows
+pub mod Sizes
+pub mod SlotLends
+pub mod Slots
+pub mod ArenaLends

@@ -1,0 +1,28 @@
+-- How many values each chunk holds, and where a value lies. Only this crate's own clauses cite this module.
+use Rattle.std.specs.Prelude.{◌≡◌, ℕ, zero, suc, ◌+◌, ◌-◌, ◌^◌, ◌<◌, min, List, [], ◌∷◌, ◌++◌, length}
+use Rattle.op_arena.specs.Columns.{Column}
+
+-- how many values a chunk holds: 16, 16, 32, 64, ..
+abbrev pub size : ℕ → ℕ
+size zero = 16
+size (suc chunk) = 2 ^ (chunk + 4)
+
+-- how many values so many chunks hold together
+abbrev pub total : ℕ → ℕ
+total zero = 0
+total (suc chunks) = 2 ^ (chunks + 4)
+
+-- the value at the index is at this place of this chunk
+abbrev pub IsAt : ℕ → ℕ → ℕ → Type 0
+IsAt index chunk place = (total chunk + place ≡ index) × (place < size chunk)
+
+module _ {X : Type 0} where
+  -- the values of all chunks, one chunk after another
+  abbrev pub all_items : List (Column X) → List X
+  all_items [] = []
+  all_items (c ∷ cs) = c.items ++ all_items cs
+
+  -- from this chunk on, so many values fill one chunk after another
+  abbrev pub IsLaid : ℕ → ℕ → List (Column X) → Type 0
+  IsLaid chunk n [] = n ≡ 0
+  IsLaid chunk n (c ∷ cs) = (c.capacity ≡ size chunk) × (length c.items ≡ min (size chunk) n) × IsLaid (suc chunk) (n - size chunk) cs

@@ -1,0 +1,96 @@
+-- What the cells of an arena say of its values and its spent ids. Only this crate's own clauses cite this module.
+use Rattle.std.specs.Prelude.{◌≡◌, ℕ, zero, suc, ◌+◌, ◌≤◌, ◌^◌, Bool, true, false, cond, nat_eq, List, [], ◌∷◌, ◌++◌, length, slice_get, is_some, Option, Some, None}
+use Rattle.std.specs.FinMap as map
+use Rattle.std.specs.FinSet as set
+use Rattle.op_arena.specs.Ids.{Id, id_of, id_cmp}
+use Rattle.op_arena.specs.declared.slot.Slot.{Slot}
+use Rattle.op_arena.specs.declared.slot.State.{State}
+use Rattle.op_arena.specs.declared.slot.State.TheVariants.{Free, Held, Retired}
+
+-- the ids of a cell before this generation
+abbrev pub ids_before : ℕ → ℕ → List Id
+ids_before i zero = []
+ids_before i (suc g) = id_of i g ∷ ids_before i g
+
+-- how many items pass a test
+abbrev pub count : {X : Type 0} → (X → Bool) → List X → ℕ
+count p [] = 0
+count p (x ∷ xs) = cond (p x) 1 0 + count p xs
+
+module _ {T : Type 0} where
+  abbrev pub slot : ℕ → State T → Slot T
+  slot g s = record { generation = g; state = s }
+
+  -- the value of a cell that holds one
+  abbrev pub value_of : State T → Option T
+  value_of (Free next) = None
+  value_of (Held value) = Some value
+  value_of Retired = None
+
+  abbrev pub IsFree : State T → Type 0
+  IsFree s = (next : Option ℕ) × (s ≡ Free next)
+
+  abbrev pub is_held : Slot T → Bool
+  is_held s = is_some (value_of s.state)
+
+  abbrev pub state_retired : State T → Bool
+  state_retired (Free next) = false
+  state_retired (Held value) = false
+  state_retired Retired = true
+
+  abbrev pub is_retired : Slot T → Bool
+  is_retired s = state_retired s.state
+
+  -- a cell after its value was taken: free in its next generation, or retired after the last
+  abbrev pub emptied : ℕ → ℕ → Option ℕ → Slot T
+  emptied last g next = cond (nat_eq g last) (slot g Retired) (slot (g + 1) (Free next))
+
+  -- how many generations of a cell are spent
+  abbrev pub spent_at : ℕ → State T → ℕ
+  spent_at g (Free next) = g
+  spent_at g (Held value) = g
+  spent_at g Retired = suc g
+
+  -- an entry for a value that is there, before the others
+  abbrev pub with_value : Id → Option T → List (Id × T) → List (Id × T)
+  with_value id None entries = entries
+  with_value id (Some value) entries = (id, value) ∷ entries
+
+  -- the values with their ids, where the first cell has this index
+  abbrev pub entries_from : ℕ → List (Slot T) → List (Id × T)
+  entries_from i [] = []
+  entries_from i (s ∷ slots) = with_value (id_of i s.generation) (value_of s.state) (entries_from (suc i) slots)
+
+  -- the spent ids, where the first cell has this index
+  abbrev pub spent_from : ℕ → List (Slot T) → List Id
+  spent_from i [] = []
+  spent_from i (s ∷ slots) = ids_before i (spent_at s.generation s.state) ++ spent_from (suc i) slots
+
+  -- the values by their ids
+  unfoldable pub held_in : List (Slot T) → map.FinMap id_cmp T
+  held_in slots = map.from_entries (entries_from 0 slots)
+
+  -- the spent ids
+  unfoldable pub spent_in : List (Slot T) → set.FinSet id_cmp
+  spent_in slots = set.from_list (spent_from 0 slots)
+
+  -- from this one on, so many free cells each name the next, and the last names none
+  abbrev pub IsFreeList : List (Slot T) → ℕ → Option ℕ → Type 0
+  IsFreeList slots zero first = first ≡ None
+  IsFreeList slots (suc n) first = (i : ℕ) × (g : ℕ) × (next : Option ℕ) × (first ≡ Some i) × (slice_get slots i ≡ Some (slot g (Free next))) × IsFreeList slots n next
+
+  -- no generation is past the last one, and retired cells have just that one
+  abbrev pub KeepsLast : ℕ → ℕ → State T → Type 0
+  KeepsLast last g (Free next) = g ≤ last
+  KeepsLast last g (Held value) = g ≤ last
+  KeepsLast last g Retired = g ≡ last
+
+  pub record IsArena (last : ℕ) (slots : List (Slot T)) (capacity : ℕ) (first : Option ℕ) (held retired : ℕ) : Type 0 where
+    pub counts_held : held ≡ count is_held slots
+    pub counts_retired : retired ≡ count is_retired slots
+    pub keeps : (i : ℕ) (s : Slot T) → slice_get slots i ≡ Some s → KeepsLast last s.generation s.state
+    pub free : ℕ
+    pub total : free + (held + retired) ≡ length slots
+    pub linked : IsFreeList slots free first
+    pub within : length slots ≤ capacity
+    pub limit : capacity ≤ 2 ^ 20

@@ -1,0 +1,19 @@
+//! Cells in raw memory, each under an id that never means another cell.
+//!
+//! An arena is seen as a finite map from ids to values, beside the set of spent ids and the room that is left. An
+//! id that was taken answers nothing for good. Growth adds a chunk and moves nothing.
+#![tactic(auto)]
+
+mod arena;
+mod arena_fault;
+mod cell_id;
+mod chunk;
+mod chunks;
+mod places;
+mod slot;
+#[cfg(test)]
+mod tests;
+
+pub use arena::Arena;
+pub use arena_fault::ArenaFault;
+pub use cell_id::CellId;

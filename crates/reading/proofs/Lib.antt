@@ -1,0 +1,6 @@
+pub mod CountSteps
+pub mod DotSteps
+pub mod FieldSteps
+pub mod RowSteps
+pub mod SetSteps
+pub mod Steps

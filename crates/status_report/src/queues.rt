@@ -1,0 +1,58 @@
+ghost use Rattle.std.specs.Prelude.{◌≡◌, ℕ, List, map as each, IfOk};
+ghost use Rattle.replica.specs.Rows.{listed_row_of};
+ghost use Rattle.replica.specs.Site.{rows_of};
+ghost use Rattle.status_report.specs.Status.{Row as ShownRow, Totals, no_calls};
+
+use dots::{Interface, Memory};
+use replica::{QueueList, Replica, Row};
+use std::alloc::Global;
+
+/// What a report is written from: the queues of a site, and of each its totals of calls and its members' rows.
+pub trait Queues {
+    /// The names of the queues, in the order of their numbers.
+    ghost names: { Self → List (List ℕ) };
+
+    /// The totals of the queue of a number: how many calls were completed, and how many abandoned.
+    ghost totals: { Self → ℕ → Totals };
+
+    /// The rows of the queue of a number, in the order of the interfaces' bytes.
+    ghost rows: { Self → ℕ → List ShownRow };
+
+    /// The queues.
+    fn list(&self) -> &QueueList
+        ensures { result.now ≡ names self.now };
+
+    /// How many calls of the queue of this number were completed, and how many abandoned.
+    fn totals(&self, number: u16) -> (u64, u64)
+        ensures { result ≡ totals self.now number };
+
+    /// The members of the queue of this number with their rows, in the order of their interfaces' bytes. The one
+    /// fault is want of memory.
+    fn rows(&self, alloc: Global, number: u16) -> Result<Vec<(&Interface, Row<'_>)>, Memory>
+        ensures { IfOk result (λ listed. each listed_row_of listed.items ≡ rows self.now number) };
+}
+
+// What a replica shows. It counts no calls yet.
+impl Queues for Replica {
+    ghost names = { λ r. r.names };
+
+    ghost totals = { λ _. no_calls };
+
+    ghost rows = { λ r. rows_of r.members };
+
+    fn list(&self) -> &QueueList {
+        self.list()
+    }
+
+    fn totals(&self, _number: u16) -> (u64, u64) {
+        (0, 0)
+    }
+
+    fn rows(&self, alloc: Global, number: u16) -> Result<Vec<(&Interface, Row<'_>)>, Memory> {
+        let mut listed = Vec::new(alloc);
+        for row in self.rows(number) {
+            listed.push(row)?;
+        }
+        Ok(listed)
+    }
+}
