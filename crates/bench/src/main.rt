@@ -20,7 +20,7 @@ fn checksum(alloc: Global, word: &str) -> Result<u64, &'static str> {
         "join_32768_runs" => joined_often(alloc, 32_768, TIMES),
         "join_16384_cells" => sets_joined_often(alloc, (0, 0), 16_384, TIMES),
         "join_8192_and_8192_cells" => sets_joined_often(alloc, (0, 1), 8_192, TIMES),
-        "rows_of_2048_members" => rows_read(alloc, 2_048),
+        "rows_of_16384_members" => rows_read(alloc, 16_384, TIMES),
         _ => Err("no such workload"),
     }
 }

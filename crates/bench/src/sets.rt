@@ -82,14 +82,23 @@ fn checked_joins(alloc: Global, sites: (u16, u16), cells: u64, times: u32) -> Re
     Ok(sum)
 }
 
-/// The penalties of all rows of a queue in which so many members are.
-fn checked_rows(alloc: Global, cells: u64) -> Result<u64, JoinFault>
+/// The penalties of all rows of queue 0.
+fn penalties(set: &MemberSet) -> u64 {
+    let mut sum = 0u64;
+    for (_, row) in set.rows(0) {
+        sum = sum.wrapping_add(u64::from(row.penalty));
+    }
+    sum
+}
+
+/// The penalties of all rows of a queue in which so many members are, read so often.
+fn checked_rows(alloc: Global, cells: u64, times: u32) -> Result<u64, JoinFault>
     requires { cells ≤ 16384 }
 {
     let set = live_dots(alloc, 0, cells)?;
     let mut sum = 0u64;
-    for (_, row) in set.rows(0) {
-        sum = sum.wrapping_add(u64::from(row.penalty));
+    for _ in 0..times {
+        sum = sum.wrapping_add(penalties(&set));
     }
     Ok(sum)
 }
@@ -117,11 +126,11 @@ pub fn sets_joined_often(
     named(checked_joins(alloc, sites, cells, times))
 }
 
-/// The checksum of reading the rows of a queue of so many members.
-pub fn rows_read(alloc: Global, cells: u64) -> Result<u64, &'static str>
+/// The checksum of reading the rows of a queue of so many members so often.
+pub fn rows_read(alloc: Global, cells: u64, times: u32) -> Result<u64, &'static str>
     requires { cells ≤ 16384 }
 {
-    named(checked_rows(alloc, cells))
+    named(checked_rows(alloc, cells, times))
 }
 
 #[cfg(test)]
@@ -133,6 +142,6 @@ mod tests {
     fn checksums_by_hand(rt: HostRuntime) {
         assert_eq!(rt; sets_joined_often(rt.alloc(), (0, 1), 3, 2), Ok(16));
         assert_eq!(rt; sets_joined_often(rt.alloc(), (0, 0), 3, 2), Ok(8));
-        assert_eq!(rt; rows_read(rt.alloc(), 4), Ok(10));
+        assert_eq!(rt; rows_read(rt.alloc(), 4, 2), Ok(20));
     }
 }

@@ -4,6 +4,7 @@ use Rattle.std.specs.Prelude.{T, if◌then◌else◌}
 use Rattle.std.specs.declared.cmp.Ordering.TheVariants.{Equal}
 use Rattle.std.proofs.lemmas.Cmp.{eq_by_cmp_equiv}
 use Rattle.std.specs.List.{All, insert, remove}
+use Rattle.std.specs.Option.{option_map}
 use Rattle.std.specs.Ordering.{eq_by_cmp, is_lt}
 use Rattle.std.specs.FinMap as maps
 use Rattle.std.specs.FinSet as sets
@@ -118,6 +119,27 @@ sorted-set [] i x j l at e = refl
 sorted-set (c ∷ cs) zero x j l at e = ap (λ y. below_all dot_cmp y (entries_of cs) && maps.is_sorted dot_cmp (entries_of cs)) (e ∙ ap (λ y. y.dot) at)
 sorted-set (c ∷ cs) (suc i) x j l at e = λ k. below-set c.dot cs i x j (omega arith) at e k && sorted-set cs i x j (omega arith) at e k
 
+-- a cell that takes the place of another of its dot and member leaves all members
+members-set : (cs : List LiveDot) (i : ℕ) (x j : LiveDot) (q : Tag) → i < length cs → x ≡ get_or cs i x → j.dot ≡ x.dot → j.member ≡ x.member
+    → option_map (λ h. h.0) (find dot_cmp q (entries_of (set cs i j))) ≡ option_map (λ h. h.0) (find dot_cmp q (entries_of cs))
+members-set [] i x j q l at e m = refl
+members-set (c ∷ cs) zero x j q l at e m =
+    ap (λ d. option_map (λ h. h.0) (cond (eq_by_cmp dot_cmp q d) (Some (holding j)) (find dot_cmp q (entries_of cs)))) (e ∙ ap (λ y. y.dot) at) ∙ first (eq_by_cmp dot_cmp q c.dot)
+  where
+    first : (b : Bool) → option_map (λ h. h.0) (cond b (Some (holding j)) (find dot_cmp q (entries_of cs))) ≡ option_map (λ h. h.0) (cond b (Some (holding c)) (find dot_cmp q (entries_of cs)))
+    first true = ap Some (m ∙ ap (λ y. y.member) at)
+    first false = refl
+members-set (c ∷ cs) (suc i) x j q l at e m = rest (eq_by_cmp dot_cmp q c.dot) (find dot_cmp q (entries_of (set cs i j))) (members-set cs i x j q (omega arith) at e m)
+  where
+    rest : (b : Bool) (o : Option Holding) → option_map (λ h. h.0) o ≡ option_map (λ h. h.0) (find dot_cmp q (entries_of cs)) → option_map (λ h. h.0) (cond b (Some (holding c)) o) ≡ option_map (λ h. h.0) (cond b (Some (holding c)) (find dot_cmp q (entries_of cs)))
+    rest true o h = refl
+    rest false o h = h
+
+pub met_members : (cs : List LiveDot) (i : ℕ) (x j : LiveDot) (q : Tag) → Rise cs → i < length cs → x ≡ get_or cs i x → j.dot ≡ x.dot → j.member ≡ x.member
+    → option_map (λ h. h.0) (maps.get (live_of (set cs i j)) q) ≡ option_map (λ h. h.0) (maps.get (live_of cs) q)
+met_members cs i x j q s l at e m =
+    ap (option_map (λ h. h.0)) (get-live_of (set cs i j) q (sorted-set cs i x j l at e ∙ s)) ∙ members-set cs i x j q l at e m ∙ ap (option_map (λ h. h.0)) (sym (get-live_of cs q s))
+
 -- a cell that is joined with fields
 pub met_cells : (cs : List LiveDot) (i : ℕ) (x j : LiveDot) (fields : DotFields) (known : sets.FinSet dot_cmp) → i < length cs → x ≡ get_or cs i x → j.dot ≡ x.dot → dot_fields j.fields ≡ fields_joined (dot_fields x.fields) fields
     → AreCells cs known → AreCells (set cs i j) known
@@ -166,8 +188,12 @@ raised before after known more d q h c g k j = (λ i. condition_at (g i) (k i)) 
     split false same = refl
 
 -- what is known of an absent dot
+-- a dot that has a gap isn't live
+pub gap_live : (cs : List LiveDot) (d : Tag) (i : ℕ) → Rise cs → IsGap cs d i → maps.get (live_of cs) d ≡ None
+gap_live cs d i s gap = get-live_of cs d s ∙ missed_at d cs i s gap.before gap.within gap.after
+
 pub absent : (cs : List LiveDot) (d : Tag) (i : ℕ) (known : sets.FinSet dot_cmp) (b : Bool) → Rise cs → IsGap cs d i → b ≡ sets.contains known d → condition_of (seen cs known) d ≡ condition_at None b
-absent cs d i known b s gap e = λ k. condition_at ((get-live_of cs d s ∙ missed_at d cs i s gap.before gap.within gap.after) k) (sym e k)
+absent cs d i known b s gap e = λ k. condition_at (gap_live cs d i s gap k) (sym e k)
 
 -- what is known of a present dot
 pub present : (cs : List LiveDot) (d : Tag) (i : ℕ) (x : LiveDot) (known : sets.FinSet dot_cmp) → Rise cs → IsAt cs d i → x ≡ get_or cs i x → condition_of (seen cs known) d ≡ Some (Live x.member (dot_fields x.fields))

@@ -1,13 +1,12 @@
 -- What the comparison of two dots says.
 use Rattle.std.proofs.Common.{◌≡◌, ◌≢◌, Bool, true, false, not, ◌&&◌, refl, sym, ap, ◌∙◌}
 use Rattle.std.specs.Prelude.{T, nat_eq}
-use Rattle.std.specs.Ordering.{is_lt, is_eq, eq_by_cmp, ordering_reverse}
-use Rattle.std.specs.declared.cmp.Ordering.{Ordering}
-use Rattle.std.specs.declared.cmp.Ordering.TheVariants.{Less, Equal, Greater}
-use Rattle.std.proofs.lemmas.Cmp.{tied_itself}
+use Rattle.std.specs.Ordering.{is_lt, eq_by_cmp}
+use Rattle.std.specs.declared.cmp.Ordering.TheVariants.{Greater}
 use Rattle.dots.specs.Values.{Tag}
 use Rattle.dots.specs.Orders.{dot_cmp}
 use Rattle.dots.proofs.DotOrder.{dots_total, dots_exact, same_dot}
+use Rattle.member_orset.proofs.Rising as rising
 
 -- a test that is true, in the form of the standard library's maps
 pub as_T : (b : Bool) → b ≡ true → T b
@@ -18,52 +17,33 @@ pub from_T : (b : Bool) → T b → b ≡ true
 from_T true h = refl
 from_T false h = absurd h
 
-pub less : (o : Ordering) → is_lt o ≡ true → o ≡ Less
-less Less h = refl
-less Equal h = absurd (cc)
-less Greater h = absurd (cc)
-
-pub equal : (o : Ordering) → is_eq o ≡ true → o ≡ Equal
-equal Less h = absurd (cc)
-equal Equal h = refl
-equal Greater h = absurd (cc)
-
-greater : (o : Ordering) → is_lt o ≡ false → is_eq o ≡ false → o ≡ Greater
-greater Less h k = absurd (cc)
-greater Equal h k = absurd (cc)
-greater Greater h k = refl
-
 -- a dot that lies before another: the other lies after it
 pub turned : (a b : Tag) → is_lt (dot_cmp a b) ≡ true → dot_cmp b a ≡ Greater
-turned a b h = dots_total.antisymm b a ∙ ap ordering_reverse (less _ h)
+turned = rising.turned dot_cmp dots_total dots_exact
 
 -- so the two aren't one
 pub apart : (a b : Tag) → is_lt (dot_cmp a b) ≡ true → eq_by_cmp dot_cmp b a ≡ false
-apart a b h = ap is_eq (turned a b h)
+apart = rising.apart dot_cmp dots_total dots_exact
 
 pub apart_after : (a b : Tag) → is_lt (dot_cmp a b) ≡ true → eq_by_cmp dot_cmp a b ≡ false
-apart_after a b h = ap is_eq (less _ h)
+apart_after = rising.apart_after dot_cmp dots_total dots_exact
 
 pub before_trans : (a b c : Tag) → is_lt (dot_cmp a b) ≡ true → is_lt (dot_cmp b c) ≡ true → is_lt (dot_cmp a c) ≡ true
-before_trans a b c h k = ap is_lt (dots_total.trans a b c (less _ h) (less _ k))
+before_trans = rising.before_trans dot_cmp dots_total dots_exact
 
 -- a dot is itself
 pub same_itself : (a : Tag) → eq_by_cmp dot_cmp a a ≡ true
-same_itself a = ap is_eq (tied_itself dots_total a)
+same_itself = rising.same_itself dot_cmp dots_total dots_exact
 
 pub same_tied : (a b : Tag) → a ≡ b → eq_by_cmp dot_cmp a b ≡ true
-same_tied a b e = ap (λ x. eq_by_cmp dot_cmp a x) (sym e) ∙ same_itself a
+same_tied = rising.same_tied dot_cmp dots_total dots_exact
 
 pub one_dot : (a b : Tag) → eq_by_cmp dot_cmp a b ≡ true → a ≡ b
-one_dot a b h = dots_exact a b (equal _ h)
+one_dot = rising.one_key dot_cmp dots_total dots_exact
 
 -- one that is another and doesn't lie before it lies after it
 pub after : (a b : Tag) → a ≢ b → is_lt (dot_cmp a b) ≡ false → is_lt (dot_cmp b a) ≡ true
-after a b n h = ap is_lt (dots_total.antisymm b a ∙ ap ordering_reverse (greater _ h (not_eq (eq_by_cmp dot_cmp a b) (λ t. n (one_dot a b t)))))
-  where
-    not_eq : (p : Bool) → p ≢ true → p ≡ false
-    not_eq true k = absurd (k refl)
-    not_eq false k = refl
+after = rising.after dot_cmp dots_total dots_exact
 
 -- what the program's test of two dots tells
 pub told_apart : (a d : Tag) (b : Bool) → b ≡ not (nat_eq a.site d.site && nat_eq a.count d.count) → b ≡ true → d ≢ a

@@ -104,7 +104,7 @@ module _ (cs ds : List LiveDot) (known more : sets.FinSet dot_cmp) where
       ∙ len_keys joined (sorted-joined a.sorted b.sorted)
 
   module _ (new : List LiveDot) (e : entries_of new ≡ joined) where
-    new_rise : Rise cs → Rise ds → Rise new
+    pub new_rise : Rise cs → Rise ds → Rise new
     new_rise s r = ap (maps.is_sorted dot_cmp) e ∙ sorted-joined s r
 
     found : Rise cs → Rise ds → (k : ℕ) (d : LiveDot) → k < length new → holding_joined (find dot_cmp (get_or new k d).dot (entries_of cs)) (sets.contains known (get_or new k d).dot) (find dot_cmp (get_or new k d).dot (entries_of ds)) (sets.contains more (get_or new k d).dot) ≡ Some (holding (get_or new k d))

@@ -1,4 +1,5 @@
 pub mod ConditionLaws
+pub mod Rising
 pub mod DotTests
 pub mod CellLists
 pub mod Views
@@ -8,11 +9,16 @@ pub mod Asserting
 pub mod Places
 pub mod Agreeing
 pub mod Building
-pub mod Presence
 pub mod JoinSteps
 pub mod JoinedCells
 pub mod Joins
-pub mod MemberCells
-pub mod Shows
 pub mod SeenDots
 pub mod Pieces
+pub mod MemberOrder
+pub mod Indexes
+pub mod Relisted
+pub mod IndexPlaces
+pub mod MemberDots
+pub mod ShownFields
+pub mod Presence
+pub mod Shows

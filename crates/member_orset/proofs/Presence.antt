@@ -1,29 +1,55 @@
--- Whether some dot is live with a member.
-use Rattle.std.proofs.Common.{◌≡◌, ◌≢◌, ◌↔◌, Bool, true, false, List, Some, refl, sym, ap, ◌∙◌}
+-- Whether some dot is live with a member, as the index of the live dots tells it.
+use Rattle.std.proofs.Common.{◌≡◌, ◌↔◌, ℕ, suc, Bool, true, false, not, cond, ◌||◌, nat_eq, List, [], ◌∷◌, length, Option, Some, None, refl, sym, ap, ◌∙◌, arith}
 use Rattle.std.specs.Prelude.{IsTrue}
+use Rattle.std.specs.List.{list_any}
+use Rattle.std.specs.Option.{option_map, option_map_or}
 use Rattle.std.specs.FinMap as maps
-use Rattle.std.specs.FinMap.Entries.{find}
+use Rattle.std.specs.Ordering.{eq_by_cmp}
+use Rattle.std.specs.Cmp.{tied_then}
+use Rattle.std.proofs.lemmas.Bool.{and_from, and_parts}
+use Rattle.std.proofs.lemmas.Bool.Decides.{nat_tests}
 use Rattle.dots.specs.declared.member.Member.{Member}
-use Rattle.dots.specs.Orders.{dot_cmp}
-use Rattle.member_orset.specs.declared.live_dot.LiveDot.{LiveDot}
-use Rattle.member_orset.specs.Members.{Members, IsPresent}
-use Rattle.member_orset.specs.Cells.{IsMemberAnswer, dot_fields, entries_of, holding, live_of}
-use Rattle.member_orset.proofs.CellLists.{Rise}
-use Rattle.member_orset.proofs.Views.{get-live_of}
-use Rattle.member_orset.proofs.Agreeing.{finds, found_in}
+use Rattle.dots.specs.Conditions.{DotFields}
+use Rattle.dots.specs.Orders.{dot_cmp, member_cmp}
+use Rattle.dots.proofs.Membership.{any-in, in-any}
+use Rattle.member_orset.specs.declared.listed.Listed.{Listed}
+use Rattle.member_orset.specs.Members.{Members, Holding, IsPresent}
+use Rattle.member_orset.specs.Index.{IsIndex, listed_cmp}
+use Rattle.member_orset.specs.Shown.{group, is_own}
+use Rattle.member_orset.proofs.DotTests.{same_itself}
+use Rattle.member_orset.proofs.MemberOrder.{member_itself, one_member}
 
-pub presence : (s : Members) (cs : List LiveDot) (member : Member) (r : Bool) → Rise cs → live_of cs ≡ s.live → IsMemberAnswer cs member r → IsTrue r ↔ IsPresent s member
-presence s cs member true h live is = (
-  λ x. record {
-    dot = is.cell.dot;
-    fields = dot_fields is.cell.fields;
-    live =
-        ap (λ m. maps.get m is.cell.dot) (sym live) ∙ get-live_of cs is.cell.dot h ∙ ap (λ c. find dot_cmp c.dot (entries_of cs)) (sym (is.here is.cell)) ∙ finds cs is.place is.cell h is.within
-        ∙ ap (λ c. Some (holding c)) (is.here is.cell) ∙ ap (λ m. Some (m, dot_fields is.cell.fields)) is.one_member;
-  },
-  λ x. refl,
+-- what is held under a member is of it
+held_is : (m : Member) (o : Option Holding) → option_map_or (eq_by_cmp member_cmp m) (option_map (λ h. h.0) o) false ≡ true → (f : DotFields) × (o ≡ Some (m, f))
+held_is m None t = absurd (cc)
+held_is m (Some h) t = (h.1, ap (λ n. Some (n, h.1)) (sym (one_member m h.0 t)))
+
+pub presence : (s : Members) (index : List Listed) (m : Member) → IsIndex index s.live → IsTrue (list_any (is_own m) index) ↔ IsPresent s m
+presence s index m is = (
+  λ t.
+      let own = in-any (is_own m) index t in
+      let listed = any-in (eq_by_cmp listed_cmp (record { member = m; dot = own.0.dot })) index own.0 own.1
+      (sym (tied_then (member_cmp m own.0.member) (dot_cmp own.0.dot own.0.dot)) ∙ and_from (is_own m own.0) (eq_by_cmp dot_cmp own.0.dot own.0.dot) own.2 (same_itself own.0.dot)) in
+      let held = held_is m (maps.get s.live own.0.dot) (sym (is.lists m own.0.dot) ∙ listed) in
+      record { dot = own.0.dot; fields = held.0; live = held.1 },
+  λ p.
+      let listed = in-any (eq_by_cmp listed_cmp (record { member = m; dot = p.dot })) index
+      (is.lists m p.dot ∙ ap (λ o. option_map_or (eq_by_cmp member_cmp m) (option_map (λ h. h.0) o) false) p.live ∙ member_itself m) in
+      any-in (is_own m) index listed.0 listed.1
+      (and_parts (is_own m listed.0) (eq_by_cmp dot_cmp p.dot listed.0.dot) (tied_then (member_cmp m listed.0.member) (dot_cmp p.dot listed.0.dot) ∙ listed.2)).0,
 )
-presence s cs member false h live is = (
-  λ x. absurd (cc),
-  λ x. absurd (let f = found_in (λ c. c.member ≢ member) cs x.dot (member, x.fields) is (sym (get-live_of cs x.dot h) ∙ ap (λ m. maps.get m x.dot) live ∙ x.live) in f.1 (ap (λ y. y.0) f.3)),
-)
+
+-- a member's entries are some where a test finds one
+pub some_own : (m : Member) (index own : List Listed) (b : Bool) → b ≡ nat_eq (length own) 0 → own ≡ group m index → not b ≡ list_any (is_own m) index
+some_own m index own b e is = ap not (e ∙ ap (λ ls. nat_eq (length ls) 0) is) ∙ some index
+  where
+    positive : (n : ℕ) → nat_eq (suc n) 0 ≡ false
+    positive n = grind (arith, nat_tests)
+
+    split : (p : Bool) (l : Listed) (ls : List Listed) → not (nat_eq (length (group m ls)) 0) ≡ list_any (is_own m) ls → not (nat_eq (length (cond p (l ∷ group m ls) (group m ls))) 0) ≡ (p || list_any (is_own m) ls)
+    split true l ls h = ap not (positive (length (group m ls)))
+    split false l ls h = h
+
+    some : (ls : List Listed) → not (nat_eq (length (group m ls)) 0) ≡ list_any (is_own m) ls
+    some [] = refl
+    some (l ∷ ls) = split (is_own m l) l ls (some ls)

@@ -1,96 +1,39 @@
--- What is read of cells that rise: the dots of a member, its row, and the rows of a queue one by one.
-use Rattle.std.proofs.Common.{◌≡◌, ◌≢◌, ℕ, ◌+◌, ◌<◌, Bool, true, false, cond, ◌&&◌, ◌||◌, nat_eq, List, [], ◌∷◌, ◌++◌, length, get_or, take, map as each, Contains, Option, Some, None, filter, T, refl, sym, ap, ◌∙◌, subst, inl, inr, arith, if◌then◌else◌}
-use Rattle.std.specs.List.{All, filter_map, cons_option, list_any}
+-- The rows of a queue one by one: the next is that of the entry of the least interface that is left.
+use Rattle.std.proofs.Common.{◌≡◌, ◌≢◌, ◌⊎◌, inl, inr, ℕ, ◌<◌, ◌≤◌, Bool, true, false, not, cond, ◌&&◌, ◌||◌, nat_eq, List, [], ◌∷◌, length, get_or, map as each, Contains, Option, Some, None, filter, T, refl, sym, ap, subst, ◌∙◌, suc, zero, arith, if◌then◌else◌}
+use Rattle.std.specs.Prelude.{nat_lt}
+use Rattle.std.specs.List.{All, AllWithin, filter_map, cons_option, list_any}
+use Rattle.std.specs.List.Sorted.{IsPartitionedBy}
 use Rattle.std.specs.Option.{option_map, option_map_or, option_and_then}
-use Rattle.std.specs.Borrow.{Bor}
+use Rattle.std.specs.Cmp.{tied_then, unsigned_tied}
 use Rattle.std.specs.FinMap as maps
 use Rattle.std.specs.FinMap.Entries.{below_all}
 use Rattle.std.specs.FinSet as sets
-use Rattle.std.specs.Ordering.{eq_by_cmp, is_eq, is_lt, ordering_reverse}
-use Rattle.std.specs.declared.cmp.Ordering.{Ordering}
-use Rattle.std.specs.declared.cmp.Ordering.TheVariants.{Less, Equal, Greater}
-use Rattle.std.proofs.lemmas.Bool.{and_parts, cases_Bool}
+use Rattle.std.specs.Ordering.{eq_by_cmp, is_eq, is_lt, nat_cmp, ordering_reverse}
+use Rattle.std.specs.declared.cmp.Ordering.TheVariants.{Less}
+use Rattle.std.proofs.lemmas.Bool.{and_from, and_parts, cases_Bool}
 use Rattle.std.proofs.lemmas.Bool.Decides.{nat_tests}
 use Rattle.std.proofs.lemmas.Cmp.{tied_itself, nat_list_cmp_total}
-use Rattle.std.proofs.lemmas.List.{take_more}
-use Rattle.std.proofs.lemmas.List.Elements.{All-head, All-tail, All-filter, All-more, All-weaker, Contains-append_left, Contains-push}
-use Rattle.std.proofs.lemmas.List.Folds.{list_any_at}
 use Rattle.dots.specs.declared.member.Member.{Member}
-use Rattle.dots.specs.Orders.{dot_cmp, member_cmp, text_cmp}
-use Rattle.dots.specs.Conditions.{DotFields}
-use Rattle.dots.specs.Knowledge.{latest_of}
+use Rattle.dots.specs.Values.{Tag}
+use Rattle.dots.specs.Orders.{member_cmp, text_cmp}
 use Rattle.dots.specs.SetItems.{in_order}
-use Rattle.dots.specs.Rows.{MemberRow, dots_of, interface_in, interfaces_of, is_of, row_if, row_of, row_of_fields, rows_of}
-use Rattle.dots.proofs.DotOrder.{dots_total, dots_exact}
-use Rattle.dots.proofs.ItemOrder.{in_order-keys, in_order-has}
-use Rattle.dots.proofs.Membership.{cases-in}
+use Rattle.dots.specs.Rows.{MemberRow, interface_in, interfaces_of, is_of, dots_of, row_if, row_of, rows_of}
+use Rattle.dots.proofs.ItemOrder.{in_order-has}
+use Rattle.dots.proofs.Membership.{any-in, in-any}
+use Rattle.member_orset.specs.declared.listed.Listed.{Listed}
 use Rattle.member_orset.specs.declared.live_dot.LiveDot.{LiveDot}
-use Rattle.member_orset.specs.Members.{Holding}
-use Rattle.member_orset.specs.Cells.{dot_fields, entries_of, holding, live_of}
-use Rattle.member_orset.specs.Shown.{IsLeastAfter, IsLeastCell, cells_of, cells_read, fields_shown, is_after, is_before, is_cell_of, is_left, rows_after}
+use Rattle.member_orset.specs.Cells.{live_of}
+use Rattle.member_orset.specs.Index.{IsIndex, Rises}
+use Rattle.member_orset.specs.Shown.{IsLeastAfter, IsLeastEntry, cells_read, dots_listed, group, is_after, is_left, is_own, is_passed, rows_after}
 use Rattle.member_orset.proofs.CellLists.{Rise}
-use Rattle.member_orset.proofs.Views.{entries-live_of, get-live_of}
-use Rattle.member_orset.proofs.Agreeing.{finds}
-use Rattle.member_orset.proofs.MemberCells.{exact_texts, own_cell}
-
--- the live dots in their order are those of the cells
-keys-entries : (cs : List LiveDot) → each (λ e. e.0) (entries_of cs) ≡ each (λ c. c.dot) cs
-keys-entries [] = refl
-keys-entries (c ∷ cs) = ap (λ ks. c.dot ∷ ks) (keys-entries cs)
-
-visible : (cs : List LiveDot) → Rise cs → in_order (cells_read cs).visible ≡ each (λ c. c.dot) cs
-visible cs s =
-    in_order-keys dots_total dots_exact (sets.from_list (maps.keys (live_of cs))) (live_of cs) (λ q. sets.contains-from_list dots_total (maps.keys (live_of cs)) q ∙ sym (maps.contains_key-keys (live_of cs) q))
-    ∙ ap (each (λ e. e.0)) (entries-live_of cs s) ∙ keys-entries cs
-
-all_live : (cs : List LiveDot) → Rise cs → All (λ c. maps.get (live_of cs) c.dot ≡ Some (holding c)) cs
-all_live cs s k e l = get-live_of cs (get_or cs k e).dot s ∙ finds cs k e s l
-
-module _ (live : maps.FinMap dot_cmp Holding) where
-  abbrev Here : LiveDot → Type 0
-  Here c = maps.get live c.dot ≡ Some (holding c)
-
-  dots_kept : (m : Member) (cs : List LiveDot) → All Here cs → filter (λ dot. option_map_or (eq_by_cmp member_cmp m) (option_map (λ h. h.0) (maps.get live dot)) false) (each (λ c. c.dot) cs) ≡ each (λ c. c.dot) (cells_of m cs)
-  dots_kept m [] a = refl
-  dots_kept m (c ∷ cs) a =
-      (λ i. cond (option_map_or (eq_by_cmp member_cmp m) (option_map (λ h. h.0) (All-head Here c cs a i)) false) (c.dot ∷ dots_kept m cs (All-tail Here c cs a) i) (dots_kept m cs (All-tail Here c cs a) i))
-      ∙ pushed (is_cell_of m c) (cells_of m cs)
-    where
-      pushed : (b : Bool) (xs : List LiveDot) → cond b (c.dot ∷ each (λ x. x.dot) xs) (each (λ x. x.dot) xs) ≡ each (λ x. x.dot) (cond b (c ∷ xs) xs)
-      pushed true xs = refl
-      pushed false xs = refl
-
-  fields_kept : {X : Type 0} (g : DotFields → Option X) (cs : List LiveDot) → All Here cs → filter_map (λ dot. option_and_then (λ h. g h.1) (maps.get live dot)) (each (λ c. c.dot) cs) ≡ filter_map (λ c. g (dot_fields c.fields)) cs
-  fields_kept g [] a = refl
-  fields_kept g (c ∷ cs) a = λ i. cons_option (option_and_then (λ h. g h.1) (All-head Here c cs a i)) (fields_kept g cs (All-tail Here c cs a) i)
-
--- the dots of a member
-pub dots_shown : (cs : List LiveDot) (m : Member) → Rise cs → dots_of (cells_read cs) m ≡ each (λ c. c.dot) (cells_of m cs)
-dots_shown cs m s = ap (filter (is_of (cells_read cs) m)) (visible cs s) ∙ dots_kept (live_of cs) m cs (all_live cs s)
-
-row_shown_if : (cs : List LiveDot) → row_if (each (λ c. c.dot) cs) (row_of_fields (latest_of (filter_map (λ c. c.fields.penalty) cs)) (latest_of (filter_map (λ c. c.fields.pause) cs)) (latest_of (filter_map (λ c. c.fields.label) cs)))
-    ≡ option_map (λ f. row_of_fields f.penalty f.pause f.label) (fields_shown cs)
-row_shown_if [] = refl
-row_shown_if (c ∷ cs) = refl
-
--- its row
-pub row_shown : (cs : List LiveDot) (m : Member) → Rise cs → row_of (cells_read cs) m ≡ option_map (λ f. row_of_fields f.penalty f.pause f.label) (fields_shown (cells_of m cs))
-row_shown cs m s =
-    let own = cells_of m cs in
-    let here = All-filter (is_cell_of m) (λ c. maps.get (live_of cs) c.dot ≡ Some (holding c)) cs (all_live cs s) in
-    let r = cells_read cs in
-    (λ i. row_if (dots_shown cs m s i) (row_of_fields (latest_of (filter_map r.penalty (dots_shown cs m s i))) (latest_of (filter_map r.pause (dots_shown cs m s i))) (latest_of (filter_map r.label (dots_shown cs m s i)))))
-    ∙ (λ i. row_if (each (λ c. c.dot) own) (row_of_fields (latest_of (fields_kept (live_of cs) (λ f. f.penalty) own here i)) (latest_of (fields_kept (live_of cs) (λ f. f.pause) own here i)) (latest_of (fields_kept (live_of cs) (λ f. f.label) own here i))))
-    ∙ row_shown_if own
+use Rattle.member_orset.proofs.Rising.{equal, less}
+use Rattle.member_orset.proofs.IndexPlaces.{not_lesser, partitioned_by}
+use Rattle.member_orset.proofs.MemberDots.{dots_are}
+use Rattle.member_orset.proofs.MemberOrder.{by_members, exact_texts, interface_not_less, less_parts, member_itself, one_member, queue_not_less}
 
 -- texts in their order
 abbrev Text : Type 0
 Text = List ℕ
-
-less : (o : Ordering) → is_lt o ≡ true → o ≡ Less
-less Less h = refl
-less Equal h = absurd (cc)
-less Greater h = absurd (cc)
 
 text_trans : (a b c : Text) → is_lt (text_cmp a b) ≡ true → is_lt (text_cmp b c) ≡ true → is_lt (text_cmp a c) ≡ true
 text_trans a b c h k = ap is_lt (nat_list_cmp_total.trans a b c (less _ h) (less _ k))
@@ -101,13 +44,13 @@ not_self a = ap is_lt (tied_itself nat_list_cmp_total a)
 not_back : (a b : Text) → is_lt (text_cmp a b) ≡ true → is_lt (text_cmp b a) ≡ false
 not_back a b h = ap is_lt (nat_list_cmp_total.antisymm b a ∙ ap ordering_reverse (less _ h))
 
-equal_of : (o : Ordering) → is_eq o ≡ true → o ≡ Equal
-equal_of Less h = absurd (cc)
-equal_of Equal h = refl
-equal_of Greater h = absurd (cc)
-
 one_text : (a b : Text) → eq_by_cmp text_cmp a b ≡ true → a ≡ b
-one_text a b h = exact_texts a b (equal_of _ h)
+one_text a b h = exact_texts a b (equal _ h)
+
+-- what lies after one that is left is left
+after_trans : (last : Option Text) (i k : Text) → is_after last i ≡ true → is_lt (text_cmp i k) ≡ true → is_after last k ≡ true
+after_trans None i k h l = refl
+after_trans (Some a) i k h l = text_trans a i k h l
 
 abbrev Keys : Type 0
 Keys = List (Text × Unit {0})
@@ -143,10 +86,6 @@ module _ (f : Text → Option MemberRow) where
       kept : (o : Option MemberRow) → p e.0 ≡ true → filter (λ x. p x.0) (cons_option (option_map (λ row. (e.0, row)) o) (rows es)) ≡ cons_option (option_map (λ row. (e.0, row)) o) (rest p es)
       kept None t = refl
       kept (Some row) t = ap (λ b. cond b ((e.0, row) ∷ rest p es) (rest p es)) t
-
-  after_trans : (last : Option Text) (i k : Text) → is_after last i ≡ true → is_lt (text_cmp i k) ≡ true → is_after last k ≡ true
-  after_trans None i k h l = refl
-  after_trans (Some a) i k h l = text_trans a i k h l
 
   -- the row of the least key that is left, and those that are left then
   pub first_row : (last : Option Text) (i : Text) (row : MemberRow) (es : Keys) → maps.is_sorted text_cmp es ≡ true → f i ≡ Some row → is_after last i ≡ true → list_any (eq_by_cmp text_cmp i) (each (λ e. e.0) es) ≡ true
@@ -195,49 +134,77 @@ module _ (f : Text → Option MemberRow) where
       or_second true q h = refl
       or_second false q h = h
 
--- the interfaces of a queue are those of its cells
-abbrev has_interface : ℕ → Text → LiveDot → Bool
-has_interface queue i c = nat_eq queue c.member.queue && eq_by_cmp text_cmp i c.member.interface
+-- whether a list has an element
+abbrev has_any : {X : Type 0} → List X → Bool
+has_any [] = false
+has_any (x ∷ xs) = true
 
-interfaces_kept : (live : maps.FinMap dot_cmp Holding) (queue : ℕ) (i : Text) (cs : List LiveDot) → All (λ c. maps.get live c.dot ≡ Some (holding c)) cs
-    → list_any (eq_by_cmp text_cmp i) (filter_map (λ dot. option_and_then (interface_in queue) (option_map (λ h. h.0) (maps.get live dot))) (each (λ c. c.dot) cs)) ≡ list_any (has_interface queue i) cs
-interfaces_kept live queue i [] a = refl
-interfaces_kept live queue i (c ∷ cs) a =
-    let here = All-head (λ c. maps.get live c.dot ≡ Some (holding c)) c cs a in
-    let more = interfaces_kept live queue i cs (All-tail (λ c. maps.get live c.dot ≡ Some (holding c)) c cs a) in
-    ap (λ o. list_any (eq_by_cmp text_cmp i) (cons_option (option_and_then (interface_in queue) (option_map (λ h. h.0) o)) (filter_map (λ dot. option_and_then (interface_in queue) (option_map (λ h. h.0) (maps.get live dot))) (each (λ x. x.dot) cs)))) here
-    ∙ one (nat_eq queue c.member.queue) _ ∙ ap (λ b. has_interface queue i c || b) more
+any-kept : {X : Type 0} (p : X → Bool) (xs : List X) → list_any p xs ≡ has_any (filter p xs)
+any-kept p [] = refl
+any-kept p (x ∷ xs) = split (p x) (any-kept p xs)
   where
-    one : (b : Bool) (xs : List Text) → list_any (eq_by_cmp text_cmp i) (cons_option (if b then Some c.member.interface else None) xs) ≡ ((b && eq_by_cmp text_cmp i c.member.interface) || list_any (eq_by_cmp text_cmp i) xs)
-    one true xs = refl
-    one false xs = refl
+    split : (b : Bool) → list_any p xs ≡ has_any (filter p xs) → (b || list_any p xs) ≡ has_any (cond b (x ∷ filter p xs) (filter p xs))
+    split true h = refl
+    split false h = h
 
-interfaces_are : (cs : List LiveDot) (queue : ℕ) (i : Text) → Rise cs → list_any (eq_by_cmp text_cmp i) (in_order (interfaces_of (cells_read cs) queue)) ≡ list_any (has_interface queue i) cs
+any-dots : (ls : List Listed) → has_any (dots_listed ls) ≡ has_any ls
+any-dots [] = refl
+any-dots (l ∷ ls) = refl
+
+-- a member has a dot where the index has an entry of it
+dots_there : (cs : List LiveDot) (index : List Listed) (m : Member) → Rise cs → IsIndex index (live_of cs) → has_any (dots_of (cells_read cs) m) ≡ list_any (is_own m) index
+dots_there cs index m s is = ap has_any (sym (dots_are cs index m s is)) ∙ any-dots (group m index) ∙ sym (any-kept (is_own m) index)
+
+-- the member of a queue with an interface
+abbrev in_queue : ℕ → Text → Member
+in_queue queue i = record { queue = queue; interface = i }
+
+-- the interfaces of a queue are those of its members
+interfaces_kept : (queue : ℕ) (i : Text) (member : Tag → Option Member) (ds : List Tag)
+    → list_any (eq_by_cmp text_cmp i) (filter_map (λ dot. option_and_then (interface_in queue) (member dot)) ds) ≡ list_any (λ dot. option_map_or (eq_by_cmp member_cmp (in_queue queue i)) (member dot) false) ds
+interfaces_kept queue i member [] = refl
+interfaces_kept queue i member (d ∷ ds) =
+    one (member d) (filter_map (λ dot. option_and_then (interface_in queue) (member dot)) ds)
+    ∙ ap (λ b. option_map_or (eq_by_cmp member_cmp (in_queue queue i)) (member d) false || b) (interfaces_kept queue i member ds)
+  where
+    if_in : (b : Bool) (t : Text) (xs : List Text) → list_any (eq_by_cmp text_cmp i) (cons_option (if b then Some t else None) xs) ≡ ((b && eq_by_cmp text_cmp i t) || list_any (eq_by_cmp text_cmp i) xs)
+    if_in true t xs = refl
+    if_in false t xs = refl
+
+    one : (o : Option Member) (xs : List Text) → list_any (eq_by_cmp text_cmp i) (cons_option (option_and_then (interface_in queue) o) xs)
+        ≡ (option_map_or (eq_by_cmp member_cmp (in_queue queue i)) o false || list_any (eq_by_cmp text_cmp i) xs)
+    one None xs = refl
+    one (Some m) xs =
+        if_in (nat_eq queue m.queue) m.interface xs
+        ∙ ap (λ b. b || list_any (eq_by_cmp text_cmp i) xs) (ap (λ b. b && eq_by_cmp text_cmp i m.interface) (sym (unsigned_tied queue m.queue)) ∙ tied_then (nat_cmp queue m.queue) (text_cmp i m.interface))
+
+interfaces_are : (cs : List LiveDot) (index : List Listed) (queue : ℕ) (i : Text) → Rise cs → IsIndex index (live_of cs)
+    → list_any (eq_by_cmp text_cmp i) (in_order (interfaces_of (cells_read cs) queue)) ≡ list_any (is_own (in_queue queue i)) index
 unfolding interfaces_of
-interfaces_are cs queue i s =
+interfaces_are cs index queue i s is =
     in_order-has nat_list_cmp_total (interfaces_of (cells_read cs) queue) i
     ∙ sets.contains-from_list nat_list_cmp_total (filter_map (λ dot. option_and_then (interface_in queue) ((cells_read cs).member dot)) (in_order (cells_read cs).visible)) i
-    ∙ ap (λ ds. list_any (eq_by_cmp text_cmp i) (filter_map (λ dot. option_and_then (interface_in queue) ((cells_read cs).member dot)) ds)) (visible cs s)
-    ∙ interfaces_kept (live_of cs) queue i cs (all_live cs s)
+    ∙ interfaces_kept queue i (cells_read cs).member (in_order (cells_read cs).visible)
+    ∙ any-kept (is_of (cells_read cs) (in_queue queue i)) (in_order (cells_read cs).visible)
+    ∙ dots_there cs index (in_queue queue i) s is
 
--- one of some cells that passes a test
-any_all : (P : LiveDot → Type 0) (p : LiveDot → Bool) (X : Type 0) (cs : List LiveDot) → All P cs → list_any p cs ≡ true → ((c : LiveDot) → P c → p c ≡ true → X) → X
-any_all P p X [] a h g = absurd (cc)
-any_all P p X (c ∷ cs) a h g = elim (cases_Bool (p c)) [
-  | inl t ↦ g c (All-head P c cs a) t
-  | inr f ↦ any_all P p X cs (All-tail P c cs a) (ap (λ b. b || list_any p cs) (sym f) ∙ h) g
-]
+-- what holds of each entry holds of one of a member
+on_own : (P : Listed → Type 0) (X : Type 0) (m : Member) (ls : List Listed) → All P ls → list_any (is_own m) ls ≡ true → ((l : Listed) → P l → m ≡ l.member → X) → X
+on_own P X m ls a h g =
+    let own = in-any (is_own m) ls h in
+    g own.0 (subst P own.1.2 (a own.1.0 own.0 own.1.1)) (one_member m own.0.member own.2)
 
 is_true : (b : Bool) → T b → b ≡ true
 is_true true h = refl
 is_true false h = absurd h
 
-and_both : (a b : Bool) → a ≡ true → b ≡ true → (a && b) ≡ true
-and_both a b p q = λ i. p i && q i
+-- a queue is itself
+same_queue : (q r : ℕ) → q ≡ r → nat_eq q r ≡ true
+same_queue q r e = grind (arith, nat_tests, e)
 
-module _ (cs : List LiveDot) (queue : ℕ) (s : Rise cs) where
+module _ (cs : List LiveDot) (index : List Listed) (queue : ℕ) (s : Rise cs) (is : IsIndex index (live_of cs)) where
   abbrev read : Text → Option MemberRow
-  read i = row_of (cells_read cs) (record { queue = queue; interface = i })
+  read i = row_of (cells_read cs) (in_queue queue i)
 
   abbrev names : Keys
   names = maps.entries (maps.from_entries {R = text_cmp} (each (λ k. (k, tt {0})) (sets.items (interfaces_of (cells_read cs) queue))))
@@ -245,25 +212,27 @@ module _ (cs : List LiveDot) (queue : ℕ) (s : Rise cs) where
   names_rise : maps.is_sorted text_cmp names ≡ true
   names_rise = is_true _ (maps.entries_sorted (maps.from_entries {R = text_cmp} (each (λ k. (k, tt {0})) (sets.items (interfaces_of (cells_read cs) queue)))))
 
-  -- the next row is that of the cell of the least interface
-  pub next_row : (last : Option Text) (c : LiveDot) (row : MemberRow) → IsLeastCell queue last cs c → row_of (cells_read cs) c.member ≡ Some row
-      → rows_after (cells_read cs) queue last ≡ (c.member.interface, row) ∷ rows_after (cells_read cs) queue (Some c.member.interface)
-  next_row last c row is r =
-      let own = and_parts (nat_eq queue c.member.queue) (is_after last c.member.interface) is.own in
-      let same : queue ≡ c.member.queue = grind (arith, nat_tests, own) in
-      first_row read last c.member.interface row names names_rise (ap (λ q. row_of (cells_read cs) (record { queue = q; interface = c.member.interface })) same ∙ r) own.1
-      (interfaces_are cs queue c.member.interface s ∙ list_any_at (has_interface queue c.member.interface) cs is.here.0 c is.here.1 (ap (has_interface queue c.member.interface) is.here.2 ∙ and_both _ _ own.0 (ap is_eq (tied_itself nat_list_cmp_total c.member.interface))))
-      (λ j h a. any_all (λ d. is_left queue last d ≡ true → is_lt (text_cmp d.member.interface c.member.interface) ≡ false) (has_interface queue j) (is_lt (text_cmp j c.member.interface) ≡ false) cs is.least (sym (interfaces_are cs queue j s) ∙ h) (λ d g k.
-      let p = and_parts (nat_eq queue d.member.queue) (eq_by_cmp text_cmp j d.member.interface) k in
-      let e = one_text j d.member.interface p.1 in
-      ap (λ x. is_lt (text_cmp x c.member.interface)) e ∙ g (and_both _ _ p.0 (ap (is_after last) (sym e) ∙ a))))
+  -- an interface that is left is that of an entry that is left
+  name_left : (last : Option Text) (j : Text) (l : Listed) → in_queue queue j ≡ l.member → is_left queue last l ≡ is_after last j
+  name_left last j l e =
+      ap (λ (m : Member). nat_eq queue m.queue && is_after last m.interface) (sym e) ∙ ap (λ b. b && is_after last j) (same_queue queue queue refl)
 
-  -- no row is left where no cell is
-  pub no_more_rows : (last : Option Text) → All (λ d. is_left queue last d ≡ false) cs → rows_after (cells_read cs) queue last ≡ []
+  -- the next row is that of the entry of the least interface
+  pub next_row : (last : Option Text) (l : Listed) (row : MemberRow) → IsLeastEntry queue last index l → row_of (cells_read cs) l.member ≡ Some row
+      → rows_after (cells_read cs) queue last ≡ (l.member.interface, row) ∷ rows_after (cells_read cs) queue (Some l.member.interface)
+  next_row last l row least r =
+      let own = and_parts (nat_eq queue l.member.queue) (is_after last l.member.interface) least.own in
+      let same : queue ≡ l.member.queue = grind (arith, nat_tests, own) in
+      first_row read last l.member.interface row names names_rise (ap (λ q. row_of (cells_read cs) (in_queue q l.member.interface)) same ∙ r) own.1
+      (interfaces_are cs index queue l.member.interface s is
+      ∙ any-in (is_own (in_queue queue l.member.interface)) index l least.here (ap (λ q. eq_by_cmp member_cmp (in_queue q l.member.interface) l.member) same ∙ member_itself l.member))
+      (λ j h a. on_own (λ e. is_left queue last e ≡ true → is_lt (text_cmp e.member.interface l.member.interface) ≡ false) (is_lt (text_cmp j l.member.interface) ≡ false) (in_queue queue j) index least.least
+      (sym (interfaces_are cs index queue j s is) ∙ h) (λ e g k. ap (λ (m : Member). is_lt (text_cmp m.interface l.member.interface)) k ∙ g (name_left last j e k ∙ a)))
+
+  -- no row is left where no entry is
+  pub no_more_rows : (last : Option Text) → All (λ e. is_left queue last e ≡ false) index → rows_after (cells_read cs) queue last ≡ []
   no_more_rows last none = no_row read (is_after last) names (λ j h.
-      any_all (λ d. is_left queue last d ≡ false) (has_interface queue j) (is_after last j ≡ false) cs none (sym (interfaces_are cs queue j s) ∙ h) (λ d g k.
-      let p = and_parts (nat_eq queue d.member.queue) (eq_by_cmp text_cmp j d.member.interface) k in
-      ap (is_after last) (one_text j d.member.interface p.1) ∙ ap (λ b. b && is_after last d.member.interface) (sym p.0) ∙ g))
+      on_own (λ e. is_left queue last e ≡ false) (is_after last j ≡ false) (in_queue queue j) index none (sym (interfaces_are cs index queue j s is) ∙ h) (λ e g k. sym (name_left last j e k) ∙ g))
 
   -- at first all rows are left
   pub all_rows : rows_after (cells_read cs) queue None ≡ rows_of (cells_read cs) queue
@@ -273,71 +242,127 @@ module _ (cs : List LiveDot) (queue : ℕ) (s : Rise cs) where
       whole [] = refl
       whole (x ∷ xs) = ap (λ ys. x ∷ ys) (whole xs)
 
-  -- a cell's own member has a row
-  pub has_row : (c : LiveDot) → Contains cs c → row_of (cells_read cs) c.member ≢ None
-  has_row c here none = some (cells_of c.member cs) (sym (row_shown cs c.member s) ∙ none) (kept cs here)
+-- the member of an entry has a row
+pub has_row : (cs : List LiveDot) (index : List Listed) (l : Listed) → Rise cs → IsIndex index (live_of cs) → Contains index l → row_of (cells_read cs) l.member ≢ None
+has_row cs index l s is here = some (dots_of (cells_read cs) l.member) _ (dots_there cs index l.member s is ∙ any-in (is_own l.member) index l here (member_itself l.member))
+  where
+    some : (ds : List Tag) (row : MemberRow) → has_any ds ≡ true → row_if ds row ≢ None
+    some [] row h none = (cc)
+    some (d ∷ ds) row h none = (cc)
+
+-- the entries that a search for the least one passes over
+module _ (queue : ℕ) (last : Option Text) where
+  abbrev Passed : Member → Type 0
+  Passed m = (m.queue < queue) ⊎ ((m.queue ≡ queue) × (is_after last m.interface ≡ false))
+
+  abbrev Stopped : Member → Type 0
+  Stopped m = (queue < m.queue) ⊎ ((m.queue ≡ queue) × (is_after last m.interface ≡ true))
+
+  passed : (m : Member) → Passed m → is_passed queue last m ≡ true
+  passed m p = elim p [
+    | inl l ↦ ap (λ b. b || (nat_eq m.queue queue && not (is_after last m.interface))) (below l)
+    | inr e ↦ (λ i. nat_lt m.queue queue || (same_queue m.queue queue e.0 i && not (e.1 i))) ∙ or_true (nat_lt m.queue queue)
+  ]
     where
-      some : (xs : List LiveDot) → option_map (λ f. row_of_fields f.penalty f.pause f.label) (fields_shown xs) ≡ None → 0 < length xs → ⊥
-      some [] h l = absurd (omega (arith, l))
-      some (x ∷ xs) h l = absurd (cc)
+      below : m.queue < queue → nat_lt m.queue queue ≡ true
+      below l = grind (arith, nat_tests, l)
 
-      grown : (b : Bool) (x : LiveDot) (xs : List LiveDot) → 0 < length xs → 0 < length (cond b (x ∷ xs) xs)
-      grown true x xs l = omega arith
-      grown false x xs l = l
+      or_true : (b : Bool) → (b || true) ≡ true
+      or_true true = refl
+      or_true false = refl
 
-      kept : (cs : List LiveDot) → Contains cs c → 0 < length (cells_of c.member cs)
-      kept [] h = absurd (omega (arith, h.1))
-      kept (x ∷ xs) h = elim (cases-in x xs c h) [
-        | inl e ↦ subst (λ b. 0 < length (cond b (x ∷ cells_of c.member xs) (cells_of c.member xs))) (sym (own_cell c.member x (ap (λ y. y.member) e))) (omega arith)
-        | inr r ↦ grown (is_cell_of c.member x) x (cells_of c.member xs) (kept xs r)
+  by_test : (m : Member) → ((is_passed queue last m ≡ true) × Passed m) ⊎ ((is_passed queue last m ≡ false) × Stopped m)
+  by_test m = split (nat_lt m.queue queue) (nat_eq m.queue queue) (is_after last m.interface) refl refl refl
+    where
+      split : (p q r : Bool) → nat_lt m.queue queue ≡ p → nat_eq m.queue queue ≡ q → is_after last m.interface ≡ r
+          → (((p || (q && not r)) ≡ true) × Passed m) ⊎ (((p || (q && not r)) ≡ false) × Stopped m)
+      split true q r e f g = inl (refl, inl (grind (arith, nat_tests, e)))
+      split false true false e f g = inl (refl, inr (grind (arith, nat_tests, f), g))
+      split false true true e f g = inr (refl, inr (grind (arith, nat_tests, f), g))
+      split false false r e f g = inr (refl, inl (grind (arith, nat_tests, e, f)))
+
+  is_so : (m : Member) → is_passed queue last m ≡ true → Passed m
+  is_so m h = elim (by_test m) [ inl p ↦ p.1 | inr n ↦ absurd (let x = sym h ∙ n.0 in cc) ]
+
+  isnt_so : (m : Member) → is_passed queue last m ≡ false → Stopped m
+  isnt_so m h = elim (by_test m) [ inl p ↦ absurd (let x = sym h ∙ p.0 in cc) | inr n ↦ n.1 ]
+
+  -- what lies before one that is passed over is passed over
+  passed_before : (a b : Member) → member_cmp a b ≡ Less → is_passed queue last b ≡ true → is_passed queue last a ≡ true
+  passed_before a b l h = passed a (elim (less_parts a b l) [
+    | inl q ↦ elim (is_so b h) [ inl r ↦ inl (omega arith) | inr e ↦ inl (let f = e.0 in omega arith) ]
+    | inr q ↦ elim (is_so b h) [ inl r ↦ inl (let f = q.0 in omega arith) | inr e ↦ inr (q.0 ∙ e.0, early (is_after last a.interface) refl e.1 q.1) ]
+  ])
+    where
+      early : (p : Bool) → is_after last a.interface ≡ p → is_after last b.interface ≡ false → text_cmp a.interface b.interface ≡ Less → is_after last a.interface ≡ false
+      early true e n t = absurd (let x = sym (after_trans last a.interface b.interface e (ap is_lt t)) ∙ n in cc)
+      early false e n t = e
+
+  pub passed_first : (ls : List Listed) → Rises ls → IsPartitionedBy (λ l. is_passed queue last l.member) ls
+  passed_first = partitioned_by (λ l. is_passed queue last l.member) (λ a b h k. elim (by_members a b h) [
+    | inl l ↦ passed_before a.member b.member l k
+    | inr e ↦ ap (is_passed queue last) e ∙ k
+  ])
+
+  -- none of them is left
+  not_left : (l : Listed) → is_passed queue last l.member ≡ true → is_left queue last l ≡ false
+  not_left l h = elim (is_so l.member h) [
+    | inl q ↦ other_queue l (grind (arith, nat_tests, q))
+    | inr e ↦ ap (λ b. nat_eq queue l.member.queue && b) e.1 ∙ and_false (nat_eq queue l.member.queue)
+  ]
+    where
+      other_queue : (l : Listed) → nat_eq queue l.member.queue ≡ false → is_left queue last l ≡ false
+      other_queue l n = ap (λ b. b && is_after last l.member.interface) n
+
+      and_false : (b : Bool) → (b && false) ≡ false
+      and_false true = refl
+      and_false false = refl
+
+  beyond : (l : Listed) → queue < l.member.queue → is_left queue last l ≡ false
+  beyond l h = ap (λ b. b && is_after last l.member.interface) (apart h)
+    where
+      apart : queue < l.member.queue → nat_eq queue l.member.queue ≡ false
+      apart h = grind (arith, nat_tests, h)
+
+  module _ (ls : List Listed) (i : ℕ) (before : AllWithin (λ l. is_passed queue last l.member ≡ true) ls 0 i) where
+    -- nothing is left where all are passed over
+    pub least_none : length ls ≤ i → IsLeastAfter queue last ls None
+    least_none w k e l = not_left (get_or ls k e) (before k e (omega arith) (omega arith))
+
+    module _ (rest : AllWithin (λ l. is_passed queue last l.member ≡ false) ls i (length ls)) (r : Rises ls) (x : Listed) (w : i < length ls) (is : x ≡ get_or ls i x) where
+      stopped : Stopped x.member
+      stopped = isnt_so x.member (ap (λ y. is_passed queue last y.member) is ∙ rest i x (omega arith) w)
+
+      same_entry : (e : Listed) → get_or ls i e ≡ x
+      same_entry e = same_at ls i e x w ∙ sym is
+        where
+          same_at : (ls : List Listed) (i : ℕ) (e x : Listed) → i < length ls → get_or ls i e ≡ get_or ls i x
+          same_at [] i e x l = absurd (omega arith)
+          same_at (y ∷ ls) zero e x l = refl
+          same_at (y ∷ ls) (suc i) e x l = same_at ls i e x (omega arith)
+
+      not_before : (k : ℕ) (e : Listed) → i ≤ k → k < length ls → is_lt (member_cmp (get_or ls k e).member x.member) ≡ false
+      not_before k e l h = ap (λ y. is_lt (member_cmp (get_or ls k e).member y.member)) (sym (same_entry e)) ∙ not_lesser ls i k e r l h
+
+      -- nor where the first that isn't is of another queue
+      pub least_beyond : x.member.queue ≢ queue → IsLeastAfter queue last ls None
+      least_beyond other k e l = elim (cases_Bool (nat_lt k i)) [
+        | inl t ↦ not_left (get_or ls k e) (before k e (omega arith) (grind (arith, nat_tests, t)))
+        | inr f ↦
+            let past : queue < x.member.queue = elim stopped [ inl q ↦ q | inr p ↦ absurd (other p.0) ] in
+            let later : x.member.queue ≤ (get_or ls k e).member.queue = queue_not_less x.member (get_or ls k e).member (not_before k e (grind (arith, nat_tests, f)) l) in
+            beyond (get_or ls k e) (omega arith)
       ]
 
--- the least cell so far, after one more cell
-module _ (queue : ℕ) (last : Option Text) (cells : List LiveDot) (i : ℕ) (x : LiveDot) (l : i < length cells) (e : x ≡ get_or cells i x) where
-  more : (P : LiveDot → Type 0) → All P (take i cells) → P x → All P (take (i + 1) cells)
-  more P a p = All-more P cells i x l a (subst P e p)
-
-  still : (c : LiveDot) → Contains (take i cells) c → Contains (take (i + 1) cells) c
-  still c h = subst (λ ys. Contains ys c) (sym (take_more cells i x l)) (Contains-append_left (take i cells) (get_or cells i x ∷ []) c h)
-
-  pub least_skips : (o : Option LiveDot) → is_left queue last x ≡ false → IsLeastAfter queue last (take i cells) o → IsLeastAfter queue last (take (i + 1) cells) o
-  least_skips None n a = more (λ d. is_left queue last d ≡ false) a n
-  least_skips (Some c) n is = record {
-    here = still c is.here;
-    own = is.own;
-    least = more (λ d. is_left queue last d ≡ true → is_lt (text_cmp d.member.interface c.member.interface) ≡ false) is.least (λ h. absurd (cc));
-  }
-
-  new_here : Contains (take (i + 1) cells) x
-  new_here = subst (λ ys. Contains ys x) (sym (take_more cells i x l)) (subst (λ y. Contains (take i cells ++ y ∷ []) x) e (Contains-push (take i cells) x))
-
-  pub least_takes : (o : Option (Bor LiveDot)) → is_left queue last x ≡ true → is_before x.member.interface (option_map (λ c. c.now.member.interface) o) ≡ true
-      → IsLeastAfter queue last (take i cells) (option_map (λ c. c.now) o) → IsLeastAfter queue last (take (i + 1) cells) (Some x)
-  least_takes None own b a = record {
-    here = new_here;
-    own = own;
-    least = more (λ d. is_left queue last d ≡ true → is_lt (text_cmp d.member.interface x.member.interface) ≡ false) (All-weaker (λ d. is_left queue last d ≡ false) (λ d. is_left queue last d ≡ true → is_lt (text_cmp d.member.interface x.member.interface) ≡ false) (λ d n h. absurd (cc)) (take i cells) a) (λ h. not_self x.member.interface);
-  }
-  least_takes (Some c) own b is = record {
-    here = new_here;
-    own = own;
-    least = more (λ d. is_left queue last d ≡ true → is_lt (text_cmp d.member.interface x.member.interface) ≡ false)
-        (All-weaker (λ d. is_left queue last d ≡ true → is_lt (text_cmp d.member.interface c.now.member.interface) ≡ false) (λ d. is_left queue last d ≡ true → is_lt (text_cmp d.member.interface x.member.interface) ≡ false) (λ d g h. lower d.member.interface (g h)) (take i cells) is.least)
-        (λ h. not_self x.member.interface);
-  }
-    where
-      lower : (t : Text) → is_lt (text_cmp t c.now.member.interface) ≡ false → is_lt (text_cmp t x.member.interface) ≡ false
-      lower t n = split (is_lt (text_cmp t x.member.interface)) (λ h. text_trans t x.member.interface c.now.member.interface h b)
-        where
-          split : (p : Bool) → (p ≡ true → is_lt (text_cmp t c.now.member.interface) ≡ true) → p ≡ false
-          split true g = absurd (let y = g refl in cc)
-          split false g = refl
-
-  pub least_keeps : (o : Option (Bor LiveDot)) → is_before x.member.interface (option_map (λ c. c.now.member.interface) o) ≡ false
-      → IsLeastAfter queue last (take i cells) (option_map (λ c. c.now) o) → IsLeastAfter queue last (take (i + 1) cells) (option_map (λ c. c.now) o)
-  least_keeps None b a = absurd (cc)
-  least_keeps (Some c) b is = record {
-    here = still c.now is.here;
-    own = is.own;
-    least = more (λ d. is_left queue last d ≡ true → is_lt (text_cmp d.member.interface c.now.member.interface) ≡ false) is.least (λ h. b);
-  }
+      -- the first that isn't has the least interface where it is of the queue
+      pub least_here : x.member.queue ≡ queue → IsLeastAfter queue last ls (Some x)
+      least_here own = record {
+        here = (i, w, sym is);
+        own = and_from (nat_eq queue x.member.queue) (is_after last x.member.interface) (same_queue queue x.member.queue (sym own)) (elim stopped [ inl q ↦ absurd (omega (arith, q, own)) | inr p ↦ p.1 ]);
+        least = λ k e l h. elim (cases_Bool (nat_lt k i)) [
+          | inl t ↦ absurd (let y = sym h ∙ not_left (get_or ls k e) (before k e (omega arith) (grind (arith, nat_tests, t))) in cc)
+          | inr f ↦
+              let own_queue : queue ≡ (get_or ls k e).member.queue = grind (arith, nat_tests, (and_parts (nat_eq queue (get_or ls k e).member.queue) (is_after last (get_or ls k e).member.interface) h).0) in
+              interface_not_less x.member (get_or ls k e).member (own ∙ own_queue) (not_before k e (grind (arith, nat_tests, f)) l)
+        ];
+      }

@@ -98,16 +98,3 @@ pub record Clash (live : maps.FinMap dot_cmp Holding) (others : List LiveDot) : 
 abbrev pub IsTold : maps.FinMap dot_cmp Holding → List LiveDot → Bool → Type 0
 IsTold live others true = All (λ c. HoldingsAgree (maps.get live c.dot) (holding c)) others
 IsTold live others false = Clash live others
-
--- a cell of a member
-pub record CellOf (cells : List LiveDot) (member : Member) : Type 0 where
-  pub place : ℕ
-  pub within : place < length cells
-  pub cell : LiveDot
-  pub here : (d : LiveDot) → slice_index_or cells place d ≡ cell
-  pub one_member : cell.member ≡ member
-
--- the answer whether some cell is of a member
-abbrev pub IsMemberAnswer : List LiveDot → Member → Bool → Type 0
-IsMemberAnswer cells member true = CellOf cells member
-IsMemberAnswer cells member false = All (λ c. c.member ≢ member) cells

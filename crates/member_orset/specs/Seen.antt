@@ -1,5 +1,5 @@
 -- The dots that given ones stand for: themselves, and the dead ones of their sites with lesser counts.
-use Rattle.std.specs.Prelude.{ℕ, ◌≡◌, ◌<◌, ◌≤◌, ◌+◌, Bool, true, false, not, ◌&&◌, ◌||◌, nat_eq, nat_lt, List, Option, Some, None, if◌then◌else◌}
+use Rattle.std.specs.Prelude.{ℕ, ◌≡◌, ◌<◌, ◌≤◌, ◌+◌, Bool, true, not, ◌&&◌, ◌||◌, nat_eq, nat_lt, List, Some, None, if◌then◌else◌}
 use Rattle.std.specs.List.{All, list_any}
 use Rattle.std.specs.FinMap as map
 use Rattle.std.specs.FinSet as set
@@ -8,7 +8,6 @@ use Rattle.dots.specs.Values.{Tag}
 use Rattle.dots.specs.Orders.{dot_cmp}
 use Rattle.dots.specs.DotSets.{run_count}
 use Rattle.causal_context.specs.Contexts.{most_runs}
-use Rattle.causal_context.specs.declared.context_fault.ContextFault.{ContextFault}
 use Rattle.causal_context.specs.declared.context_fault.ContextFault.TheVariants.{RunsFull}
 use Rattle.member_orset.specs.declared.gathered.Gathered.{Gathered}
 use Rattle.member_orset.specs.declared.piece.Piece.{Piece}

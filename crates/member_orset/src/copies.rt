@@ -1,5 +1,6 @@
 ghost use Rattle.std.specs.Prelude.{◌≡◌, IfOk};
 
+use crate::listed::Listed;
 use crate::live_dot::LiveDot;
 use dots::Memory;
 use std::alloc::Global;
@@ -22,6 +23,17 @@ pub(crate) fn copy_cells(alloc: Global, cells: &[LiveDot]) -> Result<Vec<LiveDot
     let mut copies = Vec::with_capacity(alloc, cells.len())?;
     for cell in cells {
         copies.push(copy_of(cell))?;
+    }
+    Ok(copies)
+}
+
+/// The same index once more. The one fault is want of memory.
+pub(crate) fn copy_index(alloc: Global, index: &[Listed]) -> Result<Vec<Listed>, Memory>
+    ensures { IfOk result (λ copy. copy.items ≡ index.now) }
+{
+    let mut copies = Vec::with_capacity(alloc, index.len())?;
+    for listed in index {
+        copies.push(listed.copy())?;
     }
     Ok(copies)
 }

@@ -1,4 +1,4 @@
-ghost use Rattle.std.specs.Prelude.{◌≡◌, ◌≢◌, ◌≤◌, ◌<◌, ◌↔◌, IsTrue, IfErr, OnOk, OnErr, length, false, vec_len};
+ghost use Rattle.std.specs.Prelude.{◌≡◌, ◌≢◌, ◌≤◌, ◌<◌, ◌↔◌, IsTrue, IfErr, OnOk, OnErr, List, length, false, vec_len};
 ghost use Rattle.std.specs.FinMap as map;
 ghost use Rattle.std.specs.List.{insert};
 ghost use Rattle.std.specs.FinSet as set;
@@ -10,13 +10,18 @@ ghost use Rattle.dots.specs.Conditions.{Live, Dead, ConditionsAgree};
 ghost use Rattle.causal_context.specs.Contexts.{most_runs};
 ghost use Rattle.member_orset.specs.Members.{ConditionsConflict, HasField, condition_of, joined_at, most_cells};
 ghost use Rattle.member_orset.specs.Cells.{AreCells, ConflictsAt, IsGap, Meets, dot_fields, entries_of, live_of, seen};
+ghost use Rattle.member_orset.specs.Index.{AreListed, IsIndex};
+ghost use Rattle.member_orset.specs.declared.listed.Listed.{Listed as listed};
 
 use crate::JoinFault;
 use crate::agreement::is_same_member;
+use crate::index::{list_dot, unlist_dot};
+use crate::insertion::put_in;
+use crate::listed::Listed;
 use crate::live_dot::LiveDot;
 use crate::search::find;
 use causal_context::{Context, ContextFault};
-use dots::{Dot, Member};
+use dots::{Dot, Member, Memory};
 use lww_registers::Fields;
 
 /// The greatest number of live dots.
@@ -26,14 +31,17 @@ pub(crate) const MOST_CELLS: usize = 16_384;
 const MOST_RUNS: u64 = 65_536;
 
 /// Takes out the cell of a dot, where it has one.
-fn take_out(cells: &mut Vec<LiveDot>, dot: Dot)
-    requires { IsTrue (map.is_sorted dot_cmp (entries_of cells.old.items)) }
+fn take_out(cells: &mut Vec<LiveDot>, index: &mut Vec<Listed>, dot: Dot)
+    requires sorted { IsTrue (map.is_sorted dot_cmp (entries_of cells.old.items)) }
+    requires index { IsIndex index.old.items (live_of cells.old.items) }
     ensures valid { (known : set.FinSet dot_cmp) → AreCells cells.old.items known → AreCells cells.new.items known }
     ensures live { live_of cells.new.items ≡ map.remove (live_of cells.old.items) dot }
+    ensures index { IsIndex index.new.items (live_of cells.new.items) }
 {
     match find(cells, dot) {
-        Ok(index) => {
-            cells.remove(index);
+        Ok(place) => {
+            let cell = cells.remove(place);
+            unlist_dot(index, &cell.listed());
         }
         Err(_) => {}
     }
@@ -58,10 +66,11 @@ fn learn(context: &mut Context, dot: Dot) -> Result<(), JoinFault>
 pub(crate) fn kill_dot(
     context: &mut Context,
     cells: &mut Vec<LiveDot>,
+    index: &mut Vec<Listed>,
     dot: Dot,
 ) -> Result<(), JoinFault>
-    requires { AreCells cells.old.items context.old.dots }
-    ensures valid { AreCells cells.new.items context.new.dots }
+    requires { AreListed cells.old.items index.old.items context.old.dots }
+    ensures valid { AreListed cells.new.items index.new.items context.new.dots }
     ensures known { OnOk result (context.new.dots ≡ set.insert context.old.dots dot) }
     ensures conditions { OnOk result ((q : Tag) → condition_of (seen cells.new.items context.new.dots) q ≡ joined_at (seen cells.old.items context.old.dots) dot Dead q) }
     ensures full { (result ≡ Err JoinFault.RunsFull) ↔ (most_runs < run_count (set.insert context.old.dots dot)) }
@@ -71,7 +80,7 @@ pub(crate) fn kill_dot(
     ensures err_live { OnErr result (live_of cells.new.items ≡ live_of cells.old.items) }
 {
     learn(context, dot)?;
-    take_out(cells, dot);
+    take_out(cells, index, dot);
     Ok(())
 }
 
@@ -87,26 +96,30 @@ fn fault_without_room(context: &Context, dot: Dot) -> JoinFault
     JoinFault::Memory
 }
 
-/// Puts a cell in, where there is room.
-fn put_in(cells: &mut Vec<LiveDot>, place: usize, cell: LiveDot)
-    requires within { place ≤ vec_len cells.old }
-    requires room { vec_len cells.old < vec_capacity cells.old }
-    ensures { cells.new.items ≡ insert cells.old.items place cell }
+/// Makes room for one more cell and for its entry in the index.
+fn make_place(cells: &mut Vec<LiveDot>, index: &mut Vec<Listed>) -> Result<(), Memory>
+    ensures same_cells { cells.new.items ≡ cells.old.items }
+    ensures same_index { index.new.items ≡ index.old.items }
+    ensures cells { OnOk result (vec_len cells.new < vec_capacity cells.new) }
+    ensures index { OnOk result (vec_len index.new < vec_capacity index.new) }
 {
-    let _ = cells.insert(place, cell);
+    cells.reserve(1)?;
+    index.reserve(1)?;
+    Ok(())
 }
 
 /// Lets an unknown dot be known and live, with the cell that goes in at a place.
 fn bring(
     context: &mut Context,
     cells: &mut Vec<LiveDot>,
+    index: &mut Vec<Listed>,
     place: usize,
     cell: LiveDot,
 ) -> Result<(), JoinFault>
     requires gap { IsGap cells.old.items cell.dot place }
-    requires valid { AreCells cells.old.items context.old.dots }
+    requires valid { AreListed cells.old.items index.old.items context.old.dots }
     requires field { HasField (dot_fields cell.fields) }
-    ensures valid { AreCells cells.new.items context.new.dots }
+    ensures valid { AreListed cells.new.items index.new.items context.new.dots }
     ensures ok { OnOk result (context.new.dots ≡ set.insert context.old.dots cell.dot) }
     ensures cells { OnOk result (cells.new.items ≡ insert cells.old.items place cell) }
     ensures cells_full { (result ≡ Err JoinFault.CellsFull) ↔ (most_cells ≤ length cells.old.items) }
@@ -118,10 +131,11 @@ fn bring(
     if cells.len() >= MOST_CELLS {
         return Err(JoinFault::CellsFull);
     }
-    if cells.reserve(1).is_err() {
+    if make_place(cells, index).is_err() {
         return Err(fault_without_room(context, cell.dot));
     }
     learn(context, cell.dot)?;
+    list_dot(index, cell.listed());
     put_in(cells, place, cell);
     Ok(())
 }
@@ -134,7 +148,7 @@ fn meet(
     fields: &Fields,
 ) -> Result<(), JoinFault>
     requires { place < length cells.old.items }
-    ensures valid { (known : set.FinSet dot_cmp) → AreCells cells.old.items known → AreCells cells.new.items known }
+    ensures valid { (index : List listed) (known : set.FinSet dot_cmp) → AreListed cells.old.items index known → AreListed cells.new.items index known }
     ensures ok { OnOk result (Meets cells.old.items place member.now (dot_fields fields.now) cells.new.items) }
     ensures conflict { (result ≡ Err JoinFault.Conflict) ↔ ConflictsAt cells.old.items place member.now (dot_fields fields.now) }
     ensures only { IfErr result (λ fault. fault ≡ JoinFault.Conflict) }
@@ -152,14 +166,15 @@ fn meet(
 pub(crate) fn assert_dot(
     context: &mut Context,
     cells: &mut Vec<LiveDot>,
+    index: &mut Vec<Listed>,
     dot: Dot,
     member: &Member,
     fields: &Fields,
 ) -> Result<(), JoinFault>
-    requires valid { AreCells cells.old.items context.old.dots }
+    requires valid { AreListed cells.old.items index.old.items context.old.dots }
     requires runs { run_count context.old.dots ≤ most_runs }
     requires field { HasField (dot_fields fields.now) }
-    ensures valid { AreCells cells.new.items context.new.dots }
+    ensures valid { AreListed cells.new.items index.new.items context.new.dots }
     ensures known { OnOk result (context.new.dots ≡ set.insert context.old.dots dot) }
     ensures conditions { OnOk result ((q : Tag) → condition_of (seen cells.new.items context.new.dots) q ≡ joined_at (seen cells.old.items context.old.dots) dot (Live member.now (dot_fields fields.now)) q) }
     ensures agree { result ≢ Err JoinFault.Conflict → ConditionsAgree (condition_of (seen cells.old.items context.old.dots) dot) (Some (Live member.now (dot_fields fields.now))) }
@@ -180,7 +195,7 @@ pub(crate) fn assert_dot(
                 member: member.copy(),
                 fields: fields.copy(),
             };
-            bring(context, cells, place, cell)
+            bring(context, cells, index, place, cell)
         }
     }
 }

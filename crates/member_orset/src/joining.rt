@@ -1,16 +1,19 @@
-ghost use Rattle.std.specs.Prelude.{◌≡◌, ◌≢◌, ◌+◌, ◌<◌, ◌≤◌, ◌++◌, ◌↔◌, IfSome, IsOk, OnOk, length, take, drop};
+ghost use Rattle.std.specs.Prelude.{◌≡◌, ◌≢◌, ◌+◌, ◌*◌, ◌<◌, ◌≤◌, ◌++◌, ◌↔◌, IfSome, IsOk, OnOk, length, take, drop, min};
 ghost use Rattle.std.specs.FinSet as set;
 ghost use Rattle.std.specs.Vec.{vec_capacity, vec_len};
 ghost use Rattle.dots.specs.DotSets.{run_count};
 ghost use Rattle.causal_context.specs.Contexts.{IsPrepared, most_runs};
 ghost use Rattle.member_orset.specs.Cells.{dot_fields, entries_of};
+ghost use Rattle.member_orset.specs.Members.{most_cells};
 ghost use Rattle.member_orset.specs.Joining.{AgreeInPairs, FieldsAgreeWith, joined_entries, kept_entries, next_order};
 
 use crate::JoinFault;
 use crate::copies::copy_of;
 use crate::kept::Kept;
+use crate::listed::Listed;
 use crate::live_dot::LiveDot;
 use causal_context::{Context, ContextFault};
+use std::alloc::AllocError;
 use std::cmp::Ordering;
 
 /// Which side has the least dot that is left: `Less` where the cells have it, `Greater` where the others have it.
@@ -140,6 +143,7 @@ pub(crate) fn absorb_cells(
     requires agree { AgreeInPairs cells.old.items others.now }
     requires room { vec_len cells.old + length others.now ≤ vec_capacity cells.old }
     ensures joined { entries_of cells.new.items ≡ joined_entries (set.contains known.now.dots) (set.contains known_there.now.dots) cells.old.items others.now }
+    ensures few { vec_len cells.new ≤ vec_len cells.old + length others.now }
     ensures room { vec_capacity cells.old ≤ vec_capacity cells.new }
 {
     let own = cells.len();
@@ -149,22 +153,38 @@ pub(crate) fn absorb_cells(
     cells.truncate(joined);
 }
 
-/// Makes room for the runs of another context and for so many more cells. Nothing else changes.
+/// Makes room for so many entries of the index in all.
+fn make_index_room(index: &mut Vec<Listed>, wanted: usize) -> Result<(), AllocError>
+    ensures room { OnOk result (wanted ≤ vec_capacity index.new) }
+    ensures again { wanted ≤ vec_capacity index.old → IsOk result }
+    ensures same { index.new.items ≡ index.old.items }
+    ensures capacity { vec_capacity index.old ≤ vec_capacity index.new }
+{
+    let more = wanted.saturating_sub(index.len());
+    index.reserve(more)
+}
+
+/// Makes room for the runs of another context, for so many more cells, and for the index of all of these. Nothing else
+/// changes.
 pub(crate) fn make_room(
     context: &mut Context,
     cells: &mut Vec<LiveDot>,
+    index: &mut Vec<Listed>,
     other: &Context,
     more: usize,
 ) -> Result<(), JoinFault>
-    ensures cells { OnOk result (vec_len cells.new + more ≤ vec_capacity cells.new) }
+    requires few { vec_len cells.old + more ≤ 2 * most_cells }
+    ensures room { OnOk result (vec_len cells.new + more ≤ min (vec_capacity cells.new) (vec_capacity index.new)) }
     ensures runs { OnOk result (IsPrepared context.new other.now.dots) }
     ensures full { (result ≡ Err JoinFault.RunsFull) ↔ (most_runs < run_count (set.union context.old.dots other.now.dots)) }
     ensures agrees { result ≢ Err JoinFault.Conflict }
     ensures has_place { result ≢ Err JoinFault.CellsFull }
-    ensures again { IsPrepared context.old other.now.dots → vec_len cells.old + more ≤ vec_capacity cells.old → IsOk result }
+    ensures again { IsPrepared context.old other.now.dots → vec_len cells.old + more ≤ min (vec_capacity cells.old) (vec_capacity index.old) → IsOk result }
     ensures same_cells { cells.new.items ≡ cells.old.items }
+    ensures same_index { index.new.items ≡ index.old.items }
     ensures same_dots { context.new.dots ≡ context.old.dots }
     ensures cell_room { vec_capacity cells.old ≤ vec_capacity cells.new }
+    ensures index_room { vec_capacity index.old ≤ vec_capacity index.new }
     ensures run_room { context.old.room ≤ context.new.room }
 {
     match context.prepare(other) {
@@ -173,6 +193,9 @@ pub(crate) fn make_room(
         Err(ContextFault::Memory) => return Err(JoinFault::Memory),
     }
     if cells.reserve(more).is_err() {
+        return Err(JoinFault::Memory);
+    }
+    if make_index_room(index, cells.len() + more).is_err() {
         return Err(JoinFault::Memory);
     }
     Ok(())

@@ -5,12 +5,15 @@ ghost use Rattle.dots.specs.Registers.{joined};
 ghost use Rattle.dots.specs.Conditions.{fields_joined};
 ghost use Rattle.dots.specs.Orders.{dot_cmp};
 ghost use Rattle.dots.specs.Rows.{row_of, row_of_fields};
-ghost use Rattle.member_orset.specs.Cells.{dot_fields, entries_of};
-ghost use Rattle.member_orset.specs.Shown.{cells_of, cells_read, fields_after, fields_shown, latest_fields, row_read};
+ghost use Rattle.member_orset.specs.Cells.{dot_fields, entries_of, live_of};
+ghost use Rattle.member_orset.specs.Index.{IsIndex};
+ghost use Rattle.member_orset.specs.Shown.{cells_read, dots_listed, fields_after, fields_held, fields_shown, latest_fields, row_read};
 
 use crate::Row;
-use crate::agreement::is_same_member;
+use crate::groups::group_of;
+use crate::listed::Listed;
 use crate::live_dot::LiveDot;
+use crate::search::cell_at;
 use dots::{Label, Member, Pause, Penalty};
 use lww_registers::{Fields, Register};
 
@@ -97,24 +100,26 @@ fn after<'a>(latest: Option<Latest<'a>>, fields: &'a Fields) -> Latest<'a>
     }
 }
 
-/// Those of a member over all of its cells, where it has one.
-pub(crate) fn latest_in<'a>(cells: &'a [LiveDot], member: &Member) -> Option<Latest<'a>>
-    ensures { option_map latest_fields result ≡ fields_shown (cells_of member.now cells.now) }
+/// Those of the dots of some entries, where one is live.
+fn latest_in<'a>(cells: &'a [LiveDot], entries: &[Listed]) -> Option<Latest<'a>>
+    requires { IsTrue (map.is_sorted dot_cmp (entries_of cells.now)) }
+    ensures { option_map latest_fields result ≡ fields_shown (fields_held (live_of cells.now) (dots_listed entries.now)) }
 {
     let mut latest = None;
-    for cell in cells {
-        if is_same_member(&cell.member, member) {
-            latest = Some(after(latest, &cell.fields));
+    for entry in entries {
+        if let Some(cell) = cell_at(cells, entry.dot) {
+            latest = Some(after(latest, cell.fields));
         }
     }
     latest
 }
 
-/// The row of a member over its cells, where it has one.
-pub(crate) fn row_in<'a>(cells: &'a [LiveDot], member: &Member) -> Option<Row<'a>>
-    requires { IsTrue (map.is_sorted dot_cmp (entries_of cells.now)) }
+/// The row of a member, where it has a live dot. The index is that of the cells.
+pub(crate) fn row_in<'a>(cells: &'a [LiveDot], index: &[Listed], member: &Member) -> Option<Row<'a>>
+    requires rise { IsTrue (map.is_sorted dot_cmp (entries_of cells.now)) }
+    requires index { IsIndex index.now (live_of cells.now) }
     ensures { option_map row_read result ≡ row_of (cells_read cells.now) member.now }
 {
-    let latest = latest_in(cells, member)?;
+    let latest = latest_in(cells, group_of(index, member))?;
     Some(latest.row())
 }

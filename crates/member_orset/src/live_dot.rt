@@ -1,3 +1,6 @@
+ghost use Rattle.std.specs.Prelude.{◌≡◌};
+
+use crate::listed::Listed;
 use dots::{Dot, Member};
 use lww_registers::Fields;
 
@@ -7,4 +10,16 @@ pub(crate) struct LiveDot {
     pub(crate) dot: Dot,
     pub(crate) member: Member,
     pub(crate) fields: Fields,
+}
+
+impl LiveDot {
+    /// The dot as the index of members has it.
+    pub(crate) fn listed(&self) -> Listed
+        ensures { result ≡ record { member = self.now.member; dot = self.now.dot } }
+    {
+        Listed {
+            member: self.member.copy(),
+            dot: self.dot,
+        }
+    }
 }

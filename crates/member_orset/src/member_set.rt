@@ -8,17 +8,21 @@ ghost use Rattle.dots.specs.Rows.{dots_of, row_of, rows_of};
 ghost use Rattle.dots.specs.Conditions.{Live, Dead, ConditionsAgree};
 ghost use Rattle.causal_context.specs.Contexts.{most_runs};
 ghost use Rattle.member_orset.specs.Members.{CanBeJoined, Conflicts, ConditionsConflict, HasField, HasPlaces, IsJoinOf, IsPrepared, IsPresent, IsRefusedFor, IsUnchanged, IsWithinLimits, LacksPlaces, cells_joined, cells_with, condition_of, joined_at, reading_of, runs_joined};
-ghost use Rattle.member_orset.specs.Cells.{AreCells, cell_read, dot_fields, live_of};
+ghost use Rattle.member_orset.specs.Cells.{cell_read, dot_fields, live_of};
+ghost use Rattle.member_orset.specs.Index.{AreListed};
 ghost use Rattle.member_orset.specs.Shown.{row_read};
 ghost use Rattle.member_orset.specs.Seen.{dots_seen_below};
 
 use crate::agreement::cells_agree;
-use crate::copies::copy_cells;
+use crate::copies::{copy_cells, copy_index};
 use crate::edits::{MOST_CELLS, assert_dot, kill_dot};
+use crate::groups::has_member;
+use crate::index::list_cells;
 use crate::joining::{absorb_cells, joined_count, make_room};
 use crate::latest::row_in;
+use crate::listed::Listed;
 use crate::live_dot::LiveDot;
-use crate::search::{cell_at, has_member};
+use crate::search::cell_at;
 use crate::seen::gather;
 use crate::{Cell, Cells, Dots, JoinFault, Row, Rows};
 use causal_context::{Context, ContextFault};
@@ -38,6 +42,7 @@ const NONE_RETIRED: u32 = 0;
 pub struct MemberSet {
     context: Context,
     cells: Vec<LiveDot>,
+    index: Vec<Listed>,
 }
 
 impl Model for MemberSet {
@@ -48,17 +53,19 @@ impl Model for MemberSet {
 
     ghost coded = { members_code };
 
-    ghost use Rattle.member_orset.specs.Cells.{live_of, AreCells};
+    ghost use Rattle.std.specs.Prelude.{min};
+    ghost use Rattle.member_orset.specs.Cells.{live_of};
+    ghost use Rattle.member_orset.specs.Index.{AreListed};
 
     ghost view = { λ s. record {
       known = s.context.dots;
       live = live_of s.cells.items;
       retired = 0;
-      cell_room = vec_capacity s.cells;
+      cell_room = min (vec_capacity s.cells) (vec_capacity s.index);
       run_room = s.context.room;
     } };
 
-    ghost invariant = { λ s. AreCells s.cells.items s.context.dots };
+    ghost invariant = { λ s. AreListed s.cells.items s.index.items s.context.dots };
 }
 
 impl MemberSet {
@@ -70,16 +77,21 @@ impl MemberSet {
         MemberSet {
             context: Context::new(alloc),
             cells: Vec::new(alloc),
+            index: Vec::new(alloc),
         }
     }
 
-    /// The set of a context and of cells.
-    pub(crate) fn of(context: Context, cells: Vec<LiveDot>) -> MemberSet
-        requires { AreCells cells.items context.dots }
+    /// The set of a context, of cells and of their index.
+    pub(crate) fn of(context: Context, cells: Vec<LiveDot>, index: Vec<Listed>) -> MemberSet
+        requires { AreListed cells.items index.items context.dots }
         ensures known { result.known ≡ context.dots }
         ensures live { result.live ≡ live_of cells.items }
     {
-        MemberSet { context, cells }
+        MemberSet {
+            context,
+            cells,
+            index,
+        }
     }
 
     /// The dots that it knows. It takes no memory, like all that only reads.
@@ -102,7 +114,7 @@ impl MemberSet {
     pub fn contains(&self, member: &Member) -> bool
         ensures { IsTrue result ↔ IsPresent self.now member.now }
     {
-        has_member(&self.cells, member)
+        has_member(&self.index, member)
     }
 
     /// How many dots are live: at most 16,384.
@@ -122,10 +134,10 @@ impl MemberSet {
     }
 
     /// The live dots of a member, in their order.
-    pub fn dots<'a>(&'a self, member: &'a Member) -> Dots<'a>
+    pub fn dots(&self, member: &Member) -> Dots<'_>
         ensures { result ≡ dots_of (reading_of self.now) member.now }
     {
-        Dots::of(&self.cells, member)
+        Dots::of(&self.index, member)
     }
 
     /// The row of a member, where it has a live dot: each field is that of the greatest stamp over its live dots, of equal
@@ -133,15 +145,15 @@ impl MemberSet {
     pub fn row(&self, member: &Member) -> Option<Row<'_>>
         ensures { option_map row_read result ≡ row_of (reading_of self.now) member.now }
     {
-        row_in(&self.cells, member)
+        row_in(&self.cells, &self.index, member)
     }
 
     /// The rows of a queue, one by one: each interface that has a live dot there once, with its row, in the order of the
-    /// interfaces' bytes. Each step goes over all live dots.
+    /// interfaces' bytes.
     pub fn rows(&self, queue: u16) -> Rows<'_>
         ensures { result ≡ rows_of (reading_of self.now) queue }
     {
-        Rows::of(&self.cells, queue)
+        Rows::of(&self.cells, &self.index, queue)
     }
 
     /// How many places of dead dots aren't used again: none.
@@ -162,7 +174,7 @@ impl MemberSet {
         ensures has_place { result ≢ Err JoinFault.CellsFull }
         ensures err { OnErr result (IsUnchanged self.old self.new) }
     {
-        kill_dot(&mut self.context, &mut self.cells, dot)
+        kill_dot(&mut self.context, &mut self.cells, &mut self.index, dot)
     }
 
     /// Joins what it says of a dot with that the dot is live, with this member and these fields, of which one is set: an
@@ -182,7 +194,14 @@ impl MemberSet {
         ensures err { OnErr result (IsUnchanged self.old self.new) }
     {
         let _ = self.context.runs(); // so that their limit is known
-        assert_dot(&mut self.context, &mut self.cells, dot, member, fields)
+        assert_dot(
+            &mut self.context,
+            &mut self.cells,
+            &mut self.index,
+            dot,
+            member,
+            fields,
+        )
     }
 
     /// Whether both can be joined: no dot is live in both with two members, or with a field of one stamp and two values.
@@ -216,6 +235,7 @@ impl MemberSet {
         make_room(
             &mut self.context,
             &mut self.cells,
+            &mut self.index,
             &other.context,
             other.cells.len(),
         )
@@ -234,7 +254,7 @@ impl MemberSet {
         if !self.context.prepared(&other.context) {
             return false;
         }
-        self.cells() + other.cells() <= self.cells.capacity()
+        self.cells() + other.cells() <= self.cells.capacity().min(self.index.capacity())
     }
 
     /// Joins what another set says that was prepared: each dot has the join of its two conditions. It takes no memory
@@ -244,6 +264,7 @@ impl MemberSet {
         ensures { IsJoinOf self.old other self.new }
     {
         absorb_cells(&self.context, &mut self.cells, &other.context, &other.cells);
+        list_cells(&mut self.index, &self.cells);
         self.context.absorb(&other.context);
     }
 
@@ -289,8 +310,13 @@ impl MemberSet {
         ensures { IfOk result (λ copy. IsUnchanged self.now copy) }
     {
         let cells = copy_cells(*self.cells.allocator(), &self.cells)?;
+        let index = copy_index(*self.index.allocator(), &self.index)?;
         match self.context.copy() {
-            Ok(context) => Ok(MemberSet { context, cells }),
+            Ok(context) => Ok(MemberSet {
+                context,
+                cells,
+                index,
+            }),
             Err(_) => Err(Memory),
         }
     }

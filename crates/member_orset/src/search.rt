@@ -4,12 +4,11 @@ ghost use Rattle.std.specs.Option.{option_map};
 ghost use Rattle.std.specs.Ordering.{is_lt};
 ghost use Rattle.std.specs.FinMap as map;
 ghost use Rattle.dots.specs.Orders.{dot_cmp};
-ghost use Rattle.member_orset.specs.Cells.{IsAt, IsGap, IsMemberAnswer, cell_read, entries_of, live_of};
+ghost use Rattle.member_orset.specs.Cells.{IsAt, IsGap, cell_read, entries_of, live_of};
 
 use crate::Cell;
-use crate::agreement::is_same_member;
 use crate::live_dot::LiveDot;
-use dots::{Dot, Member};
+use dots::Dot;
 
 /// How many cells lie before a dot.
 pub(crate) fn place(cells: &[LiveDot], dot: Dot) -> usize
@@ -53,16 +52,4 @@ pub(crate) fn cell_at<'a>(cells: &'a [LiveDot], dot: Dot) -> Option<Cell<'a>>
         }
         Err(_) => None,
     }
-}
-
-/// Whether some cell is of a member.
-pub(crate) fn has_member(cells: &[LiveDot], member: &Member) -> bool
-    ensures { IsMemberAnswer cells.now member.now result }
-{
-    for cell in cells {
-        if is_same_member(&cell.member, member) {
-            return true;
-        }
-    }
-    false
 }

@@ -8,6 +8,8 @@ ghost use Rattle.member_orset.specs.Members.{HasField, IsUnchanged, most_cells};
 ghost use Rattle.member_orset.specs.Cells.{dot_fields};
 
 use crate::MemberSet;
+use crate::index::list_cells;
+use crate::listed::Listed;
 use crate::live_dot::LiveDot;
 use causal_context::Context;
 use dots::{Dot, Member, Memory};
@@ -16,11 +18,12 @@ use std::alloc::Global;
 use std::marker::Model;
 
 /// A set that is being made of its known dots: they are dead, but for those that are given a cell, one by one in their
-/// order.
+/// order. Room for the index of members is made with each cell; it is filled at the end.
 #[derive(Drop)]
 pub struct SetBuilder {
     context: Context,
     cells: Vec<LiveDot>,
+    index: Vec<Listed>,
 }
 
 impl Model for SetBuilder {
@@ -41,7 +44,9 @@ impl Model for SetBuilder {
       run_room = b.context.room;
     } };
 
-    ghost invariant = { λ b. AreCells b.cells.items b.context.dots };
+    ghost use Rattle.std.specs.Prelude.{◌≤◌, vec_len};
+
+    ghost invariant = { λ b. AreCells b.cells.items b.context.dots × (vec_len b.cells ≤ vec_capacity b.index) };
 }
 
 impl SetBuilder {
@@ -53,6 +58,7 @@ impl SetBuilder {
         SetBuilder {
             context,
             cells: Vec::new(alloc),
+            index: Vec::new(alloc),
         }
     }
 
@@ -67,6 +73,7 @@ impl SetBuilder {
         ensures known { self.new.known ≡ self.old.known }
         ensures err { OnErr result (self.new.live ≡ self.old.live) }
     {
+        self.index.reserve(self.cells.len() + 1)?;
         self.cells.push(LiveDot {
             dot,
             member: member.copy(),
@@ -79,7 +86,12 @@ impl SetBuilder {
     pub fn finish(self) -> MemberSet
         ensures { IsUnchanged self result }
     {
-        let SetBuilder { context, cells } = self;
-        MemberSet::of(context, cells)
+        let SetBuilder {
+            context,
+            cells,
+            mut index,
+        } = self;
+        list_cells(&mut index, &cells);
+        MemberSet::of(context, cells, index)
     }
 }

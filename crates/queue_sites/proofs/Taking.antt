@@ -1,8 +1,8 @@
--- What a device has taken, piece by piece.
-use Rattle.std.proofs.Common.{◌≡◌, ℕ, List, [], ◌++◌, take, drop, refl, sym, ◌∙◌, ap, append_assoc, append-nil, Option, Some, None, length, ◌-◌}
+-- What a device has taken or given, piece by piece.
+use Rattle.std.proofs.Common.{◌≡◌, ◌≤◌, ℕ, List, [], ◌++◌, take, drop, refl, sym, ◌∙◌, ap, append_assoc, append-nil, Option, Some, None, length, ◌+◌, ◌-◌, arith, length-append, length-take-le}
 use Rattle.std.proofs.lemmas.List.{take-append-drop, take_rest}
 use Rattle.std.specs.Io.KnownBytes.{append_known}
-use Rattle.queue_sites.specs.Script.{HasTaken}
+use Rattle.queue_sites.specs.Script.{HasGiven, HasTaken}
 
 -- a piece and then another
 pub taken-more : (known : Option (List ℕ)) (a b : List ℕ) → append_known (append_known known a) b ≡ append_known known (a ++ b)
@@ -39,3 +39,12 @@ front-grows bytes front rest n is =
 pub taken-grows : (before now after : Option (List ℕ)) (front piece : List ℕ) → now ≡ append_known before front → after ≡ append_known now piece
     → after ≡ append_known before (front ++ piece)
 taken-grows before now after front piece taken more = more ∙ ap (λ known. append_known known piece) taken ∙ taken-more before front piece
+
+-- a device has given what is held, and then the front of a piece
+pub given-more : (before now after : Option (List ℕ)) (held piece : List ℕ) (n least : ℕ) → now ≡ append_known before held → after ≡ append_known now (take n piece)
+    → n ≤ length piece → least ≤ length held + n → HasGiven before after least
+given-more before now after held piece n least is more within many = record {
+  bytes = held ++ take n piece;
+  given = taken-grows before now after held (take n piece) is more;
+  many = omega (arith, many, length-append held (take n piece), length-take-le n piece within);
+}

@@ -1,5 +1,5 @@
 -- The text of a script of one site: what its lines write, one after another (this project's own).
-use Rattle.std.specs.Prelude.{ℕ, ◌≡◌, ◌+◌, ◌⊎◌, Bool, true, false, List, [], ◌∷◌, ◌++◌, Option, None, codes, decimal, if◌then◌else◌}
+use Rattle.std.specs.Prelude.{ℕ, ◌≡◌, ◌≤◌, ◌+◌, ◌⊎◌, Bool, true, false, List, [], ◌∷◌, ◌++◌, length, Option, None, codes, decimal, if◌then◌else◌}
 use Rattle.std.specs.Io.KnownBytes.{append_known}
 use Rattle.ami_session.specs.Checks.{SessionState}
 use Rattle.ami_session.specs.Reading.{Fields}
@@ -72,6 +72,12 @@ pub record HasWritten (place : Place) (s : SiteKnowledge) (script : List ℕ) (b
   pub text : List ℕ
   pub is_text : AreGiven place s 1 (lines_of script) text unknown
   pub taken : after ≡ append_known before text
+
+-- a device has given at least so many bytes
+pub record HasGiven (before after : Option (List ℕ)) (least : ℕ) : Type 0 where
+  pub bytes : List ℕ
+  pub given : after ≡ append_known before bytes
+  pub many : least ≤ length bytes
 
 -- a device has taken the front of these bytes
 pub record HasTaken (before after : Option (List ℕ)) (bytes : List ℕ) : Type 0 where

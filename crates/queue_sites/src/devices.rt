@@ -1,7 +1,7 @@
 //! A script is read whole before any of its lines is run, and each line's output is written whole.
-ghost use Rattle.std.specs.Prelude.{◌≡◌, ◌≢◌, ◌≤◌, true, false, vec_len, IfOk, IfErr, OnOk};
+ghost use Rattle.std.specs.Prelude.{◌≡◌, ◌≢◌, ◌≤◌, true, false, vec_len, IfOk, IfErr, OnOk, OnErr, IsErrOf, ◌⊎◌, ◌+◌};
 ghost use Rattle.std.specs.Io.KnownBytes.{append_known};
-ghost use Rattle.queue_sites.specs.Script.{HasTaken};
+ghost use Rattle.queue_sites.specs.Script.{HasGiven, HasTaken};
 
 use crate::script_fault::ScriptFault;
 use ami_text::{Sink, Source};
@@ -24,6 +24,8 @@ pub fn read_script<S: Source>(alloc: Global, reader: &mut S) -> Result<Vec<u8>, 
     ensures ended { OnOk result (S.ended reader.new ≡ true) }
     ensures limit { IfOk result (λ script. vec_len script ≤ 16777216) }
     ensures fault { IfErr result (λ fault. fault ≢ ScriptFault.Write) }
+    ensures read { IsErrOf result ScriptFault.Read → (S.failed reader.new ≡ true) ⊎ HasGiven (S.given reader.old) (S.given reader.new) 1000000 }
+    ensures too_long { IsErrOf result ScriptFault.TooLong → HasGiven (S.given reader.old) (S.given reader.new) (16777216 + 1) }
 {
     let mut script = Vec::new(alloc);
     let mut piece = [0u8; PIECE];
@@ -48,6 +50,7 @@ pub fn write_all<W: Sink>(writer: &mut W, bytes: &[u8]) -> Result<(), ScriptFaul
     ensures written { OnOk result (W.taken writer.new ≡ append_known (W.taken writer.old) bytes.now) }
     ensures works { OnOk result (W.failed writer.new ≡ false) }
     ensures fault { IfErr result (λ fault. fault ≡ ScriptFault.Write) }
+    ensures fails { OnErr result (W.failed writer.new ≡ true) }
     ensures begun { IfErr result (λ _. HasTaken (W.taken writer.old) (W.taken writer.new) bytes.now) }
 {
     let mut rest = bytes;

@@ -1,4 +1,4 @@
-ghost use Rattle.std.specs.Prelude.{◌≤◌};
+ghost use Rattle.std.specs.Prelude.{◌≡◌};
 
 /// How the program ends.
 #[derive(Clone, Copy, Debug, PartialEq, Eq)]
@@ -14,9 +14,12 @@ pub enum Exit {
 }
 
 impl Exit {
-    /// The exit status.
+    /// The exit status: 0 where all was done, 1 after a failure, 2 after wrong words, 3 where a line was not understood.
     pub fn status(self) -> u8
-        ensures small { result ≤ 3 }
+        ensures done { self ≡ Exit.Done → result ≡ 0 }
+        ensures failed { self ≡ Exit.Failed → result ≡ 1 }
+        ensures wrong_words { self ≡ Exit.WrongWords → result ≡ 2 }
+        ensures not_understood { self ≡ Exit.NotUnderstood → result ≡ 3 }
     {
         match self {
             Exit::Done => 0,

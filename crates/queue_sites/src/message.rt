@@ -1,5 +1,5 @@
 //! The message that a script's line has for the site.
-ghost use Rattle.std.specs.Prelude.{◌≡◌, ◌≢◌, ℕ, List, [], ◌++◌, None, Some, Ok, IfOk, OnOk, IfSome, codes};
+ghost use Rattle.std.specs.Prelude.{◌≡◌, ◌≢◌, ℕ, List, [], ◌++◌, None, Some, Ok, IfOk, OnOk, OnErr, IfSome, codes};
 ghost use Rattle.ami_session.specs.Reading.{Fields};
 ghost use Rattle.ami_text.specs.Stream.{Gives, IsRest};
 ghost use Rattle.queue_sites.specs.Lines.{IsMessage, stream_of};
@@ -67,6 +67,7 @@ fn only_message(feed: Feed, message: Message) -> Result<Option<Message>, Memory>
 fn without_message(fault: FeedFault) -> Result<Option<Message>, Memory>
     ensures none { IfOk result (λ found. found ≡ None) }
     ensures stream { OnOk result (fault ≢ FeedFault.Memory) }
+    ensures memory { OnErr result (fault ≡ FeedFault.Memory) }
 {
     match fault {
         FeedFault::Memory => Err(Memory),

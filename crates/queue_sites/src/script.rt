@@ -1,9 +1,9 @@
-ghost use Rattle.std.specs.Prelude.{◌≡◌, ◌≢◌, ◌≤◌, ◌++◌, ◌⊎◌, true, false, codes, decimal, length, vec_len, IfOk, IfErr, OnOk, IsErrOf};
+ghost use Rattle.std.specs.Prelude.{◌≡◌, ◌≢◌, ◌≤◌, ◌++◌, ◌+◌, ◌⊎◌, true, false, codes, decimal, length, vec_len, IfOk, IfErr, OnOk, IsErrOf};
 ghost use Rattle.replica.specs.Standing.{StandsFor};
 ghost use Rattle.replica.specs.Steps.{SiteKnowledge};
 ghost use Rattle.ami_session.specs.Seen.{seen};
 ghost use Rattle.queue_sites.specs.Lines.{Message as asks_message, sense_of};
-ghost use Rattle.queue_sites.specs.Script.{HasBegun, HasWritten, IsRun, IsRunInPart};
+ghost use Rattle.queue_sites.specs.Script.{HasBegun, HasGiven, HasWritten, IsRun, IsRunInPart};
 ghost use Rattle.queue_sites.specs.Steps.{BeganLine, GaveLine, IsActed, IsAnswer, IsOutput, IsReplied, IsUnknown, place_of};
 
 use crate::devices::{read_script, write_all};
@@ -45,6 +45,11 @@ pub fn run_script<S: Source, W: Sink>(
     // The script's text was written, and so many lines were not understood.
     ensures text { IfOk result (λ unknown. IsRun list (S.given reader.old) (S.given reader.new) (W.taken writer.old) (W.taken writer.new) unknown) }
 
+    // Each of these faults stands only where its cause does.
+    ensures read { IsErrOf result ScriptFault.Read → (S.failed reader.new ≡ true) ⊎ HasGiven (S.given reader.old) (S.given reader.new) 1000000 }
+    ensures length { IsErrOf result ScriptFault.TooLong → HasGiven (S.given reader.old) (S.given reader.new) (16777216 + 1) }
+    ensures write { IsErrOf result ScriptFault.Write → W.failed writer.new ≡ true }
+
     // After these two nothing was written.
     ensures unread { IsErrOf result ScriptFault.Read → W.taken writer.new ≡ W.taken writer.old }
     ensures too_long { IsErrOf result ScriptFault.TooLong → W.taken writer.new ≡ W.taken writer.old }
@@ -72,6 +77,7 @@ fn run_lines<W: Sink>(
         → HasWritten (place_of replica.old) s script.now (W.taken writer.old) (W.taken writer.new) unknown) }
     ensures err { IfErr result (λ _. (s : SiteKnowledge) → StandsFor replica.old s
         → HasBegun (place_of replica.old) s script.now (W.taken writer.old) (W.taken writer.new)) }
+    ensures write { IsErrOf result ScriptFault.Write → W.failed writer.new ≡ true }
     ensures fault { IfErr result (λ fault. (fault ≡ ScriptFault.Write) ⊎ (fault ≡ ScriptFault.Memory)) }
 {
     script_has_one_text();
@@ -105,6 +111,7 @@ fn give_line<W: Sink>(
     ensures memory { IsErrOf result ScriptFault.Memory → W.taken writer.new ≡ W.taken writer.old }
     ensures begun { IsErrOf result ScriptFault.Write → (s : SiteKnowledge) → StandsFor replica.old s
         → BeganLine (place_of replica.old) s number line.now (W.taken writer.old) (W.taken writer.new) }
+    ensures write { IsErrOf result ScriptFault.Write → W.failed writer.new ≡ true }
     ensures fault { IfErr result (λ fault. (fault ≡ ScriptFault.Write) ⊎ (fault ≡ ScriptFault.Memory)) }
 {
     let output = run_line(alloc, replica, line, number)?;

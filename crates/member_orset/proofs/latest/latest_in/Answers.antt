@@ -1,17 +1,19 @@
 use Rattle.std.proofs.Common.{Some, ap, ◌∙◌}
 use Rattle.std.specs.Option.{option_map}
+use Rattle.member_orset.specs.Cells.{cell_read, live_of}
 use Rattle.member_orset.specs.Shown.{latest_fields}
-use Rattle.member_orset.proofs.MemberCells.{own_cell, other_cell, shown_own, shown_other}
+use Rattle.member_orset.proofs.ShownFields.{shown_live, shown_missed}
 use Rattle.member_orset.proofs.latest.latest_in.Goals as goal
-use Rattle.member_orset.proofs.latest.latest_in.Goals.{then-is_same_member, else-is_same_member}
+use Rattle.member_orset.proofs.latest.latest_in.Goals.{in-Some, in_default}
 
-pub loop-cell-preserved : goal.loop-cell-preserved
-loop-cell-preserved c =
-    let x = c.cell-item.result in
-    let m = c.args.member.now in
-    elim c.if-is_same_member.branch [
-      | then-is_same_member w ↦ ap (option_map latest_fields) w.latest-is ∙ ap Some w.after.ensures
-          ∙ shown_own m c.args.cells.now c.loop-cell.cell-index x _ c.loop-cell-test.true c.cell-item.is (own_cell m x (c.is_same_member.ensures.0 w.if-is_same_member.true)) c.loop-cell.invariant
-      | else-is_same_member w ↦ ap (option_map latest_fields) w.latest-is
-          ∙ shown_other m c.args.cells.now c.loop-cell.cell-index x _ c.loop-cell-test.true c.cell-item.is (other_cell m x (λ same. let told = c.is_same_member.ensures.1 same in let not = w.if-is_same_member.false in absurd (cc (told, not)))) c.loop-cell.invariant
+pub loop-entry-preserved : goal.loop-entry-preserved
+loop-entry-preserved c =
+    let live = live_of c.args.cells.now in
+    let entries = c.args.entries.now in
+    let i = c.loop-entry.entry-index in
+    let x = c.entry-item.result in
+    elim c.match-cell_at.branch [
+      | in-Some w ↦ ap (option_map latest_fields) w.latest-is ∙ ap Some w.after.ensures
+          ∙ shown_live live entries i x (cell_read w.in-Some.cell) _ c.loop-entry-test.true c.entry-item.is w.in-Some.ensures c.loop-entry.invariant
+      | in_default w ↦ ap (option_map latest_fields) w.latest-is ∙ shown_missed live entries i x _ c.loop-entry-test.true c.entry-item.is w.in_default.ensures c.loop-entry.invariant
     ]

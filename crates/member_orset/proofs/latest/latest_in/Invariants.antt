@@ -1,7 +1,8 @@
 use Rattle.std.proofs.Common.{◌≡◌, take}
 use Rattle.std.specs.Option.{option_map}
-use Rattle.member_orset.specs.Shown.{cells_of, fields_shown, latest_fields}
+use Rattle.member_orset.specs.Cells.{live_of}
+use Rattle.member_orset.specs.Shown.{dots_listed, fields_held, fields_shown, latest_fields}
 use Rattle.member_orset.proofs.latest.latest_in.Given as goal
 
-abbrev pub invariant-loop-cell : goal.invariant-loop-cell
-invariant-loop-cell l = option_map latest_fields l.latest ≡ fields_shown (cells_of l.member (take l.cell-index l.cells))
+abbrev pub invariant-loop-entry : goal.invariant-loop-entry
+invariant-loop-entry l = option_map latest_fields l.latest ≡ fields_shown (fields_held (live_of l.cells) (dots_listed (take l.entry-index l.entries)))

@@ -1,24 +1,25 @@
-use Rattle.std.proofs.Common.{take, sym, subst, ◌+◌, ◌∙◌}
+use Rattle.std.proofs.Common.{rules, of_calls, arith}
+use Rattle.std.proofs.lemmas.Fn.{always_returns_same}
 use Rattle.std.specs.Option.{option_map}
-use Rattle.member_orset.specs.Shown.{IsLeastAfter}
-use Rattle.member_orset.proofs.Shows.{least_skips, least_takes, least_keeps}
+use Rattle.member_orset.specs.Shown.{is_passed}
+use Rattle.member_orset.proofs.Shows.{least_none, least_beyond, least_here, passed_first}
 use Rattle.member_orset.proofs.rows.least_after.Goals as goal
-use Rattle.member_orset.proofs.rows.least_after.Goals.{then-lies_before, else-lies_before}
 
-pub loop-cell-preserved-then-not-is_left : goal.loop-cell-preserved-then-not-is_left
-loop-cell-preserved-then-not-is_left c =
-    least_skips c.args.queue (option_map (λ i. i.now) c.args.last) c.args.cells.now c.loop-cell.cell-index c.cell-item.result c.loop-cell-test.true c.cell-item.is (option_map (λ x. x.now) c.loop-cell.least)
-    (sym c.is_left.ensures ∙ c.if-not-is_left.true) c.loop-cell.invariant
+pub returns-then-place-index : goal.returns-then-place-index
+returns-then-place-index c =
+    least_none c.args.queue (option_map (λ i. i.now) c.args.last) c.args.index.now c.partition_point-place.result
+    (c.partition_point-place.ensures.partitioned (λ l. is_passed c.args.queue (option_map (λ i. i.now) c.args.last) l.member) (always_returns_same _ _ _ (λ a r f k. search (rules, of_calls)))
+    (passed_first c.args.queue (option_map (λ i. i.now) c.args.last) c.args.index.now c.requires)).0
+    (omega arith)
 
-pub loop-cell-preserved : goal.loop-cell-preserved
-loop-cell-preserved c =
-    let cells = c.args.cells.now in
-    let last = option_map (λ i. i.now) c.args.last in
-    let i = c.loop-cell.cell-index in
-    let x = c.cell-item.result in
-    elim c.if-lies_before.branch [
-      | then-lies_before w ↦ subst (λ o. IsLeastAfter c.args.queue last (take (i + 1) cells) (option_map (λ y. y.now) o)) (sym w.least-is)
-          (least_takes c.args.queue last cells i x c.loop-cell-test.true c.cell-item.is c.loop-cell.least (sym c.is_left.ensures ∙ c.if-not-is_left.false) (sym c.lies_before.ensures ∙ w.if-lies_before.true) c.loop-cell.invariant)
-      | else-lies_before w ↦ subst (λ o. IsLeastAfter c.args.queue last (take (i + 1) cells) (option_map (λ y. y.now) o)) (sym w.least-is)
-          (least_keeps c.args.queue last cells i x c.loop-cell-test.true c.cell-item.is c.loop-cell.least (sym c.lies_before.ensures ∙ w.if-lies_before.false) c.loop-cell.invariant)
-    ]
+pub returns-then-entry-queue : goal.returns-then-entry-queue
+returns-then-entry-queue c =
+    let place = c.partition_point-place.ensures.partitioned (λ l. is_passed c.args.queue (option_map (λ i. i.now) c.args.last) l.member) (always_returns_same _ _ _ (λ a r f k. search (rules, of_calls)))
+    (passed_first c.args.queue (option_map (λ i. i.now) c.args.last) c.args.index.now c.requires) in
+    least_beyond c.args.queue (option_map (λ i. i.now) c.args.last) c.args.index.now c.partition_point-place.result place.0 place.1 c.requires c.index-index-place.result (omega arith) c.index-index-place.is (λ e. absurd (omega arith))
+
+pub returns : goal.returns
+returns c =
+    let place = c.partition_point-place.ensures.partitioned (λ l. is_passed c.args.queue (option_map (λ i. i.now) c.args.last) l.member) (always_returns_same _ _ _ (λ a r f k. search (rules, of_calls)))
+    (passed_first c.args.queue (option_map (λ i. i.now) c.args.last) c.args.index.now c.requires) in
+    least_here c.args.queue (option_map (λ i. i.now) c.args.last) c.args.index.now c.partition_point-place.result place.0 place.1 c.requires c.index-index-place.result (omega arith) c.index-index-place.is (omega arith)

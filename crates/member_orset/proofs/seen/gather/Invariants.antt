@@ -1,5 +1,5 @@
 -- All sites up to the one at hand are gathered.
-use Rattle.std.proofs.Common.{◌≡◌, ◌≤◌, ◌<◌, ◌*◌, ◌^◌}
+use Rattle.std.proofs.Common.{◌≤◌, ◌<◌, ◌*◌, ◌^◌}
 use Rattle.std.specs.List.{All}
 use Rattle.dots.specs.Values.{IsSite}
 use Rattle.member_orset.specs.Cells.{live_of}

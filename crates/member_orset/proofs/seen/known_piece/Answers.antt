@@ -1,4 +1,4 @@
-use Rattle.std.proofs.Common.{◌≡◌, ◌<◌, true, length, get_or, sym, ap, subst, ◌∙◌, arith}
+use Rattle.std.proofs.Common.{◌≡◌, ◌<◌, true, length, sym, ap, subst, ◌∙◌, arith}
 use Rattle.std.specs.List.{AllWithin}
 use Rattle.causal_context.specs.RunLists.{is_below}
 use Rattle.member_orset.proofs.Pieces.{past_runs, runs_elsewhere, runs_later, differs, agrees}

@@ -1,4 +1,4 @@
-use Rattle.std.proofs.Common.{refl, sym, ap, ◌∙◌, ◌≡◌, Bool, true, false, not}
+use Rattle.std.proofs.Common.{refl, ◌≡◌, Bool, true, false, not}
 use Rattle.member_orset.specs.Cells.{live_of}
 use Rattle.member_orset.proofs.SeenDots.{seen_given, seen_unknown, seen_known}
 use Rattle.member_orset.proofs.seen.seen_piece.Goals as goal

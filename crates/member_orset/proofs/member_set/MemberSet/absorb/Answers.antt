@@ -1,12 +1,14 @@
-use Rattle.std.proofs.Common.{◌≡◌, length, vec_len, rules, arith, ap, sym, subst, ◌∙◌}
+use Rattle.std.proofs.Common.{◌≡◌, length, min, vec_len, rules, arith, ap, sym, subst, ◌∙◌}
 use Rattle.std.specs.FinSet as set
 use Rattle.std.specs.Vec.{vec_capacity}
 use Rattle.dots.specs.Values.{Tag}
 use Rattle.dots.specs.Conditions.{ConditionsAgree}
 use Rattle.member_orset.specs.Members.{CanBeJoined, both_joined, condition_of}
-use Rattle.member_orset.specs.Cells.{AreCells, entries_of, seen}
+use Rattle.member_orset.specs.Cells.{AreCells, entries_of, live_of, seen}
+use Rattle.member_orset.specs.Index.{IsIndex}
 use Rattle.member_orset.specs.Joining.{AgreeInPairs, joined_entries}
-use Rattle.member_orset.proofs.Joins.{counted, joined_cells, joined_conditions, len_cells, pairs}
+use Rattle.member_orset.proofs.CellLists.{Rise}
+use Rattle.member_orset.proofs.Joins.{counted, joined_cells, joined_conditions, len_cells, new_rise, pairs}
 use Rattle.member_orset.proofs.member_set.MemberSet.absorb.Goals as goal
 
 pub absorb_cells-requires-clause-agree : goal.absorb_cells-requires-clause-agree
@@ -15,16 +17,34 @@ absorb_cells-requires-clause-agree c =
     let ds = c.other.inside.cells.items in
     let agree = subst (λ s. CanBeJoined s c.args.other) (sym c.self.view_is) c.requires.agree in
     subst (AgreeInPairs cs) (sym c.deref.ensures.value)
-    (pairs cs ds c.self.inside.context.dots c.other.inside.context.dots c.self.invariant.sorted c.other.invariant.sorted (subst (λ t. (q : Tag) → ConditionsAgree (condition_of (seen cs c.self.inside.context.dots) q) (condition_of t q)) (sym c.other.view_is) agree))
+    (pairs cs ds c.self.inside.context.dots c.other.inside.context.dots c.self.invariant.are_cells.sorted c.other.invariant.are_cells.sorted (subst (λ t. (q : Tag) → ConditionsAgree (condition_of (seen cs c.self.inside.context.dots) q) (condition_of t q)) (sym c.other.view_is) agree))
 
 pub absorb_cells-requires-clause-room : goal.absorb_cells-requires-clause-room
 absorb_cells-requires-clause-room c =
-    let ours = len_cells c.args.self.now c.self.inside.cells.items c.self.inside.context.dots c.self.invariant (ap (λ s. s.live) c.self.view_is) in
-    let theirs = len_cells c.args.other c.other.inside.cells.items c.other.inside.context.dots c.other.invariant (ap (λ s. s.live) c.other.view_is) in
-    let room : vec_capacity c.self.inside.cells ≡ c.args.self.now.cell_room = ap (λ s. s.cell_room) c.self.view_is in
+    let ours = len_cells c.args.self.now c.self.inside.cells.items c.self.inside.context.dots c.self.invariant.are_cells (ap (λ s. s.live) c.self.view_is) in
+    let theirs = len_cells c.args.other c.other.inside.cells.items c.other.inside.context.dots c.other.invariant.are_cells (ap (λ s. s.live) c.other.view_is) in
+    let room : min (vec_capacity c.self.inside.cells) (vec_capacity c.self.inside.index) ≡ c.args.self.now.cell_room = ap (λ s. s.cell_room) c.self.view_is in
     let len : vec_len c.self.inside.cells ≡ length c.self.inside.cells.items = search rules in
     let others = ap length c.deref.ensures.value in
     omega (arith, ours, theirs, room, len, others, c.requires.cell_room)
+
+pub list_cells-requires-clause-rise : goal.list_cells-requires-clause-rise
+list_cells-requires-clause-rise c =
+    let cs = c.self.inside.cells.items in
+    let known = c.self.inside.context.dots in
+    let more = c.other.inside.context.dots in
+    subst Rise (sym c.deref-2.ensures.value)
+    (new_rise cs c.other.inside.cells.items known more c.absorb_cells.new.cells.items (c.absorb_cells.ensures.joined ∙ ap (joined_entries (set.contains known) (set.contains more) cs) c.deref.ensures.value)
+    c.self.invariant.are_cells.sorted c.other.invariant.are_cells.sorted)
+
+pub list_cells-requires-clause-room : goal.list_cells-requires-clause-room
+list_cells-requires-clause-room c =
+    let ours = len_cells c.args.self.now c.self.inside.cells.items c.self.inside.context.dots c.self.invariant.are_cells (ap (λ s. s.live) c.self.view_is) in
+    let theirs = len_cells c.args.other c.other.inside.cells.items c.other.inside.context.dots c.other.invariant.are_cells (ap (λ s. s.live) c.other.view_is) in
+    let room : min (vec_capacity c.self.inside.cells) (vec_capacity c.self.inside.index) ≡ c.args.self.now.cell_room = ap (λ s. s.cell_room) c.self.view_is in
+    let len : vec_len c.self.inside.cells ≡ length c.self.inside.cells.items = search rules in
+    let others = ap length c.deref.ensures.value in
+    omega (arith, c.deref-2.ensures.len, c.absorb_cells.ensures.few, ours, theirs, room, len, others, c.requires.cell_room)
 
 pub invariant_of-self : goal.invariant_of-self
 invariant_of-self c =
@@ -33,9 +53,13 @@ invariant_of-self c =
     let known = c.self.inside.context.dots in
     let more = c.other.inside.context.dots in
     let is : entries_of c.absorb_cells.new.cells.items ≡ joined_entries (set.contains known) (set.contains more) cs ds = c.absorb_cells.ensures.joined ∙ ap (joined_entries (set.contains known) (set.contains more) cs) c.deref.ensures.value in
-    let count = counted cs ds known more c.args.self.now c.args.other c.self.invariant c.other.invariant (ap (λ s. s.live) c.self.view_is) (ap (λ s. s.known) c.self.view_is) (ap (λ s. s.live) c.other.view_is) (ap (λ s. s.known) c.other.view_is) in
-    subst (AreCells c.absorb_cells.new.cells.items) (sym c.absorb.ensures.dots)
-    (joined_cells cs ds known more c.absorb_cells.new.cells.items is c.self.invariant c.other.invariant (omega (arith, count, c.requires.places.few)))
+    let count = counted cs ds known more c.args.self.now c.args.other c.self.invariant.are_cells c.other.invariant.are_cells (ap (λ s. s.live) c.self.view_is) (ap (λ s. s.known) c.self.view_is) (ap (λ s. s.live) c.other.view_is) (ap (λ s. s.known) c.other.view_is) in
+    record {
+      are_cells =
+          subst (AreCells c.absorb_cells.new.cells.items) (sym c.absorb.ensures.dots)
+          (joined_cells cs ds known more c.absorb_cells.new.cells.items is c.self.invariant.are_cells c.other.invariant.are_cells (omega (arith, count, c.requires.places.few)));
+      is_index = subst (λ xs. IsIndex c.list_cells.new.index.items (live_of xs)) c.deref-2.ensures.value c.list_cells.ensures.index;
+    }
 
 pub returns : goal.returns
 returns c =
@@ -49,6 +73,6 @@ returns c =
       known = c.absorb.ensures.dots ∙ (λ i. set.union (ap (λ s. s.known) c.self.view_is i) (ap (λ s. s.known) c.other.view_is i));
       conditions = λ q.
           ap (λ k. condition_of (seen new k) q) c.absorb.ensures.dots
-          ∙ joined_conditions cs ds known more new is c.self.invariant.sorted c.other.invariant.sorted q
+          ∙ joined_conditions cs ds known more new is c.self.invariant.are_cells.sorted c.other.invariant.are_cells.sorted q
           ∙ (λ i. both_joined (c.self.view_is i) (c.other.view_is i) q);
     }

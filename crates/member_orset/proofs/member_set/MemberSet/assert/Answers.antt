@@ -31,7 +31,7 @@ pub returns-clause-cells_full : goal.returns-clause-cells_full
 returns-clause-cells_full c =
     let same = ap (λ s. condition_of s c.args.dot) c.self.view_is in
     let y = Some (Live c.args.member.now (dot_fields c.args.fields.now)) in
-    let both = lacks_place c.args.self.now c.self.inside.cells.items c.self.inside.context.dots c.args.dot y c.self.invariant (sym (ap (λ s. s.live) c.self.view_is)) (sym (ap (λ s. s.known) c.self.view_is)) (sym (ap (λ s. s.retired) c.self.view_is)) in (
+    let both = lacks_place c.args.self.now c.self.inside.cells.items c.self.inside.context.dots c.args.dot y c.self.invariant.are_cells (sym (ap (λ s. s.live) c.self.view_is)) (sym (ap (λ s. s.known) c.self.view_is)) (sym (ap (λ s. s.retired) c.self.view_is)) in (
       λ h. let g = both.0 (c.assert_dot.ensures.cells_full.0 h) in (subst (λ x. ConditionsAgree x y) same g.0, g.1),
       λ h. c.assert_dot.ensures.cells_full.1 (both.1 (subst (λ x. ConditionsAgree x y) (sym same) h.0, h.1)),
     )
@@ -39,7 +39,7 @@ returns-clause-cells_full c =
 pub returns-clause-runs_full : goal.returns-clause-runs_full
 returns-clause-runs_full c =
     let runs = subst (λ n. n ≤ most_runs) c.runs.ensures.value c.runs.ensures.limit in
-    let both = has_place c.args.self.now c.self.inside.cells.items c.self.inside.context.dots c.args.dot c.self.invariant runs (sym (ap (λ s. s.live) c.self.view_is)) (sym (ap (λ s. s.known) c.self.view_is)) (sym (ap (λ s. s.retired) c.self.view_is)) in
+    let both = has_place c.args.self.now c.self.inside.cells.items c.self.inside.context.dots c.args.dot c.self.invariant.are_cells runs (sym (ap (λ s. s.live) c.self.view_is)) (sym (ap (λ s. s.known) c.self.view_is)) (sym (ap (λ s. s.retired) c.self.view_is)) in
     (λ h. both.0 (c.assert_dot.ensures.runs_full.0 h), λ h. c.assert_dot.ensures.runs_full.1 (both.1 h))
 
 pub returns-clause-err : goal.returns-clause-err

@@ -7,9 +7,9 @@ use Rattle.member_orset.proofs.member_set.MemberSet.cells.Goals as goal
 pub returns-clause-value : goal.returns-clause-value
 returns-clause-value c =
     let e : c.len.result ≡ length c.self.inside.cells.items = search rules in
-    e ∙ sym (len-live_of c.self.inside.cells.items c.self.invariant.sorted) ∙ ap (λ s. map.len s.live) c.self.view_is
+    e ∙ sym (len-live_of c.self.inside.cells.items c.self.invariant.are_cells.sorted) ∙ ap (λ s. map.len s.live) c.self.view_is
 
 pub returns-clause-limits : goal.returns-clause-limits
 returns-clause-limits c =
-    within_limits c.args.self.now c.self.inside.cells.items c.self.inside.context.dots c.self.invariant (ap (λ s. s.live) c.self.view_is) (ap (λ s. s.known) c.self.view_is)
+    within_limits c.args.self.now c.self.inside.cells.items c.self.inside.context.dots c.self.invariant.are_cells (ap (λ s. s.live) c.self.view_is) (ap (λ s. s.known) c.self.view_is)
     (subst (λ n. n ≤ most_runs) c.runs.ensures.value c.runs.ensures.limit)

@@ -1,9 +1,14 @@
-use Rattle.std.proofs.Common.{ap, subst}
-use Rattle.member_orset.specs.Cells.{IsMemberAnswer}
+use Rattle.std.proofs.Common.{ap, subst, sym, ◌∙◌, ◌↔◌}
+use Rattle.std.specs.Prelude.{IsTrue}
+use Rattle.std.specs.List.{list_any}
+use Rattle.member_orset.specs.Index.{IsIndex}
+use Rattle.member_orset.specs.Members.{IsPresent}
+use Rattle.member_orset.specs.Shown.{is_own}
 use Rattle.member_orset.proofs.Presence.{presence}
 use Rattle.member_orset.proofs.member_set.MemberSet.contains.Goals as goal
 
 pub returns : goal.returns
 returns c =
-    presence c.args.self.now c.self.inside.cells.items c.args.member.now c.has_member.result c.self.invariant.sorted (ap (λ s. s.live) c.self.view_is)
-    (subst (λ cs. IsMemberAnswer cs c.args.member.now c.has_member.result) c.deref.ensures.value c.has_member.ensures)
+    let m = c.args.member.now in
+    subst (λ b. IsTrue b ↔ IsPresent c.args.self.now m) (sym (c.has_member.ensures ∙ ap (list_any (is_own m)) c.deref.ensures.value))
+    (presence c.args.self.now c.self.inside.index.items m (subst (IsIndex c.self.inside.index.items) (ap (λ s. s.live) c.self.view_is) c.self.invariant.is_index))

@@ -1,11 +1,12 @@
-use Rattle.std.proofs.Common.{map, ap, sym, ◌∙◌}
+use Rattle.std.proofs.Common.{ap, ◌∙◌}
 use Rattle.dots.specs.Rows.{dots_of}
 use Rattle.member_orset.specs.Members.{reading_of}
-use Rattle.member_orset.specs.Shown.{cells_of}
-use Rattle.member_orset.proofs.Shows.{dots_shown}
+use Rattle.member_orset.specs.Shown.{dots_listed, group}
+use Rattle.member_orset.proofs.MemberDots.{dots_are}
 use Rattle.member_orset.proofs.member_set.MemberSet.dots.Goals as goal
 
 pub returns : goal.returns
 returns c =
-    c.of.ensures ∙ ap (λ cs. map (λ x. x.dot) (cells_of c.args.member.now cs)) c.deref.ensures.value ∙ sym (dots_shown c.self.inside.cells.items c.args.member.now c.self.invariant.sorted)
-    ∙ ap (λ s. dots_of (reading_of s) c.args.member.now) c.self.view_is
+    let m = c.args.member.now in
+    c.of.ensures ∙ ap (λ ls. dots_listed (group m ls)) c.deref.ensures.value ∙ dots_are c.self.inside.cells.items c.self.inside.index.items m c.self.invariant.are_cells.sorted c.self.invariant.is_index
+    ∙ ap (λ s. dots_of (reading_of s) m) c.self.view_is

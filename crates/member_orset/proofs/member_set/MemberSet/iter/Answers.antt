@@ -6,5 +6,5 @@ use Rattle.member_orset.proofs.member_set.MemberSet.iter.Goals as goal
 
 pub returns : goal.returns
 returns c = record {
-  value = c.of.ensures ∙ ap entries_of c.deref.ensures.value ∙ sym (entries-live_of c.self.inside.cells.items c.self.invariant.sorted) ∙ ap (λ s. map.entries s.live) c.self.view_is;
+  value = c.of.ensures ∙ ap entries_of c.deref.ensures.value ∙ sym (entries-live_of c.self.inside.cells.items c.self.invariant.are_cells.sorted) ∙ ap (λ s. map.entries s.live) c.self.view_is;
 }

@@ -8,5 +8,5 @@ pub returns : goal.returns
 returns c =
     c.joined_count.ensures
     ∙ (λ i. length (joined_entries (set.contains c.self.inside.context.dots) (set.contains c.other.inside.context.dots) (c.deref.ensures.value i) (c.deref-2.ensures.value i)))
-    ∙ sym (counted c.self.inside.cells.items c.other.inside.cells.items c.self.inside.context.dots c.other.inside.context.dots c.args.self.now c.args.other.now c.self.invariant c.other.invariant
+    ∙ sym (counted c.self.inside.cells.items c.other.inside.cells.items c.self.inside.context.dots c.other.inside.context.dots c.args.self.now c.args.other.now c.self.invariant.are_cells c.other.invariant.are_cells
     (ap (λ s. s.live) c.self.view_is) (ap (λ s. s.known) c.self.view_is) (ap (λ s. s.live) c.other.view_is) (ap (λ s. s.known) c.other.view_is))

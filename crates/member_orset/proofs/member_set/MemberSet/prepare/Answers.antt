@@ -1,4 +1,4 @@
-use Rattle.std.proofs.Common.{◌≡◌, ◌<◌, length, vec_len, rules, arith, ap, sym, subst, ◌∙◌}
+use Rattle.std.proofs.Common.{◌≡◌, ◌<◌, min, length, vec_len, rules, arith, ap, sym, subst, ◌∙◌}
 use Rattle.std.specs.FinSet as set
 use Rattle.std.specs.Vec.{vec_capacity}
 use Rattle.dots.specs.DotSets.{run_count}
@@ -11,28 +11,28 @@ use Rattle.member_orset.proofs.member_set.MemberSet.prepare.Goals as goal
 
 pub returns-clause-ready : goal.returns-clause-ready
 returns-clause-ready c = on_ok_both c.make_room.result _ _ _ (λ cells runs.
-    let ours = len_cells c.args.self.now c.self.inside.cells.items c.self.inside.context.dots c.self.invariant (ap (λ s. s.live) c.self.view_is) in
-    let theirs = len_cells c.args.other.now c.other.inside.cells.items c.other.inside.context.dots c.other.invariant (ap (λ s. s.live) c.other.view_is) in
-    let few_ours = c.self.invariant.few in
-    let few_theirs = c.other.invariant.few in
+    let ours = len_cells c.args.self.now c.self.inside.cells.items c.self.inside.context.dots c.self.invariant.are_cells (ap (λ s. s.live) c.self.view_is) in
+    let theirs = len_cells c.args.other.now c.other.inside.cells.items c.other.inside.context.dots c.other.invariant.are_cells (ap (λ s. s.live) c.other.view_is) in
+    let few_ours = c.self.invariant.are_cells.few in
+    let few_theirs = c.other.invariant.are_cells.few in
     let there : c.other.inside.context.dots ≡ c.args.other.now.known = ap (λ s. s.known) c.other.view_is in
     let united = ap (λ k. run_count (set.union c.make_room.new.context.dots k)) there in
     let runs_there = ap run_count there in
     let same = ap length c.make_room.ensures.same_cells in
     let len : vec_len c.make_room.new.cells ≡ length c.make_room.new.cells.items = search rules in
     let len2 : vec_len c.other.inside.cells ≡ length c.other.inside.cells.items = search rules in
-    is_prepared c.args.self.now (record { known = c.make_room.new.context.dots; live = live_of c.make_room.new.cells.items; retired = 0; cell_room = vec_capacity c.make_room.new.cells; run_room = c.make_room.new.context.room }) c.args.other.now
+    is_prepared c.args.self.now (record { known = c.make_room.new.context.dots; live = live_of c.make_room.new.cells.items; retired = 0; cell_room = min (vec_capacity c.make_room.new.cells) (vec_capacity c.make_room.new.index); run_room = c.make_room.new.context.room }) c.args.other.now
     (c.make_room.ensures.same_dots ∙ ap (λ s. s.known) c.self.view_is) (ap live_of c.make_room.ensures.same_cells ∙ ap (λ s. s.live) c.self.view_is) (search rules) (c.agrees.ensures.agree.0 c.if-not-agrees.false)
     (omega (arith, c.joined_cells.ensures, c.if-joined_cells-gt-MOST_CELLS.false)) (omega (arith, ours, few_ours)) (omega (arith, theirs, few_theirs))
     (omega (arith, united, runs.few)) (omega (arith, runs_there, runs.room)) (omega (arith, ours, theirs, same, len, len2, cells, c.len.ensures)))
-    c.make_room.ensures.cells c.make_room.ensures.runs
+    c.make_room.ensures.room c.make_room.ensures.runs
 
 pub returns-clause-cells_full : goal.returns-clause-cells_full
 returns-clause-cells_full c =
-    let ours = len_cells c.args.self.now c.self.inside.cells.items c.self.inside.context.dots c.self.invariant (ap (λ s. s.live) c.self.view_is) in
-    let theirs = len_cells c.args.other.now c.other.inside.cells.items c.other.inside.context.dots c.other.invariant (ap (λ s. s.live) c.other.view_is) in
-    let few_ours = c.self.invariant.few in
-    let few_theirs = c.other.invariant.few in (
+    let ours = len_cells c.args.self.now c.self.inside.cells.items c.self.inside.context.dots c.self.invariant.are_cells (ap (λ s. s.live) c.self.view_is) in
+    let theirs = len_cells c.args.other.now c.other.inside.cells.items c.other.inside.context.dots c.other.invariant.are_cells (ap (λ s. s.live) c.other.view_is) in
+    let few_ours = c.self.invariant.are_cells.few in
+    let few_theirs = c.other.invariant.are_cells.few in (
       λ h. absurd (c.make_room.ensures.has_place h),
       λ h. absurd (lacks_none c.args.self.now c.args.other.now (sym (ap (λ s. s.retired) c.self.view_is)) (omega (arith, c.joined_cells.ensures, c.if-joined_cells-gt-MOST_CELLS.false))
           (omega (arith, ours, few_ours)) (omega (arith, theirs, few_theirs)) h.1),
@@ -40,10 +40,10 @@ returns-clause-cells_full c =
 
 pub returns-clause-runs_full : goal.returns-clause-runs_full
 returns-clause-runs_full c =
-    let ours = len_cells c.args.self.now c.self.inside.cells.items c.self.inside.context.dots c.self.invariant (ap (λ s. s.live) c.self.view_is) in
-    let theirs = len_cells c.args.other.now c.other.inside.cells.items c.other.inside.context.dots c.other.invariant (ap (λ s. s.live) c.other.view_is) in
-    let few_ours = c.self.invariant.few in
-    let few_theirs = c.other.invariant.few in
+    let ours = len_cells c.args.self.now c.self.inside.cells.items c.self.inside.context.dots c.self.invariant.are_cells (ap (λ s. s.live) c.self.view_is) in
+    let theirs = len_cells c.args.other.now c.other.inside.cells.items c.other.inside.context.dots c.other.invariant.are_cells (ap (λ s. s.live) c.other.view_is) in
+    let few_ours = c.self.invariant.are_cells.few in
+    let few_theirs = c.other.invariant.are_cells.few in
     let same : run_count (set.union c.self.inside.context.dots c.other.inside.context.dots) ≡ runs_joined c.args.self.now c.args.other.now =
     λ i. run_count (set.union (ap (λ s. s.known) c.self.view_is i) (ap (λ s. s.known) c.other.view_is i)) in (
       λ h. (
@@ -57,9 +57,9 @@ returns-clause-runs_full c =
 
 pub returns-clause-again : goal.returns-clause-again
 returns-clause-again c h =
-    let ours = len_cells c.args.self.now c.self.inside.cells.items c.self.inside.context.dots c.self.invariant (ap (λ s. s.live) c.self.view_is) in
-    let theirs = len_cells c.args.other.now c.other.inside.cells.items c.other.inside.context.dots c.other.invariant (ap (λ s. s.live) c.other.view_is) in
-    let room : vec_capacity c.self.inside.cells ≡ c.args.self.now.cell_room = ap (λ s. s.cell_room) c.self.view_is in
+    let ours = len_cells c.args.self.now c.self.inside.cells.items c.self.inside.context.dots c.self.invariant.are_cells (ap (λ s. s.live) c.self.view_is) in
+    let theirs = len_cells c.args.other.now c.other.inside.cells.items c.other.inside.context.dots c.other.invariant.are_cells (ap (λ s. s.live) c.other.view_is) in
+    let room : min (vec_capacity c.self.inside.cells) (vec_capacity c.self.inside.index) ≡ c.args.self.now.cell_room = ap (λ s. s.cell_room) c.self.view_is in
     let len : vec_len c.self.inside.cells ≡ length c.self.inside.cells.items = search rules in
     let len2 : vec_len c.other.inside.cells ≡ length c.other.inside.cells.items = search rules in
     c.make_room.ensures.again

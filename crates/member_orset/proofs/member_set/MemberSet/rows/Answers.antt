@@ -7,5 +7,5 @@ use Rattle.member_orset.proofs.member_set.MemberSet.rows.Goals as goal
 
 pub returns : goal.returns
 returns c =
-    c.of.ensures ∙ ap (λ cs. rows_after (cells_read cs) c.args.queue None) c.deref.ensures.value ∙ all_rows c.self.inside.cells.items c.args.queue c.self.invariant.sorted
+    c.of.ensures ∙ ap (λ cs. rows_after (cells_read cs) c.args.queue None) c.deref.ensures.value ∙ all_rows c.self.inside.cells.items c.self.inside.index.items c.args.queue c.self.invariant.are_cells.sorted c.self.invariant.is_index
     ∙ ap (λ s. rows_of (reading_of s) c.args.queue) c.self.view_is

@@ -1,4 +1,4 @@
-use Rattle.std.proofs.Common.{◌≡◌, ◌<◌, true, length, ap, sym, subst, ◌∙◌}
+use Rattle.std.proofs.Common.{◌≡◌, ◌<◌, true, length, arith, ap, sym, subst, ◌∙◌}
 use Rattle.std.specs.Prelude.{IsSome}
 use Rattle.std.specs.FinMap as map
 use Rattle.std.specs.FinSet as set
@@ -14,16 +14,16 @@ invariant_of-self-2 c =
     let x : LiveDot = record { dot = c.args.dot; member = c.copy.result; fields = c.copy-2.result } in
     let cs = c.self.inside.cells.items in
     let live = ap (λ s. s.live) c.self.view_is in
-    let gap : IsGap cs c.args.dot (length cs) = gap_behind cs c.args.dot c.self.invariant.sorted (λ q h. c.requires.greater q (subst (λ m. IsSome (map.get m q)) live h)) in
-    let room : length cs < most_cells = subst (λ n. n < most_cells) (ap map.len (sym live) ∙ len-live_of cs c.self.invariant.sorted) c.requires.room in
+    let gap : IsGap cs c.args.dot (length cs) = gap_behind cs c.args.dot c.self.invariant.0.sorted (λ q h. c.requires.greater q (subst (λ m. IsSome (map.get m q)) live h)) in
+    let room : length cs < most_cells = subst (λ n. n < most_cells) (ap map.len (sym live) ∙ len-live_of cs c.self.invariant.0.sorted) c.requires.room in
     let known : set.contains c.self.inside.context.dots c.args.dot ≡ true = ap (λ s. set.contains s.known c.args.dot) c.self.view_is ∙ c.requires.in_context in
-    behind_cells cs c.push.new.self.items x c.self.inside.context.dots c.self.invariant gap known (subst (λ f. HasField (dot_fields f)) (sym c.copy-2.ensures) c.requires.field) room c.in_ok-push.ensures.items
+    (behind_cells cs c.push.new.self.items x c.self.inside.context.dots c.self.invariant.0 gap known (subst (λ f. HasField (dot_fields f)) (sym c.copy-2.ensures) c.requires.field) room c.in_ok-push.ensures.items, omega (arith, c.in_ok-push.ensures.len, c.in_ok-reserve.ensures.ok, c.reserve.ensures.len, c.len.ensures))
 
 pub returns-clause-ok : goal.returns-clause-ok
 returns-clause-ok c =
     let x : LiveDot = record { dot = c.args.dot; member = c.copy.result; fields = c.copy-2.result } in
     let cs = c.self.inside.cells.items in
     let live = ap (λ s. s.live) c.self.view_is in
-    let gap : IsGap cs c.args.dot (length cs) = gap_behind cs c.args.dot c.self.invariant.sorted (λ q h. c.requires.greater q (subst (λ m. IsSome (map.get m q)) live h)) in
-    behind_live cs c.push.new.self.items x c.self.invariant.sorted gap c.in_ok-push.ensures.items
+    let gap : IsGap cs c.args.dot (length cs) = gap_behind cs c.args.dot c.self.invariant.0.sorted (λ q h. c.requires.greater q (subst (λ m. IsSome (map.get m q)) live h)) in
+    behind_live cs c.push.new.self.items x c.self.invariant.0.sorted gap c.in_ok-push.ensures.items
     ∙ (λ i. map.insert (live i) c.args.dot (c.copy.ensures i, dot_fields (c.copy-2.ensures i)))

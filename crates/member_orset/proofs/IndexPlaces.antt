@@ -1,0 +1,106 @@
+-- Where the entries of one member stand in an index that rises.
+use Rattle.std.proofs.Common.{◌≡◌, inl, inr, ℕ, suc, zero, ◌+◌, ◌-◌, ◌<◌, ◌≤◌, Bool, true, false, cond, List, [], ◌∷◌, length, get_or, take, drop, filter, refl, sym, ap, ◌∙◌, arith}
+use Rattle.std.specs.Prelude.{nat_lt}
+use Rattle.std.specs.List.{AllWithin}
+use Rattle.std.specs.List.Sorted.{IsPartitionedBy, IsPartitionPoint}
+use Rattle.std.specs.FinMap.Entries.{below_all, is_sorted}
+use Rattle.std.specs.Ordering.{is_le, is_lt}
+use Rattle.std.specs.declared.cmp.Ordering.{Ordering}
+use Rattle.std.specs.declared.cmp.Ordering.TheVariants.{Less, Equal, Greater}
+use Rattle.std.proofs.lemmas.Bool.{and_parts, cases_Bool}
+use Rattle.std.proofs.lemmas.Bool.Decides.{nat_tests}
+use Rattle.std.proofs.lemmas.Cmp.{tied_itself}
+use Rattle.dots.specs.declared.member.Member.{Member}
+use Rattle.dots.specs.Orders.{member_cmp}
+use Rattle.dots.proofs.RowLaws.{members_total}
+use Rattle.member_orset.specs.declared.listed.Listed.{Listed}
+use Rattle.member_orset.specs.Index.{Rises, listed_cmp, listings}
+use Rattle.member_orset.specs.Shown.{group, is_own}
+use Rattle.member_orset.proofs.Rising.{less}
+use Rattle.member_orset.proofs.MemberOrder.{by_members, less_upto, own_before, own_between, own_past}
+
+pub rises-tail : (l : Listed) (ls : List Listed) → Rises (l ∷ ls) → Rises ls
+rises-tail l ls h = (and_parts (below_all listed_cmp l (listings ls)) (is_sorted listed_cmp (listings ls)) h).1
+
+pub rises-head : (l : Listed) (ls : List Listed) → Rises (l ∷ ls) → below_all listed_cmp l (listings ls) ≡ true
+rises-head l ls h = (and_parts (below_all listed_cmp l (listings ls)) (is_sorted listed_cmp (listings ls)) h).0
+
+-- what lies before all of some entries lies before each
+below_at : (l : Listed) (ls : List Listed) → below_all listed_cmp l (listings ls) ≡ true → (k : ℕ) (e : Listed) → k < length ls → is_lt (listed_cmp l (get_or ls k e)) ≡ true
+below_at l [] h k e w = absurd (omega arith)
+below_at l (x ∷ ls) h zero e w = (and_parts (is_lt (listed_cmp l x)) (below_all listed_cmp l (listings ls)) h).0
+below_at l (x ∷ ls) h (suc k) e w = below_at l ls (and_parts (is_lt (listed_cmp l x)) (below_all listed_cmp l (listings ls)) h).1 k e (omega arith)
+
+-- entries that pass a test come first, where each that lies before one that passes it passes it
+pub partitioned_by : (p : Listed → Bool) → ((a b : Listed) → is_lt (listed_cmp a b) ≡ true → p b ≡ true → p a ≡ true) → (ls : List Listed) → Rises ls → IsPartitionedBy p ls
+partitioned_by p f [] r i j e l h t = absurd (omega (arith, h))
+partitioned_by p f (x ∷ ls) r zero zero e l h t = t
+partitioned_by p f (x ∷ ls) r zero (suc j) e l h t = f x (get_or ls j e) (below_at x ls (rises-head x ls r) j e (omega arith)) t
+partitioned_by p f (x ∷ ls) r (suc i) zero e l h t = absurd (omega arith)
+partitioned_by p f (x ∷ ls) r (suc i) (suc j) e l h t = partitioned_by p f ls (rises-tail x ls r) i j e (omega arith) (omega arith) t
+
+-- those of lesser members come first, and so do those of members that aren't greater
+pub lesser_first : (m : Member) (ls : List Listed) → Rises ls → IsPartitionedBy (λ l. is_lt (member_cmp l.member m)) ls
+lesser_first m = partitioned_by (λ l. is_lt (member_cmp l.member m)) (λ a b h k. elim (by_members a b h) [
+  | inl l ↦ ap is_lt (members_total.trans a.member b.member m l (less _ k))
+  | inr e ↦ ap (λ x. is_lt (member_cmp x m)) e ∙ k
+])
+
+pub upto_first : (m : Member) (ls : List Listed) → Rises ls → IsPartitionedBy (λ l. is_le (member_cmp l.member m)) ls
+upto_first m = partitioned_by (λ l. is_le (member_cmp l.member m)) (λ a b h k. elim (by_members a b h) [
+  | inl l ↦ ap is_le (less_upto a.member b.member m l k)
+  | inr e ↦ ap (λ x. is_le (member_cmp x m)) e ∙ k
+])
+
+-- so no later entry has a lesser member
+pub not_lesser : (ls : List Listed) (i j : ℕ) (e : Listed) → Rises ls → i ≤ j → j < length ls → is_lt (member_cmp (get_or ls j e).member (get_or ls i e).member) ≡ false
+not_lesser ls i j e r l w = elim (cases_Bool (is_lt (member_cmp (get_or ls j e).member (get_or ls i e).member))) [
+  | inl t ↦ absurd (let x = ap is_lt (sym (tied_itself members_total (get_or ls i e).member)) ∙ lesser_first (get_or ls i e).member ls r i j e l w t in cc)
+  | inr f ↦ f
+]
+
+-- what a filter keeps, where the elements that pass stand between two places
+kept_between : {X : Type 0} (p : X → Bool) (xs : List X) (i n : ℕ) → AllWithin (λ x. p x ≡ false) xs 0 i → AllWithin (λ x. p x ≡ true) xs i (i + n) → AllWithin (λ x. p x ≡ false) xs (i + n) (length xs)
+    → i + n ≤ length xs → filter p xs ≡ take n (drop i xs)
+kept_between p [] zero zero a b c w = refl
+kept_between p [] zero (suc n) a b c w = refl
+kept_between p [] (suc i) n a b c w = absurd (omega arith)
+kept_between p (x ∷ xs) zero zero a b c w =
+    ap (λ t. cond t (x ∷ filter p xs) (filter p xs)) (c 0 x (omega arith) (omega arith))
+    ∙ kept_between p xs 0 0 (λ k d l h. absurd (omega arith)) (λ k d l h. absurd (omega arith)) (λ k d l h. c (suc k) d (omega arith) (omega arith)) (omega arith)
+kept_between p (x ∷ xs) zero (suc n) a b c w =
+    ap (λ t. cond t (x ∷ filter p xs) (filter p xs)) (b 0 x (omega arith) (omega arith))
+    ∙ ap (λ ys. x ∷ ys) (kept_between p xs 0 n (λ k d l h. absurd (omega arith)) (λ k d l h. b (suc k) d (omega arith) (omega arith)) (λ k d l h. c (suc k) d (omega arith) (omega arith)) (omega arith))
+kept_between p (x ∷ xs) (suc i) n a b c w =
+    ap (λ t. cond t (x ∷ filter p xs) (filter p xs)) (a 0 x (omega arith) (omega arith))
+    ∙ kept_between p xs i n (λ k d l h. a (suc k) d (omega arith) (omega arith)) (λ k d l h. b (suc k) d (omega arith) (omega arith)) (λ k d l h. c (suc k) d (omega arith) (omega arith)) (omega arith)
+
+-- entries of lesser members come before a place, and none from there on
+abbrev pub Lesser : Member → List Listed → ℕ → Type 0
+Lesser m ls i = IsPartitionPoint (λ l. is_lt (member_cmp l.member m) ≡ true) (λ l. is_lt (member_cmp l.member m) ≡ false) ls i
+
+-- and so for those of members that aren't greater
+abbrev pub Upto : Member → List Listed → ℕ → Type 0
+Upto m ls j = IsPartitionPoint (λ l. is_le (member_cmp l.member m) ≡ true) (λ l. is_le (member_cmp l.member m) ≡ false) ls j
+
+-- the place after a member's entries isn't before that of the first
+pub places_rise : (m : Member) (ls : List Listed) (i j : ℕ) → i ≤ length ls → Lesser m ls i → Upto m ls j → i ≤ j
+places_rise m ls i j w a b = elim (cases_Bool (nat_lt j i)) [
+  | inl t ↦
+      let e : Listed = record { member = m; dot = record { site = 0; count = 0 } } in
+      let l : j < i = grind (arith, nat_tests, t) in
+      absurd (both (member_cmp (get_or ls j e).member m) (a.0 j e (omega arith) l) (b.1 j e (omega arith) (omega arith)))
+  | inr f ↦ grind (arith, nat_tests, f)
+]
+  where
+    both : (o : Ordering) → is_lt o ≡ true → is_le o ≡ false → ⊥
+    both Less h k = (cc)
+    both Equal h k = (cc)
+    both Greater h k = (cc)
+
+-- the entries between the two places are the member's
+pub group_between : (m : Member) (ls : List Listed) (i j : ℕ) → i ≤ length ls → j ≤ length ls → Lesser m ls i → Upto m ls j → take (j - i) (drop i ls) ≡ group m ls
+group_between m ls i j w v a b =
+    let rise = places_rise m ls i j w a b in
+    sym (kept_between (is_own m) ls i (j - i) (λ k d l h. own_before m (get_or ls k d) (a.0 k d l h))
+    (λ k d l h. own_between m (get_or ls k d) (a.1 k d l (omega arith)) (b.0 k d (omega arith) (omega arith))) (λ k d l h. own_past m (get_or ls k d) (b.1 k d (omega arith) h)) (omega arith))

@@ -1,0 +1,181 @@
+-- Lists whose keys rise by an order: what is found in them, and what they are after one more, one replaced or one less.
+use Rattle.std.proofs.Common.{◌≡◌, ◌≢◌, ℕ, Bool, suc, zero, ◌≤◌, ◌<◌, true, false, not, cond, List, [], ◌∷◌, length, map as each, get_or, set, Some, None, refl, sym, ap, ◌∙◌, subst, arith}
+use Rattle.std.specs.Cmp.{IsTotalOrder}
+use Rattle.std.specs.FinMap.{IsAntisymmetric}
+use Rattle.std.specs.FinMap.Entries.{put, find, is_sorted, below_all, where_key, by_order}
+use Rattle.std.specs.List.{AllWithin, insert, remove}
+use Rattle.std.specs.List.Sorted.{IsPartitionedBy}
+use Rattle.std.specs.Ordering.{is_lt, is_eq, eq_by_cmp, ordering_reverse}
+use Rattle.std.specs.declared.cmp.Ordering.{Ordering}
+use Rattle.std.specs.declared.cmp.Ordering.TheVariants.{Less, Equal, Greater}
+use Rattle.std.proofs.lemmas.Bool.{and_parts, and_from}
+use Rattle.std.proofs.lemmas.Cmp.{tied_itself}
+
+pub less : (o : Ordering) → is_lt o ≡ true → o ≡ Less
+less Less h = refl
+less Equal h = absurd (cc)
+less Greater h = absurd (cc)
+
+pub equal : (o : Ordering) → is_eq o ≡ true → o ≡ Equal
+equal Less h = absurd (cc)
+equal Equal h = refl
+equal Greater h = absurd (cc)
+
+greater : (o : Ordering) → is_lt o ≡ false → is_eq o ≡ false → o ≡ Greater
+greater Less h k = absurd (cc)
+greater Equal h k = absurd (cc)
+greater Greater h k = refl
+
+-- keys in a total order, in which only equal keys tie
+module _ {K : Type 0} (R : K → K → Ordering) (o : IsTotalOrder R) (exact : IsAntisymmetric R) where
+  -- a key that lies before another: the other lies after it
+  pub turned : (a b : K) → is_lt (R a b) ≡ true → R b a ≡ Greater
+  turned a b h = o.antisymm b a ∙ ap ordering_reverse (less _ h)
+
+  -- so the two aren't one
+  pub apart : (a b : K) → is_lt (R a b) ≡ true → eq_by_cmp R b a ≡ false
+  apart a b h = ap is_eq (turned a b h)
+
+  pub apart_after : (a b : K) → is_lt (R a b) ≡ true → eq_by_cmp R a b ≡ false
+  apart_after a b h = ap is_eq (less _ h)
+
+  pub before_trans : (a b c : K) → is_lt (R a b) ≡ true → is_lt (R b c) ≡ true → is_lt (R a c) ≡ true
+  before_trans a b c h k = ap is_lt (o.trans a b c (less _ h) (less _ k))
+
+  -- a key is itself
+  pub same_itself : (a : K) → eq_by_cmp R a a ≡ true
+  same_itself a = ap is_eq (tied_itself o a)
+
+  pub same_tied : (a b : K) → a ≡ b → eq_by_cmp R a b ≡ true
+  same_tied a b e = ap (λ x. eq_by_cmp R a x) (sym e) ∙ same_itself a
+
+  pub one_key : (a b : K) → eq_by_cmp R a b ≡ true → a ≡ b
+  one_key a b h = exact a b (equal _ h)
+
+  -- one that is another and doesn't lie before it lies after it
+  pub after : (a b : K) → a ≢ b → is_lt (R a b) ≡ false → is_lt (R b a) ≡ true
+  after a b n h = ap is_lt (o.antisymm b a ∙ ap ordering_reverse (greater _ h (not_eq (eq_by_cmp R a b) (λ t. n (one_key a b t)))))
+    where
+      not_eq : (p : Bool) → p ≢ true → p ≡ false
+      not_eq true k = absurd (k refl)
+      not_eq false k = refl
+
+-- a list by the keys of its elements, each beside its value
+module _ {X K V : Type 0} (R : K → K → Ordering) (o : IsTotalOrder R) (exact : IsAntisymmetric R) (key : X → K) (value : X → V) where
+  abbrev entries : List X → List (K × V)
+  entries xs = each (λ x. (key x, value x)) xs
+
+  -- the keys rise
+  abbrev Rise : List X → Type 0
+  Rise cs = is_sorted R (entries cs) ≡ true
+
+  -- the first i keys lie before another
+  abbrev Ahead : K → List X → ℕ → Type 0
+  Ahead d cs i = AllWithin (λ c. is_lt (R (key c) d) ≡ true) cs 0 i
+
+  pub rise-tail : (c : X) (cs : List X) → Rise (c ∷ cs) → Rise cs
+  rise-tail c cs h = (and_parts (below_all R (key c) (entries cs)) (is_sorted R (entries cs)) h).1
+
+  pub rise-head : (c : X) (cs : List X) → Rise (c ∷ cs) → below_all R (key c) (entries cs) ≡ true
+  rise-head c cs h = (and_parts (below_all R (key c) (entries cs)) (is_sorted R (entries cs)) h).0
+
+  -- what lies before all keys lies before each
+  pub below_at : (d : K) (cs : List X) → below_all R d (entries cs) ≡ true → (k : ℕ) (e : X) → k < length cs → is_lt (R d (key (get_or cs k e))) ≡ true
+  below_at d [] h k e l = absurd (omega arith)
+  below_at d (c ∷ cs) h zero e l = (and_parts (is_lt (R d (key c))) (below_all R d (entries cs)) h).0
+  below_at d (c ∷ cs) h (suc k) e l = below_at d cs (and_parts (is_lt (R d (key c))) (below_all R d (entries cs)) h).1 k e (omega arith)
+
+  pub below_from : (d x : K) (cs : List X) → is_lt (R d x) ≡ true → below_all R x (entries cs) ≡ true → below_all R d (entries cs) ≡ true
+  below_from d x [] l h = refl
+  below_from d x (c ∷ cs) l h =
+      let p = and_parts (is_lt (R x (key c))) (below_all R x (entries cs)) h in
+      and_from (is_lt (R d (key c))) (below_all R d (entries cs)) (before_trans R o exact d x (key c) l p.0) (below_from d x cs l p.1)
+
+  -- those before a key come first
+  pub partitioned : (d : K) (cs : List X) → Rise cs → IsPartitionedBy (λ c. is_lt (R (key c) d)) cs
+  partitioned d [] a i j e l h t = absurd (omega (arith, h))
+  partitioned d (c ∷ cs) a zero zero e l h t = t
+  partitioned d (c ∷ cs) a zero (suc j) e l h t = before_trans R o exact (key c) (key (get_or cs j e)) d (below_at (key c) cs (rise-head c cs a) j e (omega arith)) t
+  partitioned d (c ∷ cs) a (suc i) zero e l h t = absurd (omega arith)
+  partitioned d (c ∷ cs) a (suc i) (suc j) e l h t = partitioned d cs (rise-tail c cs a) i j e (omega arith) (omega arith) t
+
+  ahead-tail : (d : K) (c : X) (cs : List X) (i : ℕ) → Ahead d (c ∷ cs) (suc i) → Ahead d cs i
+  ahead-tail d c cs i a k e lo hi = a (suc k) e (omega arith) (omega arith)
+
+  ahead-head : (d : K) (c : X) (cs : List X) (i : ℕ) → Ahead d (c ∷ cs) (suc i) → is_lt (R (key c) d) ≡ true
+  ahead-head d c cs i a = a 0 c (omega arith) (omega arith)
+
+  pub none_below : (d : K) (cs : List X) → below_all R d (entries cs) ≡ true → find R d (entries cs) ≡ None
+  none_below d [] h = refl
+  none_below d (c ∷ cs) h =
+      let p = and_parts (is_lt (R d (key c))) (below_all R d (entries cs)) h in
+      ap (λ b. cond b (Some (value c)) (find R d (entries cs))) (apart_after R o exact d (key c) p.0) ∙ none_below d cs p.1
+
+  -- what is found of the key that stands at a place
+  pub found_at : (d : K) (cs : List X) (i : ℕ) (e : X) → i < length cs → Ahead d cs i → d ≡ key (get_or cs i e) → find R d (entries cs) ≡ Some (value (get_or cs i e))
+  found_at d [] i e l a h = absurd (omega arith)
+  found_at d (c ∷ cs) zero e l a h = ap (λ b. cond b (Some (value c)) (find R d (entries cs))) (same_tied R o exact d (key c) h)
+  found_at d (c ∷ cs) (suc i) e l a h =
+      ap (λ b. cond b (Some (value c)) (find R d (entries cs))) (apart R o exact (key c) d (ahead-head d c cs i a)) ∙ found_at d cs i e (omega arith) (ahead-tail d c cs i a) h
+
+  -- nothing is found where the key at the place lies after it
+  pub missed_at : (d : K) (cs : List X) (i : ℕ) → Rise cs → Ahead d cs i → i ≤ length cs → (here : (e : X) → i < length cs → is_lt (R d (key (get_or cs i e))) ≡ true) → find R d (entries cs) ≡ None
+  missed_at d [] i s a w h = refl
+  missed_at d (c ∷ cs) zero s a w h =
+      ap (λ b. cond b (Some (value c)) (find R d (entries cs))) (apart_after R o exact d (key c) (h c (omega arith))) ∙ none_below d cs (below_from d (key c) cs (h c (omega arith)) (rise-head c cs s))
+  missed_at d (c ∷ cs) (suc i) s a w h =
+      ap (λ b. cond b (Some (value c)) (find R d (entries cs))) (apart R o exact (key c) d (ahead-head d c cs i a))
+      ∙ missed_at d cs i (rise-tail c cs s) (ahead-tail d c cs i a) (omega arith) (λ e l. h e (omega arith))
+
+  -- an element that is put in at its place
+  pub put_at : (cs : List X) (i : ℕ) (c : X) → i ≤ length cs → Ahead (key c) cs i → (here : (e : X) → i < length cs → is_lt (R (key c) (key (get_or cs i e))) ≡ true) → entries (insert cs i c) ≡ put R (key c) (value c) (entries cs)
+  put_at [] zero c w a h = refl
+  put_at [] (suc i) c w a h = absurd (omega arith)
+  put_at (x ∷ cs) zero c w a h =
+      ap (λ o. by_order o ((key c, value c) ∷ entries (x ∷ cs)) ((key x, value c) ∷ entries cs) ((key x, value x) ∷ put R (key c) (value c) (entries cs))) (sym (less _ (h x (omega arith))))
+  put_at (x ∷ cs) (suc i) c w a h =
+      ap (λ es. (key x, value x) ∷ es) (put_at cs i c (omega arith) (ahead-tail (key c) x cs i a) (λ e l. h e (omega arith)))
+      ∙ ap (λ o. by_order o ((key c, value c) ∷ entries (x ∷ cs)) ((key x, value c) ∷ entries cs) ((key x, value x) ∷ put R (key c) (value c) (entries cs))) (sym (turned R o exact (key x) (key c) (ahead-head (key c) x cs i a)))
+
+  -- an element that takes the place of the one of its key
+  pub set_at : (cs : List X) (i : ℕ) (c e : X) → i < length cs → Ahead (key c) cs i → key c ≡ key (get_or cs i e) → entries (set cs i c) ≡ put R (key c) (value c) (entries cs)
+  set_at [] i c e l a h = absurd (omega arith)
+  set_at (x ∷ cs) zero c e l a h =
+      ap (λ d. (d, value c) ∷ entries cs) h
+      ∙ ap (λ o. by_order o ((key c, value c) ∷ entries (x ∷ cs)) ((key x, value c) ∷ entries cs) ((key x, value x) ∷ put R (key c) (value c) (entries cs))) (sym (tied (R (key c) (key x)) (same_tied R o exact (key c) (key x) h)))
+    where
+      tied : (o : Ordering) → is_eq o ≡ true → o ≡ Equal
+      tied Less h = absurd (cc)
+      tied Equal h = refl
+      tied Greater h = absurd (cc)
+  set_at (x ∷ cs) (suc i) c e l a h =
+      ap (λ es. (key x, value x) ∷ es) (set_at cs i c e (omega arith) (ahead-tail (key c) x cs i a) h)
+      ∙ ap (λ o. by_order o ((key c, value c) ∷ entries (x ∷ cs)) ((key x, value c) ∷ entries cs) ((key x, value x) ∷ put R (key c) (value c) (entries cs))) (sym (turned R o exact (key x) (key c) (ahead-head (key c) x cs i a)))
+
+  -- all stay where none has the key
+  kept : (d : K) (cs : List X) → below_all R d (entries cs) ≡ true → entries cs ≡ where_key R (λ x. not (eq_by_cmp R d x)) (entries cs)
+  kept d [] h = refl
+  kept d (c ∷ cs) h =
+      let p = and_parts (is_lt (R d (key c))) (below_all R d (entries cs)) h in
+      ap (λ es. (key c, value c) ∷ es) (kept d cs p.1)
+      ∙ ap (λ b. cond (not b) ((key c, value c) ∷ where_key R (λ x. not (eq_by_cmp R d x)) (entries cs)) (where_key R (λ x. not (eq_by_cmp R d x)) (entries cs))) (sym (apart_after R o exact d (key c) p.0))
+
+  -- the element of a key that is taken out
+  pub removed_at : (d : K) (cs : List X) (i : ℕ) (e : X) → Rise cs → i < length cs → Ahead d cs i → d ≡ key (get_or cs i e) → entries (remove cs i) ≡ where_key R (λ x. not (eq_by_cmp R d x)) (entries cs)
+  removed_at d [] i e s l a h = absurd (omega arith)
+  removed_at d (c ∷ cs) zero e s l a h =
+      kept d cs (subst (λ x. below_all R x (entries cs) ≡ true) (sym h) (rise-head c cs s))
+      ∙ ap (λ b. cond (not b) ((key c, value c) ∷ where_key R (λ x. not (eq_by_cmp R d x)) (entries cs)) (where_key R (λ x. not (eq_by_cmp R d x)) (entries cs))) (sym (same_tied R o exact d (key c) h))
+  removed_at d (c ∷ cs) (suc i) e s l a h =
+      ap (λ es. (key c, value c) ∷ es) (removed_at d cs i e (rise-tail c cs s) (omega arith) (ahead-tail d c cs i a) h)
+      ∙ ap (λ b. cond (not b) ((key c, value c) ∷ where_key R (λ x. not (eq_by_cmp R d x)) (entries cs)) (where_key R (λ x. not (eq_by_cmp R d x)) (entries cs))) (sym (apart R o exact (key c) d (ahead-head d c cs i a)))
+
+  pub same_place : (cs : List X) (i : ℕ) (e x : X) → i < length cs → get_or cs i e ≡ get_or cs i x
+  same_place [] i e x l = absurd (omega arith)
+  same_place (c ∷ cs) zero e x l = refl
+  same_place (c ∷ cs) (suc i) e x l = same_place cs i e x (omega arith)
+
+  -- a key that doesn't lie before another, and isn't that one, lies after it
+  pub lies_after : (d : K) (cs : List X) (i : ℕ) (x : X) → i < length cs → x ≡ get_or cs i x → d ≢ key x
+      → AllWithin (λ c. is_lt (R (key c) d) ≡ false) cs i (length cs) → (e : X) → i < length cs → is_lt (R d (key (get_or cs i e))) ≡ true
+  lies_after d cs i x l at other past e k = after R o exact (key (get_or cs i e)) d (λ same. other (sym same ∙ ap key (same_place cs i e x l ∙ sym at))) (past i e (omega arith) l)

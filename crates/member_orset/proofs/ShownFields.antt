@@ -1,0 +1,115 @@
+-- The fields that dots show, with one more of them, and the row of a member.
+use Rattle.std.proofs.Common.{◌≡◌, ℕ, ◌+◌, ◌<◌, true, false, List, [], ◌∷◌, ◌++◌, length, get_or, take, Option, Some, None, is_some, refl, sym, ap, ◌∙◌}
+use Rattle.std.specs.List.{All, filter_map, cons_option}
+use Rattle.std.specs.Option.{option_map, option_map_or, option_and_then}
+use Rattle.std.specs.FinMap as maps
+use Rattle.std.specs.Ordering.{eq_by_cmp}
+use Rattle.std.proofs.lemmas.List.{append-nil, take_more}
+use Rattle.std.proofs.lemmas.List.Elements.{All-head, All-weaker, filter_passes}
+use Rattle.dots.specs.declared.member.Member.{Member}
+use Rattle.dots.specs.Values.{Tag}
+use Rattle.dots.specs.Orders.{dot_cmp, member_cmp}
+use Rattle.dots.specs.Registers.{Entry, joined}
+use Rattle.dots.specs.Conditions.{DotFields}
+use Rattle.dots.specs.Knowledge.{latest_of}
+use Rattle.dots.specs.Rows.{is_of, dots_of, row_if, row_of, row_of_fields}
+use Rattle.dots.specs.SetItems.{in_order}
+use Rattle.dots.proofs.RegisterLaws.{joined_assoc}
+use Rattle.member_orset.specs.declared.listed.Listed.{Listed}
+use Rattle.member_orset.specs.declared.live_dot.LiveDot.{LiveDot}
+use Rattle.member_orset.specs.Members.{Holding}
+use Rattle.member_orset.specs.Cells.{live_of}
+use Rattle.member_orset.specs.Index.{IsIndex}
+use Rattle.member_orset.specs.Shown.{cells_read, dots_listed, fields_after, fields_held, fields_shown, group}
+use Rattle.member_orset.proofs.CellLists.{Rise}
+use Rattle.member_orset.proofs.MemberDots.{dots_are}
+
+-- the latest of a field, with one more dot
+one_latest : {T : Type 0} (x : Option (Entry T)) → latest_of (cons_option x []) ≡ x
+one_latest None = refl
+one_latest (Some e) = refl
+
+latest-push : {T : Type 0} (f : DotFields → Option (Entry T)) (xs : List DotFields) (x : DotFields) → latest_of (filter_map f (xs ++ x ∷ [])) ≡ joined (latest_of (filter_map f xs)) (f x)
+latest-push f [] x = one_latest (f x)
+latest-push {T} f (y ∷ xs) x = front (f y) (latest-push f xs x)
+  where
+    front : (e : Option (Entry T)) → latest_of (filter_map f (xs ++ x ∷ [])) ≡ joined (latest_of (filter_map f xs)) (f x)
+        → latest_of (cons_option e (filter_map f (xs ++ x ∷ []))) ≡ joined (latest_of (cons_option e (filter_map f xs))) (f x)
+    front None h = h
+    front (Some e) h = ap (joined (Some e)) h ∙ sym (joined_assoc (Some e) (latest_of (filter_map f xs)) (f x))
+
+shown-push : (xs : List DotFields) (x : DotFields) → fields_shown (xs ++ x ∷ []) ≡ Some (fields_after (fields_shown xs) x)
+shown-push [] x = λ i. Some (record { penalty = one_latest x.penalty i; pause = one_latest x.pause i; label = one_latest x.label i })
+shown-push (y ∷ xs) x = λ i. Some (record {
+  penalty = latest-push (λ f. f.penalty) (y ∷ xs) x i;
+  pause = latest-push (λ f. f.pause) (y ∷ xs) x i;
+  label = latest-push (λ f. f.label) (y ∷ xs) x i;
+})
+
+-- the fields of the dots of entries, with one more entry
+held-push : (live : maps.FinMap dot_cmp Holding) (ls : List Listed) (x : Listed) → fields_held live (dots_listed (ls ++ x ∷ [])) ≡ fields_held live (dots_listed ls) ++ cons_option (option_map (λ h. h.1) (maps.get live x.dot)) []
+held-push live [] x = refl
+held-push live (l ∷ ls) x = ap (cons_option (option_map (λ h. h.1) (maps.get live l.dot))) (held-push live ls x) ∙ front (option_map (λ h. h.1) (maps.get live l.dot))
+  where
+    front : (o : Option DotFields) → cons_option o (fields_held live (dots_listed ls) ++ cons_option (option_map (λ h. h.1) (maps.get live x.dot)) [])
+        ≡ (cons_option o (fields_held live (dots_listed ls)) ++ cons_option (option_map (λ h. h.1) (maps.get live x.dot)) [])
+    front None = refl
+    front (Some f) = refl
+
+held_more : (live : maps.FinMap dot_cmp Holding) (ls : List Listed) (i : ℕ) (x : Listed) (o : Option Holding) → i < length ls → x ≡ get_or ls i x → o ≡ maps.get live x.dot
+    → fields_held live (dots_listed (take (i + 1) ls)) ≡ fields_held live (dots_listed (take i ls)) ++ cons_option (option_map (λ h. h.1) o) []
+held_more live ls i x o w e is =
+    ap (λ ys. fields_held live (dots_listed ys)) (take_more ls i x w ∙ ap (λ y. take i ls ++ y ∷ []) (sym e)) ∙ held-push live (take i ls) x
+    ∙ ap (λ y. fields_held live (dots_listed (take i ls)) ++ cons_option (option_map (λ h. h.1) y) []) (sym is)
+
+-- what is shown after one more dot that is live
+pub shown_live : (live : maps.FinMap dot_cmp Holding) (ls : List Listed) (i : ℕ) (x : Listed) (h : Holding) (o : Option DotFields) → i < length ls → x ≡ get_or ls i x → Some h ≡ maps.get live x.dot
+    → o ≡ fields_shown (fields_held live (dots_listed (take i ls))) → Some (fields_after o h.1) ≡ fields_shown (fields_held live (dots_listed (take (i + 1) ls)))
+shown_live live ls i x h o w e is so =
+    ap (λ p. Some (fields_after p h.1)) so ∙ sym (shown-push (fields_held live (dots_listed (take i ls))) h.1) ∙ ap fields_shown (sym (held_more live ls i x (Some h) w e is))
+
+-- and after one that isn't
+pub shown_missed : (live : maps.FinMap dot_cmp Holding) (ls : List Listed) (i : ℕ) (x : Listed) (o : Option DotFields) → i < length ls → x ≡ get_or ls i x → None ≡ maps.get live x.dot
+    → o ≡ fields_shown (fields_held live (dots_listed (take i ls))) → o ≡ fields_shown (fields_held live (dots_listed (take (i + 1) ls)))
+shown_missed live ls i x o w e is so = so ∙ ap fields_shown (sym (append-nil (fields_held live (dots_listed (take i ls)))) ∙ sym (held_more live ls i x None w e is))
+
+-- a field of dots, by what is held of them
+fields_are : {X : Type 0} (g : DotFields → Option X) (live : maps.FinMap dot_cmp Holding) (ds : List Tag) → filter_map (λ dot. option_and_then (λ h. g h.1) (maps.get live dot)) ds ≡ filter_map g (fields_held live ds)
+fields_are g live [] = refl
+fields_are g live (d ∷ ds) = ap (cons_option (option_and_then (λ h. g h.1) (maps.get live d))) (fields_are g live ds) ∙ one (maps.get live d)
+  where
+    one : (o : Option Holding) → cons_option (option_and_then (λ h. g h.1) o) (filter_map g (fields_held live ds)) ≡ filter_map g (cons_option (option_map (λ h. h.1) o) (fields_held live ds))
+    one None = refl
+    one (Some h) = refl
+
+-- the row of dots that are live
+row_held : (live : maps.FinMap dot_cmp Holding) (ds : List Tag) → All (λ d. is_some (maps.get live d) ≡ true) ds
+    → row_if ds (row_of_fields (latest_of (filter_map (λ f. f.penalty) (fields_held live ds))) (latest_of (filter_map (λ f. f.pause) (fields_held live ds))) (latest_of (filter_map (λ f. f.label) (fields_held live ds))))
+    ≡ option_map (λ f. row_of_fields f.penalty f.pause f.label) (fields_shown (fields_held live ds))
+row_held live [] a = refl
+row_held live (d ∷ ds) a = first (maps.get live d) (All-head (λ x. is_some (maps.get live x) ≡ true) d ds a)
+  where
+    first : (o : Option Holding) → is_some o ≡ true → let fields = cons_option (option_map (λ h. h.1) o) (fields_held live ds) in
+        Some (row_of_fields (latest_of (filter_map (λ f. f.penalty) fields)) (latest_of (filter_map (λ f. f.pause) fields)) (latest_of (filter_map (λ f. f.label) fields)))
+        ≡ option_map (λ f. row_of_fields f.penalty f.pause f.label) (fields_shown fields)
+    first None t = absurd (cc)
+    first (Some h) t = refl
+
+-- the dots of a member are live
+own_live : (cs : List LiveDot) (m : Member) → All (λ d. is_some (maps.get (live_of cs) d) ≡ true) (dots_of (cells_read cs) m)
+own_live cs m =
+    All-weaker (λ d. is_of (cells_read cs) m d ≡ true) (λ d. is_some (maps.get (live_of cs) d) ≡ true) (λ d. some (maps.get (live_of cs) d)) (dots_of (cells_read cs) m) (filter_passes (is_of (cells_read cs) m) (in_order (cells_read cs).visible))
+  where
+    some : (o : Option Holding) → option_map_or (eq_by_cmp member_cmp m) (option_map (λ h. h.0) o) false ≡ true → is_some o ≡ true
+    some None t = absurd (cc)
+    some (Some h) t = refl
+
+-- the row of a member is that of the dots that the index lists under it
+pub row_shown : (cs : List LiveDot) (index : List Listed) (m : Member) → Rise cs → IsIndex index (live_of cs)
+    → row_of (cells_read cs) m ≡ option_map (λ f. row_of_fields f.penalty f.pause f.label) (fields_shown (fields_held (live_of cs) (dots_listed (group m index))))
+row_shown cs index m s is =
+    let live = live_of cs in
+    let ds = dots_of (cells_read cs) m in
+    (λ i. row_if ds (row_of_fields (latest_of (fields_are (λ f. f.penalty) live ds i)) (latest_of (fields_are (λ f. f.pause) live ds i)) (latest_of (fields_are (λ f. f.label) live ds i))))
+    ∙ row_held live ds (own_live cs m)
+    ∙ ap (λ xs. option_map (λ f. row_of_fields f.penalty f.pause f.label) (fields_shown (fields_held live xs))) (sym (dots_are cs index m s is))
