@@ -3,41 +3,21 @@ use Rattle.std.proofs.Common.{◌≡◌, inl, inr, ℕ, suc, zero, ◌+◌, ◌-
 use Rattle.std.specs.Prelude.{nat_lt}
 use Rattle.std.specs.List.{AllWithin}
 use Rattle.std.specs.List.Sorted.{IsPartitionedBy, IsPartitionPoint}
-use Rattle.std.specs.FinMap.Entries.{below_all, is_sorted}
 use Rattle.std.specs.Ordering.{is_le, is_lt}
 use Rattle.std.specs.declared.cmp.Ordering.{Ordering}
 use Rattle.std.specs.declared.cmp.Ordering.TheVariants.{Less, Equal, Greater}
-use Rattle.std.proofs.lemmas.Bool.{and_parts, cases_Bool}
+use Rattle.std.proofs.lemmas.Bool.{cases_Bool}
 use Rattle.std.proofs.lemmas.Bool.Decides.{nat_tests}
 use Rattle.std.proofs.lemmas.Cmp.{tied_itself}
 use Rattle.dots.specs.declared.member.Member.{Member}
 use Rattle.dots.specs.Orders.{member_cmp}
 use Rattle.dots.proofs.RowLaws.{members_total}
 use Rattle.member_orset.specs.declared.listed.Listed.{Listed}
-use Rattle.member_orset.specs.Index.{Rises, listed_cmp, listings}
+use Rattle.member_orset.specs.Index.{Rises}
 use Rattle.member_orset.specs.Shown.{group, is_own}
 use Rattle.member_orset.proofs.Rising.{less}
+use Rattle.member_orset.proofs.Indexes.{partitioned_by}
 use Rattle.member_orset.proofs.MemberOrder.{by_members, less_upto, own_before, own_between, own_past}
-
-pub rises-tail : (l : Listed) (ls : List Listed) → Rises (l ∷ ls) → Rises ls
-rises-tail l ls h = (and_parts (below_all listed_cmp l (listings ls)) (is_sorted listed_cmp (listings ls)) h).1
-
-pub rises-head : (l : Listed) (ls : List Listed) → Rises (l ∷ ls) → below_all listed_cmp l (listings ls) ≡ true
-rises-head l ls h = (and_parts (below_all listed_cmp l (listings ls)) (is_sorted listed_cmp (listings ls)) h).0
-
--- what lies before all of some entries lies before each
-below_at : (l : Listed) (ls : List Listed) → below_all listed_cmp l (listings ls) ≡ true → (k : ℕ) (e : Listed) → k < length ls → is_lt (listed_cmp l (get_or ls k e)) ≡ true
-below_at l [] h k e w = absurd (omega arith)
-below_at l (x ∷ ls) h zero e w = (and_parts (is_lt (listed_cmp l x)) (below_all listed_cmp l (listings ls)) h).0
-below_at l (x ∷ ls) h (suc k) e w = below_at l ls (and_parts (is_lt (listed_cmp l x)) (below_all listed_cmp l (listings ls)) h).1 k e (omega arith)
-
--- entries that pass a test come first, where each that lies before one that passes it passes it
-pub partitioned_by : (p : Listed → Bool) → ((a b : Listed) → is_lt (listed_cmp a b) ≡ true → p b ≡ true → p a ≡ true) → (ls : List Listed) → Rises ls → IsPartitionedBy p ls
-partitioned_by p f [] r i j e l h t = absurd (omega (arith, h))
-partitioned_by p f (x ∷ ls) r zero zero e l h t = t
-partitioned_by p f (x ∷ ls) r zero (suc j) e l h t = f x (get_or ls j e) (below_at x ls (rises-head x ls r) j e (omega arith)) t
-partitioned_by p f (x ∷ ls) r (suc i) zero e l h t = absurd (omega arith)
-partitioned_by p f (x ∷ ls) r (suc i) (suc j) e l h t = partitioned_by p f ls (rises-tail x ls r) i j e (omega arith) (omega arith) t
 
 -- those of lesser members come first, and so do those of members that aren't greater
 pub lesser_first : (m : Member) (ls : List Listed) → Rises ls → IsPartitionedBy (λ l. is_lt (member_cmp l.member m)) ls

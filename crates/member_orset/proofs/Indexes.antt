@@ -5,6 +5,7 @@ use Rattle.std.specs.Cmp.{IsTotalOrder, tied_then}
 use Rattle.std.specs.FinMap as maps
 use Rattle.std.specs.FinMap.Entries.{below_all, find, find-put, find-where_key, is_sorted, is_sorted-put, is_sorted-where_key}
 use Rattle.std.specs.List.{AllWithin, insert, list_any, remove}
+use Rattle.std.specs.List.Sorted.{IsPartitionedBy}
 use Rattle.std.specs.Option.{option_map, option_map_or}
 use Rattle.std.specs.Ordering.{eq_by_cmp, is_lt}
 use Rattle.std.proofs.lemmas.Bool.{and_parts, cases_Bool, true≢false}
@@ -18,7 +19,7 @@ use Rattle.dots.proofs.DotOrder.{dots_total, dots_exact}
 use Rattle.dots.proofs.RowLaws.{members_total}
 use Rattle.member_orset.specs.declared.listed.Listed.{Listed}
 use Rattle.member_orset.specs.Members.{Holding}
-use Rattle.member_orset.specs.Index.{IsIndex, IsPlaceFor, Rises, is_held, is_listed, listed_cmp, listings}
+use Rattle.member_orset.specs.Index.{IsBelow, IsIndex, IsPlaceFor, Rises, is_held, is_listed, listed_cmp, listings}
 use Rattle.member_orset.proofs.DotTests.{as_T, from_T, one_dot}
 use Rattle.member_orset.proofs.MemberOrder.{exact_members}
 use Rattle.member_orset.proofs.Rising as rising
@@ -31,6 +32,20 @@ pub listed_exact : maps.IsAntisymmetric listed_cmp
 listed_exact a b h =
     ap (λ (p : Member × Tag). let l : Listed = record { member = p.0; dot = p.1 } in l)
     (exact_pairs member_cmp dot_cmp exact_members dots_exact (a.member, a.dot) (b.member, b.dot) h)
+
+-- entries that rise
+pub rises-tail : (l : Listed) (ls : List Listed) → Rises (l ∷ ls) → Rises ls
+rises-tail = rising.rise-tail listed_cmp listed_total listed_exact (λ x. x) (λ x. tt)
+
+pub rises-head : (l : Listed) (ls : List Listed) → Rises (l ∷ ls) → IsBelow l ls
+rises-head = rising.rise-head listed_cmp listed_total listed_exact (λ x. x) (λ x. tt)
+
+pub below_from : (l x : Listed) (ls : List Listed) → is_lt (listed_cmp l x) ≡ true → IsBelow x ls → IsBelow l ls
+below_from = rising.below_from listed_cmp listed_total listed_exact (λ x. x) (λ x. tt)
+
+-- those that pass a test come first, where each that lies before one that passes it passes it
+pub partitioned_by : (p : Listed → Bool) → ((a b : Listed) → is_lt (listed_cmp a b) ≡ true → p b ≡ true → p a ≡ true) → (ls : List Listed) → Rises ls → IsPartitionedBy p ls
+partitioned_by = rising.partitioned_by listed_cmp listed_total listed_exact (λ x. x) (λ x. tt)
 
 -- an entry of a member and a dot
 abbrev pub entry : Member → Tag → Listed
@@ -74,7 +89,7 @@ module _ (index : List Listed) (i : ℕ) (l : Listed) (at : IsPlaceFor index l i
       one false o = refl
 
 -- an entry that is listed stands where those that lie before it end
-later : (l c : Listed) (index : List Listed) → below_all listed_cmp c (listings index) ≡ true → list_any (eq_by_cmp listed_cmp l) index ≡ true → is_lt (listed_cmp c l) ≡ true
+pub later : (l c : Listed) (index : List Listed) → below_all listed_cmp c (listings index) ≡ true → list_any (eq_by_cmp listed_cmp l) index ≡ true → is_lt (listed_cmp c l) ≡ true
 later l c [] below any = absurd (cc)
 later l c (x ∷ index) below any =
     let p = and_parts (is_lt (listed_cmp c x)) (below_all listed_cmp c (listings index)) below in

@@ -1,10 +1,13 @@
 -- The join of two lists of cells, from one dot to the next.
-use Rattle.std.proofs.Common.{◌≡◌, ℕ, ◌+◌, ◌≤◌, ◌<◌, Bool, List, [], ◌∷◌, ◌++◌, length, get_or, set, drop, take, refl, sym, ap, ◌∙◌, subst, arith}
+use Rattle.std.proofs.Common.{◌≡◌, ℕ, ◌+◌, ◌≤◌, ◌<◌, Bool, List, [], ◌∷◌, ◌++◌, length, get_or, set, drop, take, refl, sym, ap, ◌∙◌, subst}
 use Rattle.std.specs.List.{All}
 use Rattle.std.specs.FinMap.Entries.{by_order}
+use Rattle.std.specs.Ordering.{on}
+use Rattle.std.specs.declared.cmp.Ordering.{Ordering}
 use Rattle.std.specs.declared.cmp.Ordering.TheVariants.{Less, Equal, Greater}
-use Rattle.std.proofs.lemmas.List.{append_assoc, map-append, drop_at, drop_more, drop-drop, drop-set-lt, length-drop, take-append-le, take-take, take_at, take_more_set}
+use Rattle.std.proofs.lemmas.List.{append_assoc, map-append, drop-drop, drop-set-lt, take_more_set}
 use Rattle.std.proofs.lemmas.List.Elements.{All-head, All-drop, All-weaker}
+use Rattle.dots.specs.Orders.{dot_cmp}
 use Rattle.dots.specs.Values.{Tag}
 use Rattle.dots.specs.Conditions.{FieldsAgree}
 use Rattle.dots.proofs.DotOrder.{dots_exact}
@@ -12,10 +15,8 @@ use Rattle.member_orset.specs.declared.live_dot.LiveDot.{LiveDot}
 use Rattle.member_orset.specs.Members.{Holding}
 use Rattle.member_orset.specs.Cells.{dot_fields, entry_of, entries_of}
 use Rattle.member_orset.specs.Joining.{AgreeInPairs, CellsAgree, entry_joined, in_front, joined_entries, joined_from, next_order}
-
--- what is left from a place on begins with the cell at the place
-pub open_at : (xs : List LiveDot) (i : ℕ) (x : LiveDot) → i < length xs → x ≡ get_or xs i x → drop i xs ≡ x ∷ drop (i + 1) xs
-open_at xs i x l e = drop_more xs i x l ∙ ap (λ y. y ∷ drop (i + 1) xs) (sym e)
+use Rattle.member_orset.proofs.Fronts as fronts
+use Rattle.member_orset.proofs.Fronts.{open_at}
 
 -- one step, by which side has the least dot
 step_less : (a b : Tag → Bool) (x : LiveDot) (xs ys : List LiveDot) → Less ≡ next_order (x ∷ xs) ys → joined_entries a b (x ∷ xs) ys ≡ in_front (b x.dot) x (joined_entries a b xs ys)
@@ -52,29 +53,18 @@ equal_at a b xs ys i j x y l e m f h =
     let p = open_at ys j y m f in
     (λ k. joined_entries a b (o k) (p k)) ∙ step_equal a b x y (drop (i + 1) xs) (drop (j + 1) ys) (h ∙ (λ k. next_order (o k) (p k)))
 
--- a side that has the least dot has a cell
-less_left : (xs ys : List LiveDot) → Less ≡ next_order xs ys → 0 < length xs
-less_left [] ys h = absurd (cc)
-less_left (x ∷ xs) ys h = omega arith
-
-greater_left : (xs ys : List LiveDot) → Greater ≡ next_order xs ys → 0 < length xs + length ys → 0 < length ys
-greater_left xs (y ∷ ys) h l = omega arith
-greater_left [] [] h l = absurd (omega arith)
-greater_left (x ∷ xs) [] h l = absurd (cc)
-
-equal_left : (xs ys : List LiveDot) → Equal ≡ next_order xs ys → (0 < length xs) × (0 < length ys)
-equal_left [] ys h = absurd (cc)
-equal_left (x ∷ xs) [] h = absurd (cc)
-equal_left (x ∷ xs) (y ∷ ys) h = (omega arith, omega arith)
+-- where a side has the least dot, there is a cell left of it
+abbrev by_dot : LiveDot → LiveDot → Ordering
+by_dot = on (λ c. c.dot) dot_cmp
 
 pub less_within : (xs ys : List LiveDot) (i : ℕ) → Less ≡ next_order (drop i xs) ys → i < length xs
-less_within xs ys i h = let l = less_left (drop i xs) ys h in omega (arith, l, length-drop i xs)
+less_within = fronts.less_within by_dot
 
 pub greater_within : (xs ys : List LiveDot) (i j : ℕ) → i ≤ length xs → j ≤ length ys → i + j < length xs + length ys → Greater ≡ next_order (drop i xs) (drop j ys) → j < length ys
-greater_within xs ys i j p q l h = let m = greater_left (drop i xs) (drop j ys) h (omega (arith, length-drop i xs, length-drop j ys)) in omega (arith, m, length-drop j ys)
+greater_within = fronts.greater_within by_dot
 
 pub equal_within : (xs ys : List LiveDot) (i j : ℕ) → Equal ≡ next_order (drop i xs) (drop j ys) → (i < length xs) × (j < length ys)
-equal_within xs ys i j h = let m = equal_left (drop i xs) (drop j ys) h in (omega (arith, m.0, length-drop i xs), omega (arith, m.1, length-drop j ys))
+equal_within = fronts.equal_within by_dot
 
 -- cells agree also past the first of one side
 pub pairs_past_own : (xs ys : List LiveDot) (i : ℕ) → AgreeInPairs (drop i xs) ys → AgreeInPairs (drop (i + 1) xs) ys
@@ -104,12 +94,3 @@ written_more a b cells others w i j x e left whole l m f g h =
     ∙ append_assoc (entries_of (take w cells)) (entry_of x ∷ []) (joined_entries a b (drop i cells) (drop j others))
     ∙ (λ k. entries_of (take w cells) ++ (f k ∷ joined_entries a b (drop i cells) (drop j others)))
     ∙ ap (λ es. entries_of (take w cells) ++ es) (sym g) ∙ h
-
--- the others in front, then all that was there
-pub turned : (old xs ys : List LiveDot) (n : ℕ) → n ≡ length old → ys ≡ drop n (old ++ xs) ++ take n (old ++ xs) → drop (length xs) ys ≡ old
-turned old xs ys n k e =
-    ap (drop (length xs)) (e ∙ (λ i. drop_at old xs n (sym k) i ++ take_at old xs n (sym k) i)) ∙ drop_at xs old (length xs) refl
-
--- what is taken of a list that was written back
-pub written_back : (k n : ℕ) (xs ys : List LiveDot) → k ≤ length xs → k ≤ n → take k (take n (xs ++ ys)) ≡ take k xs
-written_back k n xs ys a b = take-take k n (xs ++ ys) b ∙ take-append-le k xs ys a

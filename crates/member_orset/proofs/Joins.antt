@@ -50,7 +50,7 @@ stays_live None None false true f k = refl
 stays_live None None false false f k = refl
 
 -- what stays live was so on one side or is joined of both
-of_either : (P : Holding → Type 0) (o p : Option Holding) (a b : Bool) (h : Holding) → holding_joined o a p b ≡ Some h
+pub of_either : (P : Holding → Type 0) (o p : Option Holding) (a b : Bool) (h : Holding) → holding_joined o a p b ≡ Some h
     → ((x : Holding) → o ≡ Some x → P x) → ((y : Holding) → p ≡ Some y → P y) → ((x y : Holding) → o ≡ Some x → P (x.0, fields_joined x.1 y.1)) → P h
 of_either P (Some x) (Some y) a b h e f g k = subst P (same_Some _ h e) (k x y refl)
 of_either P (Some x) None a true h e f g k = absurd (cc)

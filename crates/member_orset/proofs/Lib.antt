@@ -9,6 +9,7 @@ pub mod Asserting
 pub mod Places
 pub mod Agreeing
 pub mod Building
+pub mod Fronts
 pub mod JoinSteps
 pub mod JoinedCells
 pub mod Joins
@@ -18,6 +19,8 @@ pub mod MemberOrder
 pub mod Indexes
 pub mod Relisted
 pub mod IndexPlaces
+pub mod IndexJoins
+pub mod JoinedIndexes
 pub mod MemberDots
 pub mod ShownFields
 pub mod Presence

@@ -24,7 +24,7 @@ use Rattle.member_orset.specs.Index.{IsIndex, Rises, is_held, is_listed, listed_
 use Rattle.member_orset.specs.Shown.{cells_read, dots_listed, group, is_own}
 use Rattle.member_orset.proofs.CellLists.{Rise, rise-head, rise-tail}
 use Rattle.member_orset.proofs.DotTests.{as_T, from_T, one_dot}
-use Rattle.member_orset.proofs.IndexPlaces.{rises-head, rises-tail}
+use Rattle.member_orset.proofs.Indexes.{rises-head, rises-tail}
 use Rattle.member_orset.proofs.MemberOrder.{by_dots, one_member}
 use Rattle.member_orset.proofs.Views.{entries-live_of}
 

@@ -1,5 +1,5 @@
 -- The order of members, and of listed dots by their members.
-use Rattle.std.proofs.Common.{◌≡◌, ◌⊎◌, inl, inr, ℕ, ◌<◌, ◌≤◌, Bool, true, false, cond, nat_eq, List, refl, sym, ap, ◌∙◌, arith}
+use Rattle.std.proofs.Common.{◌≡◌, ◌↔◌, ◌⊎◌, inl, inr, ℕ, ◌<◌, ◌≤◌, Bool, true, false, cond, nat_eq, List, refl, sym, ap, ◌∙◌, arith}
 use Rattle.std.specs.Prelude.{nat_lt}
 use Rattle.std.specs.FinMap as maps
 use Rattle.std.specs.Ordering.{eq_by_cmp, is_eq, is_le, is_lt, nat_cmp, ordering_reverse, ordering_then}
@@ -29,6 +29,14 @@ one_member m n h = exact_members m n (equal _ h)
 
 pub member_itself : (m : Member) → eq_by_cmp member_cmp m m ≡ true
 member_itself m = ap is_eq (tied_itself members_total m)
+
+-- what the program's test of two members tells
+pub told_member : (m n : Member) (b : Bool) → (b ≡ true) ↔ (m ≡ n) → b ≡ eq_by_cmp member_cmp m n
+told_member m n true told = sym (ap (eq_by_cmp member_cmp m) (sym (told.0 refl)) ∙ member_itself m)
+told_member m n false told = elim (cases_Bool (eq_by_cmp member_cmp m n)) [
+  | inl t ↦ absurd (let x = told.1 (one_member m n t) in cc)
+  | inr f ↦ sym f
+]
 
 -- one that lies before another that doesn't lie past a third lies before the third
 pub less_upto : (a b m : Member) → member_cmp a b ≡ Less → is_le (member_cmp b m) ≡ true → member_cmp a m ≡ Less

@@ -44,7 +44,7 @@ none_listed m d (c ∷ cs) h =
     λ i. apart_from m d c p.0 i || none_listed m d cs p.1 i
 
 -- what is found of a dot is what the entries of cells have of it
-held_by : (cs : List LiveDot) (m : Member) (d : Tag) → Rise cs → list_any (eq_by_cmp listed_cmp (entry m d)) (each listing cs) ≡ option_map_or (eq_by_cmp member_cmp m) (option_map (λ h. h.0) (find dot_cmp d (entries_of cs))) false
+pub held_by : (cs : List LiveDot) (m : Member) (d : Tag) → Rise cs → list_any (eq_by_cmp listed_cmp (entry m d)) (each listing cs) ≡ option_map_or (eq_by_cmp member_cmp m) (option_map (λ h. h.0) (find dot_cmp d (entries_of cs))) false
 held_by [] m d s = refl
 held_by (c ∷ cs) m d s =
     ap (λ b. b || list_any (eq_by_cmp listed_cmp (entry m d)) (each listing cs)) (same_parts m c.member d c.dot) ∙ elim (cases_Bool (eq_by_cmp dot_cmp d c.dot)) [
@@ -72,7 +72,7 @@ apart_all m d (c ∷ cs) h =
     let p = and_parts (is_lt (dot_cmp d c.dot)) (below_all dot_cmp d (entries_of cs)) h in
     (apart_from m d c p.0, apart_all m d cs p.1)
 
-distinct : (cs : List LiveDot) → Rise cs → IsDistinct (eq_by_cmp listed_cmp) (each listing cs)
+pub distinct : (cs : List LiveDot) → Rise cs → IsDistinct (eq_by_cmp listed_cmp) (each listing cs)
 unfolding IsDistinct
 distinct [] s = tt
 distinct (c ∷ cs) s = (apart_all c.member c.dot cs (rise-head c cs s), distinct cs (rise-tail c cs s))

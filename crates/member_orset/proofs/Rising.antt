@@ -91,13 +91,17 @@ module _ {X K V : Type 0} (R : K → K → Ordering) (o : IsTotalOrder R) (exact
       let p = and_parts (is_lt (R x (key c))) (below_all R x (entries cs)) h in
       and_from (is_lt (R d (key c))) (below_all R d (entries cs)) (before_trans R o exact d x (key c) l p.0) (below_from d x cs l p.1)
 
-  -- those before a key come first
+  -- elements that pass a test come first, where each that lies before one that passes it passes it
+  pub partitioned_by : (p : X → Bool) → ((a b : X) → is_lt (R (key a) (key b)) ≡ true → p b ≡ true → p a ≡ true) → (cs : List X) → Rise cs → IsPartitionedBy p cs
+  partitioned_by p f [] a i j e l h t = absurd (omega (arith, h))
+  partitioned_by p f (c ∷ cs) a zero zero e l h t = t
+  partitioned_by p f (c ∷ cs) a zero (suc j) e l h t = f c (get_or cs j e) (below_at (key c) cs (rise-head c cs a) j e (omega arith)) t
+  partitioned_by p f (c ∷ cs) a (suc i) zero e l h t = absurd (omega arith)
+  partitioned_by p f (c ∷ cs) a (suc i) (suc j) e l h t = partitioned_by p f cs (rise-tail c cs a) i j e (omega arith) (omega arith) t
+
+  -- so those before a key come first
   pub partitioned : (d : K) (cs : List X) → Rise cs → IsPartitionedBy (λ c. is_lt (R (key c) d)) cs
-  partitioned d [] a i j e l h t = absurd (omega (arith, h))
-  partitioned d (c ∷ cs) a zero zero e l h t = t
-  partitioned d (c ∷ cs) a zero (suc j) e l h t = before_trans R o exact (key c) (key (get_or cs j e)) d (below_at (key c) cs (rise-head c cs a) j e (omega arith)) t
-  partitioned d (c ∷ cs) a (suc i) zero e l h t = absurd (omega arith)
-  partitioned d (c ∷ cs) a (suc i) (suc j) e l h t = partitioned d cs (rise-tail c cs a) i j e (omega arith) (omega arith) t
+  partitioned d = partitioned_by (λ c. is_lt (R (key c) d)) (λ a b h t. before_trans R o exact (key a) (key b) d h t)
 
   ahead-tail : (d : K) (c : X) (cs : List X) (i : ℕ) → Ahead d (c ∷ cs) (suc i) → Ahead d cs i
   ahead-tail d c cs i a k e lo hi = a (suc k) e (omega arith) (omega arith)

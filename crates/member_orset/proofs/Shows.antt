@@ -27,7 +27,8 @@ use Rattle.member_orset.specs.Index.{IsIndex, Rises}
 use Rattle.member_orset.specs.Shown.{IsLeastAfter, IsLeastEntry, cells_read, dots_listed, group, is_after, is_left, is_own, is_passed, rows_after}
 use Rattle.member_orset.proofs.CellLists.{Rise}
 use Rattle.member_orset.proofs.Rising.{equal, less}
-use Rattle.member_orset.proofs.IndexPlaces.{not_lesser, partitioned_by}
+use Rattle.member_orset.proofs.IndexPlaces.{not_lesser}
+use Rattle.member_orset.proofs.Indexes.{partitioned_by}
 use Rattle.member_orset.proofs.MemberDots.{dots_are}
 use Rattle.member_orset.proofs.MemberOrder.{by_members, exact_texts, interface_not_less, less_parts, member_itself, one_member, queue_not_less}
 

@@ -1,5 +1,5 @@
 -- The index of the live dots by their members.
-use Rattle.std.specs.Prelude.{ℕ, ◌≡◌, ◌≤◌, Bool, true, false, List, length, map, IsTrue}
+use Rattle.std.specs.Prelude.{ℕ, ◌≡◌, ◌≤◌, ◌||◌, Bool, true, false, List, length, map, IsTrue}
 use Rattle.std.specs.List.{AllWithin, list_any}
 use Rattle.std.specs.Option.{option_map, option_map_or}
 use Rattle.std.specs.FinMap as maps
@@ -29,6 +29,22 @@ Rises index = IsTrue (maps.is_sorted listed_cmp (listings index))
 -- whether the index has a dot under a member
 abbrev pub is_listed : List Listed → Member → Tag → Bool
 is_listed index member dot = list_any (eq_by_cmp listed_cmp (record { member = member; dot = dot })) index
+
+-- whether one of two indexes has it
+abbrev pub is_listed_in_either : List Listed → List Listed → Member → Tag → Bool
+is_listed_in_either index others member dot = is_listed index member dot || is_listed others member dot
+
+-- an entry lies before all of an index
+abbrev pub IsBelow : Listed → List Listed → Type 0
+IsBelow l index = IsTrue (maps.Entries.below_all listed_cmp l (listings index))
+
+-- the least entry of two indexes that rise, and what is left of them past it
+pub record IsLeastOf (l : Listed) (index others left left_there : List Listed) : Type 0 where
+  pub lists : (member : Member) (dot : Tag) → is_listed_in_either index others member dot ≡ (eq_by_cmp listed_cmp (record { member = member; dot = dot }) l || is_listed_in_either left left_there member dot)
+  pub rises : Rises left
+  pub rises_there : Rises left_there
+  pub least : IsBelow l left
+  pub least_there : IsBelow l left_there
 
 -- a place in the index: the entries before it lie before another one, and those from there on don't
 pub record IsPlaceFor (index : List Listed) (l : Listed) (place : ℕ) : Type 0 where

@@ -3,8 +3,8 @@ use Rattle.std.specs.Prelude.{◌≡◌, Bool, not, Option, Some, None, List, []
 use Rattle.std.specs.List.{All}
 use Rattle.std.specs.Borrow.{Bor}
 use Rattle.std.specs.FinMap.Entries.{by_order}
+use Rattle.std.specs.Ordering.{on}
 use Rattle.std.specs.declared.cmp.Ordering.{Ordering}
-use Rattle.std.specs.declared.cmp.Ordering.TheVariants.{Less, Greater}
 use Rattle.dots.specs.Values.{Tag}
 use Rattle.dots.specs.Orders.{dot_cmp}
 use Rattle.dots.specs.Conditions.{DotFields, FieldsAgree, fields_joined}
@@ -13,6 +13,7 @@ use Rattle.member_orset.specs.declared.kept.Kept.{Kept}
 use Rattle.member_orset.specs.declared.live_dot.LiveDot.{LiveDot}
 use Rattle.member_orset.specs.Members.{Holding}
 use Rattle.member_orset.specs.Cells.{dot_fields, entry_of, entries_of}
+use Rattle.member_orset.specs.Fronts.{next_by}
 
 -- what stays live of a dot that one side knows or not, and the other: live on both sides it is joined, and live on one it
 -- stays where the other doesn't know it
@@ -54,9 +55,7 @@ joined_entries ours theirs (c ∷ cells) others = joined_from ours theirs c (joi
 
 -- which side has the least dot that is left: `Less` where the first has it, `Equal` where both have it
 abbrev pub next_order : List LiveDot → List LiveDot → Ordering
-next_order [] others = Greater
-next_order (c ∷ cells) [] = Less
-next_order (c ∷ cells) (d ∷ others) = dot_cmp c.dot d.dot
+next_order = next_by (on (λ c. c.dot) dot_cmp)
 
 -- fields with those that they are joined with, if any
 abbrev pub fields_with : DotFields → Option (Bor Fields) → DotFields

@@ -7,6 +7,7 @@ pub use Rattle.dots.specs.Rows
 pub mod Codes
 pub mod Members
 pub mod Cells
+pub mod Fronts
 pub mod Index
 pub mod Joining
 pub mod Shown

@@ -1,39 +1,35 @@
-ghost use Rattle.std.specs.Prelude.{◌≡◌, IfOk};
+//! What is copied without memory, and lists of it.
+ghost use Rattle.std.specs.Prelude.{◌≡◌, ◌+◌, ◌≤◌, ◌++◌, IfOk, length, vec_len};
+ghost use Rattle.std.specs.Vec.{vec_capacity};
 
-use crate::listed::Listed;
-use crate::live_dot::LiveDot;
 use dots::Memory;
 use std::alloc::Global;
 
-/// The same cell once more.
-pub(crate) fn copy_of(cell: &LiveDot) -> LiveDot
-    ensures { result ≡ cell.now }
-{
-    LiveDot {
-        dot: cell.dot,
-        member: cell.member.copy(),
-        fields: cell.fields.copy(),
-    }
+/// A value that is copied without memory.
+pub(crate) trait Copies: Drop {
+    /// The same once more.
+    fn copy(&self) -> Self
+        ensures { result ≡ self.now };
 }
 
-/// The same cells once more. The one fault is want of memory.
-pub(crate) fn copy_cells(alloc: Global, cells: &[LiveDot]) -> Result<Vec<LiveDot>, Memory>
-    ensures { IfOk result (λ copy. copy.items ≡ cells.now) }
+/// The same items once more. The one fault is want of memory.
+pub(crate) fn copy_all<T: Copies>(alloc: Global, items: &[T]) -> Result<Vec<T>, Memory>
+    ensures { IfOk result (λ copy. copy.items ≡ items.now) }
 {
-    let mut copies = Vec::with_capacity(alloc, cells.len())?;
-    for cell in cells {
-        copies.push(copy_of(cell))?;
+    let mut copies = Vec::with_capacity(alloc, items.len())?;
+    for item in items {
+        copies.push(item.copy())?;
     }
     Ok(copies)
 }
 
-/// The same index once more. The one fault is want of memory.
-pub(crate) fn copy_index(alloc: Global, index: &[Listed]) -> Result<Vec<Listed>, Memory>
-    ensures { IfOk result (λ copy. copy.items ≡ index.now) }
+/// Puts the same items once more behind those that are there, in room that is there.
+pub(crate) fn append<T: Copies>(items: &mut Vec<T>, others: &[T])
+    requires { vec_len items.old + length others.now ≤ vec_capacity items.old }
+    ensures items { items.new.items ≡ items.old.items ++ others.now }
+    ensures room { vec_capacity items.old ≤ vec_capacity items.new }
 {
-    let mut copies = Vec::with_capacity(alloc, index.len())?;
-    for listed in index {
-        copies.push(listed.copy())?;
+    for other in others {
+        let _ = items.push(other.copy()); // there is room, so it can't fail
     }
-    Ok(copies)
 }

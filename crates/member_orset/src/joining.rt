@@ -8,7 +8,7 @@ ghost use Rattle.member_orset.specs.Members.{most_cells};
 ghost use Rattle.member_orset.specs.Joining.{AgreeInPairs, FieldsAgreeWith, joined_entries, kept_entries, next_order};
 
 use crate::JoinFault;
-use crate::copies::copy_of;
+use crate::copies::append;
 use crate::kept::Kept;
 use crate::listed::Listed;
 use crate::live_dot::LiveDot;
@@ -120,17 +120,6 @@ fn merge(known: &Context, cells: &mut [LiveDot], known_there: &Context, others: 
         }
     }
     written
-}
-
-/// Puts the same cells once more behind those that are there, in room that is there.
-fn append(cells: &mut Vec<LiveDot>, others: &[LiveDot])
-    requires { vec_len cells.old + length others.now ≤ vec_capacity cells.old }
-    ensures cells { cells.new.items ≡ cells.old.items ++ others.now }
-    ensures room { vec_capacity cells.old ≤ vec_capacity cells.new }
-{
-    for other in others {
-        let _ = cells.push(copy_of(other)); // there is room, so it can't fail
-    }
 }
 
 /// Joins cells with those of another side in place, in room that is there. It takes no memory.

@@ -2,7 +2,7 @@ ghost use Rattle.std.specs.Prelude.{◌≡◌};
 ghost use Rattle.member_orset.specs.Cells.{dot_fields, entry_of};
 ghost use Rattle.member_orset.specs.Joining.{FieldsAgreeWith, kept_entry};
 
-use crate::copies::copy_of;
+use crate::copies::Copies;
 use crate::live_dot::LiveDot;
 use lww_registers::Fields;
 
@@ -19,7 +19,7 @@ impl Kept<'_> {
         requires { FieldsAgreeWith (dot_fields self.cell.now.fields) self.other }
         ensures { entry_of result ≡ kept_entry self.entry }
     {
-        let mut cell = copy_of(self.cell);
+        let mut cell = self.cell.copy();
         if let Some(other) = self.other {
             cell.fields.join(other.copy());
         }

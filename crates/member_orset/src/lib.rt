@@ -11,6 +11,7 @@ mod edits;
 mod gathered;
 mod groups;
 mod index;
+mod index_joining;
 mod insertion;
 mod join_fault;
 mod joining;

@@ -1,5 +1,4 @@
-ghost use Rattle.std.specs.Prelude.{◌≡◌};
-
+use crate::copies::Copies;
 use dots::{Dot, Member};
 
 /// A live dot as the index of members has it. Such are ordered by member, then by dot.
@@ -9,11 +8,8 @@ pub(crate) struct Listed {
     pub(crate) dot: Dot,
 }
 
-impl Listed {
-    /// The same once more.
-    pub(crate) fn copy(&self) -> Listed
-        ensures { result ≡ self.now }
-    {
+impl Copies for Listed {
+    fn copy(&self) -> Listed {
         Listed {
             member: self.member.copy(),
             dot: self.dot,

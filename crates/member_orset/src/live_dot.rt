@@ -1,5 +1,6 @@
 ghost use Rattle.std.specs.Prelude.{◌≡◌};
 
+use crate::copies::Copies;
 use crate::listed::Listed;
 use dots::{Dot, Member};
 use lww_registers::Fields;
@@ -20,6 +21,16 @@ impl LiveDot {
         Listed {
             member: self.member.copy(),
             dot: self.dot,
+        }
+    }
+}
+
+impl Copies for LiveDot {
+    fn copy(&self) -> LiveDot {
+        LiveDot {
+            dot: self.dot,
+            member: self.member.copy(),
+            fields: self.fields.copy(),
         }
     }
 }

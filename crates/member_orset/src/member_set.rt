@@ -14,10 +14,10 @@ ghost use Rattle.member_orset.specs.Shown.{row_read};
 ghost use Rattle.member_orset.specs.Seen.{dots_seen_below};
 
 use crate::agreement::cells_agree;
-use crate::copies::{copy_cells, copy_index};
+use crate::copies::copy_all;
 use crate::edits::{MOST_CELLS, assert_dot, kill_dot};
 use crate::groups::has_member;
-use crate::index::list_cells;
+use crate::index_joining::absorb_index;
 use crate::joining::{absorb_cells, joined_count, make_room};
 use crate::latest::row_in;
 use crate::listed::Listed;
@@ -264,7 +264,7 @@ impl MemberSet {
         ensures { IsJoinOf self.old other self.new }
     {
         absorb_cells(&self.context, &mut self.cells, &other.context, &other.cells);
-        list_cells(&mut self.index, &self.cells);
+        absorb_index(&mut self.index, &other.index, &self.cells);
         self.context.absorb(&other.context);
     }
 
@@ -309,8 +309,8 @@ impl MemberSet {
     pub fn copy(&self) -> Result<MemberSet, Memory>
         ensures { IfOk result (λ copy. IsUnchanged self.now copy) }
     {
-        let cells = copy_cells(*self.cells.allocator(), &self.cells)?;
-        let index = copy_index(*self.index.allocator(), &self.index)?;
+        let cells = copy_all(*self.cells.allocator(), &self.cells)?;
+        let index = copy_all(*self.index.allocator(), &self.index)?;
         match self.context.copy() {
             Ok(context) => Ok(MemberSet {
                 context,

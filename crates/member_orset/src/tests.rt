@@ -261,6 +261,17 @@ fn a_row_has_the_latest_of_a_members_dots(rt: HostRuntime) {
     assert_eq!(rt; dots.next(), None);
 }
 
+/// Checks that the first queue shows exactly these interfaces, in this order, each with its penalty.
+fn assert_rows(rt: &impl Abort, set: &MemberSet, want: &[(&str, u32)]) {
+    let mut rows = set.rows(0);
+    for (interface, number) in want {
+        let (shown, row) = rows.next().expect(rt, "a row");
+        assert_eq!(rt; shown.as_bytes(), interface.as_bytes());
+        assert_eq!(rt; row.penalty, *number);
+    }
+    assert!(rt; rows.next().is_none());
+}
+
 #[test]
 fn rows_are_in_the_order_of_their_interfaces(rt: HostRuntime) {
     let mut set = MemberSet::new(rt.alloc());
@@ -285,14 +296,35 @@ fn rows_are_in_the_order_of_their_interfaces(rt: HostRuntime) {
         set.assert(dot(&rt, 4, 1), &elsewhere, &penalty(&rt, 5, 5)),
         Ok(())
     );
-    let mut rows = set.rows(0);
-    for (want, number) in [("SIP/1", 2), ("SIP/2", 3), ("SIP/3", 1)] {
-        let (interface, row) = rows.next().expect(&rt, "a row");
-        assert_eq!(rt; interface.as_bytes(), want.as_bytes());
-        assert_eq!(rt; row.penalty, number);
-    }
-    assert!(rt; rows.next().is_none());
+    assert_rows(&rt, &set, &[("SIP/1", 2), ("SIP/2", 3), ("SIP/3", 1)]);
     assert!(rt; set.rows(2).next().is_none());
+}
+
+#[test]
+fn a_join_shows_the_members_of_both(rt: HostRuntime) {
+    let mut x = MemberSet::new(rt.alloc());
+    for (count, interface, number) in [(1, "SIP/1", 1), (2, "SIP/3", 3)] {
+        let fields = penalty(&rt, 5, number);
+        let answer = x.assert(dot(&rt, 0, count), &member(&rt, interface), &fields);
+        assert_eq!(rt; answer, Ok(()));
+    }
+    let mut y = MemberSet::new(rt.alloc());
+    for (count, interface, number) in [(1, "SIP/1", 4), (2, "SIP/2", 2)] {
+        let fields = penalty(&rt, 6, number);
+        let answer = y.assert(dot(&rt, 1, count), &member(&rt, interface), &fields);
+        assert_eq!(rt; answer, Ok(()));
+    }
+    assert_eq!(rt; y.kill(dot(&rt, 0, 2)), Ok(()));
+    let (x_copy, y_copy) = (x.copy().expect(&rt, "x"), y.copy().expect(&rt, "y"));
+    assert!(rt; x.join(y_copy).is_ok() && y.join(x_copy).is_ok());
+    for set in [&x, &y] {
+        assert_rows(&rt, set, &[("SIP/1", 4), ("SIP/2", 2)]);
+    }
+    // A member is shown as long as one of its dots is live.
+    assert_eq!(rt; x.kill(dot(&rt, 1, 1)), Ok(()));
+    assert_rows(&rt, &x, &[("SIP/1", 1), ("SIP/2", 2)]);
+    assert_eq!(rt; x.kill(dot(&rt, 0, 1)), Ok(()));
+    assert_rows(&rt, &x, &[("SIP/2", 2)]);
 }
 
 #[test]

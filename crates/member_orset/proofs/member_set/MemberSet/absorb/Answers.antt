@@ -1,13 +1,14 @@
-use Rattle.std.proofs.Common.{◌≡◌, length, min, vec_len, rules, arith, ap, sym, subst, ◌∙◌}
+use Rattle.std.proofs.Common.{◌≡◌, true, length, min, vec_len, rules, arith, ap, sym, subst, ◌∙◌}
 use Rattle.std.specs.FinSet as set
 use Rattle.std.specs.Vec.{vec_capacity}
 use Rattle.dots.specs.Values.{Tag}
 use Rattle.dots.specs.Conditions.{ConditionsAgree}
 use Rattle.member_orset.specs.Members.{CanBeJoined, both_joined, condition_of}
 use Rattle.member_orset.specs.Cells.{AreCells, entries_of, live_of, seen}
-use Rattle.member_orset.specs.Index.{IsIndex}
+use Rattle.member_orset.specs.Index.{IsIndex, is_held, is_listed_in_either}
 use Rattle.member_orset.specs.Joining.{AgreeInPairs, joined_entries}
 use Rattle.member_orset.proofs.CellLists.{Rise}
+use Rattle.member_orset.proofs.JoinedIndexes.{as_many, joined_listed}
 use Rattle.member_orset.proofs.Joins.{counted, joined_cells, joined_conditions, len_cells, new_rise, pairs}
 use Rattle.member_orset.proofs.member_set.MemberSet.absorb.Goals as goal
 
@@ -28,23 +29,36 @@ absorb_cells-requires-clause-room c =
     let others = ap length c.deref.ensures.value in
     omega (arith, ours, theirs, room, len, others, c.requires.cell_room)
 
-pub list_cells-requires-clause-rise : goal.list_cells-requires-clause-rise
-list_cells-requires-clause-rise c =
+pub absorb_index-requires-clause-rise : goal.absorb_index-requires-clause-rise
+absorb_index-requires-clause-rise c =
     let cs = c.self.inside.cells.items in
     let known = c.self.inside.context.dots in
     let more = c.other.inside.context.dots in
-    subst Rise (sym c.deref-2.ensures.value)
+    subst Rise (sym c.deref-3.ensures.value)
     (new_rise cs c.other.inside.cells.items known more c.absorb_cells.new.cells.items (c.absorb_cells.ensures.joined ∙ ap (joined_entries (set.contains known) (set.contains more) cs) c.deref.ensures.value)
     c.self.invariant.are_cells.sorted c.other.invariant.are_cells.sorted)
 
-pub list_cells-requires-clause-room : goal.list_cells-requires-clause-room
-list_cells-requires-clause-room c =
+pub absorb_index-requires-clause-listed : goal.absorb_index-requires-clause-listed
+absorb_index-requires-clause-listed c m d held =
+    let cs = c.self.inside.cells.items in
+    let known = c.self.inside.context.dots in
+    let more = c.other.inside.context.dots in
+    let new = c.absorb_cells.new.cells.items in
+    let index = c.self.inside.index.items in
+    subst (λ xs. is_listed_in_either index xs m d ≡ true) (sym c.deref-2.ensures.value)
+    (joined_listed cs c.other.inside.cells.items new known more index c.other.inside.index.items c.self.invariant.are_cells.sorted c.other.invariant.are_cells.sorted c.self.invariant.is_index c.other.invariant.is_index
+    (c.absorb_cells.ensures.joined ∙ ap (joined_entries (set.contains known) (set.contains more) cs) c.deref.ensures.value) m d (ap (λ xs. is_held (live_of xs) m d) (sym c.deref-3.ensures.value) ∙ held))
+
+pub absorb_index-requires-clause-room : goal.absorb_index-requires-clause-room
+absorb_index-requires-clause-room c =
     let ours = len_cells c.args.self.now c.self.inside.cells.items c.self.inside.context.dots c.self.invariant.are_cells (ap (λ s. s.live) c.self.view_is) in
     let theirs = len_cells c.args.other c.other.inside.cells.items c.other.inside.context.dots c.other.invariant.are_cells (ap (λ s. s.live) c.other.view_is) in
+    let own_index = as_many c.self.inside.cells.items c.self.inside.index.items c.self.invariant.are_cells.sorted c.self.invariant.is_index in
+    let their_index = as_many c.other.inside.cells.items c.other.inside.index.items c.other.invariant.are_cells.sorted c.other.invariant.is_index in
     let room : min (vec_capacity c.self.inside.cells) (vec_capacity c.self.inside.index) ≡ c.args.self.now.cell_room = ap (λ s. s.cell_room) c.self.view_is in
-    let len : vec_len c.self.inside.cells ≡ length c.self.inside.cells.items = search rules in
-    let others = ap length c.deref.ensures.value in
-    omega (arith, c.deref-2.ensures.len, c.absorb_cells.ensures.few, ours, theirs, room, len, others, c.requires.cell_room)
+    let len : vec_len c.self.inside.index ≡ length c.self.inside.index.items = search rules in
+    let others = ap length c.deref-2.ensures.value in
+    omega (arith, ours, theirs, own_index, their_index, room, len, others, c.requires.cell_room)
 
 pub invariant_of-self : goal.invariant_of-self
 invariant_of-self c =
@@ -58,7 +72,7 @@ invariant_of-self c =
       are_cells =
           subst (AreCells c.absorb_cells.new.cells.items) (sym c.absorb.ensures.dots)
           (joined_cells cs ds known more c.absorb_cells.new.cells.items is c.self.invariant.are_cells c.other.invariant.are_cells (omega (arith, count, c.requires.places.few)));
-      is_index = subst (λ xs. IsIndex c.list_cells.new.index.items (live_of xs)) c.deref-2.ensures.value c.list_cells.ensures.index;
+      is_index = subst (λ xs. IsIndex c.absorb_index.new.index.items (live_of xs)) c.deref-3.ensures.value c.absorb_index.ensures.index;
     }
 
 pub returns : goal.returns
