@@ -3,7 +3,7 @@ use crate::reading::is_word;
 use ami_text::Message;
 
 /// An action of the Manager Interface that asks something of a site.
-#[derive(Clone, Copy, Debug, PartialEq, Eq)]
+#[derive(Clone, Copy)]
 pub enum Action {
     /// Adds a member to a queue.
     QueueAdd,

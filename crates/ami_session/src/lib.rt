@@ -12,8 +12,6 @@ mod pending;
 mod reading;
 mod reply;
 mod session;
-#[cfg(test)]
-mod tests;
 
 pub use act::Act;
 pub use dots::Memory;

@@ -8,7 +8,7 @@ use status_report::{push_action_id_line, push_end, push_field};
 use std::alloc::Global;
 
 /// How a reply begins.
-#[derive(Clone, Copy, Debug, PartialEq, Eq)]
+#[derive(Clone, Copy)]
 pub enum Response {
     /// What was asked is done.
     Success,

@@ -21,7 +21,7 @@ use std::marker::Model;
 /// It holds the bytes that belong to no message yet: after a `None` at most 128 lines and a part of
 /// one, 132,353 bytes in all. Each byte is looked at and moved a bounded number of times, whatever
 /// the pieces.
-#[derive(Debug, Drop)]
+#[derive(Drop)]
 pub struct Feed {
     alloc: Global,
     bytes: Vec<u8>,

@@ -4,7 +4,7 @@ use crate::Memory;
 use std::alloc::Global;
 
 /// A name and its value.
-#[derive(Debug, Drop)]
+#[derive(Drop)]
 pub struct Field {
     pub name: Vec<u8>,
     pub value: Vec<u8>,

@@ -2,7 +2,7 @@ use crate::FeedFault;
 use crate::progress::Progress;
 
 /// What stands first in held bytes.
-#[derive(Clone, Copy, Debug)]
+#[derive(Clone, Copy)]
 pub enum Found {
     /// A message: its lines up to `end`; what follows its empty line begins at `next`.
     Message { end: usize, next: usize },

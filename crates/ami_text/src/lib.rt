@@ -26,8 +26,6 @@ mod sink;
 mod source;
 mod std_sink;
 mod std_source;
-#[cfg(test)]
-mod tests;
 
 pub use failed::Failed;
 pub use feed::Feed;

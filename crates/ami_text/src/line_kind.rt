@@ -1,5 +1,5 @@
 /// What a line is, by its content.
-#[derive(Clone, Copy, Debug, PartialEq, Eq)]
+#[derive(Clone, Copy)]
 pub enum LineKind {
     Empty,
     Full,

@@ -8,7 +8,7 @@ use std::marker::Model;
 
 /// A sink that keeps what it takes in memory, at most so many bytes a write, and may fail at one of
 /// its writes.
-#[derive(Debug, Drop)]
+#[derive(Drop)]
 pub struct MemorySink {
     bytes: Vec<u8>,
     most: usize,

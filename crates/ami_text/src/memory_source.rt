@@ -7,7 +7,7 @@ use std::marker::Model;
 
 /// A source over bytes in memory, that gives at most so many bytes a read and may fail at one of
 /// its reads.
-#[derive(Debug, Drop)]
+#[derive(Drop)]
 pub struct MemorySource<'a> {
     bytes: &'a [u8],
     at: usize,

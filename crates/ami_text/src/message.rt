@@ -15,7 +15,7 @@ use std::marker::Model;
 ///
 /// A line with a colon is a field: its name stands before the first colon and its value after it,
 /// each without spaces and tabs at its ends. Lines without a colon are left out.
-#[derive(Debug, Drop)]
+#[derive(Drop)]
 pub struct Message {
     fields: Vec<Field>,
 }

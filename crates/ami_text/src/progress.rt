@@ -1,6 +1,6 @@
 /// How far held bytes were looked at: whole lines up to `line`, of which `lines` aren't empty, and
 /// from there no LF up to `looked`.
-#[derive(Clone, Copy, Debug)]
+#[derive(Clone, Copy)]
 pub struct Progress {
     pub line: usize,
     pub lines: usize,

@@ -10,7 +10,7 @@ pub const WRITE_TRIES: u32 = 1000;
 
 /// A sink over a writer of std's. It doesn't tell which bytes it has taken; that the writer has
 /// them is a clause of its `write`.
-#[derive(Debug, Drop)]
+#[derive(Drop)]
 pub struct StdSink<W> {
     writer: W,
     failed: bool,

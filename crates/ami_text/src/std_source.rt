@@ -10,7 +10,7 @@ pub const READ_TRIES: u32 = 1000;
 
 /// A source over a reader of std's. It doesn't tell which bytes it has given; that they are the
 /// reader's is a clause of its `read`.
-#[derive(Debug, Drop)]
+#[derive(Drop)]
 pub struct StdSource<R> {
     reader: R,
     ended: bool,

@@ -51,14 +51,3 @@ pub fn joined_often(alloc: Global, runs: u64, times: u32) -> Result<u64, &'stati
         Err(ContextFault::Memory) => Err("out of memory"),
     }
 }
-
-#[cfg(test)]
-mod tests {
-    use super::*;
-
-    // The counts 1 to 6 of one site are one run, so each join adds 6 and 1.
-    #[test]
-    fn a_checksum_by_hand(rt: HostRuntime) {
-        assert_eq!(rt; joined_often(rt.alloc(), 3, 2), Ok(14));
-    }
-}

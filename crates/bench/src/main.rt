@@ -13,9 +13,15 @@ use std::{env, io};
 /// How often each workload does its work.
 const TIMES: u32 = 100;
 
-/// What a workload computed, or why it has no checksum.
+/// What a workload computed, or why it has no checksum. The small ones, done twice, are seen by hand: the counts 1 to 6 of
+/// a site are one run, so each join adds 6 and 1; three live dots of each of two sites are six in two runs, and of one
+/// site three in one; four members have the penalties 1 to 4.
 fn checksum(alloc: Global, word: &str) -> Result<u64, &'static str> {
     match word {
+        "join_3_runs" => joined_often(alloc, 3, 2),
+        "join_3_cells" => sets_joined_often(alloc, (0, 0), 3, 2),
+        "join_3_and_3_cells" => sets_joined_often(alloc, (0, 1), 3, 2),
+        "rows_of_4_members" => rows_read(alloc, 4, 2),
         "join_65536_runs" => joined_often(alloc, 65_536, TIMES),
         "join_32768_runs" => joined_often(alloc, 32_768, TIMES),
         "join_16384_cells" => sets_joined_often(alloc, (0, 0), 16_384, TIMES),

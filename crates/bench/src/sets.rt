@@ -132,16 +132,3 @@ pub fn rows_read(alloc: Global, cells: u64, times: u32) -> Result<u64, &'static 
 {
     named(checked_rows(alloc, cells, times))
 }
-
-#[cfg(test)]
-mod tests {
-    use super::*;
-
-    // Three live dots of each of two sites are six and two runs, and of one site three and one.
-    #[test]
-    fn checksums_by_hand(rt: HostRuntime) {
-        assert_eq!(rt; sets_joined_often(rt.alloc(), (0, 1), 3, 2), Ok(16));
-        assert_eq!(rt; sets_joined_often(rt.alloc(), (0, 0), 3, 2), Ok(8));
-        assert_eq!(rt; rows_read(rt.alloc(), 4, 2), Ok(20));
-    }
-}

@@ -1,5 +1,5 @@
 /// Why a context can't take more dots.
-#[derive(Clone, Copy, Debug, PartialEq, Eq, Hash)]
+#[derive(Clone, Copy, Debug, PartialEq, Eq)]
 pub enum ContextFault {
     /// It would have more than 65,536 runs.
     RunsFull,

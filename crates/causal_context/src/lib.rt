@@ -13,8 +13,6 @@ mod merge;
 mod run;
 mod search;
 mod splice;
-#[cfg(test)]
-mod tests;
 
 pub use context::Context;
 pub use context_fault::ContextFault;

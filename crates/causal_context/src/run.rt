@@ -7,7 +7,7 @@ use dots::SiteId;
 use std::marker::Model;
 
 /// A run: a longest stretch of the counts of one site. `1 <= first <= last <= 2^40`.
-#[derive(Clone, Copy, Debug, PartialEq, Eq, Hash)]
+#[derive(Clone, Copy, Debug, PartialEq, Eq)]
 pub struct Run {
     /// The site that made the adds.
     pub site: SiteId,

@@ -4,7 +4,7 @@ use crate::Memory;
 use std::marker::Model;
 
 /// Bytes that are kept whole, such as a report, an ActionID or a frame in a journal.
-#[derive(Debug, Drop)]
+#[derive(Drop)]
 pub struct Bytes {
     held: Vec<u8>,
 }

@@ -12,7 +12,7 @@ use std::marker::Model;
 
 /// The tag of one add: the site that made it, and which of that site's adds it is, from 1 to 2^40
 /// (RR-8083: a unique tag is a replica and a counter). Dots are ordered by site, then by count.
-#[derive(Clone, Copy, Debug, PartialEq, Eq, Hash)]
+#[derive(Clone, Copy, Debug, PartialEq, Eq)]
 pub struct Dot {
     site: SiteId,
     count: u64,

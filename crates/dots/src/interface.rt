@@ -13,7 +13,7 @@ use std::marker::Model;
 
 /// The interface of a member, such as `SIP/1001` (Asterisk's QueueAdd): a text of 1 to 80 bytes.
 /// Interfaces are compared byte by byte, a prefix first.
-#[derive(Debug, Drop, PartialEq, Eq, Hash)]
+#[derive(Debug, Drop, PartialEq, Eq)]
 pub struct Interface {
     text: Text80,
 }

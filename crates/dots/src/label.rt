@@ -4,7 +4,7 @@ use crate::Text80;
 
 /// How a member is shown: the member name and the state interface of Asterisk's QueueAdd. An empty one shows
 /// the interface in its place.
-#[derive(Debug, Drop, PartialEq, Eq, Hash)]
+#[derive(Debug, Drop, PartialEq, Eq)]
 pub struct Label {
     /// The member name.
     pub name: Text80,

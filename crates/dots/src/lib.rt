@@ -15,8 +15,6 @@ mod penalty;
 mod queue_name;
 mod site_id;
 mod stamp;
-#[cfg(test)]
-mod tests;
 mod text80;
 mod text_fault;
 

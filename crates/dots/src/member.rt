@@ -10,7 +10,7 @@ use std::cmp::Ordering;
 
 /// A member of a queue: an interface in the queue of this number, which counts the names of the queue list
 /// from 0. Members are ordered by queue, then by interface.
-#[derive(Debug, Drop, PartialEq, Eq, Hash)]
+#[derive(Debug, Drop, PartialEq, Eq)]
 pub struct Member {
     /// The number of the queue, from 0.
     pub queue: u16,

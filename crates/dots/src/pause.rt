@@ -6,7 +6,7 @@ use std::marker::Model;
 
 /// Whether a member is paused, and the reason (Asterisk's QueuePause). One that isn't paused has an empty
 /// reason (this project's own).
-#[derive(Debug, Drop, PartialEq, Eq, Hash)]
+#[derive(Drop, PartialEq, Eq)]
 pub struct Pause {
     paused: bool,
     reason: Text80,

@@ -5,7 +5,7 @@ use std::marker::Model;
 
 /// The penalty of a member in a queue, 0 to 2,147,483,647 (Asterisk's QueuePenalty): calls go to members of
 /// the least penalty first.
-#[derive(Clone, Copy, Debug, PartialEq, Eq, PartialOrd, Ord, Hash)]
+#[derive(Clone, Copy, PartialEq, Eq)]
 pub struct Penalty {
     number: u32,
 }

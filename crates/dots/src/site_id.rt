@@ -4,7 +4,7 @@ ghost use Rattle.dots.specs.Values.{IsSite};
 use std::marker::Model;
 
 /// The number of a site, 0 to 63 (RR-7506's replica). A site that starts anew takes a new number.
-#[derive(Clone, Copy, Debug, PartialEq, Eq, PartialOrd, Ord, Hash)]
+#[derive(Clone, Copy, Debug, PartialEq, Eq, PartialOrd, Ord)]
 pub struct SiteId {
     number: u16,
 }

@@ -1,5 +1,5 @@
 /// Why bytes are no short text. Of several faults the first of this list is answered (this project's own).
-#[derive(Clone, Copy, Debug, PartialEq, Eq, Hash)]
+#[derive(Clone, Copy, Debug, PartialEq, Eq)]
 pub enum TextFault {
     /// There are more than 80 bytes.
     TooLong,

@@ -7,7 +7,7 @@ use dots::Stamp;
 use std::marker::Model;
 
 /// A last-writer-wins register (RR-7506): nothing yet, or a value with the stamp under which it was written.
-#[derive(Debug, Drop)]
+#[derive(Drop)]
 pub struct Register<T> {
     entry: Option<(Stamp, T)>,
 }

@@ -1,5 +1,5 @@
 /// Why a set can't take what it is joined with. Where several causes stand, the first in this order is told.
-#[derive(Clone, Copy, Debug, PartialEq, Eq, Hash)]
+#[derive(Clone, Copy, Debug, PartialEq, Eq)]
 pub enum JoinFault {
     /// A dot is live on both sides with two members, or with a field of one stamp and two values.
     Conflict,

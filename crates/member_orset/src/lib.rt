@@ -27,8 +27,6 @@ mod rows;
 mod search;
 mod seen;
 mod set_builder;
-#[cfg(test)]
-mod tests;
 
 pub use cell::Cell;
 pub use cells::Cells;

@@ -10,7 +10,7 @@ use std::marker::Model;
 
 /// The name of one value in an arena: the index of its cell, and how many values that cell held before it. Ids are
 /// ordered by index, then by generation.
-#[derive(Clone, Copy, Debug, PartialEq, Eq, Hash)]
+#[derive(Clone, Copy, Debug, PartialEq, Eq)]
 pub struct CellId {
     index: u32,
     generation: u32,

@@ -11,8 +11,6 @@ mod chunk;
 mod chunks;
 mod places;
 mod slot;
-#[cfg(test)]
-mod tests;
 
 pub use arena::Arena;
 pub use arena_fault::ArenaFault;

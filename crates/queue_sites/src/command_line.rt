@@ -51,7 +51,11 @@ pub fn read_command_line<R: Env + AllocGlobal + Print + Eprint>(rt: &R) -> io::R
 }
 
 fn words<R: Env + AllocGlobal>(rt: &R) -> io::Result<Vec<String>> {
-    Ok(std::env::args(rt)?.collect(rt.alloc())?)
+    let mut words = Vec::new(rt.alloc());
+    for word in std::env::args(rt)? {
+        words.push(word)?;
+    }
+    Ok(words)
 }
 
 // The queue names of a command line that is right.

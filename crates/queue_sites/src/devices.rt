@@ -44,7 +44,7 @@ pub fn read_script<S: Source>(alloc: Global, reader: &mut S) -> Result<Vec<u8>, 
     Err(ScriptFault::Read)
 }
 
-/// Writes all the bytes. Fault: `Write` where the writer fails or takes none; a prefix was written.
+/// Writes all the bytes. Fault: `Write` where the writer fails or takes none; a front was written.
 pub fn write_all<W: Sink>(writer: &mut W, bytes: &[u8]) -> Result<(), ScriptFault>
     requires { W.failed writer.old ≡ false }
     ensures written { OnOk result (W.taken writer.new ≡ append_known (W.taken writer.old) bytes.now) }

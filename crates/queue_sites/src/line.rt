@@ -8,7 +8,7 @@ ghost use Rattle.queue_sites.specs.Seen.{sense};
 use bstr::ByteSlice;
 
 /// What a line of a script asks.
-#[derive(Clone, Copy, Debug, PartialEq, Eq)]
+#[derive(Clone, Copy)]
 pub enum Line<'a> {
     /// Nothing: it is empty, or begins with `#`.
     Nothing,

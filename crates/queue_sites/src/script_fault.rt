@@ -9,10 +9,10 @@ pub enum ScriptFault {
     /// The script has more than 16,777,216 bytes. Nothing was written.
     #[error("script too long")]
     TooLong,
-    /// The writer failed, or took no bytes. A prefix of the output was written.
+    /// The writer failed, or took no bytes. A front of the output was written.
     #[error("write failed")]
     Write,
-    /// Memory was wanting. A prefix of the output was written.
+    /// Memory was wanting. Nothing, or a front of the output, was written.
     #[error("out of memory")]
     Memory,
 }

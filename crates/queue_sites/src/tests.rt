@@ -7,72 +7,54 @@ use ami_text::{MemorySink, MemorySource};
 use dots::QueueName;
 use replica::QueueList;
 use std::alloc::Global;
-use std::test::Fail;
+use std::process::Abort;
 
-// How a script ended, and what it printed.
-#[derive(Drop)]
-struct Outcome {
-    end: Result<u64, ScriptFault>,
-    printed: Vec<u8>,
-}
-
-fn queues(alloc: Global, names: &[&str]) -> Result<QueueList, Fail> {
+fn queues(rt: &impl Abort, alloc: Global, names: &[&str]) -> QueueList {
     let mut list = Vec::new(alloc);
     for name in names {
-        list.push(QueueName::new(name.as_bytes())?)?;
+        let name = QueueName::new(name.as_bytes()).expect(rt, "a name");
+        list.push(name).expect(rt, "memory");
     }
-    Ok(QueueList::new(alloc, &list)?)
+    QueueList::new(alloc, &list).expect(rt, "a list")
 }
 
-fn run(alloc: Global, names: &[&str], script: &str) -> Result<Outcome, Fail> {
-    let mut reader = MemorySource::new(script.as_bytes(), 1024);
+// How a script of the queues `sales` and `support` ends that is given in pieces and written in short writes; it must
+// print what is wanted.
+fn end_of(
+    rt: &impl Abort,
+    alloc: Global,
+    script: &[u8],
+    wanted: &[u8],
+) -> Result<u64, ScriptFault> {
+    let mut reader = MemorySource::new(script, 1000);
     let mut writer = MemorySink::new(alloc, 7);
-    let end = run_script(alloc, &mut reader, &mut writer, queues(alloc, names)?);
-    let printed = Vec::from_slice(alloc, writer.as_slice())?;
-    Ok(Outcome { end, printed })
+    let list = queues(rt, alloc, &["sales", "support"]);
+    let end = run_script(alloc, &mut reader, &mut writer, list);
+    assert_eq!(rt; writer.as_slice(), wanted);
+    end
 }
-
-const ADDED: &str = "Response: Success\r\nMessage: Added interface to queue\r\n\r\n";
 
 #[test]
-fn a_status_of_two_queues(rt: HostRuntime) -> Result<(), Fail> {
-    let run = run(
-        rt.alloc(),
-        &["sales", "support"],
-        "0 ami Action: QueueStatus|ActionID: a1\n",
-    )?;
-    let wanted =
-        "Response: Success\r\nActionID: a1\r\nEventList: start\r\nMessage: Queue status will follow\r\n\r\n\
+fn what_scripts_print(rt: HostRuntime) {
+    let rows = [
+        (
+            "0 ami Action: QueueStatus|ActionID: a1\n",
+            0,
+            "Response: Success\r\nActionID: a1\r\nEventList: start\r\nMessage: Queue status will follow\r\n\r\n\
 Event: QueueParams\r\nActionID: a1\r\nQueue: sales\r\nCompleted: 0\r\nAbandoned: 0\r\n\r\n\
 Event: QueueParams\r\nActionID: a1\r\nQueue: support\r\nCompleted: 0\r\nAbandoned: 0\r\n\r\n\
-Event: QueueStatusComplete\r\nActionID: a1\r\nEventList: Complete\r\nListItems: 2\r\n\r\n";
-    assert_eq!(rt; run.end, Ok(0));
-    assert_eq!(rt; run.printed.as_slice(), wanted.as_bytes());
-    Ok(())
-}
-
-#[test]
-fn adds_that_are_refused(rt: HostRuntime) -> Result<(), Fail> {
-    let alloc = rt.alloc();
-    let script = "0 ami action:QueueAdd|queue:sales|INTERFACE:  SIP/1\r\n\
+Event: QueueStatusComplete\r\nActionID: a1\r\nEventList: Complete\r\nListItems: 2\r\n\r\n",
+        ),
+        (
+            "0 ami action:QueueAdd|queue:sales|INTERFACE:  SIP/1\r\n\
 # the same once more\n\n\
 00 ami Action: QueueAdd|Queue: sales|Interface: SIP/1|\n\
-0 ami Action: QueueAdd|Queue: nosuch|Interface: SIP/1";
-    let run = run(alloc, &["sales"], script)?;
-    let mut wanted = Vec::from_slice(alloc, ADDED.as_bytes())?;
-    wanted.extend_from_slice(
-        b"Response: Error\r\nMessage: Unable to add interface: Already there\r\n\r\n",
-    )?;
-    wanted.extend_from_slice(b"Response: Error\r\nMessage: No such queue\r\n\r\n")?;
-    assert_eq!(rt; run.end, Ok(0));
-    assert_eq!(rt; run.printed.as_slice(), wanted.as_slice());
-    Ok(())
-}
-
-#[test]
-fn lines_that_are_not_understood(rt: HostRuntime) -> Result<(), Fail> {
-    let alloc = rt.alloc();
-    let rows = [
+0 ami Action: QueueAdd|Queue: nosuch|Interface: SIP/1",
+            0,
+            "Response: Success\r\nMessage: Added interface to queue\r\n\r\n\
+Response: Error\r\nMessage: Unable to add interface: Already there\r\n\r\n\
+Response: Error\r\nMessage: No such queue\r\n\r\n",
+        ),
         ("0 dance", 1, "line 1: not understood\n"),
         ("#\n\n0 ami\n", 1, "line 3: not understood\n"),
         (" # a comment\n", 1, "line 1: not understood\n"),
@@ -110,87 +92,101 @@ fn lines_that_are_not_understood(rt: HostRuntime) -> Result<(), Fail> {
         ),
     ];
     for (script, unknown, wanted) in rows {
-        let run = run(alloc, &["sales"], script)?;
-        assert_eq!(rt; run.end, Ok(unknown), "{script}");
-        assert_eq!(rt; run.printed.as_slice(), wanted.as_bytes(), "{script}");
+        let end = end_of(&rt, rt.alloc(), script.as_bytes(), wanted.as_bytes());
+        assert_eq!(rt; end, Ok(unknown), "{script}");
     }
-    Ok(())
 }
 
-#[test]
-fn devices_that_fail(rt: HostRuntime) -> Result<(), Fail> {
-    let alloc = rt.alloc();
-    let script = "0 dance\n0 dance\n";
-    let mut reader = MemorySource::failing(script.as_bytes(), 8, 1);
-    let mut writer = MemorySink::new(alloc, 100);
-    let end = run_script(alloc, &mut reader, &mut writer, queues(alloc, &["a"])?);
-    assert_eq!(rt; end, Err(ScriptFault::Read));
-    assert_eq!(rt; writer.as_slice(), b"".as_slice());
-    let mut reader = MemorySource::new(script.as_bytes(), 1);
-    let mut writer = MemorySink::failing(alloc, 10, 4);
-    let end = run_script(alloc, &mut reader, &mut writer, queues(alloc, &["a"])?);
-    assert_eq!(rt; end, Err(ScriptFault::Write));
-    assert_eq!(rt;
-        writer.as_slice(),
-        b"line 1: not understood\nline 2: no".as_slice()
-    );
-    let mut reader = MemorySource::new(script.as_bytes(), 1);
-    let mut writer = MemorySink::new(alloc, 0);
-    let end = run_script(alloc, &mut reader, &mut writer, queues(alloc, &["a"])?);
-    assert_eq!(rt; end, Err(ScriptFault::Write));
-    Ok(())
-}
-
-// How a script ends that is given in pieces of at most so many bytes, and prints nothing.
-fn end_of(alloc: Global, script: &[u8], most: usize) -> Result<Result<u64, ScriptFault>, Fail>
+// How a script ends whose reader gives so many bytes at most and fails at the read behind so many.
+fn end_over(
+    rt: &impl Abort,
+    alloc: Global,
+    script: &[u8],
+    most: usize,
+    reads: u64,
+) -> Result<u64, ScriptFault>
     requires { 0 < most }
 {
-    let mut reader = MemorySource::new(script, most);
+    let mut reader = MemorySource::failing(script, most, reads);
     let mut writer = MemorySink::new(alloc, 100);
-    let end = run_script(alloc, &mut reader, &mut writer, queues(alloc, &["a"])?);
-    if !writer.as_slice().is_empty() {
-        return Err(Fail::from("nothing printed"));
-    }
-    Ok(end)
+    let end = run_script(alloc, &mut reader, &mut writer, queues(rt, alloc, &["a"]));
+    assert_eq!(rt; writer.as_slice(), b"".as_slice());
+    end
 }
 
 // A comment of so many bytes.
-fn comment_of(alloc: Global, length: usize) -> Result<Vec<u8>, Fail> {
-    Ok(vec![in alloc; b'#'; length]?)
+fn comment_of(rt: &impl Abort, alloc: Global, length: usize) -> Vec<u8> {
+    vec![in alloc; b'#'; length].expect(rt, "memory")
 }
 
 #[test]
-fn the_longest_script(rt: HostRuntime) -> Result<(), Fail> {
-    let alloc = rt.alloc();
-    let mut comment = comment_of(alloc, 16_777_216)?;
-    assert_eq!(rt; end_of(alloc, &comment, 1024)?, Ok(0));
-    comment.push(b'#')?;
-    assert_eq!(rt; end_of(alloc, &comment, 1024)?, Err(ScriptFault::TooLong));
-    assert_eq!(rt; end_of(alloc, &comment, 1)?, Err(ScriptFault::Read));
-    Ok(())
+fn readers_that_fail(rt: HostRuntime) {
+    // So many bytes, at most so many a read, and at most so many reads before one fails. A script is read in pieces of
+    // 1,024 bytes, 1,000,000 times at most, and the last read tells the end.
+    for (length, most, reads, wanted) in [
+        (1_000, 1_000, 1, Err(ScriptFault::Read)),
+        (1_000, 1_000, 2, Ok(0)),
+        (1_024, 2_000, 2, Ok(0)),
+        (1_025, 2_000, 2, Err(ScriptFault::Read)),
+        (999_999, 1, 2_000_000, Ok(0)),
+        (1_000_000, 1, 2_000_000, Err(ScriptFault::Read)),
+    ] {
+        let comment = comment_of(&rt, rt.alloc(), length);
+        let end = end_over(&rt, rt.alloc(), &comment, most, reads);
+        assert_eq!(rt; end, wanted, "{length} bytes");
+    }
 }
 
 #[test]
-fn the_member_past_the_limit(rt: HostRuntime) -> Result<(), Fail> {
+fn the_longest_script(rt: HostRuntime) {
+    let mut comment = comment_of(&rt, rt.alloc(), 16_777_216);
+    assert_eq!(rt; end_over(&rt, rt.alloc(), &comment, 1024, 1_000_000), Ok(0));
+    comment.push(b'#').expect(&rt, "memory");
+    let end = end_over(&rt, rt.alloc(), &comment, 1024, 1_000_000);
+    assert_eq!(rt; end, Err(ScriptFault::TooLong));
+}
+
+// What a writer has taken that takes so many bytes a write, and fails at the write behind so many.
+fn written(rt: &impl Abort, alloc: Global, most: usize, writes: u64) -> Vec<u8> {
+    let mut reader = MemorySource::new(b"0 dance\n0 dance\n", 1);
+    let mut writer = MemorySink::failing(alloc, most, writes);
+    let end = run_script(alloc, &mut reader, &mut writer, queues(rt, alloc, &["a"]));
+    assert_eq!(rt; end, Err(ScriptFault::Write));
+    Vec::from_slice(alloc, writer.as_slice()).expect(rt, "memory")
+}
+
+#[test]
+fn writers_that_fail(rt: HostRuntime) {
+    for (most, writes, wanted) in [
+        (10, 0, ""),
+        (10, 4, "line 1: not understood\nline 2: no"),
+        (0, 9, ""),
+    ] {
+        let taken = written(&rt, rt.alloc(), most, writes);
+        assert_eq!(rt; taken.as_slice(), wanted.as_bytes());
+    }
+}
+
+#[test]
+fn the_member_past_the_limit(rt: HostRuntime) {
     let alloc = rt.alloc();
     let mut script = Vec::new(alloc);
+    let mut wanted = Vec::new(alloc);
     for number in 0..16_385 {
         let line = format!(in alloc;
             "0 ami Action: QueueAdd|Queue: sales|Interface: SIP/{number}\n"
-        )?;
-        script.extend_from_slice(line.as_bytes())?;
+        ).expect(&rt, "memory");
+        script
+            .extend_from_slice(line.as_bytes())
+            .expect(&rt, "memory");
+        let reply = if number < 16_384 {
+            "Response: Success\r\nMessage: Added interface to queue\r\n\r\n"
+        } else {
+            "Response: Error\r\nMessage: Unable to change members: Full\r\n\r\n"
+        };
+        wanted
+            .extend_from_slice(reply.as_bytes())
+            .expect(&rt, "memory");
     }
-    let mut reader = MemorySource::new(&script, 1024);
-    let mut writer = MemorySink::new(alloc, 1_000);
-    let end = run_script(alloc, &mut reader, &mut writer, queues(alloc, &["sales"])?);
-    assert_eq!(rt; end, Ok(0));
-    let mut wanted = Vec::new(alloc);
-    for _ in 0..16_384 {
-        wanted.extend_from_slice(ADDED.as_bytes())?;
-    }
-    wanted.extend_from_slice(
-        b"Response: Error\r\nMessage: Unable to change members: Full\r\n\r\n",
-    )?;
-    assert_eq!(rt; writer.as_slice(), wanted.as_slice());
-    Ok(())
+    assert_eq!(rt; end_of(&rt, alloc, &script, &wanted), Ok(0));
 }

@@ -3,7 +3,7 @@ ghost use Rattle.dots.specs.Counts.{same_calls};
 ghost use Rattle.reading.specs.Plain.{calls_of};
 
 /// The calls that are counted (this project's own).
-#[derive(Clone, Copy, Debug)]
+#[derive(Clone, Copy)]
 pub enum Calls {
     /// Calls that were completed.
     Completed,

@@ -14,8 +14,6 @@ mod operation;
 mod queue_totals;
 mod setting;
 mod status_text;
-#[cfg(test)]
-mod tests;
 mod total;
 
 pub use calls::Calls;

@@ -1,7 +1,7 @@
 use dots::{Interface, Label, Penalty, QueueName};
 
 /// A change that a supervisor or a call distributor asks of one site (Asterisk's queue actions).
-#[derive(Debug, Drop)]
+#[derive(Drop)]
 pub enum Command {
     /// Adds the interface to the queue, with what is set of it. One that is paused has an empty reason.
     Add {

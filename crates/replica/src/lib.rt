@@ -13,8 +13,6 @@ mod refusal;
 mod replica;
 mod row;
 mod rows;
-#[cfg(test)]
-mod tests;
 
 pub use command::Command;
 pub use dots::Memory;

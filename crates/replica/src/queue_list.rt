@@ -6,7 +6,8 @@ use indexmap::IndexSet;
 use std::alloc::Global;
 use std::marker::Model;
 
-/// Why names are no list of queues. Of several faults the first of this list is answered (this project's own).
+/// Why names are no list of queues. Of several faults the first of this list is answered, but that a want of memory at
+/// one name hides a later name that comes twice (this project's own).
 #[derive(Clone, Copy, Debug, PartialEq, Eq)]
 pub enum ListFault {
     /// There is no name.
@@ -39,7 +40,7 @@ impl Model for QueueList {
 
 impl QueueList {
     /// The list of these names. Faults, in order: `Empty` where there is none; `TooMany` where there are more
-    /// than 256; `Twice` where two are the same; `Memory`.
+    /// than 256; `Twice` where two are the same; `Memory`, which is also told where it comes before the second of the two.
     pub fn new(alloc: Global, names: &[QueueName]) -> Result<QueueList, ListFault>
         ensures value { IfOk result (λ list. list ≡ names.now) }
         ensures within { OnOk result (AreQueues names.now) }

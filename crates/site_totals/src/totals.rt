@@ -12,7 +12,7 @@ use std::marker::Model;
 
 /// The running totals of all sites: for each site and queue how many calls were completed and how many
 /// abandoned (RR-7506's grow-only counter). A site without an entry in a queue has two zeros there.
-#[derive(Debug, Drop)]
+#[derive(Drop)]
 pub struct Totals {
     rows: Vec<Row>,
 }
@@ -173,6 +173,3 @@ impl Totals {
         Ok(Totals { rows })
     }
 }
-
-#[cfg(test)]
-mod tests;

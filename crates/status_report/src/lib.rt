@@ -16,8 +16,6 @@ mod lines;
 mod queues;
 mod request;
 mod status;
-#[cfg(test)]
-mod tests;
 
 pub use asks::{Answer, Ask};
 use dots::Bytes;

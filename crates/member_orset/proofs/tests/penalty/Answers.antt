@@ -1,5 +1,0 @@
-use Rattle.std.proofs.Common.{ap}
-use Rattle.member_orset.proofs.tests.penalty.Goals as goal
-
-pub returns : goal.returns
-returns g c none = let told = c.of-fields.ensures in let penalty = ap (λ f. f.penalty) none in absurd (cc (told, penalty))

@@ -1,0 +1,226 @@
+use crate::values::assert_same;
+use op_arena::{Arena, ArenaFault, CellId};
+use std::process::Abort;
+use std::sync::atomic::{AtomicU64, Ordering};
+
+// Asks for room.
+fn reserve<const LAST: u32>(
+    rt: &impl Abort,
+    arena: &mut Arena<u32, LAST>,
+    room: u32,
+    want: Result<(), ArenaFault>,
+) {
+    assert!(rt; arena.reserve(room) == want);
+}
+
+// Places a value, for which there must be room.
+fn place<const LAST: u32>(rt: &impl Abort, arena: &mut Arena<u32, LAST>, value: u32) -> CellId {
+    assert!(rt; arena.spare() > 0);
+    arena.place(value)
+}
+
+// Checks the value of an id.
+fn assert_value<const LAST: u32>(
+    rt: &impl Abort,
+    arena: &Arena<u32, LAST>,
+    id: CellId,
+    want: Option<u32>,
+) {
+    assert!(rt; arena.get(id).copied() == want);
+}
+
+// Takes the value of an id.
+fn take<const LAST: u32>(
+    rt: &impl Abort,
+    arena: &mut Arena<u32, LAST>,
+    id: CellId,
+    want: Option<u32>,
+) {
+    assert!(rt; arena.take(id) == want);
+}
+
+// Places a value, whose id must be this, and takes it out again.
+fn place_and_take<const LAST: u32>(
+    rt: &impl Abort,
+    arena: &mut Arena<u32, LAST>,
+    value: u32,
+    want: CellId,
+) {
+    let id = place(rt, arena, value);
+    assert_id(rt, id, want);
+    assert_value(rt, arena, id, Some(value));
+    take(rt, arena, id, Some(value));
+}
+
+// Checks an id.
+fn assert_id(rt: &impl Abort, id: CellId, want: CellId) {
+    assert!(rt; id.index() == want.index() && id.generation() == want.generation());
+}
+
+// Checks how many values there are, and how many cells are retired.
+fn assert_cells<const LAST: u32>(
+    rt: &impl Abort,
+    arena: &Arena<u32, LAST>,
+    values: u32,
+    retired: u32,
+) {
+    assert!(rt; arena.len() == values && arena.retired() == retired);
+}
+
+// Checks for how many more values there is room.
+fn assert_spare<const LAST: u32>(rt: &impl Abort, arena: &Arena<u32, LAST>, spare: u32) {
+    assert_eq!(rt; arena.spare(), spare);
+}
+
+#[test]
+fn retires_each_cell_after_one_value(rt: HostRuntime) {
+    let mut arena: Arena<u32, 0> = Arena::new(rt.alloc());
+    reserve(&rt, &mut arena, 3, Ok(()));
+    for index in 0..3 {
+        place_and_take(&rt, &mut arena, 7, CellId::new(index, 0));
+    }
+    for index in 0..3 {
+        assert_value(&rt, &arena, CellId::new(index, 0), None);
+    }
+    assert_cells(&rt, &arena, 0, 3);
+    reserve(&rt, &mut arena, 1_048_574, Err(ArenaFault::Full));
+}
+
+#[test]
+fn uses_a_cell_in_its_next_generation(rt: HostRuntime) {
+    let mut arena: Arena<u32, 1> = Arena::new(rt.alloc());
+    reserve(&rt, &mut arena, 1, Ok(()));
+    place_and_take(&rt, &mut arena, 7, CellId::new(0, 0));
+    place_and_take(&rt, &mut arena, 8, CellId::new(0, 1));
+    for generation in [0, 1] {
+        assert_value(&rt, &arena, CellId::new(0, generation), None);
+    }
+    take(&rt, &mut arena, CellId::new(0, 0), None);
+    assert_cells(&rt, &arena, 0, 1);
+}
+
+#[test]
+fn growth_changes_no_value(rt: HostRuntime) {
+    let mut arena: Arena<u32, 4_294_967_295> = Arena::new(rt.alloc());
+    reserve(&rt, &mut arena, 1, Ok(()));
+    let id = place(&rt, &mut arena, 42);
+    reserve(&rt, &mut arena, 100_000, Ok(()));
+    assert!(rt; arena.spare() >= 100_000);
+    assert_value(&rt, &arena, id, Some(42));
+    assert_cells(&rt, &arena, 1, 0);
+}
+
+// Adds one to the value of an id, if it is held.
+fn add_one(arena: &mut Arena<u32, 9>, id: CellId) -> bool {
+    match arena.get_mut(id) {
+        Some(value) => {
+            *value = value.saturating_add(1);
+            true
+        }
+        None => false,
+    }
+}
+
+#[test]
+fn a_value_is_written_by_its_id(rt: HostRuntime) {
+    let mut arena: Arena<u32, 9> = Arena::new(rt.alloc());
+    reserve(&rt, &mut arena, 1, Ok(()));
+    let id = place(&rt, &mut arena, 42);
+    assert!(rt; add_one(&mut arena, id));
+    assert_value(&rt, &arena, id, Some(43));
+    assert!(rt; !add_one(&mut arena, CellId::new(id.index(), 1)));
+}
+
+#[test]
+fn orders_ids_by_index_first(rt: HostRuntime) {
+    assert!(rt; CellId::new(1, 5) < CellId::new(2, 0));
+    assert!(rt; CellId::new(1, 5) < CellId::new(1, 6));
+}
+
+// A value that counts its drops.
+struct Counted<'a> {
+    drops: &'a AtomicU64,
+}
+
+impl Drop for Counted<'_> {
+    fn drop(self) {
+        let Counted { drops } = self;
+        drops.fetch_add(1, Ordering::SeqCst);
+    }
+}
+
+// Places a value that counts its drops, for which there must be room.
+fn place_counted<'a>(
+    rt: &impl Abort,
+    arena: &mut Arena<Counted<'a>, 3>,
+    drops: &'a AtomicU64,
+) -> CellId {
+    assert!(rt; arena.spare() > 0);
+    arena.place(Counted { drops })
+}
+
+fn assert_drops(rt: &impl Abort, drops: &AtomicU64, want: u64) {
+    assert_eq!(rt; drops.load(Ordering::SeqCst), want);
+}
+
+#[test]
+fn drops_each_value_once(rt: HostRuntime) {
+    let drops = AtomicU64::new(0);
+    let mut arena: Arena<Counted<'_>, 3> = Arena::new(rt.alloc());
+    assert!(rt; arena.reserve(40).is_ok());
+    for _ in 0..39 {
+        place_counted(&rt, &mut arena, &drops);
+    }
+    let last = place_counted(&rt, &mut arena, &drops);
+    assert_same(&rt, &arena.len(), &40);
+    let taken = arena.take(last);
+    assert_drops(&rt, &drops, 0);
+    drop(taken);
+    assert_drops(&rt, &drops, 1);
+    drop(arena);
+    assert_drops(&rt, &drops, 40);
+}
+
+#[test]
+fn fills_up_to_the_last_cell(rt: HostRuntime) {
+    let mut arena: Arena<u32, 9> = Arena::new(rt.alloc());
+    reserve(&rt, &mut arena, 1_048_577, Err(ArenaFault::Full));
+    assert_spare(&rt, &arena, 0);
+    reserve(&rt, &mut arena, 1_048_576, Ok(()));
+    assert_spare(&rt, &arena, 1_048_576);
+    for value in 0..1_048_576 {
+        let id = place(&rt, &mut arena, value);
+        assert_id(&rt, id, CellId::new(value, 0));
+        assert_value(&rt, &arena, id, Some(value));
+    }
+    assert_cells(&rt, &arena, 1_048_576, 0);
+    assert_spare(&rt, &arena, 0);
+    reserve(&rt, &mut arena, 1, Err(ArenaFault::Full));
+    for index in [16, 1_048_575] {
+        assert_value(&rt, &arena, CellId::new(index, 0), Some(index));
+    }
+}
+
+#[test]
+fn uses_the_last_taken_cell_first(rt: HostRuntime) {
+    let mut arena: Arena<u32, 9> = Arena::new(rt.alloc());
+    reserve(&rt, &mut arena, 2, Ok(()));
+    let first = place(&rt, &mut arena, 1);
+    let second = place(&rt, &mut arena, 2);
+    take(&rt, &mut arena, first, Some(1));
+    take(&rt, &mut arena, second, Some(2));
+    for id in [second, first] {
+        let next = place(&rt, &mut arena, 3);
+        assert_id(&rt, next, CellId::new(id.index(), 1));
+    }
+}
+
+fn may_cross<T: Send + Sync>(value: T) -> T {
+    value
+}
+
+#[test]
+fn may_cross_threads(rt: HostRuntime) {
+    let arena: Arena<u32, 9> = may_cross(Arena::new(rt.alloc()));
+    assert_cells(&rt, &arena, 0, 0);
+}

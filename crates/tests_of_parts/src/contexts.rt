@@ -1,0 +1,179 @@
+ghost use Rattle.std.specs.Prelude.{◌≤◌};
+
+use crate::values::{assert_same, dot, site};
+use causal_context::laws::{
+    covers_by_subset, has_longest_runs, has_one_list_of_runs, joins_in_any_order,
+};
+use causal_context::{Context, ContextFault, Run};
+use std::alloc::Global;
+use std::process::Abort;
+
+// Adds a dot.
+fn insert(rt: &impl Abort, context: &mut Context, number: u16, count: u64) {
+    assert_eq!(rt; context.insert(dot(rt, number, count)), Ok(()));
+}
+
+// The context of one dot.
+fn of_dot(rt: &impl Abort, alloc: Global, number: u16, count: u64) -> Context {
+    let mut context = Context::new(alloc);
+    insert(rt, &mut context, number, count);
+    context
+}
+
+// The counts of the first site from a first one on, each second one, as often as wanted: so many
+// runs.
+fn every_second(rt: &impl Abort, alloc: Global, first: u64, runs: u64) -> Context
+    requires few { runs ≤ 65536 }
+    requires start { first ≤ 2 }
+{
+    let mut context = Context::new(alloc);
+    for k in 0..runs {
+        insert(rt, &mut context, 0, first + 2 * k);
+    }
+    context
+}
+
+// Checks how many runs there are, and the prefix of the first site.
+fn assert_runs(rt: &impl Abort, context: &Context, runs: usize, prefix: u64) {
+    assert_eq!(rt; context.runs(), runs);
+    assert_eq!(rt; context.prefix(site(rt, 0)), prefix);
+}
+
+// Joins another context.
+fn join(rt: &impl Abort, context: &mut Context, other: &Context, want: Result<(), ContextFault>) {
+    assert!(rt; context.join(other) == want);
+}
+
+// Checks whether a context covers another.
+fn assert_covers(rt: &impl Abort, context: &Context, other: &Context, want: bool) {
+    assert!(rt; context.covers(other) == want);
+}
+
+// Checks that two contexts have the same runs.
+fn assert_same_runs(rt: &impl Abort, context: &Context, other: &Context) {
+    assert!(rt; context.as_slice() == other.as_slice());
+}
+
+#[test]
+fn unites_counts_that_meet(rt: HostRuntime) {
+    let mut context = Context::new(rt.alloc());
+    // A count that is added, and the runs and the prefix after it.
+    for (count, runs, prefix) in [(1, 1, 1), (3, 2, 1), (2, 1, 3)] {
+        insert(&rt, &mut context, 0, count);
+        assert_runs(&rt, &context, runs, prefix);
+    }
+}
+
+#[test]
+fn covers_what_was_joined(rt: HostRuntime) {
+    let mut context = every_second(&rt, rt.alloc(), 1, 1);
+    let other = of_dot(&rt, rt.alloc(), 1, 5);
+    assert_covers(&rt, &context, &other, false);
+    join(&rt, &mut context, &other, Ok(()));
+    assert_runs(&rt, &context, 2, 1);
+    assert_covers(&rt, &context, &other, true);
+    for (count, is_in) in [(4, false), (5, true)] {
+        assert_same(&rt, &context.contains(dot(&rt, 1, count)), &is_in);
+    }
+}
+
+#[test]
+fn a_copy_has_the_same_runs(rt: HostRuntime) {
+    let context = every_second(&rt, rt.alloc(), 1, 2);
+    let copy = context.copy().expect(&rt, "memory");
+    assert_same_runs(&rt, &copy, &context);
+    assert_same(&rt, &copy.iter().count(), &2);
+}
+
+#[test]
+fn takes_long_runs(rt: HostRuntime) {
+    let site = site(&rt, 0);
+    let mut context = Context::new(rt.alloc());
+    assert_eq!(rt; context.insert_run(site, 5, 1 << 40), Ok(()));
+    assert_runs(&rt, &context, 1, 0);
+    assert_eq!(rt; context.insert_run(site, 1, 4), Ok(()));
+    assert_runs(&rt, &context, 1, 1 << 40);
+}
+
+#[test]
+fn joins_many_runs_to_one(rt: HostRuntime) {
+    let mut context = every_second(&rt, rt.alloc(), 1, 65_536);
+    let other = every_second(&rt, rt.alloc(), 2, 65_535);
+    join(&rt, &mut context, &other, Ok(()));
+    assert_runs(&rt, &context, 1, 131_071);
+    let whole = Run {
+        site: site(&rt, 0),
+        first: 1,
+        last: 131_071,
+    };
+    assert_eq!(rt; context.as_slice(), [whole].as_slice());
+}
+
+#[test]
+fn refuses_one_run_too_many(rt: HostRuntime) {
+    let mut context = every_second(&rt, rt.alloc(), 1, 65_536);
+    let before = context.copy().expect(&rt, "memory");
+    let full = Err(ContextFault::RunsFull);
+    assert_same(&rt, &context.insert(dot(&rt, 1, 1)), &full);
+    assert_same(&rt, &context.insert_run(site(&rt, 1), 1, 2), &full);
+    assert_same_runs(&rt, &context, &before);
+}
+
+#[test]
+fn refuses_a_join_of_one_run_too_many(rt: HostRuntime) {
+    let mut context = every_second(&rt, rt.alloc(), 1, 65_536);
+    let before = context.copy().expect(&rt, "memory");
+    let other = of_dot(&rt, rt.alloc(), 1, 1);
+    let full = Err(ContextFault::RunsFull);
+    join(&rt, &mut context, &other, full);
+    assert_same(&rt, &context.prepare(&other), &full);
+    assert!(rt; !context.prepared(&other));
+    assert_same_runs(&rt, &context, &before);
+    // One dot that two runs lack makes room for one run.
+    insert(&rt, &mut context, 0, 2);
+    assert_runs(&rt, &context, 65_535, 3);
+    join(&rt, &mut context, &other, Ok(()));
+    assert_runs(&rt, &context, 65_536, 3);
+}
+
+// The first site's counts 1 to 3, and counts 5 and 6 with the second site's count 2.
+fn low_and_high(rt: &impl Abort, alloc: Global) -> (Context, Context) {
+    let mut low = Context::new(alloc);
+    let mut high = of_dot(rt, alloc, 1, 2);
+    for count in [1, 2, 3] {
+        insert(rt, &mut low, 0, count);
+    }
+    for count in [5, 6] {
+        insert(rt, &mut high, 0, count);
+    }
+    (low, high)
+}
+
+#[test]
+fn counts_the_runs_with_one_more_dot(rt: HostRuntime) {
+    let (low, high) = low_and_high(&rt, rt.alloc());
+    let first = site(&rt, 0);
+    for (count, runs) in [(4, 2), (5, 3), (7, 3), (8, 4)] {
+        assert_same(&rt, &low.runs_with(&high, first, count), &runs);
+    }
+    assert_same(&rt, &low.runs_with(&high, site(&rt, 1), (1 << 40) + 1), &4);
+}
+
+#[test]
+fn absorbs_what_was_prepared(rt: HostRuntime) {
+    let (mut low, high) = low_and_high(&rt, rt.alloc());
+    assert_same(&rt, &low.prepare(&high), &Ok(()));
+    assert_runs(&rt, &low, 1, 3);
+    assert!(rt; low.prepared(&high));
+    low.absorb(&high);
+    assert_runs(&rt, &low, 3, 3);
+    assert_covers(&rt, &low, &high, true);
+}
+
+#[test]
+fn laws_are_called() {
+    joins_in_any_order();
+    covers_by_subset();
+    has_one_list_of_runs();
+    has_longest_runs();
+}

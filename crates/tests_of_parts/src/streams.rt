@@ -1,0 +1,457 @@
+ghost use Rattle.std.specs.Prelude.{◌≡◌, ◌<◌, false};
+
+use crate::values::{assert_bytes, assert_same};
+use ami_text::{
+    Failed, Feed, FeedFault, Memory, MemorySink, MemorySource, Message, Sink, Source, StdSink,
+    StdSource, messages_so_far, stream_has_one_reading, stream_of_two_pieces,
+};
+use std::alloc::Global;
+use std::io;
+use std::io::{Error, ErrorKind, Read, Write};
+use std::process::Abort;
+
+// Takes the messages of what a feed holds, and counts them; the fault that follows them.
+fn drain(feed: &mut Feed, messages: &mut usize, most: usize) -> Option<FeedFault> {
+    for _ in 0..most {
+        match feed.next_message() {
+            Ok(Some(_)) => *messages = messages.saturating_add(1),
+            Ok(None) => return None,
+            Err(fault) => return Some(fault),
+        }
+    }
+    None
+}
+
+// Feeds a piece.
+fn feed_all(rt: &impl Abort, feed: &mut Feed, piece: &[u8]) {
+    assert!(rt; feed.feed(piece).is_ok());
+}
+
+// Checks how many messages the bytes have in pieces of this size, and the fault that follows them.
+fn assert_count(
+    rt: &impl Abort,
+    alloc: Global,
+    bytes: &[u8],
+    size: usize,
+    want: (usize, Option<FeedFault>),
+) {
+    let mut feed = Feed::new(alloc);
+    let mut messages = 0;
+    let mut fault = None;
+    for piece in bytes.chunks(size.max(1)) {
+        feed_all(rt, &mut feed, piece);
+        fault = drain(&mut feed, &mut messages, bytes.len());
+        if fault.is_some() {
+            break;
+        }
+    }
+    assert_same(rt, &messages, &want.0);
+    assert_same(rt, &fault, &want.1);
+}
+
+// The same whatever the pieces.
+fn assert_counts(rt: &impl Abort, alloc: Global, bytes: &[u8], want: (usize, Option<FeedFault>)) {
+    for size in [1, 2, 3, 7, 1024, bytes.len()] {
+        assert_count(rt, alloc, bytes, size, want);
+    }
+}
+
+// Adds bytes.
+fn push(rt: &impl Abort, bytes: &mut Vec<u8>, more: &[u8]) {
+    assert!(rt; bytes.extend_from_slice(more).is_ok());
+}
+
+// Adds a line with a content of this length.
+fn push_line(rt: &impl Abort, bytes: &mut Vec<u8>, length: usize, end: &[u8]) {
+    for _ in 0..length {
+        push(rt, bytes, b"x");
+    }
+    push(rt, bytes, end);
+}
+
+// So many lines, none of them empty.
+fn lines(rt: &impl Abort, alloc: Global, number: usize) -> Vec<u8> {
+    let mut bytes = Vec::new(alloc);
+    for _ in 0..number {
+        push(rt, &mut bytes, b"a: b\r\n");
+    }
+    bytes
+}
+
+// Checks what a message has under a name; nothing is wanted where `value` is empty.
+fn assert_value(rt: &impl Abort, message: &Message, name: &[u8], value: &[u8]) {
+    match message.get(name) {
+        Some(got) => assert!(rt; !got.is_empty() && *got == *value),
+        None => assert!(rt; value.is_empty()),
+    }
+}
+
+// The only message of the bytes.
+fn message_of(rt: &impl Abort, alloc: Global, bytes: &[u8]) -> Message {
+    let mut feed = Feed::new(alloc);
+    feed_all(rt, &mut feed, bytes);
+    let next = feed.next_message().expect(rt, "no fault");
+    next.expect(rt, "a message")
+}
+
+// Checks what the only message of the bytes has under a name, as above.
+fn assert_field(rt: &impl Abort, alloc: Global, bytes: &[u8], name: &[u8], value: &[u8]) {
+    assert_value(rt, &message_of(rt, alloc, bytes), name, value);
+}
+
+#[test]
+fn a_name_is_sought_in_either_case(rt: HostRuntime) {
+    // A message, a name, and its value; an empty value stands for none.
+    let rows: [(&[u8], &[u8], &[u8]); 9] = [
+        (b"Action: QueueAdd\r\n\r\n", b"Action", b"QueueAdd"),
+        (b"aCTION:QueueAdd\n\n", b"Action", b"QueueAdd"),
+        (b"Action: QueueAdd\n\n", b"Actio", b""),
+        (b"Action: QueueAdd\n\n", b"", b""),
+        (b": x\n\n", b"", b"x"),
+        (b"x\n\n", b"x", b""),
+        (b"Queue: one\nQUEUE: two\n\n", b"queue", b"one"),
+        (b"Queue\nQueue: sales\n\n", b"Queue", b"sales"),
+        (b"K\xc3\xa9y: v\n\n", b"k\xc3\x89y", b""),
+    ];
+    for (bytes, name, value) in rows {
+        assert_field(&rt, rt.alloc(), bytes, name, value);
+    }
+}
+
+#[test]
+fn a_value_has_no_blanks_at_its_ends(rt: HostRuntime) {
+    // A message with a queue, and its value; an empty value stands for none.
+    let rows: [(&[u8], &[u8]); 9] = [
+        (b"\t Queue \t:\t  a b \t\n\n", b"a b"),
+        (b"Queue: a:b\n\n", b"a:b"),
+        (b"Queue:\n\n", b""),
+        (b"Queue: \t \n\n", b""),
+        (b"Queue:\nQueue: sales\n\n", b""),
+        (b"Queue: a\x0b\x0c\n\n", b"a\x0b\x0c"),
+        (b"Queue: a\rb\r\n\r\n", b"a\rb"),
+        (b"Queue: QueueStatus\r\r\n\r\n", b"QueueStatus\r"),
+        (b"Queue: \xc3\xa9\xff\n\n", b"\xc3\xa9\xff"),
+    ];
+    for (bytes, value) in rows {
+        assert_field(&rt, rt.alloc(), bytes, b"queue", value);
+    }
+}
+
+#[test]
+fn messages_of_streams(rt: HostRuntime) {
+    let rows: [(&[u8], usize); 14] = [
+        (b"", 0),
+        (b"\n\r\n\n", 0),
+        (b"a: b\n", 0),
+        (b"a: b\r\n\r", 0),
+        (b"a: b\r\n\r\n", 1),
+        (b"\n\r\na: b\n\n\r\n", 1),
+        (b"a: b\n\nc: d\n\n", 2),
+        (b"a: b\nc: d\n\n", 1),
+        // Lines without a colon make a message with no fields.
+        (b"x\r\n\r\n", 1),
+        // Blanks alone are no empty line, nor is a CR before the line's end.
+        (b" \n", 0),
+        (b" \n\t\n\n", 1),
+        (b"a: b\n\r\r\n", 0),
+        (b"a: b\n\r\r\n\r\n", 1),
+        (b"a: b\r\n\r\rc: d\n\n", 1),
+    ];
+    for (bytes, messages) in rows {
+        assert_counts(&rt, rt.alloc(), bytes, (messages, None));
+    }
+}
+
+#[test]
+fn long_lines(rt: HostRuntime) {
+    let long = Some(FeedFault::LineTooLong);
+    let rows: [(usize, &[u8], usize, Option<FeedFault>); 10] = [
+        (1024, b"\n\n", 1, None),
+        (1024, b"\r\n\r\n", 1, None),
+        (1024, b"", 0, None),
+        (1024, b"\r", 0, None),
+        (1023, b"\r\r\n\n", 1, None),
+        (1024, b"\r\r", 0, long),
+        (1024, b"\ry", 0, long),
+        (1025, b"", 0, long),
+        (1025, b"\n\n", 0, long),
+        (1025, b"\r\n\r\n", 0, long),
+    ];
+    for (length, end, messages, fault) in rows {
+        let mut bytes = Vec::new(rt.alloc());
+        push_line(&rt, &mut bytes, length, end);
+        assert_counts(&rt, rt.alloc(), &bytes, (messages, fault));
+    }
+}
+
+#[test]
+fn many_lines(rt: HostRuntime) {
+    let many = Some(FeedFault::TooManyFields);
+    // What follows 128 lines, and the messages and the fault then. The end of a 129th line is the
+    // fault, and nothing before it.
+    let rows: [(&[u8], usize, Option<FeedFault>); 4] = [
+        (b"", 0, None),
+        (b"\r\n", 1, None),
+        (b"x", 0, None),
+        (b"x\n", 0, many),
+    ];
+    for (end, messages, fault) in rows {
+        let mut bytes = lines(&rt, rt.alloc(), 128);
+        push(&rt, &mut bytes, end);
+        assert_counts(&rt, rt.alloc(), &bytes, (messages, fault));
+    }
+}
+
+#[test]
+fn the_first_of_two_faults_is_told(rt: HostRuntime) {
+    // A line too long shows before its end.
+    let mut long = lines(&rt, rt.alloc(), 128);
+    push_line(&rt, &mut long, 1025, b"\n");
+    assert_counts(&rt, rt.alloc(), &long, (0, Some(FeedFault::LineTooLong)));
+    // Messages before a fault are given first, and empty lines don't count.
+    let mut late = lines(&rt, rt.alloc(), 128);
+    push(&rt, &mut late, b"\n\r\n\n");
+    push(&rt, &mut late, &lines(&rt, rt.alloc(), 129));
+    assert_counts(&rt, rt.alloc(), &late, (1, Some(FeedFault::TooManyFields)));
+}
+
+// Checks the next answer of a feed, which is a fault.
+fn assert_fault(rt: &impl Abort, feed: &mut Feed, want: FeedFault) {
+    match feed.next_message() {
+        Ok(_) => assert!(rt; false),
+        Err(fault) => assert!(rt; fault == want),
+    }
+}
+
+// Checks that bytes with a fault give it for good.
+fn assert_fault_stays(rt: &impl Abort, alloc: Global, bytes: &[u8], want: FeedFault) {
+    let mut feed = Feed::new(alloc);
+    feed_all(rt, &mut feed, bytes);
+    for _ in 0..3 {
+        assert_fault(rt, &mut feed, want);
+        feed_all(rt, &mut feed, b"\n\na: b\n\n");
+    }
+}
+
+#[test]
+fn faults_stay(rt: HostRuntime) {
+    let many = lines(&rt, rt.alloc(), 129);
+    assert_fault_stays(&rt, rt.alloc(), &many, FeedFault::TooManyFields);
+    let long = [b'x'; 1025];
+    assert_fault_stays(&rt, rt.alloc(), &long, FeedFault::LineTooLong);
+}
+
+// Sixteen messages of 128 full lines, one byte at a time: quadratic time would not end in time.
+#[test]
+fn bytes_are_looked_at_once(rt: HostRuntime) {
+    let mut bytes = Vec::new(rt.alloc());
+    for _ in 0..16 {
+        for _ in 0..128 {
+            push_line(&rt, &mut bytes, 1024, b"\r\n");
+        }
+        push(&rt, &mut bytes, b"\r\n");
+    }
+    assert_count(&rt, rt.alloc(), &bytes, 1, (16, None));
+}
+
+// Whether a feed has no message, and no fault.
+fn has_none(feed: &mut Feed) -> bool {
+    matches!(feed.next_message(), Ok(None))
+}
+
+// A million empty lines: quadratic time would not end in time.
+#[test]
+fn empty_lines_are_looked_at_once(rt: HostRuntime) {
+    let mut feed = Feed::new(rt.alloc());
+    for _ in 0..1_000_000u32 {
+        feed_all(&rt, &mut feed, b"\n");
+        assert!(rt; has_none(&mut feed));
+    }
+}
+
+// Feeds a piece, and once more where memory is refused.
+fn feed_again(feed: &mut Feed, piece: &[u8]) -> Result<(), Memory> {
+    match feed.feed(piece) {
+        Ok(()) => Ok(()),
+        Err(_) => feed.feed(piece),
+    }
+}
+
+// The next message, asked for once more where memory is refused.
+fn next_again(feed: &mut Feed) -> Result<Option<Message>, FeedFault> {
+    match feed.next_message() {
+        Err(FeedFault::Memory) => feed.next_message(),
+        next => next,
+    }
+}
+
+// Checks what the next message, asked for once more, has under a name.
+fn assert_next_again(rt: &impl Abort, feed: &mut Feed, name: &[u8], value: &[u8]) {
+    let next = next_again(feed).expect(rt, "no fault");
+    assert_value(rt, &next.expect(rt, "a message"), name, value);
+}
+
+// To be run with each allocation refused in turn: the messages are the same.
+#[test]
+fn refused_memory(rt: HostRuntime) {
+    let pieces: [&[u8]; 4] = [
+        b"\r\nAction: Queue",
+        b"Status\r\nQueue: a\r",
+        b"\n\r",
+        b"\nx\n\ny: z\n\n",
+    ];
+    let mut feed = Feed::new(rt.alloc());
+    for piece in pieces {
+        assert!(rt; feed_again(&mut feed, piece).is_ok());
+    }
+    assert_next_again(&rt, &mut feed, b"action", b"QueueStatus");
+    assert_next_again(&rt, &mut feed, b"x", b"");
+    assert_next_again(&rt, &mut feed, b"y", b"z");
+    assert!(rt; has_none(&mut feed));
+}
+
+// Reads once, and checks how many bytes come.
+fn read(rt: &impl Abort, source: &mut MemorySource<'_>, piece: &mut [u8], count: usize)
+    requires { source.old.failed ≡ false }
+    ensures { source.new.failed ≡ false }
+{
+    assert!(rt; source.read(piece) == Ok(count));
+}
+
+#[test]
+fn a_source_of_memory_gives_so_many_bytes_a_read(rt: HostRuntime) {
+    let mut piece = [0u8; 4];
+    let mut source = MemorySource::new(b"abcdef", 3);
+    read(&rt, &mut source, &mut piece, 3);
+    assert_bytes(&rt, &piece, b"abc\0");
+    read(&rt, &mut source, &mut piece[..2], 2);
+    assert_bytes(&rt, &piece, b"dec\0");
+    read(&rt, &mut source, &mut piece, 1);
+    read(&rt, &mut source, &mut piece, 0);
+}
+
+#[test]
+fn a_failing_source_fails_after_so_many_reads(rt: HostRuntime) {
+    let mut piece = [0u8; 4];
+    let mut source = MemorySource::failing(b"abc", 1, 2);
+    read(&rt, &mut source, &mut piece, 1);
+    read(&rt, &mut source, &mut piece, 1);
+    assert_same(&rt, &source.read(&mut piece), &Err(Failed));
+}
+
+#[test]
+fn a_source_gives_what_its_reader_gives(rt: HostRuntime) {
+    let mut piece = *b"abcd";
+    let bytes: &[u8] = b"xyz";
+    let mut source = StdSource::new(bytes);
+    assert_same(&rt, &source.read(&mut piece[..2]), &Ok(2));
+    assert_bytes(&rt, &piece, b"xycd");
+    assert_bytes(&rt, source.into_inner(), b"z");
+}
+
+// Writes once, and checks how many bytes are taken.
+fn write(rt: &impl Abort, sink: &mut MemorySink, bytes: &[u8], count: usize)
+    requires before { sink.old.failed ≡ false }
+    requires some { 0 < count }
+    ensures { sink.new.failed ≡ false }
+{
+    assert!(rt; sink.write(bytes) == Ok(count));
+}
+
+#[test]
+fn a_sink_of_memory_takes_so_many_bytes_a_write(rt: HostRuntime) {
+    let mut sink = MemorySink::new(rt.alloc(), 3);
+    write(&rt, &mut sink, b"abcdef", 3);
+    write(&rt, &mut sink, b"de", 2);
+    assert_same(&rt, &sink.write(b""), &Ok(0));
+    assert_bytes(&rt, sink.as_slice(), b"abcde");
+}
+
+#[test]
+fn a_failing_sink_fails_after_so_many_writes(rt: HostRuntime) {
+    let mut sink = MemorySink::failing(rt.alloc(), 9, 1);
+    write(&rt, &mut sink, b"abc", 3);
+    assert_same(&rt, &sink.write(b"d"), &Err(Failed));
+    assert_bytes(&rt, sink.as_slice(), b"abc");
+}
+
+#[test]
+fn a_sink_hands_what_it_takes_to_its_writer(rt: HostRuntime) {
+    let mut sink = StdSink::new(Vec::new(rt.alloc()));
+    assert_same(&rt, &sink.write(b"abc"), &Ok(3));
+    assert_bytes(&rt, sink.into_inner().as_slice(), b"abc");
+}
+
+// A device that answers so many errors of a kind, and then moves a byte.
+#[derive(Drop)]
+struct Faulty {
+    errors: u32,
+    kind: ErrorKind,
+}
+
+impl Faulty {
+    fn answer(&mut self) -> io::Result<()> {
+        if self.errors > 0 {
+            self.errors -= 1;
+            return Err(Error::from(self.kind));
+        }
+        Ok(())
+    }
+}
+
+impl Read for Faulty {
+    fn read(&mut self, buf: &mut [u8]) -> io::Result<usize> {
+        self.answer()?;
+        match buf.first_mut() {
+            Some(first) => {
+                *first = b'x';
+                Ok(1)
+            }
+            None => Ok(0),
+        }
+    }
+}
+
+impl Write for Faulty {
+    fn write(&mut self, buf: &[u8]) -> io::Result<usize> {
+        self.answer()?;
+        Ok(buf.len().min(1))
+    }
+
+    fn flush(&mut self) -> io::Result<()> {
+        Ok(())
+    }
+}
+
+// The errors of a device, and what a source or a sink over it answers: an interruption is borne a
+// thousand times, and any other error not once.
+const ANSWERS: [(u32, ErrorKind, Result<usize, Failed>); 3] = [
+    (999, ErrorKind::Interrupted, Ok(1)),
+    (1000, ErrorKind::Interrupted, Err(Failed)),
+    (1, ErrorKind::BrokenPipe, Err(Failed)),
+];
+
+#[test]
+fn a_reader_that_is_interrupted_is_read_again(rt: HostRuntime) {
+    for (errors, kind, want) in ANSWERS {
+        let mut source = StdSource::new(Faulty { errors, kind });
+        assert_same(&rt, &source.read(&mut [0u8; 4]), &want);
+        assert_same(&rt, &source.into_inner().errors, &0);
+    }
+}
+
+#[test]
+fn a_writer_that_is_interrupted_is_written_to_again(rt: HostRuntime) {
+    for (errors, kind, want) in ANSWERS {
+        let mut sink = StdSink::new(Faulty { errors, kind });
+        assert_same(&rt, &sink.write(b"ab"), &want);
+        assert_same(&rt, &sink.into_inner().errors, &0);
+    }
+}
+
+#[test]
+fn laws_are_called() {
+    messages_so_far();
+    stream_has_one_reading();
+    stream_of_two_pieces();
+}

@@ -1,0 +1,138 @@
+use crate::values::{assert_same, site};
+use site_totals::{Iter, Kind, TotalFault, TotalKey, Totals};
+use std::alloc::Global;
+use std::process::Abort;
+
+// Joins in one entry of small numbers.
+fn reach(rt: &impl Abort, totals: &mut Totals, number: u16, queue: u8, pair: (u16, u16)) {
+    let pair = (u64::from(pair.0), u64::from(pair.1));
+    let answer = totals.reach(site(rt, number), u16::from(queue), pair);
+    assert!(rt; answer.is_ok());
+}
+
+// Checks the totals of a site in a queue.
+fn assert_of(rt: &impl Abort, totals: &Totals, number: u16, queue: u16, want: (u64, u64)) {
+    let (completed, abandoned) = totals.of(site(rt, number), queue);
+    assert!(rt; completed == want.0 && abandoned == want.1);
+}
+
+// Checks the sum of the totals of a queue.
+fn assert_sum(rt: &impl Abort, totals: &Totals, queue: u16, completed: u64) {
+    let sum = totals.sum(queue);
+    assert!(rt; sum.0 == completed && sum.1 == 0);
+}
+
+// Joins other totals in.
+fn join(rt: &impl Abort, totals: &mut Totals, other: &Totals) {
+    assert!(rt; totals.join(other).is_ok());
+}
+
+// The totals of one entry in the first queue.
+fn of_entry(rt: &impl Abort, alloc: Global, number: u16, completed: u16) -> Totals {
+    let mut totals = Totals::new(alloc);
+    reach(rt, &mut totals, number, 0, (completed, 0));
+    totals
+}
+
+#[test]
+fn the_greater_total_is_kept(rt: HostRuntime) {
+    let mut totals = Totals::new(rt.alloc());
+    assert!(rt; totals.is_empty());
+    for completed in [3, 2] {
+        reach(&rt, &mut totals, 0, 0, (completed, 0));
+        assert_of(&rt, &totals, 0, 0, (3, 0));
+    }
+    join(&rt, &mut totals, &of_entry(&rt, rt.alloc(), 0, 2));
+    assert_of(&rt, &totals, 0, 0, (3, 0));
+}
+
+#[test]
+fn a_queue_has_the_sum_of_its_sites_totals(rt: HostRuntime) {
+    let mut totals = of_entry(&rt, rt.alloc(), 0, 3);
+    let other = of_entry(&rt, rt.alloc(), 1, 4);
+    join(&rt, &mut totals, &other);
+    let copy = totals.copy().expect(&rt, "memory");
+    assert!(rt; copy.same(&totals) && !copy.same(&other));
+    for both in [&totals, &copy] {
+        assert_of(&rt, both, 0, 0, (3, 0));
+        assert_of(&rt, both, 1, 0, (4, 0));
+        assert_sum(&rt, both, 0, 7);
+        assert_sum(&rt, both, 1, 0);
+    }
+}
+
+// Counts one more call of the first site in a queue.
+fn raise(rt: &impl Abort, totals: &mut Totals, kind: Kind, want: Result<u64, TotalFault>) {
+    assert!(rt; totals.raise(site(rt, 0), 2, kind) == want);
+}
+
+#[test]
+fn a_total_is_raised_up_to_its_limit(rt: HostRuntime) {
+    let mut totals = Totals::new(rt.alloc());
+    raise(&rt, &mut totals, Kind::Completed, Ok(1));
+    raise(&rt, &mut totals, Kind::Completed, Ok(2));
+    raise(&rt, &mut totals, Kind::Abandoned, Ok(1));
+    assert_of(&rt, &totals, 0, 2, (2, 1));
+    assert!(rt; totals.reach(site(&rt, 0), 2, (1_000_000_000, 0)).is_ok());
+    raise(
+        &rt,
+        &mut totals,
+        Kind::Completed,
+        Err(TotalFault::TotalFull),
+    );
+    assert_of(&rt, &totals, 0, 2, (1_000_000_000, 1));
+    raise(&rt, &mut totals, Kind::Abandoned, Ok(2));
+}
+
+// Checks the next entry.
+fn assert_next(rt: &impl Abort, entries: &mut Iter<'_>, number: u16, queue: u16, want: (u64, u64)) {
+    let (key, pair) = entries.next().expect(rt, "an entry");
+    assert!(rt; key == TotalKey::new(site(rt, number), queue));
+    assert!(rt; pair.0 == want.0 && pair.1 == want.1);
+}
+
+#[test]
+fn entries_come_by_site_and_queue_without_zeros(rt: HostRuntime) {
+    let mut totals = Totals::new(rt.alloc());
+    for (number, queue, pair) in [
+        (1, 0, (4, 0)),
+        (0, 255, (0, 1)),
+        (63, 7, (0, 0)),
+        (0, 3, (2, 5)),
+    ] {
+        reach(&rt, &mut totals, number, queue, pair);
+    }
+    let mut entries = totals.iter();
+    for (number, queue, pair) in [(0, 3, (2, 5)), (0, 255, (0, 1)), (1, 0, (4, 0))] {
+        assert_next(&rt, &mut entries, number, queue, pair);
+    }
+    assert!(rt; entries.next().is_none());
+}
+
+#[test]
+fn a_key_gives_its_site_and_queue_back(rt: HostRuntime) {
+    let key = TotalKey::new(site(&rt, 5), 6);
+    assert_same(&rt, &key.site().number(), &5);
+    assert_same(&rt, &key.queue(), &6);
+}
+
+// Checks whether there is room for other totals.
+fn assert_prepared(rt: &impl Abort, totals: &Totals, other: &Totals, want: bool) {
+    assert!(rt; totals.prepared(other) == want);
+}
+
+#[test]
+fn what_is_prepared_can_be_absorbed(rt: HostRuntime) {
+    let mut totals = Totals::new(rt.alloc());
+    let mut other = Totals::new(rt.alloc());
+    assert_prepared(&rt, &totals, &other, true);
+    for queue in 0..20 {
+        reach(&rt, &mut other, 0, queue, (1, 0));
+    }
+    assert_prepared(&rt, &totals, &other, false);
+    assert!(rt; totals.prepare(&other).is_ok());
+    assert!(rt; totals.is_empty() && totals.prepared(&other));
+    totals.absorb(&other);
+    assert!(rt; totals.same(&other));
+    assert_of(&rt, &totals, 0, 19, (1, 0));
+}

@@ -1,0 +1,195 @@
+//! What these tests make and assert alike.
+use dots::{Bytes, Interface, Label, Member, Penalty, QueueName, SiteId, Text80};
+use replica::{Command, QueueList, Replica, Row};
+use status_report::StatusRequest;
+use std::alloc::Global;
+use std::process::Abort;
+
+pub(crate) fn text(rt: &impl Abort, text: &str) -> Text80 {
+    Text80::new(text.as_bytes()).expect(rt, "a text")
+}
+
+pub(crate) fn site(rt: &impl Abort, number: u16) -> SiteId {
+    SiteId::new(number).expect(rt, "a site")
+}
+
+pub(crate) fn penalty(rt: &impl Abort, number: u32) -> Penalty {
+    Penalty::new(number).expect(rt, "a penalty")
+}
+
+pub(crate) fn interface(rt: &impl Abort, text: &[u8]) -> Interface {
+    Interface::new(text).expect(rt, "an interface")
+}
+
+pub(crate) fn name(rt: &impl Abort, text: &[u8]) -> QueueName {
+    QueueName::new(text).expect(rt, "a name")
+}
+
+pub(crate) fn label(rt: &impl Abort, name: &str, state: &str) -> Label {
+    Label {
+        name: text(rt, name),
+        state: text(rt, state),
+    }
+}
+
+// A member, told as the number of its queue and its interface.
+pub(crate) fn member(rt: &impl Abort, told: (u16, &str)) -> Member {
+    Member {
+        queue: told.0,
+        interface: interface(rt, told.1.as_bytes()),
+    }
+}
+
+pub(crate) fn names(rt: &impl Abort, alloc: Global, texts: &[&str]) -> Vec<QueueName> {
+    let mut names = Vec::new(alloc);
+    for text in texts {
+        let name = name(rt, text.as_bytes());
+        names.push(name).expect(rt, "memory");
+    }
+    names
+}
+
+pub(crate) fn list(rt: &impl Abort, alloc: Global, texts: &[&str]) -> QueueList {
+    let names = names(rt, alloc, texts);
+    QueueList::new(alloc, &names).expect(rt, "a list")
+}
+
+// The replica of a site that knows nothing yet.
+pub(crate) fn replica(rt: &impl Abort, alloc: Global, number: u16, queues: &[&str]) -> Replica {
+    Replica::new(alloc, site(rt, number), list(rt, alloc, queues))
+}
+
+// What an add sets: its penalty, whether it is paused, its name and its state interface.
+pub(crate) type Added = (u32, bool, &'static str, &'static str);
+
+// An add of an interface to a queue.
+pub(crate) fn add(rt: &impl Abort, queue: &[u8], of: &[u8], set: Added) -> Command {
+    Command::Add {
+        queue: name(rt, queue),
+        interface: interface(rt, of),
+        penalty: penalty(rt, set.0),
+        paused: set.1,
+        label: label(rt, set.2, set.3),
+    }
+}
+
+// A filter; none where the text is empty.
+fn filter(rt: &impl Abort, filter: &str) -> Option<Text80> {
+    if filter.is_empty() {
+        None
+    } else {
+        Some(text(rt, filter))
+    }
+}
+
+// A request with these filters, of a queue and of a member.
+pub(crate) fn request(
+    rt: &impl Abort,
+    alloc: Global,
+    filters: (&str, &str),
+    id: &[u8],
+) -> StatusRequest {
+    StatusRequest {
+        queue: filter(rt, filters.0),
+        member: filter(rt, filters.1),
+        action_id: Bytes::new(Vec::from_slice(alloc, id).expect(rt, "memory")),
+    }
+}
+
+// Asserts that a row has what an add has set, and an empty reason.
+pub(crate) fn assert_row(rt: &impl Abort, row: Option<Row<'_>>, wanted: Added) {
+    let row = row.expect(rt, "a row");
+    assert!(rt; row.penalty == wanted.0);
+    assert!(rt; row.paused == wanted.1 && row.reason.is_empty());
+    assert_text(rt, row.name, &[wanted.2]);
+    assert_text(rt, row.state, &[wanted.3]);
+}
+
+// Asserts what a replica shows of a member: what an add has set, or nothing.
+pub(crate) fn assert_member(
+    rt: &impl Abort,
+    replica: &Replica,
+    told: (u16, &str),
+    wanted: Option<Added>,
+) {
+    let of = member(rt, told);
+    let row = replica.row(&of);
+    match wanted {
+        Some(wanted) => assert_row(rt, row, wanted),
+        None => assert!(rt; row.is_none()),
+    }
+}
+
+// What is behind a text, with which bytes must begin.
+fn after<'a>(rt: &impl Abort, given: &'a [u8], text: &str) -> &'a [u8] {
+    given.strip_prefix(text.as_bytes()).expect(rt, text)
+}
+
+// Asserts that bytes are these texts, one behind the other.
+pub(crate) fn assert_text(rt: &impl Abort, given: &[u8], texts: &[&str]) {
+    let mut rest = given;
+    for text in texts {
+        rest = after(rt, rest, text);
+    }
+    assert!(rt; rest.is_empty(), "there is more");
+}
+
+const OPENING: &str =
+    "Response: Success\r\nEventList: start\r\nMessage: Queue status will follow\r\n\r\n";
+
+const CLOSING: &str = "Event: QueueStatusComplete\r\nEventList: Complete\r\nListItems: ";
+
+const NUMBERS: &[&str] = &["0", "1", "2", "3", "4", "5", "6"];
+
+// Asserts that a report is of these blocks between its first and its last.
+pub(crate) fn assert_report(rt: &impl Abort, given: &[u8], blocks: &[&str]) {
+    let mut rest = after(rt, given, OPENING);
+    for block in blocks {
+        rest = after(rt, rest, block);
+    }
+    let items = NUMBERS.get(blocks.len()).expect(rt, "a number");
+    assert_text(rt, rest, &[CLOSING, items, "\r\n\r\n"]);
+}
+
+// The block of a queue, with how many of its calls were completed and abandoned.
+macro_rules! queue_block {
+    ($queue:literal, $completed:literal, $abandoned:literal) => {
+        concat!(
+            "Event: QueueParams\r\nQueue: ",
+            $queue,
+            "\r\nCompleted: ",
+            $completed,
+            "\r\nAbandoned: ",
+            $abandoned,
+            "\r\n\r\n"
+        )
+    };
+}
+
+// The block of a member: its queue, name, interface, state interface, penalty, whether it is
+// paused, and why.
+macro_rules! member_block {
+    ($queue:literal, $name:literal, $of:literal, $state:literal, $penalty:literal, $paused:literal,
+        $reason:literal) => {
+        concat!(
+            "Event: QueueMember\r\nQueue: ",
+            $queue,
+            "\r\nName: ",
+            $name,
+            "\r\nLocation: ",
+            $of,
+            "\r\nStateInterface: ",
+            $state,
+            "\r\nMembership: dynamic\r\nPenalty: ",
+            $penalty,
+            "\r\nPaused: ",
+            $paused,
+            "\r\nPausedReason: ",
+            $reason,
+            "\r\n\r\n"
+        )
+    };
+}
+
+pub(crate) use member_block;
+pub(crate) use queue_block;

@@ -1,0 +1,47 @@
+"""Runs the whole gate, `rt ci`, and tells how much processor time each part of it took, crate by crate.
+
+The time is read five times a second of each process that `rt ci` starts. What ended between two looks, and what `rt` does
+itself, is told as the rest.
+"""
+import os
+import subprocess
+import threading
+import time
+
+from crates import TOP
+from watch import Watch
+
+PARTS = ("proof", "tests", "edits", "runs")
+
+
+def lines_of(table, all_seconds):
+    """The table in minutes of one processor, a line a crate, the longest first."""
+    minutes = {crate: [table.get((crate, part), 0) / 60 for part in PARTS] for crate, _ in table}
+    sums = [sum(it) for it in zip(*minutes.values())]
+    rows = [[crate, *it, sum(it)] for crate, it in sorted(minutes.items(), key=lambda row: -sum(row[1]))]
+    rows += [["rest", *[None] * len(PARTS), all_seconds / 60 - sum(sums)], ["all", *sums, all_seconds / 60]]
+    shown = lambda it: it if isinstance(it, str) else "" if it is None else f"{it:.1f}"
+    lines = [["crate", *PARTS, "all"], ["---", *["--:"] * (len(PARTS) + 1)], *[[shown(it) for it in row] for row in rows]]
+    return ["| " + " | ".join(line) + " |" for line in lines]
+
+
+def run():
+    """Runs the gate. Answers its status, its last line, and lines that tell its times."""
+    started = time.monotonic()
+    pipe = {"stdin": subprocess.DEVNULL, "stdout": subprocess.PIPE, "text": True, "errors": "replace"}
+    gate = subprocess.Popen(["rt", "ci"], cwd=TOP, **pipe)
+    watch, ended = Watch(gate.pid), threading.Event()
+    looks = threading.Thread(target=lambda: [watch.look() for _ in iter(lambda: ended.wait(0.2), True)])
+    looks.start()
+    last = ""
+    for line in gate.stdout:
+        print(last, end="", flush=True)
+        last = line
+    _, status, used = os.wait4(gate.pid, 0)
+    ended.set()
+    looks.join()
+    gate.returncode = os.waitstatus_to_exitcode(status)
+    minutes, seconds = (time.monotonic() - started) / 60, used.ru_utime + used.ru_stime
+    processors = len(os.sched_getaffinity(0))
+    said = f"{minutes:.1f} minutes on {processors} processors, {seconds / 60:.1f} minutes of one processor"
+    return gate.returncode, last.strip(), [f"the gate: {said}", *lines_of(watch.table(), seconds)]

@@ -1,0 +1,142 @@
+"""Runs the program from the command line: its words, its texts and its statuses, and each of its allocations refused."""
+import os
+import shutil
+import subprocess
+import sys
+import tempfile
+
+from crates import TOP, folder
+
+STORED = folder("queue_sites")
+BUILT = f"{STORED}/out/queue_sites"
+LONGEST_SCRIPT = 16_777_216
+SCRIPT = ["script", "1", "sales"]
+
+
+class Failed(Exception):
+    """What a run of the program did and should not have done."""
+
+
+def read(path):
+    with open(path, "rb") as file:
+        return file.read()
+
+
+def stored_words():
+    """The words of the stored run."""
+    return read(f"{STORED}/args").decode().split()
+
+
+def run(program, words, given=b"", out=subprocess.PIPE, place=TOP, more=None):
+    """Runs a program on these bytes, or on an open file, and answers its status, what it wrote and what it told."""
+    source = {"input": given} if isinstance(given, bytes) else {"stdin": given}
+    env = {**os.environ, **(more or {})}
+    return subprocess.run([program, *words], cwd=place, stdout=out, stderr=subprocess.PIPE, env=env, check=False, **source)
+
+
+def expect(is_so, what, ran):
+    if not is_so:
+        words = " ".join(map(repr, ran.args))
+        raise Failed(f"{words}: {what}; status {ran.returncode}, it wrote {ran.stdout!r} and told {ran.stderr!r}")
+
+
+def check(program, words, status, printed=b"", told=b"", **how):
+    """Runs a program: it ends with this status, and these bytes stand in what it writes and in what it tells."""
+    ran = run(program, words, **how)
+    expect(ran.returncode == status, f"the status is not {status}", ran)
+    expect(printed in (ran.stdout or b""), f"{printed!r} is not in what it wrote", ran)
+    expect(told in ran.stderr and bool(told) == bool(ran.stderr), f"{told!r} is not in what it told", ran)
+
+
+def statuses(program):
+    """The statuses of what is done, and of a line that isn't understood."""
+    check(program, SCRIPT, 0, printed=b"Event: QueueStatusComplete\r\n", given=b"0 ami Action: QueueStatus\n")
+    check(program, SCRIPT, 3, printed=b"line 1: not understood\n", given=b"0 dance")
+    check(program, ["--help"], 0, printed=b"Usage: queue_sites")
+    check(program, ["--version"], 0, printed=b"queue_sites 0.1.0")
+
+
+def wrong_words(program):
+    """What is told of wrong words."""
+    bad_list = b"queue_sites: bad queue list\n"
+    check(program, [], 2, told=b"Usage: queue_sites")
+    check(program, ["dance"], 2, told=b"unrecognized subcommand 'dance'")
+    check(program, ["script", "2", "sales"], 2, told=b"invalid value '2' for '<SITES>'")
+    check(program, ["script", "1"], 2, told=b"required arguments were not provided")
+    for queues in (["sales", "sales"], [""], ["a\nb"], ["a" * 81], [*map(str, range(257))]):
+        check(program, ["script", "1", *queues], 2, told=bad_list)
+    check(program, ["script", "1", b"\xff"], 2, told=b"queue_sites: the arguments are no text\n")
+
+
+def failures(program, room):
+    """What is told of a script that can't be read, is too long, or whose output can't be written."""
+    directory = os.open(room, os.O_RDONLY)
+    try:
+        check(program, SCRIPT, 1, told=b"queue_sites: read failed\n", given=directory)
+    finally:
+        os.close(directory)
+    comment = b"#" * LONGEST_SCRIPT
+    check(program, SCRIPT, 0, given=comment)
+    check(program, SCRIPT, 1, told=b"queue_sites: script too long\n", given=comment + b"#")
+    with open("/dev/full", "wb") as full:
+        check(program, SCRIPT, 1, told=b"queue_sites: write failed\n", given=b"0 dance", out=full)
+
+
+def from_another_folder(room):
+    """The program is found on the path, and runs from each folder."""
+    path = f"{TOP}:{os.environ['PATH']}"
+    given = {"given": read(f"{STORED}/stdin"), "place": room, "more": {"PATH": path}}
+    ran = run(shutil.which("queue_sites", path=path), stored_words(), **given)
+    expect(ran.stdout == read(f"{STORED}/stdout"), "it did not write what its file stdout has", ran)
+
+
+def refused_allocations(room):
+    """Refuses each allocation of the stored run in turn. Answers what was done."""
+    compiler = next(filter(None, map(shutil.which, ["cc", "gcc", "clang"])), None)
+    if not compiler:
+        return "no allocation was refused: there is no C compiler here"
+    library, counted = f"{room}/refuse_allocation.so", f"{room}/allocations"
+    source = f"{TOP}/tools/refuse_allocation.c"
+    subprocess.run([compiler, "-shared", "-fPIC", "-O1", "-o", library, source, "-ldl"], check=True)
+    words, given = stored_words(), read(f"{STORED}/stdin")
+
+    def refusing(number):
+        more = {"LD_PRELOAD": library, "REFUSED_ALLOCATION": str(number), "ALLOCATIONS_FILE": counted}
+        return run(BUILT, words, given, more=more)
+
+    whole = refusing(0)
+    expect(whole.stdout == read(f"{STORED}/stdout"), "it did not write what its file stdout has", whole)
+    allocations = int(read(counted))
+    for number in range(1, allocations + 1):
+        ran = refusing(number)
+        expect(ran.returncode == 1, f"the status is not 1 where allocation {number} is refused", ran)
+        expect(ran.stderr == b"queue_sites: out of memory\n", f"it told another text where allocation {number} is refused", ran)
+        expect(whole.stdout.startswith(ran.stdout), f"it wrote no front of the output where allocation {number} is refused", ran)
+    return f"each of the {allocations} allocations of the stored run refused in turn"
+
+
+def programs():
+    """The program as it is run, and as Rattle's own compiler builds it where the gate has."""
+    other = f"{BUILT}.by-rattle"
+    is_new = os.path.exists(other) and os.path.getmtime(other) >= os.path.getmtime(f"{BUILT}.o")
+    return ["./queue_sites", other] if is_new else ["./queue_sites"]
+
+
+def run_all():
+    """Runs all of it. Answers lines that tell what was run."""
+    run("./queue_sites", ["--version"])
+    with tempfile.TemporaryDirectory() as room:
+        for program in programs():
+            statuses(program)
+            wrong_words(program)
+            failures(program, room)
+        from_another_folder(room)
+        runs = f"its words, texts and statuses ({' and '.join(map(os.path.basename, programs()))})"
+        return [runs, refused_allocations(room)]
+
+
+if __name__ == "__main__":
+    try:
+        print("\n".join(run_all()))
+    except Failed as why:
+        sys.exit(f"test: {why}")

@@ -1,0 +1,48 @@
+/* Refuses one allocation of a program that it is loaded before (LD_PRELOAD).
+
+   REFUSED_ALLOCATION is the number of the allocation that is refused, counted from 1; 0 refuses none. Where
+   ALLOCATIONS_FILE names a file, the number of allocations is written to it when the program ends. */
+#define _GNU_SOURCE
+#include <dlfcn.h>
+#include <errno.h>
+#include <stdio.h>
+#include <stdlib.h>
+
+static void *(*next_malloc)(size_t);
+static void *(*next_realloc)(void *, size_t);
+static unsigned long count, refused;
+
+__attribute__((constructor)) static void begin(void) {
+    const char *number = getenv("REFUSED_ALLOCATION");
+    next_malloc = (void *(*)(size_t))dlsym(RTLD_NEXT, "malloc");
+    next_realloc = (void *(*)(void *, size_t))dlsym(RTLD_NEXT, "realloc");
+    count = 0;
+    refused = number ? strtoul(number, 0, 10) : 0;
+}
+
+__attribute__((destructor)) static void end(void) {
+    const char *name = getenv("ALLOCATIONS_FILE");
+    unsigned long counted = count;
+    FILE *file = name ? fopen(name, "w") : 0;
+    if (file) {
+        fprintf(file, "%lu\n", counted);
+        fclose(file);
+    }
+}
+
+static int is_refused(void) {
+    count += 1;
+    if (refused == 0 || count != refused) return 0;
+    errno = ENOMEM;
+    return 1;
+}
+
+void *malloc(size_t size) {
+    if (!next_malloc) next_malloc = (void *(*)(size_t))dlsym(RTLD_NEXT, "malloc");
+    return is_refused() ? 0 : next_malloc(size);
+}
+
+void *realloc(void *old, size_t size) {
+    if (!next_realloc) next_realloc = (void *(*)(void *, size_t))dlsym(RTLD_NEXT, "realloc");
+    return is_refused() ? 0 : next_realloc(old, size);
+}

@@ -1,0 +1,162 @@
+"""Runs what must pass, and tells at the end what was run and how long each part of it took.
+
+    ./test                     the whole gate, and the program from the command line
+    ./test CRATE..             what a change of these crates can break: layout, proofs, tests and stored runs of these and
+                               of the crates that stand on them, over the work that earlier checks kept, and the
+                               must-fail edits of these
+    ./test changed [COMMIT]    the same for the crates that differ from the commit; with none named from the last that the
+                               whole gate has passed here, or else from HEAD
+"""
+import os
+import shutil
+import subprocess
+import sys
+import time
+
+import gate
+import program_tests
+from build import at_once
+from crates import TOP, all_crates, below, folder, read, with_those_above
+
+PASSED = f"{TOP}/out/passed"
+PROGRAM = "queue_sites"
+
+
+class Parts:
+    """The parts that were run, each with its time."""
+
+    def __init__(self):
+        self.lines, self.has_failed = [], False
+
+    def run(self, name, part):
+        """Runs a part, which answers whether it passed and lines to be told."""
+        print(f"test: {name}", flush=True)
+        started = time.monotonic()
+        passed, told = part()
+        seconds = time.monotonic() - started
+        self.has_failed = self.has_failed or not passed
+        said = "passed" if passed else "FAILED"
+        self.lines += [f"test: {said} after {seconds // 60:.0f}:{seconds % 60:02.0f}: {name}", *told]
+
+
+def passes(words, place=TOP, **how):
+    """Whether a command ends with status 0."""
+    return subprocess.run(words, cwd=place, check=False, **{"stdin": subprocess.DEVNULL, **how}).returncode == 0
+
+
+def git(*words):
+    """What git prints, or nothing where it fails."""
+    ran = subprocess.run(["git", *words], cwd=TOP, capture_output=True, text=True, check=False)
+    return ran.stdout if ran.returncode == 0 else ""
+
+
+def program_part():
+    try:
+        return True, [f"    {it}" for it in program_tests.run_all()]
+    except program_tests.Failed as why:
+        return False, [f"    {why}"]
+
+
+def whole():
+    """Runs the whole gate, and then the program that it has built."""
+    clean, head = not git("status", "--porcelain"), git("rev-parse", "HEAD")
+    parts, last = Parts(), []
+
+    def gate_part():
+        status, line, told = gate.run()
+        last.append(line)
+        return status == 0, told
+
+    parts.run("the gate", gate_part)
+    if not parts.has_failed:
+        parts.run("the program from the command line", program_part)
+    print("\n".join(parts.lines))
+    if not parts.has_failed and clean and head:
+        os.makedirs(os.path.dirname(PASSED), exist_ok=True)
+        with open(PASSED, "w", encoding="utf-8") as file:
+            file.write(head)
+    print("test: FAILED" if parts.has_failed else last[0], flush=True)
+    return 1 if parts.has_failed else 0
+
+
+def laid_out(names):
+    """Whether the files of the crates are in the layout of rt fmt."""
+    rattle = os.path.join(os.path.dirname(os.path.realpath(shutil.which("rt"))), "rattle")
+    found = [
+        f"{at}/{file}"
+        for name in names
+        for part in ("src", "specs", "proofs")
+        for at, _, files in os.walk(f"{folder(name)}/{part}")
+        for file in files
+        if file.endswith((".rt", ".antt"))
+    ]
+    return passes([rattle, "fmt", "--check", *sorted(found)])
+
+
+def stored_run(name):
+    """Whether a program, run as its files say, writes what its file stdout has and ends with the status of its file status."""
+    content = lambda file: program_tests.read(f"{folder(name)}/{file}") if os.path.exists(f"{folder(name)}/{file}") else b""
+    words = content("args").decode().splitlines()
+    ran = subprocess.run([f"{folder(name)}/out/{name}", *words], input=content("stdin"), capture_output=True, check=False)
+    return ran.stdout == content("stdout") and ran.returncode == int(content("status") or 0)
+
+
+def is_program(name):
+    return os.path.exists(f"{folder(name)}/src/main.rt")
+
+
+def tested(name):
+    """Whether the tests of a crate pass, and the stored run of a program."""
+    if not passes(["rt", "test"], folder(name)):
+        return False
+    return not is_program(name) or (passes(["rt", "run", "--", "--version"], folder(name)) and stored_run(name))
+
+
+def of_crates(names):
+    """Runs what a change of these crates can break."""
+    crates = all_crates()
+    unknown = [it for it in names if it not in crates]
+    if unknown:
+        sys.exit(f"test: no such crate: {' '.join(unknown)}")
+    changed, parts = with_those_above(crates, names), Parts()
+    tops = [it for it in changed if not any(it in below(crates, other) for other in changed)]
+    parts.run(f"layout of {' '.join(changed)}", lambda: (laid_out(changed), []))
+    for name in tops:
+        words = ["rt", "all", "check", "--jobs", str(at_once())] if crates[name] else ["rt", "check"]
+        parts.run(f"proof of {name} and what it stands on", lambda it=name: (passes(words, folder(it)), []))
+    for name in changed if not parts.has_failed else []:
+        parts.run(f"tests of {name}", lambda it=name: (tested(it), []))
+    if not parts.has_failed:
+        parts.run(f"must-fail edits of {' '.join(names)}", lambda: (passes(["rt", "must-fail", *names]), []))
+    if not parts.has_failed and PROGRAM in changed:
+        parts.run("the program from the command line", program_part)
+    print("\n".join(parts.lines))
+    return 1 if parts.has_failed else 0
+
+
+def of_changes(commit):
+    """Runs what the changes since a commit can break."""
+    if not commit and os.path.exists(PASSED):
+        commit = program_tests.read(PASSED).decode().strip()
+    commit = commit or "HEAD"
+    if not git("rev-parse", "--verify", f"{commit}^{{commit}}"):
+        sys.exit(f"test: no such commit: {commit}")
+    files = [*git("diff", "--name-only", commit).split("\n"), *git("ls-files", "-o", "--exclude-standard").split("\n")]
+    crates, before = all_crates(), read(git("show", f"{commit}:crates.txt"))
+    folders = {it.split("/")[1] for it in files if it.startswith("crates/")}
+    names = [it for it in crates if it in folders or crates[it] != before.get(it)]
+    print(f"test: crates that differ from {commit[:12]}: {' '.join(names) or 'none'}", flush=True)
+    return of_crates(names) if names else 0
+
+
+def main(words):
+    if not words:
+        return whole()
+    if words[0] in ("-h", "--help") or (words[0] == "changed" and len(words) > 2):
+        print(__doc__.strip(), file=sys.stderr)
+        return 2
+    return of_changes(words[1] if len(words) > 1 else None) if words[0] == "changed" else of_crates(words)
+
+
+if __name__ == "__main__":
+    sys.exit(main(sys.argv[1:]))
