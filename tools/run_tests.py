@@ -112,23 +112,24 @@ def tested(name):
     return not is_program(name) or (passes(["rt", "run", "--", "--version"], folder(name)) and stored_run(name))
 
 
-def of_crates(names):
-    """Runs what a change of these crates can break."""
+def of_crates(names, is_program_changed=False):
+    """Runs what a change of these crates can break, and of what runs the program."""
     crates = all_crates()
     unknown = [it for it in names if it not in crates]
     if unknown:
         sys.exit(f"test: no such crate: {' '.join(unknown)}")
     changed, parts = with_those_above(crates, names), Parts()
     tops = [it for it in changed if not any(it in below(crates, other) for other in changed)]
-    parts.run(f"layout of {' '.join(changed)}", lambda: (laid_out(changed), []))
+    if names:
+        parts.run(f"layout of {' '.join(changed)}", lambda: (laid_out(changed), []))
     for name in tops:
         words = ["rt", "all", "check", "--jobs", str(at_once())] if crates[name] else ["rt", "check"]
         parts.run(f"proof of {name} and what it stands on", lambda it=name: (passes(words, folder(it)), []))
     for name in changed if not parts.has_failed else []:
         parts.run(f"tests of {name}", lambda it=name: (tested(it), []))
-    if not parts.has_failed:
+    if names and not parts.has_failed:
         parts.run(f"must-fail edits of {' '.join(names)}", lambda: (passes(["rt", "must-fail", *names]), []))
-    if not parts.has_failed and PROGRAM in changed:
+    if not parts.has_failed and (is_program_changed or PROGRAM in changed):
         parts.run("the program from the command line", program_part)
     print("\n".join(parts.lines))
     return 1 if parts.has_failed else 0
@@ -146,7 +147,7 @@ def of_changes(commit):
     folders = {it.split("/")[1] for it in files if it.startswith("crates/")}
     names = [it for it in crates if it in folders or crates[it] != before.get(it)]
     print(f"test: crates that differ from {commit[:12]}: {' '.join(names) or 'none'}", flush=True)
-    return of_crates(names) if names else 0
+    return of_crates(names, any(it.startswith("tools/") or it == PROGRAM for it in files))
 
 
 def main(words):

@@ -1,14 +1,14 @@
 -- The checks of the actions that are in code are those of their rows.
 use Rattle.std.proofs.Common.{◌≡◌, ℕ, Bool, true, false, cond, not, List, [], ◌∷◌, Option, Some, None, Result, Ok, Err, codes, is_none, is_some, unwrap_or, refl, sym, ap, ◌∙◌, true≢false, if◌then◌else◌}
 use Rattle.std.specs.Option.{option_map}
-use Rattle.ami_text.specs.Fields.{value_of}
+use Rattle.ami_text.specs.MessageFields.{value_of}
 use Rattle.replica.specs.declared.command.Command.{Command as Change}
 use Rattle.status_report.specs.declared.request.StatusRequest.{StatusRequest}
 use Rattle.ami_session.specs.declared.action.Action.{Action}
 use Rattle.ami_session.specs.declared.action.Action.TheVariants as action
 use Rattle.ami_session.specs.Actions.{KeepsToTable, FieldRow, Kind, Name, Text, Number, YesOrNo, queue, interface, penalty, paused, text, is_unread, first_absent, first_unreadable, name_of_field, failed_on, queue_add, queue_status}
-use Rattle.ami_session.specs.Checks.{missing, reading, optional_text, add_asked, status_asked, command_ask, status_ask}
-use Rattle.ami_session.specs.Reading.{Fields, name_of, text_of, penalty_of}
+use Rattle.ami_session.specs.Checks.{missing, read_or_fault, optional_text, add_asked, status_asked, command_ask, status_ask}
+use Rattle.ami_session.specs.FieldValues.{Fields, name_of, text_of, penalty_of}
 
 absent-add : (a b : Bool) → (if a then Some (codes "Queue") else if b then Some (codes "Interface") else None) ≡ name_of_field (cond a (Some queue) (cond b (Some interface) None))
 absent-add true b = refl
@@ -22,33 +22,33 @@ both-there false false h = (refl, refl)
 
 -- what is read, and what fails
 step : {T A : Type 0} (field : FieldRow) (o : Option T) (go : T → Result A (List ℕ)) (rest : Option FieldRow) → ((x : T) → failed_on (go x) ≡ name_of_field rest)
-    → failed_on (reading field.name o go) ≡ name_of_field (cond (not (is_some o)) (Some field) rest)
+    → failed_on (read_or_fault field.name o go) ≡ name_of_field (cond (not (is_some o)) (Some field) rest)
 step field None go rest h = refl
 step field (Some x) go rest h = h x
 
 -- a required name
 name-step : {A : Type 0} (field : FieldRow) (value : Option (List ℕ)) → is_none value ≡ false → (go : List ℕ → Result A (List ℕ)) (rest : Option FieldRow) → ((x : List ℕ) → failed_on (go x) ≡ name_of_field rest)
-    → failed_on (reading field.name (name_of (unwrap_or value [])) go) ≡ name_of_field (cond (is_unread Name value) (Some field) rest)
+    → failed_on (read_or_fault field.name (name_of (unwrap_or value [])) go) ≡ name_of_field (cond (is_unread Name value) (Some field) rest)
 name-step field None there go rest h = absurd (true≢false there)
 name-step field (Some value) there go rest h = step field (name_of value) go rest h
 
 -- an optional text, penalty and filter
 text-step : {A : Type 0} (field : FieldRow) (value : Option (List ℕ)) (go : List ℕ → Result A (List ℕ)) (rest : Option FieldRow) → ((x : List ℕ) → failed_on (go x) ≡ name_of_field rest)
-    → failed_on (reading field.name (text_of (unwrap_or value [])) go) ≡ name_of_field (cond (is_unread Text value) (Some field) rest)
+    → failed_on (read_or_fault field.name (text_of (unwrap_or value [])) go) ≡ name_of_field (cond (is_unread Text value) (Some field) rest)
 text-step field None go rest h = h []
 text-step field (Some value) go rest h = step field (text_of value) go rest h
 
 penalty-step : {A : Type 0} (field : FieldRow) (value : Option (List ℕ)) (go : ℕ → Result A (List ℕ)) (rest : Option FieldRow) → ((x : ℕ) → failed_on (go x) ≡ name_of_field rest)
-    → failed_on (reading field.name (penalty_of (unwrap_or value (codes "0"))) go) ≡ name_of_field (cond (is_unread Number value) (Some field) rest)
+    → failed_on (read_or_fault field.name (penalty_of (unwrap_or value (codes "0"))) go) ≡ name_of_field (cond (is_unread Number value) (Some field) rest)
 penalty-step field None go rest h = h 0
 penalty-step field (Some value) go rest h = step field (penalty_of value) go rest h
 
 filter-step : {A : Type 0} (field : FieldRow) (value : Option (List ℕ)) (go : Option (List ℕ) → Result A (List ℕ)) (rest : Option FieldRow) → ((x : Option (List ℕ)) → failed_on (go x) ≡ name_of_field rest)
-    → failed_on (reading field.name (optional_text value) go) ≡ name_of_field (cond (is_unread Text value) (Some field) rest)
+    → failed_on (read_or_fault field.name (optional_text value) go) ≡ name_of_field (cond (is_unread Text value) (Some field) rest)
 filter-step field None go rest h = h None
 filter-step {A} field (Some value) go rest h = by (text_of value)
   where
-    by : (o : Option (List ℕ)) → failed_on (reading field.name (option_map (λ text. Some text) o) go) ≡ name_of_field (cond (not (is_some o)) (Some field) rest)
+    by : (o : Option (List ℕ)) → failed_on (read_or_fault field.name (option_map (λ text. Some text) o) go) ≡ name_of_field (cond (not (is_some o)) (Some field) rest)
     by None = refl
     by (Some x) = h (Some x)
 

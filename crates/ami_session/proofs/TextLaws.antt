@@ -2,7 +2,7 @@
 use Rattle.std.proofs.Common.{◌≡◌, ℕ, List, [], ◌∷◌, ◌++◌, refl, sym, ap, ◌∙◌, append_assoc, append-nil}
 use Rattle.status_report.specs.declared.asks.Answer.{Answer}
 use Rattle.ami_session.specs.Checks.{SessionState, Reaction, Replies, Asks, Ends, reaction, after}
-use Rattle.ami_session.specs.Reading.{Fields}
+use Rattle.ami_session.specs.FieldValues.{Fields}
 use Rattle.ami_session.specs.Replies.{answer_reply}
 use Rattle.ami_session.specs.Text.{greeting, written, replies, session_text, asked, asks, after_all, NothingFollows, IsFrontOfMore}
 

@@ -2,11 +2,11 @@
 -- read, and the texts are this project's own).
 use Rattle.std.specs.Prelude.{ℕ, ◌≡◌, ◌++◌, Bool, true, false, not, List, [], ◌∷◌, Option, Some, None, Result, Ok, Err, codes, is_none, is_some, if◌then◌else◌}
 use Rattle.std.specs.List.{find}
-use Rattle.ami_text.specs.Fields.{value_of}
+use Rattle.ami_text.specs.MessageFields.{value_of}
 use Rattle.ami_session.specs.declared.action.Action.{Action}
 use Rattle.ami_session.specs.declared.action.Action.TheVariants as action
 use Rattle.ami_session.specs.Checks.{missing, ask_of}
-use Rattle.ami_session.specs.Reading.{Fields, is_word, text_of, name_of, penalty_of}
+use Rattle.ami_session.specs.FieldValues.{Fields, is_word, text_of, name_of, penalty_of}
 
 -- how a field is read: as a name, which has a byte, as a text, as a penalty, or as yes or no, which every value is
 pub data Kind : Type 0 where

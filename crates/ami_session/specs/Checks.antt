@@ -2,7 +2,7 @@
 use Rattle.std.specs.Prelude.{ℕ, Bool, true, false, not, ◌&&◌, List, [], ◌++◌, codes, Option, Some, None, unwrap_or, is_none, Result, Ok, Err, if◌then◌else◌}
 use Rattle.std.specs.Option.{option_map}
 use Rattle.std.specs.Str.{bytes_eq}
-use Rattle.ami_text.specs.Fields.{value_of}
+use Rattle.ami_text.specs.MessageFields.{value_of}
 use Rattle.replica.specs.declared.command.Command.{Command as Change}
 use Rattle.replica.specs.declared.command.Command.TheVariants.{Add}
 use Rattle.status_report.specs.declared.asks.Ask.{Ask}
@@ -10,7 +10,7 @@ use Rattle.status_report.specs.declared.asks.Ask.TheVariants.{Command, Status}
 use Rattle.status_report.specs.declared.request.StatusRequest.{StatusRequest}
 use Rattle.ami_session.specs.declared.action.Action.{Action}
 use Rattle.ami_session.specs.declared.action.Action.TheVariants.{QueueAdd, QueueStatus}
-use Rattle.ami_session.specs.Reading.{Fields, is_word, is_yes, id_of, text_of, name_of, penalty_of}
+use Rattle.ami_session.specs.FieldValues.{Fields, is_word, is_yes, id_of, text_of, name_of, penalty_of}
 use Rattle.ami_session.specs.Replies.{Waiting, reply}
 
 -- the value of a field; an absent one counts as empty
@@ -44,18 +44,18 @@ missing QueueAdd m =
 missing QueueStatus m = None
 
 -- what was read goes on; where nothing was, the field's name is the fault
-abbrev pub reading : {T A : Type 0} → List ℕ → Option T → (T → Result A (List ℕ)) → Result A (List ℕ)
-reading name None go = Err name
-reading name (Some x) go = go x
+abbrev pub read_or_fault : {T A : Type 0} → List ℕ → Option T → (T → Result A (List ℕ)) → Result A (List ℕ)
+read_or_fault name None go = Err name
+read_or_fault name (Some x) go = go x
 
 -- what a QueueAdd asks, or the first field that can't be read
 abbrev pub add_asked : Fields → Result Change (List ℕ)
 add_asked m =
-    reading (codes "Queue") (name_of (text_at (codes "Queue") m)) (λ queue.
-    reading (codes "Interface") (name_of (text_at (codes "Interface") m)) (λ interface.
-    reading (codes "Penalty") (penalty_of (unwrap_or (value_of (codes "Penalty") m) (codes "0"))) (λ penalty.
-    reading (codes "MemberName") (text_of (text_at (codes "MemberName") m)) (λ name.
-    reading (codes "StateInterface") (text_of (text_at (codes "StateInterface") m)) (λ state.
+    read_or_fault (codes "Queue") (name_of (text_at (codes "Queue") m)) (λ queue.
+    read_or_fault (codes "Interface") (name_of (text_at (codes "Interface") m)) (λ interface.
+    read_or_fault (codes "Penalty") (penalty_of (unwrap_or (value_of (codes "Penalty") m) (codes "0"))) (λ penalty.
+    read_or_fault (codes "MemberName") (text_of (text_at (codes "MemberName") m)) (λ name.
+    read_or_fault (codes "StateInterface") (text_of (text_at (codes "StateInterface") m)) (λ state.
     Ok (Add queue interface penalty (is_yes (text_at (codes "Paused") m)) (record { name = name; state = state })))))))
 
 -- a text that may be absent
@@ -66,8 +66,8 @@ optional_text (Some value) = option_map (λ text. Some text) (text_of value)
 -- what a QueueStatus asks, or the first field that can't be read
 abbrev pub status_asked : Fields → Result StatusRequest (List ℕ)
 status_asked m =
-    reading (codes "Queue") (optional_text (value_of (codes "Queue") m)) (λ queue.
-    reading (codes "Member") (optional_text (value_of (codes "Member") m)) (λ member.
+    read_or_fault (codes "Queue") (optional_text (value_of (codes "Queue") m)) (λ queue.
+    read_or_fault (codes "Member") (optional_text (value_of (codes "Member") m)) (λ member.
     Ok (record { queue = queue; member = member; action_id = id_of m })))
 
 -- an error, under the message's ActionID

@@ -1,8 +1,8 @@
 pub mod Actions
 pub mod Checks
 pub mod Logins
-pub mod Reading
+pub mod FieldValues
 pub mod Replies
 pub mod Responses
-pub mod Seen
+pub mod Views
 pub mod Text

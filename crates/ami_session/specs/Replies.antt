@@ -1,6 +1,6 @@
 -- The texts of replies. Their wording is this project's own; their lines are those of Asterisk's Manager Interface.
 use Rattle.std.specs.Prelude.{ℕ, List, [], ◌++◌, codes}
-use Rattle.status_report.specs.Lines.{field, action_id_line}
+use Rattle.status_report.specs.WrittenLines.{field, action_id_line}
 use Rattle.status_report.specs.declared.asks.Answer.{Answer}
 use Rattle.status_report.specs.declared.asks.Answer.TheVariants.{Done, Refused, Report}
 use Rattle.replica.specs.declared.refusal.Refusal.{Refusal}

@@ -4,7 +4,7 @@ use Rattle.std.specs.Prelude.{ℕ, ◌≡◌, List, [], ◌∷◌, ◌++◌, cod
 use Rattle.status_report.specs.declared.asks.Answer.{Answer}
 use Rattle.status_report.specs.declared.asks.Ask.{Ask}
 use Rattle.ami_session.specs.Checks.{SessionState, Reaction, Replies, Asks, Ends, reaction, after}
-use Rattle.ami_session.specs.Reading.{Fields}
+use Rattle.ami_session.specs.FieldValues.{Fields}
 use Rattle.ami_session.specs.Replies.{answer_reply}
 
 -- the line that greets a client

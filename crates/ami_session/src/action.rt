@@ -1,5 +1,5 @@
 //! The actions that a site answers, with their fields.
-use crate::reading::is_word;
+use crate::values::is_word;
 use ami_text::Message;
 
 /// An action of the Manager Interface that asks something of a site.

@@ -1,10 +1,10 @@
 //! What the messages of the actions ask, field by field.
 ghost use Rattle.std.specs.Prelude.{◌≡◌, Ok, Err, MatchResult, IfOk};
 ghost use Rattle.std.specs.Option.{option_map};
-ghost use Rattle.ami_session.specs.Reading.{id_of};
+ghost use Rattle.ami_session.specs.FieldValues.{id_of};
 ghost use Rattle.ami_session.specs.Checks.{text_at, optional_text, add_asked, status_asked};
 
-use crate::reading::{id_of, interface_of, is_yes, penalty_of, queue_of, text_of};
+use crate::values::{id_of, interface_of, is_yes, penalty_of, queue_of, text_of};
 use ami_text::Message;
 use dots::{Bytes, Label, Memory, Text80};
 use replica::Command;

@@ -1,10 +1,10 @@
-//! What the definition of a session's text promises. Each function has no body: its contract is the law.
+//! What the definition of a session's text promises. The functions have no body: their contracts are the laws.
 ghost use Rattle.std.specs.Prelude.{List};
 ghost use Rattle.status_report.specs.declared.asks.Answer.{Answer};
 ghost use Rattle.ami_session.specs.declared.action.Action.{Action};
 ghost use Rattle.ami_session.specs.Actions.{KeepsToTable};
 ghost use Rattle.ami_session.specs.Checks.{SessionState};
-ghost use Rattle.ami_session.specs.Reading.{Fields};
+ghost use Rattle.ami_session.specs.FieldValues.{Fields};
 ghost use Rattle.ami_session.specs.Text.{NothingFollows, IsFrontOfMore};
 
 /// Once a message has ended a session nothing behind it counts, neither for what is written nor for what the site is asked

@@ -9,9 +9,9 @@ mod action;
 mod fields;
 pub mod laws;
 mod pending;
-mod reading;
 mod reply;
 mod session;
+mod values;
 
 pub use act::Act;
 pub use dots::Memory;

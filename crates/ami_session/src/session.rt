@@ -1,13 +1,13 @@
 ghost use Rattle.std.specs.Prelude.{◌≡◌, Some, None, Ok, Err, true, false, codes, IfOk, OnOk, OnErr, MatchResult};
-ghost use Rattle.ami_session.specs.Reading.{id_of};
+ghost use Rattle.ami_session.specs.FieldValues.{id_of};
 ghost use Rattle.ami_session.specs.Replies.{reply};
 ghost use Rattle.ami_session.specs.Checks.{accepts, Replies, Ends, login_reaction, named_reaction, ask_of, reaction, reaction_to, after, after_action};
-ghost use Rattle.ami_session.specs.Seen.{seen};
+ghost use Rattle.ami_session.specs.Views.{seen};
 
 use crate::action::Action;
 use crate::fields::{Unreadable, action_id, queue_add, queue_status, text_at};
-use crate::reading::is_word;
 use crate::reply::{Response, field_error, message_reply};
+use crate::values::is_word;
 use crate::{Act, Pending};
 use ami_text::Message;
 use dots::{Bytes, Memory, Text80};

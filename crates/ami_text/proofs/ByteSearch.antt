@@ -7,7 +7,7 @@ use Rattle.std.proofs.lemmas.List.{drop_more, take-append-drop, get_or-take, len
 use Rattle.std.proofs.lemmas.List.Elements.{All-from_get_or}
 use Rattle.std.proofs.lemmas.List.Folds.{list_any_none, list_any_at}
 use Rattle.std.proofs.lemmas.List.Sums.{position_or_len_is}
-use Rattle.ami_text.specs.Fields.{field_of, trimmed, is_colon}
+use Rattle.ami_text.specs.MessageFields.{field_of, trimmed, is_colon}
 use Rattle.ami_text.specs.Lines.{HasNoLf}
 use Rattle.ami_text.proofs.WholeLines.{whole_lines, whole_lines-line}
 

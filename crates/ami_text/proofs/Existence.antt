@@ -1,15 +1,15 @@
--- Each stream has a reading.
+-- Each stream has an outcome.
 use Rattle.std.proofs.Common.{◌≡◌, ◌≢◌, ◌<◌, ◌≤◌, ◌==◌, ◌⊎◌, ℕ, zero, suc, Bool, true, false, cond, List, [], ◌∷◌, ◌++◌, length, refl, sym, ◌∙◌, ap, arith, All, append_assoc, length-append, inl, inr, ⊎_elim}
 use Rattle.std.proofs.lemmas.Bool.{cases_eq, cases_lt, eqb-false}
 use Rattle.std.proofs.lemmas.List.{append-nil}
 use Rattle.std.proofs.lemmas.List.Elements.{All-cons, All-head, All-nil, All-push, All-tail}
 use Rattle.ami_text.specs.declared.feed_fault.FeedFault.{FeedFault}
 use Rattle.ami_text.specs.declared.feed_fault.FeedFault.TheVariants.{LineTooLong, TooManyFields}
-use Rattle.ami_text.specs.Fields.{NameAndValue, fields_of}
+use Rattle.ami_text.specs.MessageFields.{NameAndValue, fields_of}
 use Rattle.ami_text.specs.Lines.{HasNoLf, content, IsEmptyLine, IsFullLine, ended}
 use Rattle.ami_text.specs.Stream.{FirstMessage, Gives, HasFault, IsRest, Ending, Rest, Fault, Reads}
 use Rattle.ami_text.proofs.Outcome.{last_part, no_line, rebuilt}
-use Rattle.ami_text.proofs.Reading.{gives-none}
+use Rattle.ami_text.proofs.Outcomes.{gives-none}
 use Rattle.ami_text.proofs.Scanning.{ended-push}
 use Rattle.ami_text.proofs.WholeLines.{onto, whole_lines}
 
@@ -209,5 +209,5 @@ reads_within (suc n) bytes le =
     (shows_first bytes)
 
 -- a list of messages, and then a rest or a fault
-pub reading : (bytes : List ℕ) → (messages : List (List NameAndValue)) × (ending : Ending) × Reads bytes messages ending
-reading bytes = reads_within (length bytes) bytes (omega arith)
+pub outcome : (bytes : List ℕ) → (messages : List (List NameAndValue)) × (ending : Ending) × Reads bytes messages ending
+outcome bytes = reads_within (length bytes) bytes (omega arith)

@@ -5,7 +5,7 @@ use Rattle.std.proofs.lemmas.List.Concat.{flat_map-append}
 use Rattle.std.proofs.lemmas.List.Elements.{All-append, All-head, All-nil, All-tail, All-weaker, filter_map-append}
 use Rattle.ami_text.specs.declared.feed_fault.FeedFault.{FeedFault}
 use Rattle.ami_text.specs.declared.progress.Progress.{Progress}
-use Rattle.ami_text.specs.Fields.{NameAndValue, field_of, fields_of}
+use Rattle.ami_text.specs.MessageFields.{NameAndValue, field_of, fields_of}
 use Rattle.ami_text.specs.Found.{EndsMessage, EndsInRest}
 use Rattle.ami_text.specs.Lines.{HasNoLf, content, IsEmptyLine, IsFullLine, ended}
 use Rattle.ami_text.specs.Progress.{IsReached}

@@ -7,7 +7,7 @@ use Rattle.std.proofs.lemmas.Bool.Decides.{same_from_decides}
 use Rattle.std.specs.Char.{to_ascii_lowercase}
 use Rattle.ami_text.specs.declared.field.Field.{Field}
 use Rattle.ami_text.specs.Field.{pair_of}
-use Rattle.ami_text.specs.Fields.{first_value, same_name}
+use Rattle.ami_text.specs.MessageFields.{first_value, same_name}
 
 -- a test of two names gives what the definition does
 pub same_name-tested : (a b : List ℕ) (r : Bool) → Decides r (map to_ascii_lowercase a ≡ map to_ascii_lowercase b) → same_name a b ≡ r

@@ -6,6 +6,6 @@ pub mod FieldLemmas
 pub mod Lists
 pub mod Outcome
 pub mod Parsing
-pub mod Reading
+pub mod Outcomes
 pub mod Scanning
 pub mod WholeLines

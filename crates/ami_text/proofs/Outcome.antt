@@ -5,7 +5,7 @@ use Rattle.std.proofs.lemmas.List.{append-nil, length-take-le}
 use Rattle.std.proofs.lemmas.List.Elements.{All-head, All-tail, All-weaker}
 use Rattle.ami_text.specs.declared.feed_fault.FeedFault.{FeedFault}
 use Rattle.ami_text.specs.declared.feed_fault.FeedFault.TheVariants.{LineTooLong, TooManyFields, Memory}
-use Rattle.ami_text.specs.Fields.{NameAndValue, fields_of}
+use Rattle.ami_text.specs.MessageFields.{NameAndValue, fields_of}
 use Rattle.ami_text.specs.Found.{EndsMessage}
 use Rattle.ami_text.specs.Lines.{HasNoLf, content, IsEmptyLine, IsFullLine, ended}
 use Rattle.ami_text.specs.Stream.{Begins, FirstMessage, HasFault, IsRest}

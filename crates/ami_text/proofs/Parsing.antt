@@ -3,7 +3,7 @@ use Rattle.std.proofs.Common.{◌≡◌, ℕ, ◌+◌, ◌-◌, List, [], ◌∷
 use Rattle.bstr.specs.Find.{Nowhere, NoneBefore, Passes, is_byte}
 use Rattle.std.proofs.lemmas.List.{take_rest, append-nil}
 use Rattle.std.proofs.lemmas.List.Elements.{filter_map-append}
-use Rattle.ami_text.specs.Fields.{NameAndValue, field_of, fields_of}
+use Rattle.ami_text.specs.MessageFields.{NameAndValue, field_of, fields_of}
 use Rattle.ami_text.specs.Lines.{HasNoLf, content, ended}
 use Rattle.ami_text.proofs.ByteSearch.{HasNoLf-all, whole_lines-found}
 use Rattle.ami_text.proofs.WholeLines.{whole_lines, whole_lines-part, whole_lines-ended}

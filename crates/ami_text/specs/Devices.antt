@@ -4,7 +4,7 @@ use Rattle.std.specs.Option.{option_map}
 
 -- a source: the bytes given and those left, the most of them a read gives, how many reads succeed
 -- before one fails (none fails where that is None), whether it has ended and whether it has failed
-pub record Reading : Type 0 where
+pub record SourceState : Type 0 where
   pub given : List ℕ
   pub left : List ℕ
   pub most : ℕ
@@ -14,7 +14,7 @@ pub record Reading : Type 0 where
 
 -- a sink: the bytes taken, the most of them a write takes, how many writes succeed before one
 -- fails, and whether it has failed
-pub record Writing : Type 0 where
+pub record SinkState : Type 0 where
   pub taken : List ℕ
   pub most : ℕ
   pub writes_left : Option ℕ

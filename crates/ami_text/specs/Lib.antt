@@ -1,8 +1,8 @@
 pub mod Devices
 pub mod Field
-pub mod Fields
+pub mod MessageFields
 pub mod Found
-pub mod Holding
+pub mod FeedStates
 pub mod LineKind
 pub mod Lines
 pub mod Progress

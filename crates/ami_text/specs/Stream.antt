@@ -2,7 +2,7 @@
 use Rattle.std.specs.Prelude.{◌≡◌, ◌<◌, ◌≤◌, ℕ, List, [], ◌∷◌, ◌++◌, length, All}
 use Rattle.ami_text.specs.declared.feed_fault.FeedFault.{FeedFault}
 use Rattle.ami_text.specs.declared.feed_fault.FeedFault.TheVariants.{LineTooLong, TooManyFields, Memory}
-use Rattle.ami_text.specs.Fields.{NameAndValue, fields_of}
+use Rattle.ami_text.specs.MessageFields.{NameAndValue, fields_of}
 use Rattle.ami_text.specs.Lines.{HasNoLf, content, IsEmptyLine, IsFullLine, ended}
 
 -- the bytes begin with empty lines, then have these lines of a message, at most 128, and then more

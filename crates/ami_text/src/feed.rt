@@ -1,7 +1,7 @@
 ghost use Rattle.std.specs.Prelude.{◌≡◌, ◌≢◌, ℕ, List, ◌<◌, ◌≤◌, ◌⊎◌, ◌↔◌, ◌++◌, [], ◌∷◌, None, Some, Ok, Err, drop, length, vec_len, is_ok, if◌then◌else◌, IsOk, IsErrOf, OnErr, OnOk, IfErr, IfOk, IfSome};
 ghost use Rattle.ami_text.specs.declared.feed_fault.FeedFault.{FeedFault};
-ghost use Rattle.ami_text.specs.Fields.{NameAndValue};
-ghost use Rattle.ami_text.specs.Holding.{IsStreamFault};
+ghost use Rattle.ami_text.specs.MessageFields.{NameAndValue};
+ghost use Rattle.ami_text.specs.FeedStates.{IsStreamFault};
 ghost use Rattle.ami_text.specs.Stream.{FirstMessage, Gives, HasFault, IsRest};
 
 use crate::found::Found;
@@ -32,10 +32,10 @@ pub struct Feed {
 
 impl Model for Feed {
     ghost use Rattle.std.specs.Prelude.{◌≤◌, drop, vec_len};
-    ghost use Rattle.ami_text.specs.Holding.{Holding, IsStreamFault};
+    ghost use Rattle.ami_text.specs.FeedStates.{FeedState, IsStreamFault};
     ghost use Rattle.ami_text.specs.Progress.{IsReached};
 
-    ghost Value = { Holding };
+    ghost Value = { FeedState };
 
     ghost view = { λ f. record { held = drop f.head f.bytes.items; fault = f.fault } };
 
@@ -134,8 +134,8 @@ impl Feed {
     }
 }
 
-/// Adds the piece to the bytes from `head` on. Where at least half of the bytes lie before `head`,
-/// they are dropped first, so that each byte is moved a bounded number of times.
+// Adds the piece to the bytes from `head` on. Where at least half of the bytes lie before `head`,
+// they are dropped first, so that each byte is moved a bounded number of times.
 fn append(bytes: &mut Vec<u8>, head: &mut usize, piece: &[u8]) -> Result<(), Memory>
     requires { head.old ≤ vec_len bytes.old }
     ensures held { let held = drop head.old bytes.old.items in
@@ -149,7 +149,7 @@ fn append(bytes: &mut Vec<u8>, head: &mut usize, piece: &[u8]) -> Result<(), Mem
     bytes.extend_from_slice(piece)
 }
 
-/// Drops the first bytes.
+// Drops the first bytes.
 fn drop_front(bytes: &mut Vec<u8>, count: usize)
     requires { count ≤ vec_len bytes.old }
     ensures { bytes.new.items ≡ drop count bytes.old.items }

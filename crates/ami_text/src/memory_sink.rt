@@ -17,9 +17,9 @@ pub struct MemorySink {
 }
 
 impl Model for MemorySink {
-    ghost use Rattle.ami_text.specs.Devices.{Writing};
+    ghost use Rattle.ami_text.specs.Devices.{SinkState};
 
-    ghost Value = { Writing };
+    ghost Value = { SinkState };
 
     ghost view = { λ s. record {
       taken = s.bytes.items;

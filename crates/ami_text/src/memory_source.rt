@@ -19,9 +19,9 @@ pub struct MemorySource<'a> {
 
 impl<'a> Model for MemorySource<'a> {
     ghost use Rattle.std.specs.Prelude.{◌<◌, ◌≤◌, length, take, drop};
-    ghost use Rattle.ami_text.specs.Devices.{Reading};
+    ghost use Rattle.ami_text.specs.Devices.{SourceState};
 
-    ghost Value = { Reading };
+    ghost Value = { SourceState };
 
     ghost view = { λ s. record {
       given = take s.at s.bytes.now;
@@ -116,8 +116,8 @@ impl<'a> Source for MemorySource<'a> {
     }
 }
 
-/// Copies from the front of the bytes what the piece has room for, at most `most` bytes, and
-/// returns how many.
+// Copies from the front of the bytes what the piece has room for, at most `most` bytes, and
+// returns how many.
 fn copy_front(bytes: &[u8], most: usize, piece: &mut [u8]) -> usize
     ensures count { result ≡ min (min (length bytes.now) most) (length piece.old) }
     ensures bytes { take result piece.new ≡ take result bytes.now }

@@ -1,6 +1,6 @@
 ghost use Rattle.std.specs.Prelude.{◌≡◌, ℕ, List, [], ◌∷◌, ◌++◌, map, All, IfOk, OnOk};
 ghost use Rattle.std.specs.Option.{option_copied};
-ghost use Rattle.ami_text.specs.Fields.{fields_of, first_value, value_of};
+ghost use Rattle.ami_text.specs.MessageFields.{fields_of, first_value, value_of};
 ghost use Rattle.ami_text.specs.Field.{pair_of};
 ghost use Rattle.ami_text.specs.Lines.{HasNoLf, ended};
 
@@ -39,7 +39,7 @@ impl Message {
         first_value(&self.fields, name).filter(|value| !value.is_empty())
     }
 
-    /// The message of these lines, each ended by LF.
+    // The message of these lines, each ended by LF.
     pub(crate) fn parse(alloc: Global, bytes: &[u8]) -> Result<Self, Memory>
         ensures { IfOk result (λ m. (lines : List (List ℕ)) →
             All HasNoLf lines → bytes.now ≡ ended lines → m ≡ fields_of lines) }
@@ -54,7 +54,7 @@ impl Message {
     }
 }
 
-/// The value of the first field of this name.
+// The value of the first field of this name.
 fn first_value<'a>(fields: &'a [Field], name: &[u8]) -> Option<&'a [u8]>
     ensures { option_copied result ≡ first_value name.now (map pair_of fields.now) }
 {
@@ -66,7 +66,7 @@ fn first_value<'a>(fields: &'a [Field], name: &[u8]) -> Option<&'a [u8]>
     None
 }
 
-/// Adds the field that a line is; a line without a colon is none.
+// Adds the field that a line is; a line without a colon is none.
 fn push_field(alloc: Global, fields: &mut Vec<Field>, line: &[u8]) -> Result<(), Memory>
     ensures { OnOk result (map pair_of fields.new.items
         ≡ map pair_of fields.old.items ++ fields_of (line.now ∷ [])) }

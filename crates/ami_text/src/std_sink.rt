@@ -69,7 +69,7 @@ impl<W: Write> Sink for StdSink<W> {
     }
 }
 
-/// Writes once, and tries again where the write is interrupted.
+// Writes once, and tries again where the write is interrupted.
 fn write_retrying<W: Write>(writer: &mut W, bytes: &[u8]) -> Result<usize, Failed>
     ensures count { IfOk result (λ n. n ≤ length bytes.now) }
     ensures writer { WriteAppends (W.contents writer.old) (W.contents writer.new) result bytes.now }

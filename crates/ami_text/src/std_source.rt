@@ -79,7 +79,7 @@ impl<R: Read> Source for StdSource<R> {
     }
 }
 
-/// Reads once, and tries again where the read is interrupted.
+// Reads once, and tries again where the read is interrupted.
 fn read_retrying<R: Read>(reader: &mut R, piece: &mut [u8]) -> Result<usize, Failed>
     ensures count { IfOk result (λ n. n ≤ length piece.new) }
     ensures reader { ReadConsumes (R.remaining reader.old) (R.remaining reader.new) result piece.new }

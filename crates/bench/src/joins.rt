@@ -4,7 +4,7 @@ use causal_context::{Context, ContextFault};
 use dots::{Dot, SiteId};
 use std::alloc::Global;
 
-/// Every second count of a site from a first one on: so many runs.
+// Every second count of a site from a first one on: so many runs.
 fn every_second(alloc: Global, site: SiteId, first: u64, runs: u64) -> Result<Context, ContextFault>
     requires few { runs ≤ 65536 }
     requires start { first ≤ 2 }
@@ -18,14 +18,14 @@ fn every_second(alloc: Global, site: SiteId, first: u64, runs: u64) -> Result<Co
     Ok(context)
 }
 
-/// Joins a copy of the even counts to a copy of the odd ones, and adds up how far the counts then go.
+// Joins a copy of the even counts to a copy of the odd ones, and adds up how far the counts then go.
 fn joined(odd: &Context, even: &Context, site: SiteId) -> Result<u64, ContextFault> {
     let mut context = odd.copy()?;
     context.join(even)?;
     Ok(context.prefix(site).wrapping_add(context.runs() as u64))
 }
 
-/// Joins two contexts of so many runs, so often, to one run.
+// Joins two contexts of so many runs, so often, to one run.
 fn checked(alloc: Global, runs: u64, times: u32) -> Result<u64, ContextFault>
     requires { runs ≤ 65536 }
 {

@@ -10,12 +10,12 @@ use sets::{rows_read, sets_joined_often};
 use std::alloc::Global;
 use std::{env, io};
 
-/// How often each workload does its work.
+// How often each workload does its work.
 const TIMES: u32 = 100;
 
-/// What a workload computed, or why it has no checksum. The small ones, done twice, are seen by hand: the counts 1 to 6 of
-/// a site are one run, so each join adds 6 and 1; three live dots of each of two sites are six in two runs, and of one
-/// site three in one; four members have the penalties 1 to 4.
+// What a workload computed, or why it has no checksum. The small ones, done twice, are seen by hand: the counts 1 to 6 of
+// a site are one run, so each join adds 6 and 1; three live dots of each of two sites are six in two runs, and of one
+// site three in one; four members have the penalties 1 to 4.
 fn checksum(alloc: Global, word: &str) -> Result<u64, &'static str> {
     match word {
         "join_3_runs" => joined_often(alloc, 3, 2),

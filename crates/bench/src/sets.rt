@@ -1,13 +1,13 @@
 ghost use Rattle.std.specs.Prelude.{◌≤◌};
 ghost use Rattle.member_orset.specs.Members.{HasField};
-ghost use Rattle.member_orset.specs.Cells.{dot_fields};
+ghost use Rattle.member_orset.specs.Reads.{dot_fields};
 
 use dots::{Dot, Interface, Member, Penalty, SiteId, Stamp};
 use lww_registers::{Fields, Register};
 use member_orset::{JoinFault, MemberSet};
 use std::alloc::Global;
 
-/// The digits of a number below 100,000, as an interface of queue 0.
+// The digits of a number below 100,000, as an interface of queue 0.
 fn member(number: u64) -> Result<Member, JoinFault> {
     let mut bytes = [b'0'; 5];
     let mut left = number;
@@ -24,7 +24,7 @@ fn member(number: u64) -> Result<Member, JoinFault> {
     }
 }
 
-/// Fields of which the penalty is set.
+// Fields of which the penalty is set.
 fn penalty(stamp: Stamp, penalty: Penalty) -> Fields
     ensures { HasField (dot_fields result) }
 {
@@ -33,7 +33,7 @@ fn penalty(stamp: Stamp, penalty: Penalty) -> Fields
     fields
 }
 
-/// Lets a dot be live, with a member of its own and a penalty.
+// Lets a dot be live, with a member of its own and a penalty.
 fn assert_one(set: &mut MemberSet, site: SiteId, count: u64) -> Result<(), JoinFault> {
     let (Some(dot), Some(stamp)) = (Dot::new(site, count), Stamp::new(count, site)) else {
         return Ok(());
@@ -44,7 +44,7 @@ fn assert_one(set: &mut MemberSet, site: SiteId, count: u64) -> Result<(), JoinF
     set.assert(dot, &member(count)?, &penalty(stamp, number))
 }
 
-/// A set in which so many dots of a site are live, each of a member of its own.
+// A set in which so many dots of a site are live, each of a member of its own.
 fn live_dots(alloc: Global, site: u16, cells: u64) -> Result<MemberSet, JoinFault>
     requires { cells ≤ 16384 }
 {
@@ -58,7 +58,7 @@ fn live_dots(alloc: Global, site: u16, cells: u64) -> Result<MemberSet, JoinFaul
     Ok(set)
 }
 
-/// How many dots are live in the join of copies of two sets, and how many runs they know.
+// How many dots are live in the join of copies of two sets, and how many runs they know.
 fn joined(first: &MemberSet, second: &MemberSet) -> Result<u64, JoinFault> {
     let (Ok(mut set), Ok(other)) = (first.copy(), second.copy()) else {
         return Err(JoinFault::Memory);
@@ -69,7 +69,7 @@ fn joined(first: &MemberSet, second: &MemberSet) -> Result<u64, JoinFault> {
     }
 }
 
-/// Joins sets in which so many dots of two sites are live, so often.
+// Joins sets in which so many dots of two sites are live, so often.
 fn checked_joins(alloc: Global, sites: (u16, u16), cells: u64, times: u32) -> Result<u64, JoinFault>
     requires { cells ≤ 16384 }
 {
@@ -82,7 +82,7 @@ fn checked_joins(alloc: Global, sites: (u16, u16), cells: u64, times: u32) -> Re
     Ok(sum)
 }
 
-/// The penalties of all rows of queue 0.
+// The penalties of all rows of queue 0.
 fn penalties(set: &MemberSet) -> u64 {
     let mut sum = 0u64;
     for (_, row) in set.rows(0) {
@@ -91,7 +91,7 @@ fn penalties(set: &MemberSet) -> u64 {
     sum
 }
 
-/// The penalties of all rows of a queue in which so many members are, read so often.
+// The penalties of all rows of a queue in which so many members are, read so often.
 fn checked_rows(alloc: Global, cells: u64, times: u32) -> Result<u64, JoinFault>
     requires { cells ≤ 16384 }
 {
@@ -103,7 +103,7 @@ fn checked_rows(alloc: Global, cells: u64, times: u32) -> Result<u64, JoinFault>
     Ok(sum)
 }
 
-/// What a fault is called.
+// What a fault is called.
 fn named(answer: Result<u64, JoinFault>) -> Result<u64, &'static str> {
     match answer {
         Ok(sum) => Ok(sum),

@@ -22,7 +22,8 @@ pub record Known : Type 0 where
 -- it is stored as the pair of these
 abbrev pub known_code : Coded Known
 known_code =
-    code_by (set.FinSet dot_cmp × ℕ) (coded× (set.code tag_code) coded_ℕ) (λ k. (k.dots, k.room)) (λ p. record { dots = p.0; room = p.1 }) (λ _. refl)
+    code_by (set.FinSet dot_cmp × ℕ) (coded× (set.code tag_code) coded_ℕ)
+    (λ k. (k.dots, k.room)) (λ p. record { dots = p.0; room = p.1 }) (λ _. refl)
 
 -- the greatest number of runs of a context
 abbrev pub most_runs : ℕ

@@ -1,4 +1,4 @@
-ghost use Rattle.std.specs.Prelude.{◌≡◌, ◌+◌, ◌≤◌, ◌<◌, ◌^◌, ◌↔◌, IfErr, IfOk, IsOk, IsTrue, OnErr, OnOk, length};
+ghost use Rattle.std.specs.Prelude.{◌≡◌, ◌≢◌, ◌+◌, ◌≤◌, ◌<◌, ◌^◌, ◌↔◌, true, IfErr, IfOk, IsOk, IsTrue, OnErr, OnOk, length};
 ghost use Rattle.std.specs.FinSet as set;
 ghost use Rattle.std.specs.List.{All};
 ghost use Rattle.std.specs.Slice.Iter.{iter_rest};
@@ -99,10 +99,14 @@ impl Context {
     }
 
     /// Adds one dot. No fault changes the dots. 1 `RunsFull`, exactly where there would be more than 65,536 runs;
-    /// 2 `Memory`.
+    /// 2 `Memory`, which a dot that is in never wants, nor one that comes where there is room for one more run.
     pub fn insert(&mut self, dot: Dot) -> Result<(), ContextFault>
         ensures ok { OnOk result (self.new.dots ≡ set.insert self.old.dots dot) }
-        ensures full { (result ≡ Err ContextFault.RunsFull) ↔ (most_runs < run_count (set.insert self.old.dots dot)) }
+        ensures full { (result ≡ Err ContextFault.RunsFull)
+            ↔ (most_runs < run_count (set.insert self.old.dots dot)) }
+        ensures known_dot { set.contains self.old.dots dot ≡ true → IsOk result }
+        ensures with_room { run_count self.old.dots < self.old.room
+            → result ≢ Err ContextFault.Memory }
         ensures err { OnErr result (self.new.dots ≡ self.old.dots) }
     {
         let run = Run {
@@ -119,8 +123,10 @@ impl Context {
         requires least { 1 ≤ first }
         requires ordered { first ≤ last }
         requires most { last ≤ 2 ^ 40 }
-        ensures ok { OnOk result (self.new.dots ≡ set.union self.old.dots (dots_between site first last)) }
-        ensures full { (result ≡ Err ContextFault.RunsFull) ↔ (most_runs < run_count (set.union self.old.dots (dots_between site first last))) }
+        ensures ok { OnOk result
+            (self.new.dots ≡ set.union self.old.dots (dots_between site first last)) }
+        ensures full { (result ≡ Err ContextFault.RunsFull)
+            ↔ (most_runs < run_count (set.union self.old.dots (dots_between site first last))) }
         ensures err { OnErr result (self.new.dots ≡ self.old.dots) }
     {
         let _ = site.number();
@@ -132,7 +138,8 @@ impl Context {
     /// 1 `RunsFull`, exactly where the union has more than 65,536 runs; 2 `Memory`.
     pub fn prepare(&mut self, other: &Context) -> Result<(), ContextFault>
         ensures ready { OnOk result (IsPrepared self.new other.now.dots) }
-        ensures full { (result ≡ Err ContextFault.RunsFull) ↔ (most_runs < run_count (set.union self.old.dots other.now.dots)) }
+        ensures full { (result ≡ Err ContextFault.RunsFull)
+            ↔ (most_runs < run_count (set.union self.old.dots other.now.dots)) }
         ensures again { IsPrepared self.old other.now.dots → IsOk result }
         ensures kept { self.new.dots ≡ self.old.dots }
         ensures room { self.old.room ≤ self.new.room }
@@ -167,7 +174,8 @@ impl Context {
     /// than 65,536 runs; 2 `Memory`.
     pub fn join(&mut self, other: &Context) -> Result<(), ContextFault>
         ensures ok { OnOk result (self.new.dots ≡ set.union self.old.dots other.now.dots) }
-        ensures full { (result ≡ Err ContextFault.RunsFull) ↔ (most_runs < run_count (set.union self.old.dots other.now.dots)) }
+        ensures full { (result ≡ Err ContextFault.RunsFull)
+            ↔ (most_runs < run_count (set.union self.old.dots other.now.dots)) }
         ensures prepared { IsPrepared self.old other.now.dots → IsOk result }
         ensures err { OnErr result (self.new.dots ≡ self.old.dots) }
     {
@@ -192,7 +200,9 @@ impl Context {
     pub fn runs_with(&self, other: &Context, site: SiteId, count: u64) -> u64
         requires least { 1 ≤ count }
         requires most { count ≤ 2 ^ 40 + 1 }
-        ensures { result ≡ run_count (set.insert (set.union self.now.dots other.now.dots) (record { site = site; count = count })) }
+        ensures { result
+            ≡ run_count (set.insert (set.union self.now.dots other.now.dots)
+            (record { site = site; count = count })) }
     {
         let runs = united_count(&self.runs, &other.runs) as u64;
         if self.has(other, site, count) {
@@ -203,9 +213,10 @@ impl Context {
         runs + 1 - u64::from(next) - u64::from(before)
     }
 
-    /// Whether one of two contexts has a dot.
+    // Whether one of two contexts has a dot.
     fn has(&self, other: &Context, site: SiteId, count: u64) -> bool
-        ensures { result ≡ set.contains (set.union self.now.dots other.now.dots) (record { site = site; count = count }) }
+        ensures { result ≡ set.contains (set.union self.now.dots other.now.dots)
+            (record { site = site; count = count }) }
     {
         run_with(&self.runs, site, count).is_some() || run_with(&other.runs, site, count).is_some()
     }

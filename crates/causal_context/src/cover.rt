@@ -4,7 +4,7 @@ ghost use Rattle.causal_context.specs.RunLists.{all_within};
 
 use crate::Run;
 
-/// Whether each of the other runs is whole within one of these. Walks both lists once.
+// Whether each of the other runs is whole within one of these. Walks both lists once.
 pub(crate) fn covers_runs(runs: &[Run], other: &[Run]) -> bool
     requires ours { AreApart runs.now }
     requires others { AreApart other.now }

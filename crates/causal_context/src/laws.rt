@@ -1,17 +1,16 @@
-//! Laws of sets of dots. Each function does nothing; its contract is the law.
+//! Laws of sets of dots. The functions have no body: their contracts are the laws.
 
 ghost use Rattle.std.specs.Prelude.{◌≡◌, ◌↔◌, IsTrue, List, false, length};
 ghost use Rattle.std.specs.FinSet as set;
 ghost use Rattle.std.specs.List.{All};
 ghost use Rattle.dots.specs.Values.{Tag};
 ghost use Rattle.dots.specs.Orders.{dot_cmp};
+ghost use Rattle.dots.specs.Joins.{IsJoin};
 ghost use Rattle.dots.specs.DotSets.{IsRunsOf, Stretch, first_dot, last_dot, next_dot, run_count};
 
-/// The order in which contexts are joined doesn't matter, nor how they are grouped, nor how often one is joined.
-pub fn joins_in_any_order()
-    ensures commutative { (a b : set.FinSet dot_cmp) → set.union a b ≡ set.union b a }
-    ensures associative { (a b c : set.FinSet dot_cmp) → set.union (set.union a b) c ≡ set.union a (set.union b c) }
-    ensures idempotent { (a : set.FinSet dot_cmp) → set.union a a ≡ a }
+/// Contexts are joined in any order: a join is the union. Each two agree.
+pub fn contexts_are_joined()
+    ensures { IsJoin {T = set.FinSet dot_cmp} (λ _ _. Unit {0}) set.union }
 {}
 
 /// That one context covers another is the order of subsets.

@@ -8,14 +8,15 @@ ghost use Rattle.causal_context.specs.RunLists.{IsNext, is_first_ours};
 
 use crate::Run;
 
-/// Takes the first run that is left of two lists, by site and first.
+// Takes the first run that is left of two lists, by site and first.
 fn next_run(runs: &[Run], own: &mut usize, other: &[Run], theirs: &mut usize) -> Run
     requires own_within { own.old ≤ length runs.now }
     requires theirs_within { theirs.old ≤ length other.now }
     requires left { own.old + theirs.old < length runs.now + length other.now }
     requires ours { AreApart (drop own.old runs.now) }
     requires others { AreApart (drop theirs.old other.now) }
-    ensures next { IsNext result (drop own.old runs.now) (drop theirs.old other.now) (drop own.new runs.now) (drop theirs.new other.now) }
+    ensures next { IsNext result (drop own.old runs.now) (drop theirs.old other.now)
+        (drop own.new runs.now) (drop theirs.new other.now) }
     ensures limit { IsRun result }
     ensures own_left { own.new ≤ length runs.now }
     ensures theirs_left { theirs.new ≤ length other.now }
@@ -35,7 +36,7 @@ fn next_run(runs: &[Run], own: &mut usize, other: &[Run], theirs: &mut usize) ->
     }
 }
 
-/// Whether the first run that is left is in the first list.
+// Whether the first run that is left is in the first list.
 fn takes_own(runs: &[Run], own: usize, other: &[Run], theirs: usize) -> bool
     requires own_within { own ≤ length runs.now }
     requires theirs_within { theirs ≤ length other.now }
@@ -50,7 +51,7 @@ fn takes_own(runs: &[Run], own: usize, other: &[Run], theirs: usize) -> bool
     runs[own].begins_by(other[theirs])
 }
 
-/// How many runs the union of two lists of runs has. Walks both once.
+// How many runs the union of two lists of runs has. Walks both once.
 pub(crate) fn united_count(runs: &[Run], other: &[Run]) -> usize
     requires ours { AreApart runs.now }
     requires others { AreApart other.now }
@@ -78,15 +79,16 @@ pub(crate) fn united_count(runs: &[Run], other: &[Run]) -> usize
     count
 }
 
-/// Unites runs with others in place: the first places are spare, as many as there are others. Answers how many
-/// runs the union has; they stand first. Walks both once.
+// Unites runs with others in place: the first places are spare, as many as there are others. Answers how many
+// runs the union has; they stand first. Walks both once.
 pub(crate) fn merge(runs: &mut [Run], other: &[Run]) -> usize
     requires some { 0 < length runs.old }
     requires spare { length other.now ≤ length runs.old }
     requires ours { AreApart (drop (length other.now) runs.old) }
     requires others { AreApart other.now }
     ensures within { result ≤ length runs.new }
-    ensures united { IsRunsOf (take result runs.new) (set.union (set_of (drop (length other.now) runs.old)) (set_of other.now)) }
+    ensures united { IsRunsOf (take result runs.new)
+        (set.union (set_of (drop (length other.now) runs.old)) (set_of other.now)) }
     ensures limits { All IsRun (take result runs.new) }
 {
     let mut own = other.len();
@@ -107,7 +109,7 @@ pub(crate) fn merge(runs: &mut [Run], other: &[Run]) -> usize
     written + 1
 }
 
-/// Unites runs with others in place, in room that is there. It takes no memory.
+// Unites runs with others in place, in room that is there. It takes no memory.
 pub(crate) fn absorb_runs(runs: &mut Vec<Run>, other: &[Run])
     requires ours { IsContext runs.old.items }
     requires others { AreApart other.now }

@@ -33,49 +33,49 @@ impl Model for Run {
 }
 
 impl Run {
-    /// Whether the run has the dot of a site and a count.
+    // Whether the run has the dot of a site and a count.
     pub(crate) fn has(self, site: SiteId, count: u64) -> bool
         ensures { result ≡ in_stretch (record { site = site; count = count }) self }
     {
         self.site == site && self.first <= count && count <= self.last
     }
 
-    /// Whether another run is whole within it.
+    // Whether another run is whole within it.
     pub(crate) fn holds(self, other: Run) -> bool
         ensures { result ≡ holds other self }
     {
         self.has(other.site, other.first) && other.last <= self.last
     }
 
-    /// Whether it ends before the dot of a site and a count.
+    // Whether it ends before the dot of a site and a count.
     pub(crate) fn is_below(self, site: SiteId, count: u64) -> bool
         ensures { result ≡ is_below (record { site = site; count = count }) self }
     {
         self.site < site || self.site == site && self.last < count
     }
 
-    /// Whether it ends before another begins.
+    // Whether it ends before another begins.
     pub(crate) fn precedes(self, other: Run) -> bool
         ensures { result ≡ is_below (record { site = other.site; count = other.first }) self }
     {
         self.is_below(other.site, other.first)
     }
 
-    /// Whether it begins before another, or where that begins.
+    // Whether it begins before another, or where that begins.
     pub(crate) fn begins_by(self, other: Run) -> bool
         ensures { result ≡ begins_by self other }
     {
         self.site < other.site || self.site == other.site && self.first <= other.first
     }
 
-    /// Whether it lies before another, of a later site or with a missing count between them.
+    // Whether it lies before another, of a later site or with a missing count between them.
     pub(crate) fn is_before(self, other: Run) -> bool
         ensures { result ≡ is_apart self other }
     {
         self.site < other.site || self.site == other.site && self.last + 1 < other.first
     }
 
-    /// This run with another of its site, and what lies between them.
+    // This run with another of its site, and what lies between them.
     pub(crate) fn joined(self, other: Run) -> Run
         requires { self.site ≡ other.site }
         ensures value { result ≡ joined self other }

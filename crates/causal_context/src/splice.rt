@@ -1,29 +1,32 @@
-ghost use Rattle.std.specs.Prelude.{◌≡◌, ◌+◌, ◌-◌, ◌<◌, ◌≤◌, ◌↔◌, OnErr, OnOk, [], ◌∷◌, ◌++◌, length, take, drop};
+ghost use Rattle.std.specs.Prelude.{◌≡◌, ◌≢◌, ◌+◌, ◌-◌, ◌<◌, ◌≤◌, ◌↔◌, IsOk, OnErr, OnOk, [], ◌∷◌, ◌++◌, length, take, drop, vec_len};
 ghost use Rattle.std.specs.FinSet as set;
 ghost use Rattle.std.specs.List.{All};
+ghost use Rattle.std.specs.Vec.{vec_capacity};
 ghost use Rattle.dots.specs.DotSets.{AreApart, IsRunsOf, run_count, set_of};
 ghost use Rattle.causal_context.specs.Contexts.{IsContext, IsRun, most_runs};
 
 use crate::search::runs_before;
 use crate::{ContextFault, Run};
 
-/// The greatest number of runs of a context.
+// The greatest number of runs of a context.
 pub(crate) const MOST_RUNS: usize = 65_536;
 
-/// A run with all that it touches, and the places of these: from the first to before the last.
+// A run with all that it touches, and the places of these: from the first to before the last.
 struct United {
     run: Run,
     start: usize,
     end: usize,
 }
 
-/// What a run makes with all those that it touches.
+// What a run makes with all those that it touches.
 fn unite(runs: &[Run], run: Run) -> United
     requires { AreApart runs.now }
     ensures limit { IsRun result.run }
     ensures order { result.start ≤ result.end }
     ensures within { result.end ≤ length runs.now }
-    ensures united { IsRunsOf (take result.start runs.now ++ result.run ∷ drop result.end runs.now) (set.union (set_of runs.now) (set_of (run ∷ []))) }
+    ensures united { IsRunsOf
+        (take result.start runs.now ++ result.run ∷ drop result.end runs.now)
+        (set.union (set_of runs.now) (set_of (run ∷ []))) }
 {
     let start = runs_before(runs, run);
     let mut united = run;
@@ -48,12 +51,18 @@ fn unite(runs: &[Run], run: Run) -> United
     }
 }
 
-/// Puts a run in place of those from a start to an end. Full exactly where it replaces none and there are 65,536.
+// Puts a run in place of those from a start to an end. Full exactly where it replaces none and there are 65,536.
 fn replace(runs: &mut Vec<Run>, united: United) -> Result<(), ContextFault>
     requires order { united.start ≤ united.end }
     requires within { united.end ≤ length runs.old.items }
-    ensures ok { OnOk result (runs.new.items ≡ take united.start runs.old.items ++ united.run ∷ drop united.end runs.old.items) }
-    ensures full { (result ≡ Err ContextFault.RunsFull) ↔ ((united.start ≡ united.end) × (most_runs ≤ length runs.old.items)) }
+    ensures ok { OnOk result (runs.new.items
+        ≡ take united.start runs.old.items
+        ++ united.run ∷ drop united.end runs.old.items) }
+    ensures full { (result ≡ Err ContextFault.RunsFull)
+        ↔ ((united.start ≡ united.end) × (most_runs ≤ length runs.old.items)) }
+    ensures no_more { united.start < united.end → IsOk result }
+    ensures with_room { vec_len runs.old < vec_capacity runs.old
+        → result ≢ Err ContextFault.Memory }
     ensures err { OnErr result (runs.new.items ≡ runs.old.items) }
 {
     let United { run, start, end } = united;
@@ -71,12 +80,20 @@ fn replace(runs: &mut Vec<Run>, united: United) -> Result<(), ContextFault>
     Ok(())
 }
 
-/// Unites runs with one more. No fault changes them.
+// Unites runs with one more. No fault changes them.
 pub(crate) fn unite_run(runs: &mut Vec<Run>, run: Run) -> Result<(), ContextFault>
     requires { IsContext runs.old.items }
     ensures valid { IsContext runs.new.items }
-    ensures ok { OnOk result (set_of runs.new.items ≡ set.union (set_of runs.old.items) (set_of (run ∷ []))) }
-    ensures full { (result ≡ Err ContextFault.RunsFull) ↔ (most_runs < run_count (set.union (set_of runs.old.items) (set_of (run ∷ [])))) }
+    ensures ok { OnOk result
+        (set_of runs.new.items ≡ set.union (set_of runs.old.items) (set_of (run ∷ []))) }
+    ensures full { (result ≡ Err ContextFault.RunsFull)
+        ↔ (most_runs
+        < run_count (set.union (set_of runs.old.items) (set_of (run ∷ [])))) }
+    ensures no_more { run_count (set.union (set_of runs.old.items) (set_of (run ∷ [])))
+        ≤ length runs.old.items
+        → IsOk result }
+    ensures with_room { vec_len runs.old < vec_capacity runs.old
+        → result ≢ Err ContextFault.Memory }
     ensures err { OnErr result (runs.new.items ≡ runs.old.items) }
 {
     let united = unite(runs, run);

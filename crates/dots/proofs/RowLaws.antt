@@ -6,30 +6,27 @@ use Rattle.std.specs.Option.{option_map_or}
 use Rattle.std.specs.Ordering.{eq_by_cmp, is_eq}
 use Rattle.std.specs.declared.cmp.Ordering.{Ordering}
 use Rattle.std.specs.declared.cmp.Ordering.TheVariants.{Less, Equal, Greater}
-use Rattle.std.proofs.lemmas.Cmp.{nat_cmp_total, on_total, then_total, nat_list_cmp_total, tied_itself}
-use Rattle.std.specs.Cmp.{IsTotalOrder}
+use Rattle.std.proofs.lemmas.Cmp.{tied_itself}
 use Rattle.dots.specs.declared.member.Member.{Member}
 use Rattle.dots.specs.Values.{Tag}
 use Rattle.dots.specs.Orders.{dot_cmp, member_cmp, stamp_cmp}
 use Rattle.dots.specs.Registers.{Entry}
 use Rattle.dots.specs.Operations.{Field}
 use Rattle.dots.specs.Knowledge.{Knowledge, SameOperations, IsConsistent, IsFieldOf, visible_dots, member_of, field_of, settings_of}
-use Rattle.dots.specs.Rows.{MemberRow, dots_read, is_of, dots_of, row_if, row_of, rows_of}
+use Rattle.dots.specs.Rows.{MemberRow, dot_view, is_of, dots_of, row_if, row_of, rows_of}
 use Rattle.dots.specs.Shown.{ShowsLatest, ShowTheSame}
 use Rattle.dots.specs.SetItems.{in_order}
 use Rattle.dots.proofs.DotOrder.{dots_total, dots_exact}
+use Rattle.dots.proofs.MemberOrder.{members_total}
 use Rattle.dots.proofs.ItemOrder.{in_order-has}
 use Rattle.dots.proofs.Membership.{first-in, later-in, cases-in, some-in, in-some, in-any}
+use Rattle.dots.proofs.Filters.{filter-has}
 use Rattle.dots.proofs.VisibleLaws.{same-visible}
 use Rattle.dots.proofs.FieldLaws.{latest-in, latest-some, latest-greatest, field-is, same-field, same-member, same_stamp}
 use Rattle.dots.proofs.CountLaws.{same-total, same-queue_total}
 
--- members are in a total order
-pub members_total : IsTotalOrder member_cmp
-members_total = then_total (on_total (λ m. m.queue) nat_cmp_total) (on_total (λ m. m.interface) nat_list_cmp_total)
-
-pub same-reading : (k l : Knowledge) → IsConsistent k → SameOperations k l → dots_read k ≡ dots_read l
-same-reading k l ok same = λ i. record {
+pub same-view : (k l : Knowledge) → IsConsistent k → SameOperations k l → dot_view k ≡ dot_view l
+same-view k l ok same = λ i. record {
   visible = same-visible k l same i;
   member = λ dot. same-member k l dot same ok.members i;
   penalty = λ dot. same-field _ k l dot same ok.penalties i;
@@ -39,22 +36,10 @@ same-reading k l ok same = λ i. record {
 
 pub show-the-same : (k l : Knowledge) → IsConsistent k → SameOperations k l → ShowTheSame k l
 show-the-same k l ok same = record {
-  rows = λ queue. ap (λ r. rows_of r queue) (same-reading k l ok same);
+  rows = λ queue. ap (λ r. rows_of r queue) (same-view k l ok same);
   site_totals = same-total k l same;
   queue_totals = same-queue_total k l same;
 }
-
--- what passes the test of a filter is in it
-filter-has : {X : Type 0} (p : X → Bool) (xs : List X) (x : X) → Contains xs x → p x ≡ true → Contains (filter p xs) x
-filter-has p [] x h q = h
-filter-has {X} p (y ∷ ys) x h q = elim (cases-in y ys x h) [
-  | inl e ↦ subst (λ b. Contains (cond b (y ∷ filter p ys) (filter p ys)) x) (sym (ap p e ∙ q)) (subst (Contains (y ∷ filter p ys)) e (first-in y (filter p ys)))
-  | inr r ↦ kept (p y) (filter-has p ys x r q)
-]
-  where
-    kept : (b : Bool) → Contains (filter p ys) x → Contains (cond b (y ∷ filter p ys) (filter p ys)) x
-    kept true h = later-in y (filter p ys) x h
-    kept false h = h
 
 -- a visible dot is among the items of its set
 item-has : (k : Knowledge) (dot : Tag) → set.contains (visible_dots k) dot ≡ true → Contains (in_order (visible_dots k)) dot
@@ -68,9 +53,9 @@ item-has k dot h =
     equal Greater h = absurd (true≢false (sym h))
 
 -- a visible dot of a member is among its dots
-pub dot-of : (k : Knowledge) (member : Member) (dot : Tag) → set.contains (visible_dots k) dot ≡ true → member_of k dot ≡ Some member → Contains (dots_of (dots_read k) member) dot
+pub dot-of : (k : Knowledge) (member : Member) (dot : Tag) → set.contains (visible_dots k) dot ≡ true → member_of k dot ≡ Some member → Contains (dots_of (dot_view k) member) dot
 dot-of k member dot visible is =
-    filter-has (is_of (dots_read k) member) (in_order (visible_dots k)) dot (item-has k dot visible)
+    filter-has (is_of (dot_view k) member) (in_order (visible_dots k)) dot (item-has k dot visible)
     (ap (λ o. option_map_or (eq_by_cmp member_cmp member) o false) is ∙ ap is_eq (tied_itself members_total member))
 
 row-some : (dots : List Tag) (row : MemberRow) (dot : Tag) → Contains dots dot → IsSome (row_if dots row)
@@ -78,20 +63,20 @@ row-some [] row dot h = absurd (omega (arith, h.1))
 row-some (d ∷ ds) row dot h = refl
 
 -- a member with a visible dot has a row
-pub has-row : (k : Knowledge) (member : Member) (dot : Tag) → set.contains (visible_dots k) dot ≡ true → member_of k dot ≡ Some member → IsSome (row_of (dots_read k) member)
-has-row k member dot visible is = row-some (dots_of (dots_read k) member) _ dot (dot-of k member dot visible is)
+pub has-row : (k : Knowledge) (member : Member) (dot : Tag) → set.contains (visible_dots k) dot ≡ true → member_of k dot ≡ Some member → IsSome (row_of (dot_view k) member)
+has-row k member dot visible is = row-some (dots_of (dot_view k) member) _ dot (dot-of k member dot visible is)
 
 -- the field that is shown of a member is the latest of its visible dots
 pub shows-latest : {T : Type 0} (field : Field T) (k : Knowledge) (member : Member) → ShowsLatest field k member
 shows-latest {T} field k member entry h =
-    let all = filter_map (field_of field k) (dots_of (dots_read k) member) in
-    let source = in-some (field_of field k) (dots_of (dots_read k) member) entry (latest-in all entry h) in
+    let all = filter_map (field_of field k) (dots_of (dot_view k) member) in
+    let source = in-some (field_of field k) (dots_of (dot_view k) member) entry (latest-in all entry h) in
     ((source.0, source.1, field-is field k source.0 entry source.2), λ dot e here is. by dot e here is (field_of field k dot) refl (latest-some (settings_of field k dot) e is.given))
   where
-    by : (dot : Tag) (e : Entry T) → Contains (dots_of (dots_read k) member) dot → IsFieldOf field k dot e → (o : Option (Entry T)) → field_of field k dot ≡ o → IsSome (field_of field k dot) → stamp_cmp entry.stamp e.stamp ≢ Less
+    by : (dot : Tag) (e : Entry T) → Contains (dots_of (dot_view k) member) dot → IsFieldOf field k dot e → (o : Option (Entry T)) → field_of field k dot ≡ o → IsSome (field_of field k dot) → stamp_cmp entry.stamp e.stamp ≢ Less
     by dot e here is None q some = absurd (true≢false (sym some ∙ ap is_some q))
     by dot e here is (Some f) q some =
         let computed = field-is field k dot f q in
         let stamps = same_stamp f.stamp e.stamp (computed.latest e is.given) (is.latest f computed.given) in
         subst (λ s. stamp_cmp entry.stamp s ≢ Less) stamps
-        (latest-greatest (filter_map (field_of field k) (dots_of (dots_read k) member)) entry f h (some-in (field_of field k) (dots_of (dots_read k) member) dot f here q))
+        (latest-greatest (filter_map (field_of field k) (dots_of (dot_view k) member)) entry f h (some-in (field_of field k) (dots_of (dot_view k) member) dot f here q))

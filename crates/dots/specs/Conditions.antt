@@ -1,15 +1,16 @@
 -- The condition of a dot: unknown, below live with its fields, below dead. A delta has one for each dot that it has heard of.
-use Rattle.std.specs.Prelude.{ℕ, ◌≡◌, Option, Some, None, if◌then◌else◌}
+use Rattle.std.specs.Prelude.{ℕ, ◌≡◌, false, Option, Some, None, if◌then◌else◌}
 use Rattle.std.specs.Option.{option_map}
 use Rattle.std.specs.FinMap as map
+use Rattle.std.specs.FinSet as set
 use Rattle.dots.specs.declared.label.Label.{Label}
 use Rattle.dots.specs.declared.member.Member.{Member}
 use Rattle.dots.specs.Values.{Tag, PauseState}
 use Rattle.dots.specs.Orders.{dot_cmp}
-use Rattle.dots.specs.Registers.{Entry, Agree, joined}
-use Rattle.dots.specs.Totals.{Entries, total_of}
+use Rattle.dots.specs.Registers.{Entry, Agree, IsBelow, joined}
+use Rattle.dots.specs.Totals.{Key, Entries, total_of, is_zero}
 use Rattle.dots.specs.Operations.{Completed, Abandoned, penalty_field, pause_field, label_field}
-use Rattle.dots.specs.Knowledge.{Knowledge, is_named, member_of, field_of}
+use Rattle.dots.specs.Knowledge.{Knowledge, is_named, known_dots, member_of, field_of}
 use Rattle.dots.specs.Counts.{site_total}
 
 -- the fields of a live dot, each a register
@@ -57,7 +58,32 @@ condition_joined (Some (Live m f)) None = Some (Live m f)
 condition_joined (Some (Live m f)) (Some Dead) = Some Dead
 condition_joined (Some (Live m f)) (Some (Live n g)) = Some (Live m (fields_joined f g))
 
--- a map of conditions and one of totals stand for a knowledge: they say of each dot and total what it says
-pub record Represents (conditions : map.FinMap dot_cmp Condition) (counts : Entries) (k : Knowledge) : Type 0 where
-  pub dots : (dot : Tag) → map.get conditions dot ≡ condition_in k dot
+-- fields are below others where each of them is
+pub record FieldsBelow (x y : DotFields) : Type 0 where
+  pub penalty : IsBelow x.penalty y.penalty
+  pub pause : IsBelow x.pause y.pause
+  pub label : IsBelow x.label y.label
+
+-- the order of conditions: unknown, below live, which is below live with later fields of the same member, below dead
+abbrev pub IsConditionBelow : Option Condition → Option Condition → Type 0
+IsConditionBelow None y = Unit {0}
+IsConditionBelow (Some (Live m f)) None = ⊥
+IsConditionBelow (Some (Live m f)) (Some (Live n g)) = (m ≡ n) × FieldsBelow f g
+IsConditionBelow (Some (Live m f)) (Some Dead) = Unit {0}
+IsConditionBelow (Some Dead) None = ⊥
+IsConditionBelow (Some Dead) (Some (Live n g)) = ⊥
+IsConditionBelow (Some Dead) (Some Dead) = Unit {0}
+
+-- The conditions of dots, the dots that are known, and totals stand for a knowledge: they say of each dot and total what it says,
+-- know the dots that it knows, and have no entry of two zeros.
+pub record Represents (condition : Tag → Option Condition) (known : set.FinSet dot_cmp) (counts : Entries) (k : Knowledge) : Type 0 where
+  pub conditions : (dot : Tag) → condition dot ≡ condition_in k dot
+  pub dots : known ≡ known_dots k
   pub totals : (site queue : ℕ) → total_of counts site queue ≡ (site_total k site queue Completed, site_total k site queue Abandoned)
+  pub no_zeros : (key : Key) (pair : ℕ × ℕ) → map.get counts key ≡ Some pair → is_zero pair ≡ false
+
+-- what stands for one knowledge is one
+pub record IsOne (c d : Tag → Option Condition) (known heard : set.FinSet dot_cmp) (counts totals : Entries) : Type 0 where
+  pub conditions : (dot : Tag) → c dot ≡ d dot
+  pub dots : known ≡ heard
+  pub totals_are : counts ≡ totals

@@ -1,6 +1,7 @@
 pub mod Conditions
 pub mod Counts
 pub mod DotSets
+pub mod Joins
 pub mod Knowledge
 pub mod Operations
 pub mod Orders
@@ -10,3 +11,4 @@ pub mod SetItems
 pub mod Shown
 pub mod Totals
 pub mod Values
+pub mod Views

@@ -34,6 +34,12 @@ joined None y = y
 joined (Some a) None = Some a
 joined (Some a) (Some b) = Some (latest a b)
 
+-- a register is below another that holds the same entry, or one under a greater stamp; one without an entry is below all
+abbrev pub IsBelow : {T : Type 0} → Option (Entry T) → Option (Entry T) → Type 0
+IsBelow None y = Unit {0}
+IsBelow (Some a) None = ⊥
+IsBelow (Some a) (Some b) = (a ≡ b) ⊎ (stamp_cmp a.stamp b.stamp ≡ Less)
+
 -- `kept` has an entry where x or y has one, that of one of both, and none of either is later
 pub record KeepsLatest {T : Type 0} (x y kept : Option (Entry T)) : Type 0 where
   pub has_one : (e : Entry T) → (x ≡ Some e) ⊎ (y ≡ Some e) → IsSome kept

@@ -1,5 +1,5 @@
 -- What a queue shows of its members.
-use Rattle.std.specs.Prelude.{ℕ, Bool, false, nat_eq, List, [], ◌∷◌, Option, Some, None, filter, if◌then◌else◌}
+use Rattle.std.specs.Prelude.{ℕ, ◌≡◌, Bool, true, false, nat_eq, List, [], ◌∷◌, Option, Some, None, filter, if◌then◌else◌}
 use Rattle.std.specs.Option.{option_map, option_map_or, option_and_then}
 use Rattle.std.specs.List.{filter_map}
 use Rattle.std.specs.FinSet as set
@@ -21,17 +21,17 @@ pub record MemberRow : Type 0 where
   pub name : List ℕ
   pub state : List ℕ
 
--- What is read of dots, be it of a knowledge or of what stands for one: the visible dots, and of each its member and fields.
-pub record DotReading : Type 0 where
+-- What is seen of dots, be it of a knowledge or of what stands for one: the visible dots, and of each its member and fields.
+pub record DotView : Type 0 where
   pub visible : set.FinSet dot_cmp
   pub member : Tag → Option Member
   pub penalty : Tag → Option (Entry ℕ)
   pub pause : Tag → Option (Entry PauseState)
   pub label : Tag → Option (Entry Label)
 
--- the reading of a knowledge
-abbrev pub dots_read : Knowledge → DotReading
-dots_read k = record {
+-- the dot view of a knowledge
+abbrev pub dot_view : Knowledge → DotView
+dot_view k = record {
   visible = visible_dots k;
   member = member_of k;
   penalty = field_of penalty_field k;
@@ -39,16 +39,25 @@ dots_read k = record {
   label = field_of label_field k;
 }
 
+-- Two views show alike: they have the same visible dots, and of each of these the same member and fields. Of other dots a view says
+-- nothing that counts.
+pub record ShowAlike (r s : DotView) : Type 0 where
+  pub visible : r.visible ≡ s.visible
+  pub member : (dot : Tag) → set.contains r.visible dot ≡ true → r.member dot ≡ s.member dot
+  pub penalty : (dot : Tag) → set.contains r.visible dot ≡ true → r.penalty dot ≡ s.penalty dot
+  pub pause : (dot : Tag) → set.contains r.visible dot ≡ true → r.pause dot ≡ s.pause dot
+  pub label : (dot : Tag) → set.contains r.visible dot ≡ true → r.label dot ≡ s.label dot
+
 -- whether a dot is one of the member's
-abbrev pub is_of : DotReading → Member → Tag → Bool
+abbrev pub is_of : DotView → Member → Tag → Bool
 is_of r member dot = option_map_or (eq_by_cmp member_cmp member) (r.member dot) false
 
 -- the dots of a member that are visible, in their order
-abbrev pub dots_of : DotReading → Member → List Tag
+abbrev pub dots_of : DotView → Member → List Tag
 dots_of r member = filter (is_of r member) (in_order r.visible)
 
 -- a field of a member: the entry of the greatest stamp over its visible dots, of equal stamps that of the least dot
-abbrev pub member_field : {T : Type 0} → (Tag → Option (Entry T)) → DotReading → Member → Option (Entry T)
+abbrev pub member_field : {T : Type 0} → (Tag → Option (Entry T)) → DotView → Member → Option (Entry T)
 member_field field r member = latest_of (filter_map field (dots_of r member))
 
 -- the value of an entry, or a default where there is none
@@ -74,7 +83,7 @@ row_if [] row = None
 row_if (dot ∷ dots) row = Some row
 
 -- the row of a member; none where it isn't there, so has no visible dot
-abbrev pub row_of : DotReading → Member → Option MemberRow
+abbrev pub row_of : DotView → Member → Option MemberRow
 row_of r member = row_if (dots_of r member) (row_of_fields (member_field r.penalty r member) (member_field r.pause r member) (member_field r.label r member))
 
 -- the interface of a member, where it is in the queue
@@ -82,9 +91,9 @@ abbrev pub interface_in : ℕ → Member → Option (List ℕ)
 interface_in queue member = if nat_eq queue member.queue then Some member.interface else None
 
 -- the interfaces in a queue
-unfoldable pub interfaces_of : DotReading → ℕ → set.FinSet text_cmp
+unfoldable pub interfaces_of : DotView → ℕ → set.FinSet text_cmp
 interfaces_of r queue = set.from_list (filter_map (λ dot. option_and_then (interface_in queue) (r.member dot)) (in_order r.visible))
 
 -- the rows of a queue, in the order of the interfaces' bytes
-abbrev pub rows_of : DotReading → ℕ → List (List ℕ × MemberRow)
+abbrev pub rows_of : DotView → ℕ → List (List ℕ × MemberRow)
 rows_of r queue = filter_map (λ interface. option_map (λ row. (interface, row)) (row_of r (record { queue = queue; interface = interface }))) (in_order (interfaces_of r queue))

@@ -15,9 +15,10 @@ use Rattle.dots.proofs.OneMoreDot.{insert_known}
 use Rattle.causal_context.specs.Contexts.{most_runs}
 use Rattle.member_orset.specs.declared.live_dot.LiveDot.{LiveDot}
 use Rattle.member_orset.specs.declared.join_fault.JoinFault.{JoinFault}
-use Rattle.member_orset.specs.declared.join_fault.JoinFault.TheVariants.{Conflict, CellsFull, RunsFull}
+use Rattle.member_orset.specs.declared.join_fault.JoinFault.TheVariants.{Conflict, CellsFull, RunsFull, Memory}
 use Rattle.member_orset.specs.Members.{ConditionsConflict, FieldsConflict, condition_of, joined_at}
-use Rattle.member_orset.specs.Cells.{IsAt, IsGap, AreCells, ConflictsAt, Meets, dot_fields, holding, live_of, seen}
+use Rattle.member_orset.specs.Reads.{dot_fields}
+use Rattle.member_orset.specs.Cells.{IsAt, IsGap, AreCells, ConflictsAt, Meets, holding, live_of, seen}
 use Rattle.member_orset.proofs.DotTests.{one_dot}
 use Rattle.member_orset.proofs.CellLists.{Rise, same_place}
 use Rattle.member_orset.proofs.Changes.{raised, met_live, brought_live, present, present_known, absent}
@@ -45,6 +46,10 @@ never_cells (Err e) only h = (cc)
 pub never_runs : (r : Answer) → IfErr r (λ fault. fault ≡ Conflict) → r ≡ Err RunsFull → ⊥
 never_runs (Ok u) only h = (cc)
 never_runs (Err e) only h = (cc)
+
+pub never_memory : (r : Answer) → IfErr r (λ fault. fault ≡ Conflict) → r ≡ Err Memory → ⊥
+never_memory (Ok u) only h = (cc)
+never_memory (Err e) only h = (cc)
 
 -- a known dot is no news
 pub known_already : (known : sets.FinSet dot_cmp) (d : Tag) → sets.contains known d ≡ true → known ≡ sets.insert known d

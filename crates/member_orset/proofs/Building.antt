@@ -12,7 +12,8 @@ use Rattle.dots.specs.Orders.{dot_cmp}
 use Rattle.dots.proofs.DotOrder.{dots_total, dots_exact}
 use Rattle.member_orset.specs.declared.live_dot.LiveDot.{LiveDot}
 use Rattle.member_orset.specs.Members.{HasField, most_cells}
-use Rattle.member_orset.specs.Cells.{IsGap, AreCells, dot_fields, holding, live_of}
+use Rattle.member_orset.specs.Reads.{dot_fields}
+use Rattle.member_orset.specs.Cells.{IsGap, AreCells, holding, live_of}
 use Rattle.member_orset.proofs.CellLists.{Rise}
 use Rattle.member_orset.proofs.Changes.{brought_cells, brought_live}
 use Rattle.member_orset.proofs.Views.{get-live_of}

@@ -19,7 +19,8 @@ use Rattle.dots.specs.Conditions.{DotFields, Condition, Live, Dead, condition_jo
 use Rattle.dots.proofs.DotOrder.{dots_total, dots_exact}
 use Rattle.member_orset.specs.declared.live_dot.LiveDot.{LiveDot}
 use Rattle.member_orset.specs.Members.{Holding, HasField, condition_at, condition_of, most_cells}
-use Rattle.member_orset.specs.Cells.{IsAt, IsGap, AreCells, dot_fields, holding, entries_of, live_of, seen}
+use Rattle.member_orset.specs.Reads.{dot_fields}
+use Rattle.member_orset.specs.Cells.{IsAt, IsGap, AreCells, holding, entries_of, live_of, seen}
 use Rattle.member_orset.proofs.DotTests.{as_T, from_T, one_dot, same_itself}
 use Rattle.member_orset.proofs.CellLists.{Rise, missed_at, found_at, removed_at, put_at, set_at}
 use Rattle.member_orset.proofs.Views.{get-live_of}

@@ -5,7 +5,7 @@ use Rattle.dots.specs.Conditions.{DotFields, FieldsAgree, fields_joined}
 use Rattle.lww_registers.specs.declared.fields.Fields.{Fields}
 use Rattle.lww_registers.specs.Fields as registers
 use Rattle.member_orset.specs.Members.{HasField}
-use Rattle.member_orset.specs.Cells.{dot_fields}
+use Rattle.member_orset.specs.Reads.{dot_fields}
 
 pub agree_as_read : (x y : Fields) → registers.FieldsAgree x y → FieldsAgree (dot_fields x) (dot_fields y)
 agree_as_read x y a = record { penalty = a.penalty; pause = a.pause; label = a.label }

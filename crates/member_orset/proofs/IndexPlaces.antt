@@ -11,7 +11,7 @@ use Rattle.std.proofs.lemmas.Bool.Decides.{nat_tests}
 use Rattle.std.proofs.lemmas.Cmp.{tied_itself}
 use Rattle.dots.specs.declared.member.Member.{Member}
 use Rattle.dots.specs.Orders.{member_cmp}
-use Rattle.dots.proofs.RowLaws.{members_total}
+use Rattle.dots.proofs.MemberOrder.{members_total}
 use Rattle.member_orset.specs.declared.listed.Listed.{Listed}
 use Rattle.member_orset.specs.Index.{Rises}
 use Rattle.member_orset.specs.Shown.{group, is_own}

@@ -16,12 +16,11 @@ use Rattle.dots.specs.Values.{Tag}
 use Rattle.dots.specs.Orders.{dot_cmp, member_cmp}
 use Rattle.dots.specs.declared.member.Member.{Member}
 use Rattle.dots.proofs.DotOrder.{dots_total, dots_exact}
-use Rattle.dots.proofs.RowLaws.{members_total}
+use Rattle.dots.proofs.MemberOrder.{members_total, exact_members}
 use Rattle.member_orset.specs.declared.listed.Listed.{Listed}
 use Rattle.member_orset.specs.Members.{Holding}
 use Rattle.member_orset.specs.Index.{IsBelow, IsIndex, IsPlaceFor, Rises, is_held, is_listed, listed_cmp, listings}
 use Rattle.member_orset.proofs.DotTests.{as_T, from_T, one_dot}
-use Rattle.member_orset.proofs.MemberOrder.{exact_members}
 use Rattle.member_orset.proofs.Rising as rising
 
 -- entries are in a total order, in which only equal ones tie

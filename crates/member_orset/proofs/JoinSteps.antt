@@ -13,7 +13,8 @@ use Rattle.dots.specs.Conditions.{FieldsAgree}
 use Rattle.dots.proofs.DotOrder.{dots_exact}
 use Rattle.member_orset.specs.declared.live_dot.LiveDot.{LiveDot}
 use Rattle.member_orset.specs.Members.{Holding}
-use Rattle.member_orset.specs.Cells.{dot_fields, entry_of, entries_of}
+use Rattle.member_orset.specs.Reads.{dot_fields}
+use Rattle.member_orset.specs.Cells.{entry_of, entries_of}
 use Rattle.member_orset.specs.Joining.{AgreeInPairs, CellsAgree, entry_joined, in_front, joined_entries, joined_from, next_order}
 use Rattle.member_orset.proofs.Fronts as fronts
 use Rattle.member_orset.proofs.Fronts.{open_at}

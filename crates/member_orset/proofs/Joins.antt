@@ -65,7 +65,7 @@ none_tied d (e ∷ es) h =
     let p = and_parts (is_lt (dot_cmp d e.0)) (below_all dot_cmp d es) h in
     ap (λ b. b || list_any (eq_by_cmp dot_cmp d) (each (λ e. e.0) es)) (apart_after d e.0 p.0) ∙ none_tied d es p.1
 
-len_keys : (es : List (Tag × Holding)) → maps.is_sorted dot_cmp es ≡ true → sets.len (sets.from_list {R = dot_cmp} (each (λ e. e.0) es)) ≡ length es
+pub len_keys : (es : List (Tag × Holding)) → maps.is_sorted dot_cmp es ≡ true → sets.len (sets.from_list {R = dot_cmp} (each (λ e. e.0) es)) ≡ length es
 len_keys [] h = sets.len-empty dot_cmp
 len_keys (e ∷ es) h =
     let p = and_parts (below_all dot_cmp e.0 es) (maps.is_sorted dot_cmp es) h in

@@ -1,4 +1,3 @@
-pub mod ConditionLaws
 pub mod Rising
 pub mod DotTests
 pub mod CellLists
@@ -24,4 +23,6 @@ pub mod JoinedIndexes
 pub mod MemberDots
 pub mod ShownFields
 pub mod Presence
+pub mod LiveCounts
+pub mod DeadDots
 pub mod Shows

@@ -21,7 +21,7 @@ use Rattle.member_orset.specs.declared.live_dot.LiveDot.{LiveDot}
 use Rattle.member_orset.specs.Members.{Holding}
 use Rattle.member_orset.specs.Cells.{entries_of, live_of}
 use Rattle.member_orset.specs.Index.{IsIndex, Rises, is_held, is_listed, listed_cmp, listings}
-use Rattle.member_orset.specs.Shown.{cells_read, dots_listed, group, is_own}
+use Rattle.member_orset.specs.Shown.{cells_view, dots_listed, group, is_own}
 use Rattle.member_orset.proofs.CellLists.{Rise, rise-head, rise-tail}
 use Rattle.member_orset.proofs.DotTests.{as_T, from_T, one_dot}
 use Rattle.member_orset.proofs.Indexes.{rises-head, rises-tail}
@@ -93,7 +93,7 @@ keys-entries : (cs : List LiveDot) → each (λ e. e.0) (entries_of cs) ≡ each
 keys-entries [] = refl
 keys-entries (c ∷ cs) = ap (λ ks. c.dot ∷ ks) (keys-entries cs)
 
-visible : (cs : List LiveDot) → Rise cs → in_order (cells_read cs).visible ≡ each (λ c. c.dot) cs
+visible : (cs : List LiveDot) → Rise cs → in_order (cells_view cs).visible ≡ each (λ c. c.dot) cs
 visible cs s =
     in_order-keys dots_total dots_exact (sets.from_list (maps.keys (live_of cs))) (live_of cs) (λ q. sets.contains-from_list dots_total (maps.keys (live_of cs)) q ∙ sym (maps.contains_key-keys (live_of cs) q))
     ∙ ap (each (λ e. e.0)) (entries-live_of cs s) ∙ keys-entries cs
@@ -118,8 +118,8 @@ kept_held cs m q s =
     ∙ ap (λ b. is_held (live_of cs) m q && b) (live_any cs q s) ∙ held_live m (maps.get (live_of cs) q)
 
 -- the dots of a member are those that the index of the cells lists under it
-pub dots_are : (cs : List LiveDot) (index : List Listed) (m : Member) → Rise cs → IsIndex index (live_of cs) → dots_listed (group m index) ≡ dots_of (cells_read cs) m
+pub dots_are : (cs : List LiveDot) (index : List Listed) (m : Member) → Rise cs → IsIndex index (live_of cs) → dots_listed (group m index) ≡ dots_of (cells_view cs) m
 dots_are cs index m s is =
-    same_dots (dots_listed (group m index)) (filter (is_of (cells_read cs) m) (each (λ c. c.dot) cs)) (own_ascend m index is.rises) (kept_ascend (is_of (cells_read cs) m) (each (λ c. c.dot) cs) (cells_ascend cs s))
+    same_dots (dots_listed (group m index)) (filter (is_of (cells_view cs) m) (each (λ c. c.dot) cs)) (own_ascend m index is.rises) (kept_ascend (is_of (cells_view cs) m) (each (λ c. c.dot) cs) (cells_ascend cs s))
     (λ q. own_listed m q index ∙ is.lists m q ∙ sym (kept_held cs m q s))
-    ∙ ap (filter (is_of (cells_read cs) m)) (sym (visible cs s))
+    ∙ ap (filter (is_of (cells_view cs) m)) (sym (visible cs s))

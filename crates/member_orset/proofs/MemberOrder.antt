@@ -1,28 +1,19 @@
 -- The order of members, and of listed dots by their members.
 use Rattle.std.proofs.Common.{◌≡◌, ◌↔◌, ◌⊎◌, inl, inr, ℕ, ◌<◌, ◌≤◌, Bool, true, false, cond, nat_eq, List, refl, sym, ap, ◌∙◌, arith}
 use Rattle.std.specs.Prelude.{nat_lt}
-use Rattle.std.specs.FinMap as maps
 use Rattle.std.specs.Ordering.{eq_by_cmp, is_eq, is_le, is_lt, nat_cmp, ordering_reverse, ordering_then}
 use Rattle.std.specs.declared.cmp.Ordering.{Ordering}
 use Rattle.std.specs.declared.cmp.Ordering.TheVariants.{Less, Equal, Greater}
 use Rattle.std.proofs.lemmas.Bool.{cases_Bool}
 use Rattle.std.proofs.lemmas.Bool.Decides.{nat_tests}
 use Rattle.std.proofs.lemmas.Cmp.{nat_cmp_total, tied_itself}
-use Rattle.std.proofs.lemmas.Map.Lookups.{exact_pairs, exact_unsigned}
 use Rattle.dots.specs.declared.member.Member.{Member}
 use Rattle.dots.specs.Orders.{dot_cmp, member_cmp, text_cmp}
-use Rattle.dots.proofs.RowLaws.{members_total}
+use Rattle.dots.proofs.MemberOrder.{members_total, exact_members}
 use Rattle.member_orset.specs.declared.listed.Listed.{Listed}
 use Rattle.member_orset.specs.Index.{listed_cmp}
 use Rattle.member_orset.specs.Shown.{is_own}
 use Rattle.member_orset.proofs.Rising.{equal, less}
-
--- members that compare alike are one
-pub exact_texts : (a b : List ℕ) → text_cmp a b ≡ Equal → a ≡ b
-exact_texts = maps.slice_cmp-IsAntisymmetric maps.nat_cmp-IsAntisymmetric
-
-pub exact_members : (a b : Member) → member_cmp a b ≡ Equal → a ≡ b
-exact_members a b h = ap (λ (p : ℕ × List ℕ). record { queue = p.0; interface = p.1 }) (exact_pairs nat_cmp text_cmp exact_unsigned exact_texts (a.queue, a.interface) (b.queue, b.interface) h)
 
 pub one_member : (m n : Member) → eq_by_cmp member_cmp m n ≡ true → m ≡ n
 one_member m n h = exact_members m n (equal _ h)

@@ -16,7 +16,8 @@ use Rattle.dots.specs.Orders.{dot_cmp, member_cmp}
 use Rattle.dots.specs.declared.member.Member.{Member}
 use Rattle.member_orset.specs.declared.listed.Listed.{Listed}
 use Rattle.member_orset.specs.declared.live_dot.LiveDot.{LiveDot}
-use Rattle.member_orset.specs.Cells.{dot_fields, entries_of, holding, live_of}
+use Rattle.member_orset.specs.Reads.{dot_fields}
+use Rattle.member_orset.specs.Cells.{entries_of, holding, live_of}
 use Rattle.member_orset.specs.Members.{HasField}
 use Rattle.member_orset.specs.Index.{AreListed, IsIndex, Rises, listed_cmp, listings}
 use Rattle.member_orset.proofs.CellLists.{Rise, rise-head, rise-tail}

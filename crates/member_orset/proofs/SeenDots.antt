@@ -19,7 +19,8 @@ use Rattle.causal_context.specs.Contexts.{IsRun}
 use Rattle.member_orset.specs.declared.piece.Piece.{Piece}
 use Rattle.member_orset.specs.Members.{Holding}
 use Rattle.member_orset.proofs.DotTests.{one_dot}
-use Rattle.member_orset.specs.Seen.{IsGreatest, IsPiece, is_given, is_older, part_before, runs_after, seen_dots}
+use Rattle.member_orset.specs.Reads.{is_older, seen_dots}
+use Rattle.member_orset.specs.Seen.{IsGreatest, IsPiece, is_given, part_before, runs_after}
 
 abbrev Dots : Type 0
 Dots = sets.FinSet dot_cmp
@@ -112,18 +113,18 @@ module _ (dots : Dots) (site first : ℕ) (least : 1 ≤ first) (none : (n : ℕ
   runs_grown last h = grown (last - first) last (omega arith)
 
 -- what is in a part of a set
-abbrev lies_before : ℕ → ℕ → Tag → Bool
+abbrev pub lies_before : ℕ → ℕ → Tag → Bool
 lies_before site count d = nat_lt d.site site || (nat_eq d.site site && nat_lt d.count count)
 
-contains-part : (dots : Dots) (site count : ℕ) (q : Tag) → sets.contains (part_before dots site count) q ≡ (sets.contains dots q && lies_before site count q)
+pub contains-part : (dots : Dots) (site count : ℕ) (q : Tag) → sets.contains (part_before dots site count) q ≡ (sets.contains dots q && lies_before site count q)
 unfolding part_before
 contains-part dots site count q = sets.contains-retain dots (lies_before site count) q (λ x h. ap (lies_before site count) (sym (dots_exact q x h)))
 
-and_false : (b : Bool) → (b && false) ≡ false
+pub and_false : (b : Bool) → (b && false) ≡ false
 and_false true = refl
 and_false false = refl
 
-and_true : (b : Bool) → (b && true) ≡ b
+pub and_true : (b : Bool) → (b && true) ≡ b
 and_true true = refl
 and_true false = refl
 
@@ -178,7 +179,7 @@ site_over t c s l h = elim (cases_eq t s) [
   | inr n ↦ grind (arith, nat_tests)
 ]
 
-under : (s x y : Bool) → (s ≡ true → x ≡ y) → (s && x) ≡ (s && y)
+pub under : (s x y : Bool) → (s ≡ true → x ≡ y) → (s && x) ≡ (s && y)
 under true x y h = h refl
 under false x y h = refl
 

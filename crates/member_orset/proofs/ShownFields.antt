@@ -20,7 +20,7 @@ use Rattle.member_orset.specs.declared.live_dot.LiveDot.{LiveDot}
 use Rattle.member_orset.specs.Members.{Holding}
 use Rattle.member_orset.specs.Cells.{live_of}
 use Rattle.member_orset.specs.Index.{IsIndex}
-use Rattle.member_orset.specs.Shown.{cells_read, dots_listed, fields_after, fields_held, fields_shown, group}
+use Rattle.member_orset.specs.Shown.{cells_view, dots_listed, fields_after, fields_held, fields_shown, group}
 use Rattle.member_orset.proofs.CellLists.{Rise}
 use Rattle.member_orset.proofs.MemberDots.{dots_are}
 
@@ -96,9 +96,9 @@ row_held live (d ∷ ds) a = first (maps.get live d) (All-head (λ x. is_some (m
     first (Some h) t = refl
 
 -- the dots of a member are live
-own_live : (cs : List LiveDot) (m : Member) → All (λ d. is_some (maps.get (live_of cs) d) ≡ true) (dots_of (cells_read cs) m)
+own_live : (cs : List LiveDot) (m : Member) → All (λ d. is_some (maps.get (live_of cs) d) ≡ true) (dots_of (cells_view cs) m)
 own_live cs m =
-    All-weaker (λ d. is_of (cells_read cs) m d ≡ true) (λ d. is_some (maps.get (live_of cs) d) ≡ true) (λ d. some (maps.get (live_of cs) d)) (dots_of (cells_read cs) m) (filter_passes (is_of (cells_read cs) m) (in_order (cells_read cs).visible))
+    All-weaker (λ d. is_of (cells_view cs) m d ≡ true) (λ d. is_some (maps.get (live_of cs) d) ≡ true) (λ d. some (maps.get (live_of cs) d)) (dots_of (cells_view cs) m) (filter_passes (is_of (cells_view cs) m) (in_order (cells_view cs).visible))
   where
     some : (o : Option Holding) → option_map_or (eq_by_cmp member_cmp m) (option_map (λ h. h.0) o) false ≡ true → is_some o ≡ true
     some None t = absurd (cc)
@@ -106,10 +106,10 @@ own_live cs m =
 
 -- the row of a member is that of the dots that the index lists under it
 pub row_shown : (cs : List LiveDot) (index : List Listed) (m : Member) → Rise cs → IsIndex index (live_of cs)
-    → row_of (cells_read cs) m ≡ option_map (λ f. row_of_fields f.penalty f.pause f.label) (fields_shown (fields_held (live_of cs) (dots_listed (group m index))))
+    → row_of (cells_view cs) m ≡ option_map (λ f. row_of_fields f.penalty f.pause f.label) (fields_shown (fields_held (live_of cs) (dots_listed (group m index))))
 row_shown cs index m s is =
     let live = live_of cs in
-    let ds = dots_of (cells_read cs) m in
+    let ds = dots_of (cells_view cs) m in
     (λ i. row_if ds (row_of_fields (latest_of (fields_are (λ f. f.penalty) live ds i)) (latest_of (fields_are (λ f. f.pause) live ds i)) (latest_of (fields_are (λ f. f.label) live ds i))))
     ∙ row_held live ds (own_live cs m)
     ∙ ap (λ xs. option_map (λ f. row_of_fields f.penalty f.pause f.label) (fields_shown (fields_held live xs))) (sym (dots_are cs index m s is))

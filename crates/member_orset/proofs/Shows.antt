@@ -24,13 +24,14 @@ use Rattle.member_orset.specs.declared.listed.Listed.{Listed}
 use Rattle.member_orset.specs.declared.live_dot.LiveDot.{LiveDot}
 use Rattle.member_orset.specs.Cells.{live_of}
 use Rattle.member_orset.specs.Index.{IsIndex, Rises}
-use Rattle.member_orset.specs.Shown.{IsLeastAfter, IsLeastEntry, cells_read, dots_listed, group, is_after, is_left, is_own, is_passed, rows_after}
+use Rattle.member_orset.specs.Shown.{IsLeastAfter, IsLeastEntry, cells_view, dots_listed, group, is_after, is_left, is_own, is_passed, rows_after}
 use Rattle.member_orset.proofs.CellLists.{Rise}
 use Rattle.member_orset.proofs.Rising.{equal, less}
 use Rattle.member_orset.proofs.IndexPlaces.{not_lesser}
 use Rattle.member_orset.proofs.Indexes.{partitioned_by}
 use Rattle.member_orset.proofs.MemberDots.{dots_are}
-use Rattle.member_orset.proofs.MemberOrder.{by_members, exact_texts, interface_not_less, less_parts, member_itself, one_member, queue_not_less}
+use Rattle.dots.proofs.MemberOrder.{exact_texts}
+use Rattle.member_orset.proofs.MemberOrder.{by_members, interface_not_less, less_parts, member_itself, one_member, queue_not_less}
 
 -- texts in their order
 abbrev Text : Type 0
@@ -153,7 +154,7 @@ any-dots [] = refl
 any-dots (l ∷ ls) = refl
 
 -- a member has a dot where the index has an entry of it
-dots_there : (cs : List LiveDot) (index : List Listed) (m : Member) → Rise cs → IsIndex index (live_of cs) → has_any (dots_of (cells_read cs) m) ≡ list_any (is_own m) index
+dots_there : (cs : List LiveDot) (index : List Listed) (m : Member) → Rise cs → IsIndex index (live_of cs) → has_any (dots_of (cells_view cs) m) ≡ list_any (is_own m) index
 dots_there cs index m s is = ap has_any (sym (dots_are cs index m s is)) ∙ any-dots (group m index) ∙ sym (any-kept (is_own m) index)
 
 -- the member of a queue with an interface
@@ -180,13 +181,13 @@ interfaces_kept queue i member (d ∷ ds) =
         ∙ ap (λ b. b || list_any (eq_by_cmp text_cmp i) xs) (ap (λ b. b && eq_by_cmp text_cmp i m.interface) (sym (unsigned_tied queue m.queue)) ∙ tied_then (nat_cmp queue m.queue) (text_cmp i m.interface))
 
 interfaces_are : (cs : List LiveDot) (index : List Listed) (queue : ℕ) (i : Text) → Rise cs → IsIndex index (live_of cs)
-    → list_any (eq_by_cmp text_cmp i) (in_order (interfaces_of (cells_read cs) queue)) ≡ list_any (is_own (in_queue queue i)) index
+    → list_any (eq_by_cmp text_cmp i) (in_order (interfaces_of (cells_view cs) queue)) ≡ list_any (is_own (in_queue queue i)) index
 unfolding interfaces_of
 interfaces_are cs index queue i s is =
-    in_order-has nat_list_cmp_total (interfaces_of (cells_read cs) queue) i
-    ∙ sets.contains-from_list nat_list_cmp_total (filter_map (λ dot. option_and_then (interface_in queue) ((cells_read cs).member dot)) (in_order (cells_read cs).visible)) i
-    ∙ interfaces_kept queue i (cells_read cs).member (in_order (cells_read cs).visible)
-    ∙ any-kept (is_of (cells_read cs) (in_queue queue i)) (in_order (cells_read cs).visible)
+    in_order-has nat_list_cmp_total (interfaces_of (cells_view cs) queue) i
+    ∙ sets.contains-from_list nat_list_cmp_total (filter_map (λ dot. option_and_then (interface_in queue) ((cells_view cs).member dot)) (in_order (cells_view cs).visible)) i
+    ∙ interfaces_kept queue i (cells_view cs).member (in_order (cells_view cs).visible)
+    ∙ any-kept (is_of (cells_view cs) (in_queue queue i)) (in_order (cells_view cs).visible)
     ∙ dots_there cs index (in_queue queue i) s is
 
 -- what holds of each entry holds of one of a member
@@ -205,13 +206,13 @@ same_queue q r e = grind (arith, nat_tests, e)
 
 module _ (cs : List LiveDot) (index : List Listed) (queue : ℕ) (s : Rise cs) (is : IsIndex index (live_of cs)) where
   abbrev read : Text → Option MemberRow
-  read i = row_of (cells_read cs) (in_queue queue i)
+  read i = row_of (cells_view cs) (in_queue queue i)
 
   abbrev names : Keys
-  names = maps.entries (maps.from_entries {R = text_cmp} (each (λ k. (k, tt {0})) (sets.items (interfaces_of (cells_read cs) queue))))
+  names = maps.entries (maps.from_entries {R = text_cmp} (each (λ k. (k, tt {0})) (sets.items (interfaces_of (cells_view cs) queue))))
 
   names_rise : maps.is_sorted text_cmp names ≡ true
-  names_rise = is_true _ (maps.entries_sorted (maps.from_entries {R = text_cmp} (each (λ k. (k, tt {0})) (sets.items (interfaces_of (cells_read cs) queue)))))
+  names_rise = is_true _ (maps.entries_sorted (maps.from_entries {R = text_cmp} (each (λ k. (k, tt {0})) (sets.items (interfaces_of (cells_view cs) queue)))))
 
   -- an interface that is left is that of an entry that is left
   name_left : (last : Option Text) (j : Text) (l : Listed) → in_queue queue j ≡ l.member → is_left queue last l ≡ is_after last j
@@ -219,33 +220,33 @@ module _ (cs : List LiveDot) (index : List Listed) (queue : ℕ) (s : Rise cs) (
       ap (λ (m : Member). nat_eq queue m.queue && is_after last m.interface) (sym e) ∙ ap (λ b. b && is_after last j) (same_queue queue queue refl)
 
   -- the next row is that of the entry of the least interface
-  pub next_row : (last : Option Text) (l : Listed) (row : MemberRow) → IsLeastEntry queue last index l → row_of (cells_read cs) l.member ≡ Some row
-      → rows_after (cells_read cs) queue last ≡ (l.member.interface, row) ∷ rows_after (cells_read cs) queue (Some l.member.interface)
+  pub next_row : (last : Option Text) (l : Listed) (row : MemberRow) → IsLeastEntry queue last index l → row_of (cells_view cs) l.member ≡ Some row
+      → rows_after (cells_view cs) queue last ≡ (l.member.interface, row) ∷ rows_after (cells_view cs) queue (Some l.member.interface)
   next_row last l row least r =
       let own = and_parts (nat_eq queue l.member.queue) (is_after last l.member.interface) least.own in
       let same : queue ≡ l.member.queue = grind (arith, nat_tests, own) in
-      first_row read last l.member.interface row names names_rise (ap (λ q. row_of (cells_read cs) (in_queue q l.member.interface)) same ∙ r) own.1
+      first_row read last l.member.interface row names names_rise (ap (λ q. row_of (cells_view cs) (in_queue q l.member.interface)) same ∙ r) own.1
       (interfaces_are cs index queue l.member.interface s is
       ∙ any-in (is_own (in_queue queue l.member.interface)) index l least.here (ap (λ q. eq_by_cmp member_cmp (in_queue q l.member.interface) l.member) same ∙ member_itself l.member))
       (λ j h a. on_own (λ e. is_left queue last e ≡ true → is_lt (text_cmp e.member.interface l.member.interface) ≡ false) (is_lt (text_cmp j l.member.interface) ≡ false) (in_queue queue j) index least.least
       (sym (interfaces_are cs index queue j s is) ∙ h) (λ e g k. ap (λ (m : Member). is_lt (text_cmp m.interface l.member.interface)) k ∙ g (name_left last j e k ∙ a)))
 
   -- no row is left where no entry is
-  pub no_more_rows : (last : Option Text) → All (λ e. is_left queue last e ≡ false) index → rows_after (cells_read cs) queue last ≡ []
+  pub no_more_rows : (last : Option Text) → All (λ e. is_left queue last e ≡ false) index → rows_after (cells_view cs) queue last ≡ []
   no_more_rows last none = no_row read (is_after last) names (λ j h.
       on_own (λ e. is_left queue last e ≡ false) (is_after last j ≡ false) (in_queue queue j) index none (sym (interfaces_are cs index queue j s is) ∙ h) (λ e g k. sym (name_left last j e k) ∙ g))
 
   -- at first all rows are left
-  pub all_rows : rows_after (cells_read cs) queue None ≡ rows_of (cells_read cs) queue
-  all_rows = whole (rows_of (cells_read cs) queue)
+  pub all_rows : rows_after (cells_view cs) queue None ≡ rows_of (cells_view cs) queue
+  all_rows = whole (rows_of (cells_view cs) queue)
     where
       whole : (xs : List (Text × MemberRow)) → filter (λ x. true) xs ≡ xs
       whole [] = refl
       whole (x ∷ xs) = ap (λ ys. x ∷ ys) (whole xs)
 
 -- the member of an entry has a row
-pub has_row : (cs : List LiveDot) (index : List Listed) (l : Listed) → Rise cs → IsIndex index (live_of cs) → Contains index l → row_of (cells_read cs) l.member ≢ None
-has_row cs index l s is here = some (dots_of (cells_read cs) l.member) _ (dots_there cs index l.member s is ∙ any-in (is_own l.member) index l here (member_itself l.member))
+pub has_row : (cs : List LiveDot) (index : List Listed) (l : Listed) → Rise cs → IsIndex index (live_of cs) → Contains index l → row_of (cells_view cs) l.member ≢ None
+has_row cs index l s is here = some (dots_of (cells_view cs) l.member) _ (dots_there cs index l.member s is ∙ any-in (is_own l.member) index l here (member_itself l.member))
   where
     some : (ds : List Tag) (row : MemberRow) → has_any ds ≡ true → row_if ds row ≢ None
     some [] row h none = (cc)

@@ -13,7 +13,8 @@ use Rattle.dots.specs.DotSets.{run_count}
 use Rattle.causal_context.specs.Contexts.{most_runs}
 use Rattle.member_orset.specs.declared.live_dot.LiveDot.{LiveDot}
 use Rattle.member_orset.specs.Members.{Members, Holding, HasField, IsWithinLimits, most_cells}
-use Rattle.member_orset.specs.Cells.{dot_fields, holding, entries_of, live_of, AreCells}
+use Rattle.member_orset.specs.Reads.{dot_fields}
+use Rattle.member_orset.specs.Cells.{holding, entries_of, live_of, AreCells}
 use Rattle.member_orset.proofs.DotTests.{as_T, one_dot}
 use Rattle.member_orset.proofs.CellLists.{Rise}
 

@@ -8,18 +8,9 @@ use Rattle.dots.specs.Values.{Tag}
 use Rattle.dots.specs.Orders.{dot_cmp}
 use Rattle.dots.specs.declared.member.Member.{Member}
 use Rattle.dots.specs.Conditions.{DotFields, FieldsAgree, fields_joined}
-use Rattle.lww_registers.specs.declared.fields.Fields.{Fields}
-use Rattle.member_orset.specs.declared.cell.Cell.{Cell}
 use Rattle.member_orset.specs.declared.live_dot.LiveDot.{LiveDot}
 use Rattle.member_orset.specs.Members.{Members, Holding, HasField, FieldsConflict, most_cells}
-
--- the fields of a dot, as they are read of three registers
-abbrev pub dot_fields : Fields → DotFields
-dot_fields f = record { penalty = f.penalty; pause = f.pause; label = f.label }
-
--- what a lent cell shows
-abbrev pub cell_read : Cell → Holding
-cell_read c = (c.member.now, dot_fields c.fields.now)
+use Rattle.member_orset.specs.Reads.{dot_fields}
 
 -- what a cell holds
 abbrev pub holding : LiveDot → Holding

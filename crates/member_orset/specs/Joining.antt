@@ -12,7 +12,8 @@ use Rattle.lww_registers.specs.declared.fields.Fields.{Fields}
 use Rattle.member_orset.specs.declared.kept.Kept.{Kept}
 use Rattle.member_orset.specs.declared.live_dot.LiveDot.{LiveDot}
 use Rattle.member_orset.specs.Members.{Holding}
-use Rattle.member_orset.specs.Cells.{dot_fields, entry_of, entries_of}
+use Rattle.member_orset.specs.Reads.{dot_fields}
+use Rattle.member_orset.specs.Cells.{entry_of, entries_of}
 use Rattle.member_orset.specs.Fronts.{next_by}
 
 -- what stays live of a dot that one side knows or not, and the other: live on both sides it is joined, and live on one it

@@ -6,6 +6,9 @@ pub use Rattle.dots.specs.Conditions
 pub use Rattle.dots.specs.Rows
 pub mod Codes
 pub mod Members
+pub mod Reads
+pub mod Refusals
+pub mod LiveDots
 pub mod Cells
 pub mod Fronts
 pub mod Index

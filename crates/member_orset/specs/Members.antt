@@ -12,7 +12,7 @@ use Rattle.dots.specs.Orders.{dot_cmp}
 use Rattle.dots.specs.DotSets.{tag_code, run_count}
 use Rattle.dots.specs.Registers.{InConflict}
 use Rattle.dots.specs.Conditions.{DotFields, Condition, Live, Dead, ConditionsAgree, condition_joined}
-use Rattle.dots.specs.Rows.{DotReading}
+use Rattle.dots.specs.Rows.{DotView}
 use Rattle.causal_context.specs.Contexts.{most_runs}
 use Rattle.member_orset.specs.declared.join_fault.JoinFault.{JoinFault}
 use Rattle.member_orset.specs.Codes.{member_code, fields_code}
@@ -52,10 +52,16 @@ condition_at None false = None
 abbrev pub condition_of : Members → Tag → Option Condition
 condition_of s dot = condition_at (map.get s.live dot) (set.contains s.known dot)
 
--- the same conditions in both
+-- the same dots are known to both, and the same are live with the same members and fields
+pub record SaysTheSame (s t : Members) : Type 0 where
+  pub known : t.known ≡ s.known
+  pub live : t.live ≡ s.live
+
+-- a set says the same as before, and as many places aren't used again; its rooms may have grown
 pub record IsUnchanged (old new : Members) : Type 0 where
   pub known : new.known ≡ old.known
   pub live : new.live ≡ old.live
+  pub retired : new.retired ≡ old.retired
 
 -- the fields of which none is set
 abbrev pub unset : DotFields
@@ -77,8 +83,8 @@ pub record IsWithinLimits (s : Members) : Type 0 where
   pub held : (dot : Tag) (h : Holding) → map.get s.live dot ≡ Some h → IsLiveIn s dot h
 
 -- what is read of a set: its live dots are the visible ones
-abbrev pub reading_of : Members → DotReading
-reading_of s = record {
+abbrev pub dot_view_of : Members → DotView
+dot_view_of s = record {
   visible = set.from_list (map.keys s.live);
   member = λ dot. option_map (λ h. h.0) (map.get s.live dot);
   penalty = λ dot. option_and_then (λ h. h.1.penalty) (map.get s.live dot);

@@ -1,7 +1,6 @@
--- The dots that given ones stand for: themselves, and the dead ones of their sites with lesser counts.
-use Rattle.std.specs.Prelude.{ℕ, ◌≡◌, ◌<◌, ◌≤◌, ◌+◌, Bool, true, not, ◌&&◌, ◌||◌, nat_eq, nat_lt, List, Some, None, if◌then◌else◌}
+-- How the dots that given ones stand for are gathered, piece by piece.
+use Rattle.std.specs.Prelude.{ℕ, ◌≡◌, ◌<◌, ◌≤◌, ◌+◌, Bool, true, ◌&&◌, ◌||◌, nat_eq, nat_lt, List, Some, None, if◌then◌else◌}
 use Rattle.std.specs.List.{All, list_any}
-use Rattle.std.specs.FinMap as map
 use Rattle.std.specs.FinSet as set
 use Rattle.std.specs.Ordering.{eq_by_cmp}
 use Rattle.dots.specs.Values.{Tag}
@@ -11,19 +10,6 @@ use Rattle.causal_context.specs.Contexts.{most_runs}
 use Rattle.causal_context.specs.declared.context_fault.ContextFault.TheVariants.{RunsFull}
 use Rattle.member_orset.specs.declared.gathered.Gathered.{Gathered}
 use Rattle.member_orset.specs.declared.piece.Piece.{Piece}
-use Rattle.member_orset.specs.Members.{Members, Holding}
-
--- whether a dot is of the site of some given dot, with a lesser count
-abbrev pub is_older : List Tag → Tag → Bool
-is_older given dot = list_any (λ g. nat_eq g.site dot.site && nat_lt dot.count g.count) given
-
--- given dots, with the dead ones that are older: known, and not live
-unfoldable pub seen_dots : set.FinSet dot_cmp → map.FinMap dot_cmp Holding → List Tag → set.FinSet dot_cmp
-seen_dots known live given = set.union (set.from_list given) (set.retain known (λ dot. not (map.contains_key live dot) && is_older given dot))
-
--- what a set has seen below given dots: these, with all dots that are dead in the set and older
-abbrev pub dots_seen_below : Members → List Tag → set.FinSet dot_cmp
-dots_seen_below s given = seen_dots s.known s.live given
 
 -- whether a dot is given
 abbrev pub is_given : List Tag → Tag → Bool

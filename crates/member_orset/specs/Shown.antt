@@ -11,21 +11,18 @@ use Rattle.dots.specs.Values.{Tag}
 use Rattle.dots.specs.Orders.{dot_cmp, member_cmp, text_cmp}
 use Rattle.dots.specs.Conditions.{DotFields, fields_joined}
 use Rattle.dots.specs.Knowledge.{latest_of}
-use Rattle.dots.specs.Rows.{DotReading, MemberRow, rows_of}
+use Rattle.dots.specs.Rows.{DotView, MemberRow, rows_of}
 use Rattle.member_orset.specs.declared.latest.Latest.{Latest}
 use Rattle.member_orset.specs.declared.listed.Listed.{Listed}
 use Rattle.member_orset.specs.declared.live_dot.LiveDot.{LiveDot}
-use Rattle.member_orset.specs.declared.row.Row.{Row}
-use Rattle.member_orset.specs.Members.{Holding, reading_of}
+use Rattle.dots.specs.declared.row.Row.{Row}
+use Rattle.member_orset.specs.Members.{Holding, dot_view_of}
+use Rattle.dots.specs.Views.{row_view}
 use Rattle.member_orset.specs.Cells.{seen}
 
--- the row that a reader is given, without where it lies in memory
-abbrev pub row_read : Row → MemberRow
-row_read row = record { penalty = row.penalty; paused = row.paused; reason = row.reason.now; name = row.name.now; state = row.state.now }
-
 -- what is read of cells
-abbrev pub cells_read : List LiveDot → DotReading
-cells_read cells = reading_of (seen cells set.empty)
+abbrev pub cells_view : List LiveDot → DotView
+cells_view cells = dot_view_of (seen cells set.empty)
 
 -- whether an entry of the index is of a member
 abbrev pub is_own : Member → Listed → Bool
@@ -71,12 +68,12 @@ is_after None text = true
 is_after (Some last) text = is_lt (text_cmp last text)
 
 -- the rows of a queue whose interfaces lie after a last one, if there is one
-abbrev pub rows_after : DotReading → ℕ → Option (List ℕ) → List (List ℕ × MemberRow)
+abbrev pub rows_after : DotView → ℕ → Option (List ℕ) → List (List ℕ × MemberRow)
 rows_after r queue last = filter (λ e. is_after last e.0) (rows_of r queue)
 
 -- an interface and its row, as a reader is given them
 abbrev pub listed_row : Bor (List ℕ) × Row → List ℕ × MemberRow
-listed_row item = (item.0.now, row_read item.1)
+listed_row item = (item.0.now, row_view item.1)
 
 -- whether an entry is in a queue, with an interface that lies after a last one
 abbrev pub is_left : ℕ → Option (List ℕ) → Listed → Bool

@@ -7,18 +7,22 @@ use crate::live_dot::LiveDot;
 use crate::search::cell_at;
 use dots::Member;
 
-/// Whether both are the same member.
+// Whether both are the same member.
 pub(crate) fn is_same_member(member: &Member, other: &Member) -> bool
     ensures { IsTrue result ↔ (member.now ≡ other.now) }
 {
     *member == *other
 }
 
-/// Whether a cell can be joined with the one of its dot, where there is one.
+// Whether a cell can be joined with the one of its dot, where there is one.
 fn agrees_with(cells: &[LiveDot], other: &LiveDot) -> bool
     requires { IsTrue (map.is_sorted dot_cmp (entries_of cells.now)) }
-    ensures agree { IsTrue result ↔ HoldingsAgree (map.get (live_of cells.now) other.now.dot) (holding other.now) }
-    ensures conflict { IsFalse result ↔ HoldingsConflict (map.get (live_of cells.now) other.now.dot) (holding other.now) }
+    ensures agree { IsTrue result
+        ↔ HoldingsAgree (map.get (live_of cells.now) other.now.dot)
+        (holding other.now) }
+    ensures conflict { IsFalse result
+        ↔ HoldingsConflict (map.get (live_of cells.now) other.now.dot)
+        (holding other.now) }
 {
     match cell_at(cells, other.dot) {
         Some(cell) => {
@@ -28,7 +32,7 @@ fn agrees_with(cells: &[LiveDot], other: &LiveDot) -> bool
     }
 }
 
-/// Whether all cells can be joined with those of their dots.
+// Whether all cells can be joined with those of their dots.
 pub(crate) fn cells_agree(cells: &[LiveDot], others: &[LiveDot]) -> bool
     requires { IsTrue (map.is_sorted dot_cmp (entries_of cells.now)) }
     ensures { IsTold (live_of cells.now) others.now result }

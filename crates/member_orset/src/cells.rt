@@ -1,6 +1,7 @@
 ghost use Rattle.std.specs.Prelude.{◌≡◌};
 ghost use Rattle.std.specs.Iterator.{YieldsFirstBy, item_count};
-ghost use Rattle.member_orset.specs.Cells.{cell_read, entries_of};
+ghost use Rattle.member_orset.specs.Reads.{cell_read};
+ghost use Rattle.member_orset.specs.Cells.{entries_of};
 
 use crate::Cell;
 use crate::live_dot::LiveDot;
@@ -31,7 +32,7 @@ impl<'a> Model for Cells<'a> {
 }
 
 impl<'a> Cells<'a> {
-    /// Those of a list of cells.
+    // Those of a list of cells.
     pub(crate) fn of(left: &'a [LiveDot]) -> Cells<'a>
         ensures { result ≡ entries_of left.now }
     {

@@ -30,7 +30,7 @@ impl<'a> Model for Dots<'a> {
 }
 
 impl<'a> Dots<'a> {
-    /// Those of a member in an index.
+    // Those of a member in an index.
     pub(crate) fn of(index: &'a [Listed], member: &Member) -> Dots<'a>
         requires { Rises index.now }
         ensures { result ≡ dots_listed (group member.now index.now) }

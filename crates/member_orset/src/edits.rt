@@ -1,4 +1,4 @@
-ghost use Rattle.std.specs.Prelude.{◌≡◌, ◌≢◌, ◌≤◌, ◌<◌, ◌↔◌, IsTrue, IfErr, OnOk, OnErr, List, length, false, vec_len};
+ghost use Rattle.std.specs.Prelude.{◌≡◌, ◌≢◌, ◌≤◌, ◌<◌, ◌↔◌, IsOk, IsTrue, IfErr, OnOk, OnErr, List, length, true, false, vec_len};
 ghost use Rattle.std.specs.FinMap as map;
 ghost use Rattle.std.specs.List.{insert};
 ghost use Rattle.std.specs.FinSet as set;
@@ -9,7 +9,8 @@ ghost use Rattle.dots.specs.DotSets.{run_count};
 ghost use Rattle.dots.specs.Conditions.{Live, Dead, ConditionsAgree};
 ghost use Rattle.causal_context.specs.Contexts.{most_runs};
 ghost use Rattle.member_orset.specs.Members.{ConditionsConflict, HasField, condition_of, joined_at, most_cells};
-ghost use Rattle.member_orset.specs.Cells.{AreCells, ConflictsAt, IsGap, Meets, dot_fields, entries_of, live_of, seen};
+ghost use Rattle.member_orset.specs.Reads.{dot_fields};
+ghost use Rattle.member_orset.specs.Cells.{AreCells, ConflictsAt, IsGap, Meets, entries_of, live_of, seen};
 ghost use Rattle.member_orset.specs.Index.{AreListed, IsIndex};
 ghost use Rattle.member_orset.specs.declared.listed.Listed.{Listed as listed};
 
@@ -24,17 +25,19 @@ use causal_context::{Context, ContextFault};
 use dots::{Dot, Member, Memory};
 use lww_registers::Fields;
 
-/// The greatest number of live dots.
+// The greatest number of live dots.
 pub(crate) const MOST_CELLS: usize = 16_384;
 
-/// The greatest number of runs of known dots.
+// The greatest number of runs of known dots.
 const MOST_RUNS: u64 = 65_536;
 
-/// Takes out the cell of a dot, where it has one.
+// Takes out the cell of a dot, where it has one.
 fn take_out(cells: &mut Vec<LiveDot>, index: &mut Vec<Listed>, dot: Dot)
     requires sorted { IsTrue (map.is_sorted dot_cmp (entries_of cells.old.items)) }
     requires index { IsIndex index.old.items (live_of cells.old.items) }
-    ensures valid { (known : set.FinSet dot_cmp) → AreCells cells.old.items known → AreCells cells.new.items known }
+    ensures valid { (known : set.FinSet dot_cmp)
+        → AreCells cells.old.items known
+        → AreCells cells.new.items known }
     ensures live { live_of cells.new.items ≡ map.remove (live_of cells.old.items) dot }
     ensures index { IsIndex index.new.items (live_of cells.new.items) }
 {
@@ -47,12 +50,16 @@ fn take_out(cells: &mut Vec<LiveDot>, index: &mut Vec<Listed>, dot: Dot)
     }
 }
 
-/// Adds a dot to those that are known.
+// Adds a dot to those that are known.
 fn learn(context: &mut Context, dot: Dot) -> Result<(), JoinFault>
     ensures ok { OnOk result (context.new.dots ≡ set.insert context.old.dots dot) }
-    ensures full { (result ≡ Err JoinFault.RunsFull) ↔ (most_runs < run_count (set.insert context.old.dots dot)) }
+    ensures full { (result ≡ Err JoinFault.RunsFull)
+        ↔ (most_runs < run_count (set.insert context.old.dots dot)) }
     ensures agrees { result ≢ Err JoinFault.Conflict }
     ensures has_place { result ≢ Err JoinFault.CellsFull }
+    ensures known_dot { set.contains context.old.dots dot ≡ true → IsOk result }
+    ensures with_room { run_count context.old.dots < context.old.room
+        → result ≢ Err JoinFault.Memory }
     ensures err { OnErr result (context.new.dots ≡ context.old.dots) }
 {
     match context.insert(dot) {
@@ -62,7 +69,7 @@ fn learn(context: &mut Context, dot: Dot) -> Result<(), JoinFault>
     }
 }
 
-/// Lets a dot be dead.
+// Lets a dot be dead.
 pub(crate) fn kill_dot(
     context: &mut Context,
     cells: &mut Vec<LiveDot>,
@@ -72,10 +79,16 @@ pub(crate) fn kill_dot(
     requires { AreListed cells.old.items index.old.items context.old.dots }
     ensures valid { AreListed cells.new.items index.new.items context.new.dots }
     ensures known { OnOk result (context.new.dots ≡ set.insert context.old.dots dot) }
-    ensures conditions { OnOk result ((q : Tag) → condition_of (seen cells.new.items context.new.dots) q ≡ joined_at (seen cells.old.items context.old.dots) dot Dead q) }
-    ensures full { (result ≡ Err JoinFault.RunsFull) ↔ (most_runs < run_count (set.insert context.old.dots dot)) }
+    ensures conditions { OnOk result ((q : Tag)
+        → condition_of (seen cells.new.items context.new.dots) q
+        ≡ joined_at (seen cells.old.items context.old.dots) dot Dead q) }
+    ensures full { (result ≡ Err JoinFault.RunsFull)
+        ↔ (most_runs < run_count (set.insert context.old.dots dot)) }
     ensures agrees { result ≢ Err JoinFault.Conflict }
     ensures has_place { result ≢ Err JoinFault.CellsFull }
+    ensures known_dot { set.contains context.old.dots dot ≡ true → IsOk result }
+    ensures with_room { run_count context.old.dots < context.old.room
+        → result ≢ Err JoinFault.Memory }
     ensures err_known { OnErr result (context.new.dots ≡ context.old.dots) }
     ensures err_live { OnErr result (live_of cells.new.items ≡ live_of cells.old.items) }
 {
@@ -84,9 +97,10 @@ pub(crate) fn kill_dot(
     Ok(())
 }
 
-/// Why one more dot can't be known and have a cell, where there is no room for the cell.
+// Why one more dot can't be known and have a cell, where there is no room for the cell.
 fn fault_without_room(context: &Context, dot: Dot) -> JoinFault
-    ensures full { (result ≡ JoinFault.RunsFull) ↔ (most_runs < run_count (set.insert context.now.dots dot)) }
+    ensures full { (result ≡ JoinFault.RunsFull)
+        ↔ (most_runs < run_count (set.insert context.now.dots dot)) }
     ensures agrees { result ≢ JoinFault.Conflict }
     ensures has_place { result ≢ JoinFault.CellsFull }
 {
@@ -96,19 +110,22 @@ fn fault_without_room(context: &Context, dot: Dot) -> JoinFault
     JoinFault::Memory
 }
 
-/// Makes room for one more cell and for its entry in the index.
+// Makes room for one more cell and for its entry in the index.
 fn make_place(cells: &mut Vec<LiveDot>, index: &mut Vec<Listed>) -> Result<(), Memory>
     ensures same_cells { cells.new.items ≡ cells.old.items }
     ensures same_index { index.new.items ≡ index.old.items }
     ensures cells { OnOk result (vec_len cells.new < vec_capacity cells.new) }
     ensures index { OnOk result (vec_len index.new < vec_capacity index.new) }
+    ensures with_room { vec_len cells.old < vec_capacity cells.old
+        → vec_len index.old < vec_capacity index.old
+        → IsOk result }
 {
     cells.reserve(1)?;
     index.reserve(1)?;
     Ok(())
 }
 
-/// Lets an unknown dot be known and live, with the cell that goes in at a place.
+// Lets an unknown dot be known and live, with the cell that goes in at a place.
 fn bring(
     context: &mut Context,
     cells: &mut Vec<LiveDot>,
@@ -122,9 +139,16 @@ fn bring(
     ensures valid { AreListed cells.new.items index.new.items context.new.dots }
     ensures ok { OnOk result (context.new.dots ≡ set.insert context.old.dots cell.dot) }
     ensures cells { OnOk result (cells.new.items ≡ insert cells.old.items place cell) }
-    ensures cells_full { (result ≡ Err JoinFault.CellsFull) ↔ (most_cells ≤ length cells.old.items) }
-    ensures runs_full { (result ≡ Err JoinFault.RunsFull) ↔ ((length cells.old.items < most_cells) × (most_runs < run_count (set.insert context.old.dots cell.dot))) }
+    ensures cells_full { (result ≡ Err JoinFault.CellsFull)
+        ↔ (most_cells ≤ length cells.old.items) }
+    ensures runs_full { (result ≡ Err JoinFault.RunsFull)
+        ↔ ((length cells.old.items < most_cells)
+        × (most_runs < run_count (set.insert context.old.dots cell.dot))) }
     ensures agrees { result ≢ Err JoinFault.Conflict }
+    ensures with_room { vec_len cells.old < vec_capacity cells.old
+        → vec_len index.old < vec_capacity index.old
+        → run_count context.old.dots < context.old.room
+        → result ≢ Err JoinFault.Memory }
     ensures err_known { OnErr result (context.new.dots ≡ context.old.dots) }
     ensures err_live { OnErr result (cells.new.items ≡ cells.old.items) }
 {
@@ -140,7 +164,7 @@ fn bring(
     Ok(())
 }
 
-/// Joins the cell at a place with a member and fields.
+// Joins the cell at a place with a member and fields.
 fn meet(
     cells: &mut Vec<LiveDot>,
     place: usize,
@@ -148,9 +172,13 @@ fn meet(
     fields: &Fields,
 ) -> Result<(), JoinFault>
     requires { place < length cells.old.items }
-    ensures valid { (index : List listed) (known : set.FinSet dot_cmp) → AreListed cells.old.items index known → AreListed cells.new.items index known }
-    ensures ok { OnOk result (Meets cells.old.items place member.now (dot_fields fields.now) cells.new.items) }
-    ensures conflict { (result ≡ Err JoinFault.Conflict) ↔ ConflictsAt cells.old.items place member.now (dot_fields fields.now) }
+    ensures valid { (index : List listed) (known : set.FinSet dot_cmp)
+        → AreListed cells.old.items index known
+        → AreListed cells.new.items index known }
+    ensures ok { OnOk result
+        (Meets cells.old.items place member.now (dot_fields fields.now) cells.new.items) }
+    ensures conflict { (result ≡ Err JoinFault.Conflict)
+        ↔ ConflictsAt cells.old.items place member.now (dot_fields fields.now) }
     ensures only { IfErr result (λ fault. fault ≡ JoinFault.Conflict) }
     ensures err { OnErr result (cells.new.items ≡ cells.old.items) }
 {
@@ -162,7 +190,7 @@ fn meet(
     Ok(())
 }
 
-/// Joins a dot's condition with that it is live, with a member and fields.
+// Joins a dot's condition with that it is live, with a member and fields.
 pub(crate) fn assert_dot(
     context: &mut Context,
     cells: &mut Vec<LiveDot>,
@@ -176,11 +204,28 @@ pub(crate) fn assert_dot(
     requires field { HasField (dot_fields fields.now) }
     ensures valid { AreListed cells.new.items index.new.items context.new.dots }
     ensures known { OnOk result (context.new.dots ≡ set.insert context.old.dots dot) }
-    ensures conditions { OnOk result ((q : Tag) → condition_of (seen cells.new.items context.new.dots) q ≡ joined_at (seen cells.old.items context.old.dots) dot (Live member.now (dot_fields fields.now)) q) }
-    ensures agree { result ≢ Err JoinFault.Conflict → ConditionsAgree (condition_of (seen cells.old.items context.old.dots) dot) (Some (Live member.now (dot_fields fields.now))) }
-    ensures conflict { (result ≡ Err JoinFault.Conflict) ↔ ConditionsConflict (condition_of (seen cells.old.items context.old.dots) dot) (Some (Live member.now (dot_fields fields.now))) }
-    ensures cells_full { (result ≡ Err JoinFault.CellsFull) ↔ ((set.contains context.old.dots dot ≡ false) × (most_cells ≤ length cells.old.items)) }
-    ensures runs_full { (result ≡ Err JoinFault.RunsFull) ↔ ((length cells.old.items < most_cells) × (most_runs < run_count (set.insert context.old.dots dot))) }
+    ensures conditions { OnOk result ((q : Tag)
+        → condition_of (seen cells.new.items context.new.dots) q
+        ≡ joined_at (seen cells.old.items context.old.dots) dot
+        (Live member.now (dot_fields fields.now)) q) }
+    ensures agree { result ≢ Err JoinFault.Conflict
+        → ConditionsAgree (condition_of (seen cells.old.items context.old.dots) dot)
+        (Some (Live member.now (dot_fields fields.now))) }
+    ensures conflict { (result ≡ Err JoinFault.Conflict)
+        ↔ ConditionsConflict
+        (condition_of (seen cells.old.items context.old.dots) dot)
+        (Some (Live member.now (dot_fields fields.now))) }
+    ensures cells_full { (result ≡ Err JoinFault.CellsFull)
+        ↔ ((set.contains context.old.dots dot ≡ false)
+        × (most_cells ≤ length cells.old.items)) }
+    ensures runs_full { (result ≡ Err JoinFault.RunsFull)
+        ↔ ((length cells.old.items < most_cells)
+        × (most_runs < run_count (set.insert context.old.dots dot))) }
+    ensures known_dot { set.contains context.old.dots dot ≡ true → result ≢ Err JoinFault.Memory }
+    ensures with_room { vec_len cells.old < vec_capacity cells.old
+        → vec_len index.old < vec_capacity index.old
+        → run_count context.old.dots < context.old.room
+        → result ≢ Err JoinFault.Memory }
     ensures err_known { OnErr result (context.new.dots ≡ context.old.dots) }
     ensures err_live { OnErr result (live_of cells.new.items ≡ live_of cells.old.items) }
 {

@@ -9,11 +9,11 @@ use causal_context::{Context, ContextFault};
 use dots::SiteId;
 use std::alloc::Global;
 
-/// The greatest number of runs of a context.
+// The greatest number of runs of a context.
 const MOST_RUNS: u64 = 65_536;
 
-/// Dots that are gathered run by run in their order, and how many runs they make. Where the context can't take more,
-/// the runs are counted all the same.
+// Dots that are gathered run by run in their order, and how many runs they make. Where the context can't take more,
+// the runs are counted all the same.
 #[derive(Drop)]
 pub(crate) struct Gathered {
     pub(crate) context: Context,
@@ -22,7 +22,7 @@ pub(crate) struct Gathered {
 }
 
 impl Gathered {
-    /// No dots. It takes no memory.
+    // No dots. It takes no memory.
     pub(crate) fn none(alloc: Global) -> Gathered
         ensures none { IsGathered result set.empty }
         ensures runs { result.runs ≡ 0 }
@@ -34,13 +34,17 @@ impl Gathered {
         }
     }
 
-    /// Adds the dots of a site from a first count to a last, which begin a run or go on with one.
+    // Adds the dots of a site from a first count to a last, which begin a run or go on with one.
     pub(crate) fn add(&mut self, site: SiteId, first: u64, last: u64, begins: bool)
         requires least { 1 ≤ first }
         requires ordered { first ≤ last }
         requires most { last ≤ 2 ^ 40 }
         requires few { self.old.runs < 2 ^ 60 }
-        ensures gathered { (dots : set.FinSet dot_cmp) → IsGathered self.old dots → run_count (set.union dots (dots_between site first last)) ≡ runs_after (run_count dots) begins → IsGathered self.new (set.union dots (dots_between site first last)) }
+        ensures gathered { (dots : set.FinSet dot_cmp)
+            → IsGathered self.old dots
+            → run_count (set.union dots (dots_between site first last))
+            ≡ runs_after (run_count dots) begins
+            → IsGathered self.new (set.union dots (dots_between site first last)) }
         ensures runs { self.new.runs ≡ runs_after self.old.runs begins }
     {
         if begins {
@@ -51,10 +55,14 @@ impl Gathered {
         }
     }
 
-    /// The context of the dots. `RunsFull` exactly where they have too many runs.
+    // The context of the dots. `RunsFull` exactly where they have too many runs.
     pub(crate) fn finish(self) -> Result<Context, ContextFault>
-        ensures ok { (dots : set.FinSet dot_cmp) → IsGathered self dots → IfOk result (λ context. context.dots ≡ dots) }
-        ensures full { (dots : set.FinSet dot_cmp) → IsGathered self dots → (result ≡ Err ContextFault.RunsFull) ↔ (most_runs < run_count dots) }
+        ensures ok { (dots : set.FinSet dot_cmp)
+            → IsGathered self dots
+            → IfOk result (λ context. context.dots ≡ dots) }
+        ensures full { (dots : set.FinSet dot_cmp)
+            → IsGathered self dots
+            → (result ≡ Err ContextFault.RunsFull) ↔ (most_runs < run_count dots) }
     {
         let Gathered {
             context,

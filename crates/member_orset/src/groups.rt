@@ -7,7 +7,7 @@ ghost use Rattle.member_orset.specs.Shown.{group, is_own};
 use crate::listed::Listed;
 use dots::Member;
 
-/// The entries of a member, in the order of their dots.
+// The entries of a member, in the order of their dots.
 pub(crate) fn group_of<'a>(index: &'a [Listed], member: &Member) -> &'a [Listed]
     requires { Rises index.now }
     ensures { result.now ≡ group member.now index.now }
@@ -17,7 +17,7 @@ pub(crate) fn group_of<'a>(index: &'a [Listed], member: &Member) -> &'a [Listed]
     &index[first..end]
 }
 
-/// Whether the index has a dot under a member.
+// Whether the index has a dot under a member.
 pub(crate) fn has_member(index: &[Listed], member: &Member) -> bool
     requires { Rises index.now }
     ensures { result ≡ list_any (is_own member.now) index.now }

@@ -16,7 +16,7 @@ use crate::live_dot::LiveDot;
 use crate::search::cell_at;
 use std::cmp::Ordering;
 
-/// Which side has the least entry that is left: `Less` where the index has it, `Greater` where the others have it.
+// Which side has the least entry that is left: `Less` where the index has it, `Greater` where the others have it.
 fn compare_next(index: &[Listed], own: usize, others: &[Listed], theirs: usize) -> Ordering
     requires own_within { own ≤ length index.now }
     requires theirs_within { theirs ≤ length others.now }
@@ -31,7 +31,7 @@ fn compare_next(index: &[Listed], own: usize, others: &[Listed], theirs: usize) 
     index[own].cmp(&others[theirs])
 }
 
-/// Goes past the least entry that is left on two sides, and answers it.
+// Goes past the least entry that is left on two sides, and answers it.
 fn next_entry<'a>(
     index: &'a [Listed],
     own: &mut usize,
@@ -43,7 +43,8 @@ fn next_entry<'a>(
     requires left { own.old + theirs.old < length index.now + length others.now }
     requires rises { Rises (drop own.old index.now) }
     requires rises_there { Rises (drop theirs.old others.now) }
-    ensures least { IsLeastOf result.now (drop own.old index.now) (drop theirs.old others.now) (drop own.new index.now) (drop theirs.new others.now) }
+    ensures least { IsLeastOf result.now (drop own.old index.now) (drop theirs.old others.now)
+        (drop own.new index.now) (drop theirs.new others.now) }
     ensures own_left { own.new ≤ length index.now }
     ensures theirs_left { theirs.new ≤ length others.now }
     ensures own_order { own.old ≤ own.new }
@@ -70,7 +71,7 @@ fn next_entry<'a>(
     }
 }
 
-/// Whether the dot of an entry is live with its member.
+// Whether the dot of an entry is live with its member.
 fn is_live(cells: &[LiveDot], entry: &Listed) -> bool
     requires { IsTrue (map.is_sorted dot_cmp (entries_of cells.now)) }
     ensures { result ≡ is_held (live_of cells.now) entry.now.member entry.now.dot }
@@ -81,8 +82,8 @@ fn is_live(cells: &[LiveDot], entry: &Listed) -> bool
     }
 }
 
-/// Joins an index with another in place, and keeps what is live: the first places are spare, as many as there are
-/// others. Answers how many entries the join has; they stand first. Walks both once.
+// Joins an index with another in place, and keeps what is live: the first places are spare, as many as there are
+// others. Answers how many entries the join has; they stand first. Walks both once.
 fn merge(index: &mut [Listed], others: &[Listed], cells: &[LiveDot]) -> usize
     requires spare { length others.now ≤ length index.old }
     requires rises { Rises (drop (length others.now) index.old) }
@@ -90,7 +91,11 @@ fn merge(index: &mut [Listed], others: &[Listed], cells: &[LiveDot]) -> usize
     requires rise { IsTrue (map.is_sorted dot_cmp (entries_of cells.now)) }
     ensures within { result ≤ length index.new }
     ensures rises { Rises (take result index.new) }
-    ensures lists { (m : member) (dot : Tag) → is_listed (take result index.new) m dot ≡ (is_listed_in_either (drop (length others.now) index.old) others.now m dot && is_held (live_of cells.now) m dot) }
+    ensures lists { (m : member) (dot : Tag)
+        → is_listed (take result index.new) m dot
+        ≡ (is_listed_in_either (drop (length others.now) index.old) others.now m
+        dot
+        && is_held (live_of cells.now) m dot) }
 {
     let mut own = others.len();
     let mut theirs = 0;
@@ -105,13 +110,15 @@ fn merge(index: &mut [Listed], others: &[Listed], cells: &[LiveDot]) -> usize
     written
 }
 
-/// Joins an index with another in place, in room that is there: both list what is live now, and what isn't live any
-/// more is left out. It takes no memory.
+// Joins an index with another in place, in room that is there: both list what is live now, and what isn't live any
+// more is left out. It takes no memory.
 pub(crate) fn absorb_index(index: &mut Vec<Listed>, others: &[Listed], cells: &[LiveDot])
     requires rises { Rises index.old.items }
     requires rises_there { Rises others.now }
     requires rise { IsTrue (map.is_sorted dot_cmp (entries_of cells.now)) }
-    requires listed { (m : member) (dot : Tag) → is_held (live_of cells.now) m dot ≡ true → is_listed_in_either index.old.items others.now m dot ≡ true }
+    requires listed { (m : member) (dot : Tag)
+        → is_held (live_of cells.now) m dot ≡ true
+        → is_listed_in_either index.old.items others.now m dot ≡ true }
     requires room { vec_len index.old + length others.now ≤ vec_capacity index.old }
     ensures index { IsIndex index.new.items (live_of cells.now) }
     ensures room { vec_capacity index.old ≤ vec_capacity index.new }

@@ -2,7 +2,7 @@ ghost use Rattle.std.specs.Prelude.{◌≡◌, ◌<◌, ◌≤◌, vec_len};
 ghost use Rattle.std.specs.List.{insert};
 ghost use Rattle.std.specs.Vec.{vec_capacity};
 
-/// Puts an element in, where there is room.
+// Puts an element in, where there is room.
 pub(crate) fn put_in<T: Drop>(items: &mut Vec<T>, place: usize, item: T)
     requires within { place ≤ vec_len items.old }
     requires room { vec_len items.old < vec_capacity items.old }

@@ -3,7 +3,8 @@ ghost use Rattle.std.specs.FinSet as set;
 ghost use Rattle.std.specs.Vec.{vec_capacity, vec_len};
 ghost use Rattle.dots.specs.DotSets.{run_count};
 ghost use Rattle.causal_context.specs.Contexts.{IsPrepared, most_runs};
-ghost use Rattle.member_orset.specs.Cells.{dot_fields, entries_of};
+ghost use Rattle.member_orset.specs.Reads.{dot_fields};
+ghost use Rattle.member_orset.specs.Cells.{entries_of};
 ghost use Rattle.member_orset.specs.Members.{most_cells};
 ghost use Rattle.member_orset.specs.Joining.{AgreeInPairs, FieldsAgreeWith, joined_entries, kept_entries, next_order};
 
@@ -16,7 +17,7 @@ use causal_context::{Context, ContextFault};
 use std::alloc::AllocError;
 use std::cmp::Ordering;
 
-/// Which side has the least dot that is left: `Less` where the cells have it, `Greater` where the others have it.
+// Which side has the least dot that is left: `Less` where the cells have it, `Greater` where the others have it.
 fn compare_next(cells: &[LiveDot], own: usize, others: &[LiveDot], theirs: usize) -> Ordering
     requires own_within { own ≤ length cells.now }
     requires theirs_within { theirs ≤ length others.now }
@@ -31,8 +32,8 @@ fn compare_next(cells: &[LiveDot], own: usize, others: &[LiveDot], theirs: usize
     cells[own].dot.cmp(&others[theirs].dot)
 }
 
-/// Goes past the least dot that is left on two sides, and answers what the join keeps of it: nothing where it is live
-/// on one side, and the other knows it.
+// Goes past the least dot that is left on two sides, and answers what the join keeps of it: nothing where it is live
+// on one side, and the other knows it.
 fn next_kept<'a>(
     known: &Context,
     cells: &'a [LiveDot],
@@ -44,10 +45,16 @@ fn next_kept<'a>(
     requires own_within { own.old ≤ length cells.now }
     requires theirs_within { theirs.old ≤ length others.now }
     requires left { own.old + theirs.old < length cells.now + length others.now }
-    ensures rest { joined_entries (set.contains known.now.dots) (set.contains known_there.now.dots) (drop own.old cells.now) (drop theirs.old others.now)
-        ≡ kept_entries result ++ joined_entries (set.contains known.now.dots) (set.contains known_there.now.dots) (drop own.new cells.now) (drop theirs.new others.now) }
-    ensures agree { AgreeInPairs (drop own.old cells.now) (drop theirs.old others.now) → IfSome result (λ kept. FieldsAgreeWith (dot_fields kept.cell.now.fields) kept.other) }
-    ensures agree_after { AgreeInPairs (drop own.old cells.now) (drop theirs.old others.now) → AgreeInPairs (drop own.new cells.now) (drop theirs.new others.now) }
+    ensures rest { joined_entries (set.contains known.now.dots) (set.contains known_there.now.dots)
+        (drop own.old cells.now) (drop theirs.old others.now)
+        ≡ kept_entries result
+        ++ joined_entries (set.contains known.now.dots) (set.contains known_there.now.dots)
+        (drop own.new cells.now) (drop theirs.new others.now) }
+    ensures agree { AgreeInPairs (drop own.old cells.now) (drop theirs.old others.now)
+        → IfSome result
+        (λ kept. FieldsAgreeWith (dot_fields kept.cell.now.fields) kept.other) }
+    ensures agree_after { AgreeInPairs (drop own.old cells.now) (drop theirs.old others.now)
+        → AgreeInPairs (drop own.new cells.now) (drop theirs.new others.now) }
     ensures own_left { own.new ≤ length cells.now }
     ensures theirs_left { theirs.new ≤ length others.now }
     ensures own_order { own.old ≤ own.new }
@@ -81,14 +88,16 @@ fn next_kept<'a>(
     }
 }
 
-/// How many cells the join of two sides has. Walks both once.
+// How many cells the join of two sides has. Walks both once.
 pub(crate) fn joined_count(
     known: &Context,
     cells: &[LiveDot],
     known_there: &Context,
     others: &[LiveDot],
 ) -> usize
-    ensures { result ≡ length (joined_entries (set.contains known.now.dots) (set.contains known_there.now.dots) cells.now others.now) }
+    ensures { result
+        ≡ length (joined_entries (set.contains known.now.dots)
+        (set.contains known_there.now.dots) cells.now others.now) }
 {
     let mut own = 0;
     let mut theirs = 0;
@@ -102,13 +111,16 @@ pub(crate) fn joined_count(
     count
 }
 
-/// Joins cells with others in place: the first places are spare, as many as there are others. Answers how many cells
-/// the join has; they stand first. Walks both once.
+// Joins cells with others in place: the first places are spare, as many as there are others. Answers how many cells
+// the join has; they stand first. Walks both once.
 fn merge(known: &Context, cells: &mut [LiveDot], known_there: &Context, others: &[LiveDot]) -> usize
     requires spare { length others.now ≤ length cells.old }
     requires agree { AgreeInPairs (drop (length others.now) cells.old) others.now }
     ensures within { result ≤ length cells.new }
-    ensures joined { entries_of (take result cells.new) ≡ joined_entries (set.contains known.now.dots) (set.contains known_there.now.dots) (drop (length others.now) cells.old) others.now }
+    ensures joined { entries_of (take result cells.new)
+        ≡ joined_entries (set.contains known.now.dots)
+        (set.contains known_there.now.dots) (drop (length others.now) cells.old)
+        others.now }
 {
     let mut own = others.len();
     let mut theirs = 0;
@@ -122,7 +134,7 @@ fn merge(known: &Context, cells: &mut [LiveDot], known_there: &Context, others: 
     written
 }
 
-/// Joins cells with those of another side in place, in room that is there. It takes no memory.
+// Joins cells with those of another side in place, in room that is there. It takes no memory.
 pub(crate) fn absorb_cells(
     known: &Context,
     cells: &mut Vec<LiveDot>,
@@ -131,7 +143,9 @@ pub(crate) fn absorb_cells(
 )
     requires agree { AgreeInPairs cells.old.items others.now }
     requires room { vec_len cells.old + length others.now ≤ vec_capacity cells.old }
-    ensures joined { entries_of cells.new.items ≡ joined_entries (set.contains known.now.dots) (set.contains known_there.now.dots) cells.old.items others.now }
+    ensures joined { entries_of cells.new.items
+        ≡ joined_entries (set.contains known.now.dots)
+        (set.contains known_there.now.dots) cells.old.items others.now }
     ensures few { vec_len cells.new ≤ vec_len cells.old + length others.now }
     ensures room { vec_capacity cells.old ≤ vec_capacity cells.new }
 {
@@ -142,7 +156,7 @@ pub(crate) fn absorb_cells(
     cells.truncate(joined);
 }
 
-/// Makes room for so many entries of the index in all.
+// Makes room for so many entries of the index in all.
 fn make_index_room(index: &mut Vec<Listed>, wanted: usize) -> Result<(), AllocError>
     ensures room { OnOk result (wanted ≤ vec_capacity index.new) }
     ensures again { wanted ≤ vec_capacity index.old → IsOk result }
@@ -153,8 +167,8 @@ fn make_index_room(index: &mut Vec<Listed>, wanted: usize) -> Result<(), AllocEr
     index.reserve(more)
 }
 
-/// Makes room for the runs of another context, for so many more cells, and for the index of all of these. Nothing else
-/// changes.
+// Makes room for the runs of another context, for so many more cells, and for the index of all of these. Nothing else
+// changes.
 pub(crate) fn make_room(
     context: &mut Context,
     cells: &mut Vec<LiveDot>,
@@ -163,12 +177,17 @@ pub(crate) fn make_room(
     more: usize,
 ) -> Result<(), JoinFault>
     requires few { vec_len cells.old + more ≤ 2 * most_cells }
-    ensures room { OnOk result (vec_len cells.new + more ≤ min (vec_capacity cells.new) (vec_capacity index.new)) }
+    ensures room { OnOk result (vec_len cells.new + more
+        ≤ min (vec_capacity cells.new) (vec_capacity index.new)) }
     ensures runs { OnOk result (IsPrepared context.new other.now.dots) }
-    ensures full { (result ≡ Err JoinFault.RunsFull) ↔ (most_runs < run_count (set.union context.old.dots other.now.dots)) }
+    ensures full { (result ≡ Err JoinFault.RunsFull)
+        ↔ (most_runs < run_count (set.union context.old.dots other.now.dots)) }
     ensures agrees { result ≢ Err JoinFault.Conflict }
     ensures has_place { result ≢ Err JoinFault.CellsFull }
-    ensures again { IsPrepared context.old other.now.dots → vec_len cells.old + more ≤ min (vec_capacity cells.old) (vec_capacity index.old) → IsOk result }
+    ensures again { IsPrepared context.old other.now.dots
+        → vec_len cells.old + more
+        ≤ min (vec_capacity cells.old) (vec_capacity index.old)
+        → IsOk result }
     ensures same_cells { cells.new.items ≡ cells.old.items }
     ensures same_index { index.new.items ≡ index.old.items }
     ensures same_dots { context.new.dots ≡ context.old.dots }

@@ -1,12 +1,13 @@
 ghost use Rattle.std.specs.Prelude.{◌≡◌};
-ghost use Rattle.member_orset.specs.Cells.{dot_fields, entry_of};
+ghost use Rattle.member_orset.specs.Reads.{dot_fields};
+ghost use Rattle.member_orset.specs.Cells.{entry_of};
 ghost use Rattle.member_orset.specs.Joining.{FieldsAgreeWith, kept_entry};
 
 use crate::copies::Copies;
 use crate::live_dot::LiveDot;
 use lww_registers::Fields;
 
-/// What a join keeps of one dot, lent: the cell of one side, and the fields of the other where it is live there too.
+// What a join keeps of one dot, lent: the cell of one side, and the fields of the other where it is live there too.
 #[derive(Clone, Copy)]
 pub(crate) struct Kept<'a> {
     pub(crate) cell: &'a LiveDot,
@@ -14,7 +15,7 @@ pub(crate) struct Kept<'a> {
 }
 
 impl Kept<'_> {
-    /// The cell that it makes.
+    // The cell that it makes.
     pub(crate) fn joined(self) -> LiveDot
         requires { FieldsAgreeWith (dot_fields self.cell.now.fields) self.other }
         ensures { entry_of result ≡ kept_entry self.entry }

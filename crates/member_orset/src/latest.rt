@@ -5,9 +5,11 @@ ghost use Rattle.dots.specs.Registers.{joined};
 ghost use Rattle.dots.specs.Conditions.{fields_joined};
 ghost use Rattle.dots.specs.Orders.{dot_cmp};
 ghost use Rattle.dots.specs.Rows.{row_of, row_of_fields};
-ghost use Rattle.member_orset.specs.Cells.{dot_fields, entries_of, live_of};
+ghost use Rattle.dots.specs.Views.{row_view};
+ghost use Rattle.member_orset.specs.Reads.{dot_fields};
+ghost use Rattle.member_orset.specs.Cells.{entries_of, live_of};
 ghost use Rattle.member_orset.specs.Index.{IsIndex};
-ghost use Rattle.member_orset.specs.Shown.{cells_read, dots_listed, fields_after, fields_held, fields_shown, latest_fields, row_read};
+ghost use Rattle.member_orset.specs.Shown.{cells_view, dots_listed, fields_after, fields_held, fields_shown, latest_fields};
 
 use crate::Row;
 use crate::groups::group_of;
@@ -17,7 +19,7 @@ use crate::search::cell_at;
 use dots::{Label, Member, Pause, Penalty};
 use lww_registers::{Fields, Register};
 
-/// The registers of the latest stamps over some cells, lent.
+// The registers of the latest stamps over some cells, lent.
 #[derive(Clone, Copy)]
 pub(crate) struct Latest<'a> {
     pub(crate) penalty: &'a Register<Penalty>,
@@ -25,7 +27,7 @@ pub(crate) struct Latest<'a> {
     pub(crate) label: &'a Register<Label>,
 }
 
-/// The register of the later stamp; of equal stamps the first.
+// The register of the later stamp; of equal stamps the first.
 fn later<'a, T>(first: &'a Register<T>, second: &'a Register<T>) -> &'a Register<T>
     ensures { result.now ≡ joined first.now second.now }
 {
@@ -38,11 +40,11 @@ fn later<'a, T>(first: &'a Register<T>, second: &'a Register<T>) -> &'a Register
     if stamp < other { second } else { first }
 }
 
-/// The text where none was set.
+// The text where none was set.
 const EMPTY: &[u8] = &[];
 
 impl<'a> Latest<'a> {
-    /// Those of one cell.
+    // Those of one cell.
     fn of(fields: &'a Fields) -> Latest<'a>
         ensures { latest_fields result ≡ dot_fields fields.now }
     {
@@ -53,9 +55,10 @@ impl<'a> Latest<'a> {
         }
     }
 
-    /// These, with those of a cell that follows.
+    // These, with those of a cell that follows.
     fn and(self, fields: &'a Fields) -> Latest<'a>
-        ensures { latest_fields result ≡ fields_joined (latest_fields self.entry) (dot_fields fields.now) }
+        ensures { latest_fields result
+            ≡ fields_joined (latest_fields self.entry) (dot_fields fields.now) }
     {
         Latest {
             penalty: later(self.penalty, &fields.penalty),
@@ -64,9 +67,11 @@ impl<'a> Latest<'a> {
         }
     }
 
-    /// The row that they show.
+    // The row that they show.
     pub(crate) fn row(self) -> Row<'a>
-        ensures { row_read result ≡ row_of_fields self.entry.penalty.now self.entry.pause.now self.entry.label.now }
+        ensures { row_view result
+            ≡ row_of_fields self.entry.penalty.now self.entry.pause.now
+            self.entry.label.now }
     {
         let (paused, reason) = match self.pause.value() {
             Some(pause) => (pause.paused(), pause.reason().as_bytes()),
@@ -90,9 +95,10 @@ impl<'a> Latest<'a> {
     }
 }
 
-/// Those of the cells before, if any, with those of a cell that follows.
+// Those of the cells before, if any, with those of a cell that follows.
 fn after<'a>(latest: Option<Latest<'a>>, fields: &'a Fields) -> Latest<'a>
-    ensures { latest_fields result ≡ fields_after (option_map latest_fields latest.entry) (dot_fields fields.now) }
+    ensures { latest_fields result
+        ≡ fields_after (option_map latest_fields latest.entry) (dot_fields fields.now) }
 {
     match latest {
         Some(latest) => latest.and(fields),
@@ -100,10 +106,11 @@ fn after<'a>(latest: Option<Latest<'a>>, fields: &'a Fields) -> Latest<'a>
     }
 }
 
-/// Those of the dots of some entries, where one is live.
+// Those of the dots of some entries, where one is live.
 fn latest_in<'a>(cells: &'a [LiveDot], entries: &[Listed]) -> Option<Latest<'a>>
     requires { IsTrue (map.is_sorted dot_cmp (entries_of cells.now)) }
-    ensures { option_map latest_fields result ≡ fields_shown (fields_held (live_of cells.now) (dots_listed entries.now)) }
+    ensures { option_map latest_fields result
+        ≡ fields_shown (fields_held (live_of cells.now) (dots_listed entries.now)) }
 {
     let mut latest = None;
     for entry in entries {
@@ -114,11 +121,11 @@ fn latest_in<'a>(cells: &'a [LiveDot], entries: &[Listed]) -> Option<Latest<'a>>
     latest
 }
 
-/// The row of a member, where it has a live dot. The index is that of the cells.
+// The row of a member, where it has a live dot. The index is that of the cells.
 pub(crate) fn row_in<'a>(cells: &'a [LiveDot], index: &[Listed], member: &Member) -> Option<Row<'a>>
     requires rise { IsTrue (map.is_sorted dot_cmp (entries_of cells.now)) }
     requires index { IsIndex index.now (live_of cells.now) }
-    ensures { option_map row_read result ≡ row_of (cells_read cells.now) member.now }
+    ensures { option_map row_view result ≡ row_of (cells_view cells.now) member.now }
 {
     let latest = latest_in(cells, group_of(index, member))?;
     Some(latest.row())

@@ -1,7 +1,7 @@
 use crate::copies::Copies;
 use dots::{Dot, Member};
 
-/// A live dot as the index of members has it. Such are ordered by member, then by dot.
+// A live dot as the index of members has it. Such are ordered by member, then by dot.
 #[derive(Drop, PartialEq, Eq, PartialOrd, Ord)]
 pub(crate) struct Listed {
     pub(crate) member: Member,

@@ -5,7 +5,7 @@ use crate::listed::Listed;
 use dots::{Dot, Member};
 use lww_registers::Fields;
 
-/// A live dot with its member and fields.
+// A live dot with its member and fields.
 #[derive(Drop)]
 pub(crate) struct LiveDot {
     pub(crate) dot: Dot,
@@ -14,7 +14,7 @@ pub(crate) struct LiveDot {
 }
 
 impl LiveDot {
-    /// The dot as the index of members has it.
+    // The dot as the index of members has it.
     pub(crate) fn listed(&self) -> Listed
         ensures { result ≡ record { member = self.now.member; dot = self.now.dot } }
     {

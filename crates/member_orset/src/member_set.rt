@@ -1,20 +1,27 @@
-ghost use Rattle.std.specs.Prelude.{◌≡◌, ◌≢◌, ◌↔◌, ◌<◌, ◌≤◌, IfErr, IfOk, IsFalse, IsOk, IsTrue, OnOk, OnErr};
+ghost use Rattle.std.specs.Prelude.{◌≡◌, ◌≢◌, ◌↔◌, ◌<◌, ◌≤◌, true, IfErr, IfOk, IsFalse, IsOk, IsTrue, OnOk, OnErr};
 ghost use Rattle.std.specs.Option.{option_map};
 ghost use Rattle.std.specs.FinMap as map;
 ghost use Rattle.std.specs.FinSet as set;
 ghost use Rattle.dots.specs.Values.{Tag};
 ghost use Rattle.dots.specs.DotSets.{run_count};
 ghost use Rattle.dots.specs.Rows.{dots_of, row_of, rows_of};
-ghost use Rattle.dots.specs.Conditions.{Live, Dead, ConditionsAgree};
+ghost use Rattle.dots.specs.Conditions.{Live, Dead};
 ghost use Rattle.causal_context.specs.Contexts.{most_runs};
-ghost use Rattle.member_orset.specs.Members.{CanBeJoined, Conflicts, ConditionsConflict, HasField, HasPlaces, IsJoinOf, IsPrepared, IsPresent, IsRefusedFor, IsUnchanged, IsWithinLimits, LacksPlaces, cells_joined, cells_with, condition_of, joined_at, reading_of, runs_joined};
-ghost use Rattle.member_orset.specs.Cells.{cell_read, dot_fields, live_of};
+ghost use Rattle.member_orset.specs.Members.{CanBeJoined, Conflicts, HasField};
+ghost use Rattle.member_orset.specs.Members.{IsJoinOf, IsPrepared, IsPresent, IsRefusedFor};
+ghost use Rattle.member_orset.specs.Members.{IsUnchanged, IsWithinLimits, SaysTheSame};
+ghost use Rattle.member_orset.specs.Members.{cells_joined, condition_of, joined_at, dot_view_of};
+ghost use Rattle.member_orset.specs.LiveDots.{dead_dots_of, live_dots_without};
+ghost use Rattle.member_orset.specs.Refusals.{IsRefusedAssert, IsRefusedJoin, IsRefusedKill};
+ghost use Rattle.dots.specs.Views.{row_view};
+ghost use Rattle.member_orset.specs.Reads.{cell_read, dot_fields, dots_seen_below};
+ghost use Rattle.member_orset.specs.Cells.{live_of};
 ghost use Rattle.member_orset.specs.Index.{AreListed};
-ghost use Rattle.member_orset.specs.Shown.{row_read};
-ghost use Rattle.member_orset.specs.Seen.{dots_seen_below};
 
 use crate::agreement::cells_agree;
 use crate::copies::copy_all;
+use crate::counting::count_without;
+use crate::dead::gather_dead;
 use crate::edits::{MOST_CELLS, assert_dot, kill_dot};
 use crate::groups::has_member;
 use crate::index_joining::absorb_index;
@@ -26,12 +33,12 @@ use crate::search::cell_at;
 use crate::seen::gather;
 use crate::{Cell, Cells, Dots, JoinFault, Row, Rows};
 use causal_context::{Context, ContextFault};
-use dots::{Dot, Member, Memory};
+use dots::{Dot, Member, Memory, SiteId};
 use lww_registers::Fields;
 use std::alloc::Global;
 use std::marker::Model;
 
-/// No place is kept of a dead dot.
+// No place is kept of a dead dot.
 const NONE_RETIRED: u32 = 0;
 
 /// A set of queue members that is joined with others in any order (the optimized observed-remove set of RR-8083): it
@@ -73,6 +80,7 @@ impl MemberSet {
     pub fn new(alloc: Global) -> MemberSet
         ensures known { result.known ≡ set.empty }
         ensures live { result.live ≡ map.empty }
+        ensures retired { result.retired ≡ 0 }
     {
         MemberSet {
             context: Context::new(alloc),
@@ -81,11 +89,12 @@ impl MemberSet {
         }
     }
 
-    /// The set of a context, of cells and of their index.
+    // The set of a context, of cells and of their index.
     pub(crate) fn of(context: Context, cells: Vec<LiveDot>, index: Vec<Listed>) -> MemberSet
         requires { AreListed cells.items index.items context.dots }
         ensures known { result.known ≡ context.dots }
         ensures live { result.live ≡ live_of cells.items }
+        ensures retired { result.retired ≡ 0 }
     {
         MemberSet {
             context,
@@ -126,6 +135,13 @@ impl MemberSet {
         self.cells.len()
     }
 
+    /// How many dots are live that aren't in a context.
+    pub fn live_without(&self, dead: &Context) -> usize
+        ensures { result ≡ set.len (live_dots_without self.now dead.now.dots) }
+    {
+        count_without(&self.cells, dead)
+    }
+
     /// The live dots in their order, each with its cell.
     pub fn iter(&self) -> Cells<'_>
         ensures value { result ≡ map.entries self.now.live }
@@ -135,7 +151,7 @@ impl MemberSet {
 
     /// The live dots of a member, in their order.
     pub fn dots(&self, member: &Member) -> Dots<'_>
-        ensures { result ≡ dots_of (reading_of self.now) member.now }
+        ensures { result ≡ dots_of (dot_view_of self.now) member.now }
     {
         Dots::of(&self.index, member)
     }
@@ -143,7 +159,7 @@ impl MemberSet {
     /// The row of a member, where it has a live dot: each field is that of the greatest stamp over its live dots, of equal
     /// stamps that of the least dot, and its default where none is set (RR-7506's last-writer registers).
     pub fn row(&self, member: &Member) -> Option<Row<'_>>
-        ensures { option_map row_read result ≡ row_of (reading_of self.now) member.now }
+        ensures { option_map row_view result ≡ row_of (dot_view_of self.now) member.now }
     {
         row_in(&self.cells, &self.index, member)
     }
@@ -151,7 +167,7 @@ impl MemberSet {
     /// The rows of a queue, one by one: each interface that has a live dot there once, with its row, in the order of the
     /// interfaces' bytes.
     pub fn rows(&self, queue: u16) -> Rows<'_>
-        ensures { result ≡ rows_of (reading_of self.now) queue }
+        ensures { result ≡ rows_of (dot_view_of self.now) queue }
     {
         Rows::of(&self.cells, &self.index, queue)
     }
@@ -165,14 +181,18 @@ impl MemberSet {
     }
 
     /// Joins what it says of a dot with that the dot is dead: it is known then, and not live. No fault changes what it
-    /// says. 1 `RunsFull`, exactly where the known dots would make more than 65,536 runs; 2 `Memory`.
+    /// says. 1 `RunsFull`, exactly where the known dots would make more than 65,536 runs; 2 `Memory`, which a known dot
+    /// never wants, nor an unknown one where there is room for one more run.
     pub fn kill(&mut self, dot: Dot) -> Result<(), JoinFault>
         ensures known { OnOk result (self.new.known ≡ set.insert self.old.known dot) }
-        ensures conditions { OnOk result ((q : Tag) → condition_of self.new q ≡ joined_at self.old dot Dead q) }
-        ensures runs_full { (result ≡ Err JoinFault.RunsFull) ↔ (most_runs < run_count (set.insert self.old.known dot)) }
-        ensures agrees { result ≢ Err JoinFault.Conflict }
-        ensures has_place { result ≢ Err JoinFault.CellsFull }
+        ensures conditions { OnOk result ((q : Tag)
+            → condition_of self.new q ≡ joined_at self.old dot Dead q) }
+        ensures refusals { IsRefusedKill self.old dot (λ fault. result ≡ Err fault) }
+        ensures known_dot { set.contains self.old.known dot ≡ true → IsOk result }
+        ensures with_room { run_count self.old.known < self.old.run_room
+            → result ≢ Err JoinFault.Memory }
         ensures err { OnErr result (IsUnchanged self.old self.new) }
+        ensures retired { self.new.retired ≡ self.old.retired }
     {
         kill_dot(&mut self.context, &mut self.cells, &mut self.index, dot)
     }
@@ -182,16 +202,23 @@ impl MemberSet {
     /// what it says. 1 `Conflict`, exactly where the dot is live with another member, or with another value under the
     /// stamp of one of these fields; 2 `CellsFull`, exactly where there would be more than 16,384 live dots, or the places
     /// that aren't used again and the live dots with one more pass 1,048,576; 3 `RunsFull`, exactly where the known dots
-    /// would make more than 65,536 runs; 4 `Memory`.
+    /// would make more than 65,536 runs; 4 `Memory`, which a known dot never wants, nor an unknown one where there is room
+    /// for one more live dot and one more run.
     pub fn assert(&mut self, dot: Dot, member: &Member, fields: &Fields) -> Result<(), JoinFault>
         requires { HasField (dot_fields fields.now) }
         ensures known { OnOk result (self.new.known ≡ set.insert self.old.known dot) }
-        ensures conditions { OnOk result ((q : Tag) → condition_of self.new q ≡ joined_at self.old dot (Live member.now (dot_fields fields.now)) q) }
-        ensures agree { result ≢ Err JoinFault.Conflict → ConditionsAgree (condition_of self.old dot) (Some (Live member.now (dot_fields fields.now))) }
-        ensures conflict { (result ≡ Err JoinFault.Conflict) ↔ ConditionsConflict (condition_of self.old dot) (Some (Live member.now (dot_fields fields.now))) }
-        ensures cells_full { (result ≡ Err JoinFault.CellsFull) ↔ (ConditionsAgree (condition_of self.old dot) (Some (Live member.now (dot_fields fields.now))) × LacksPlaces self.old (cells_with self.old dot) 1) }
-        ensures runs_full { (result ≡ Err JoinFault.RunsFull) ↔ (HasPlaces self.old (cells_with self.old dot) 1 × (most_runs < run_count (set.insert self.old.known dot))) }
+        ensures conditions { OnOk result (
+            (q : Tag) → condition_of self.new q
+            ≡ joined_at self.old dot (Live member.now (dot_fields fields.now)) q
+            ) }
+        ensures refusals { IsRefusedAssert self.old dot member.now (dot_fields fields.now)
+            (λ fault. result ≡ Err fault) }
+        ensures known_dot { set.contains self.old.known dot ≡ true → result ≢ Err JoinFault.Memory }
+        ensures with_room { map.len self.old.live < self.old.cell_room
+            → run_count self.old.known < self.old.run_room
+            → result ≢ Err JoinFault.Memory }
         ensures err { OnErr result (IsUnchanged self.old self.new) }
+        ensures retired { self.new.retired ≡ self.old.retired }
     {
         let _ = self.context.runs(); // so that their limit is known
         assert_dot(
@@ -206,7 +233,7 @@ impl MemberSet {
 
     /// Whether both can be joined: no dot is live in both with two members, or with a field of one stamp and two values.
     pub fn agrees(&self, other: &MemberSet) -> bool
-        ensures agree { IsTrue result ↔ ((q : Tag) → ConditionsAgree (condition_of self.now q) (condition_of other.now q)) }
+        ensures agree { IsTrue result ↔ CanBeJoined self.now other.now }
         ensures conflict { IsFalse result ↔ Conflicts self.now other.now }
     {
         cells_agree(&self.cells, &other.cells)
@@ -218,9 +245,7 @@ impl MemberSet {
     /// both make more than 65,536 runs; 4 `Memory`.
     pub fn prepare(&mut self, other: &MemberSet) -> Result<(), JoinFault>
         ensures ready { OnOk result (IsPrepared self.new other.now) }
-        ensures conflict { (result ≡ Err JoinFault.Conflict) ↔ Conflicts self.old other.now }
-        ensures cells_full { (result ≡ Err JoinFault.CellsFull) ↔ (CanBeJoined self.old other.now × LacksPlaces self.old (cells_joined self.old other.now) (map.len other.now.live)) }
-        ensures runs_full { (result ≡ Err JoinFault.RunsFull) ↔ (CanBeJoined self.old other.now × HasPlaces self.old (cells_joined self.old other.now) (map.len other.now.live) × (most_runs < runs_joined self.old other.now)) }
+        ensures refusals { IsRefusedJoin self.old other.now (λ fault. result ≡ Err fault) }
         ensures again { IsPrepared self.old other.now → IsOk result }
         ensures kept { IsUnchanged self.old self.new }
         ensures cell_room { self.old.cell_room ≤ self.new.cell_room }
@@ -261,7 +286,8 @@ impl MemberSet {
     /// and can't fail.
     pub fn absorb(&mut self, other: MemberSet)
         requires { IsPrepared self.old other }
-        ensures { IsJoinOf self.old other self.new }
+        ensures joined { IsJoinOf self.old other self.new }
+        ensures retired { self.new.retired ≡ self.old.retired }
     {
         absorb_cells(&self.context, &mut self.cells, &other.context, &other.cells);
         absorb_index(&mut self.index, &other.index, &self.cells);
@@ -274,12 +300,11 @@ impl MemberSet {
     /// 1,048,576; 3 `RunsFull`, exactly where the known dots of both make more than 65,536 runs; 4 `Memory`.
     pub fn join(&mut self, other: MemberSet) -> Result<(), (JoinFault, MemberSet)>
         ensures joined { OnOk result (IsJoinOf self.old other self.new) }
-        ensures conflict { IsRefusedFor result JoinFault.Conflict ↔ Conflicts self.old other }
-        ensures cells_full { IsRefusedFor result JoinFault.CellsFull ↔ (CanBeJoined self.old other × LacksPlaces self.old (cells_joined self.old other) (map.len other.live)) }
-        ensures runs_full { IsRefusedFor result JoinFault.RunsFull ↔ (CanBeJoined self.old other × HasPlaces self.old (cells_joined self.old other) (map.len other.live) × (most_runs < runs_joined self.old other)) }
+        ensures refusals { IsRefusedJoin self.old other (λ fault. IsRefusedFor result fault) }
         ensures prepared { IsPrepared self.old other → IsOk result }
-        ensures back { IfErr result (λ refused. IsUnchanged other refused.1) }
+        ensures back { IfErr result (λ refused. refused.1 ≡ other) }
         ensures err { OnErr result (IsUnchanged self.old self.new) }
+        ensures retired { self.new.retired ≡ self.old.retired }
     {
         if let Err(fault) = self.prepare(&other) {
             return Err((fault, other));
@@ -293,12 +318,23 @@ impl MemberSet {
     /// than 65,536 runs; 2 `Memory`.
     pub fn seen_below(&self, given: &[Dot]) -> Result<Context, ContextFault>
         ensures ok { IfOk result (λ seen. seen.dots ≡ dots_seen_below self.now given.now) }
-        ensures full { (result ≡ Err ContextFault.RunsFull) ↔ (most_runs < run_count (dots_seen_below self.now given.now)) }
+        ensures full { (result ≡ Err ContextFault.RunsFull)
+            ↔ (most_runs < run_count (dots_seen_below self.now given.now)) }
     {
         gather(*self.cells.allocator(), &self.context, &self.cells, given)
     }
 
-    /// How many dots are live in the join with another set.
+    /// The dead dots of a site: those that are known and not live. 1 `RunsFull`, exactly where they make more than 65,536
+    /// runs; 2 `Memory`.
+    pub fn dead_of(&self, site: SiteId) -> Result<Context, ContextFault>
+        ensures ok { IfOk result (λ dead. dead.dots ≡ dead_dots_of self.now site) }
+        ensures full { (result ≡ Err ContextFault.RunsFull)
+            ↔ (most_runs < run_count (dead_dots_of self.now site)) }
+    {
+        gather_dead(*self.cells.allocator(), &self.context, &self.cells, site)
+    }
+
+    // How many dots are live in the join with another set.
     fn joined_cells(&self, other: &MemberSet) -> usize
         ensures { result ≡ cells_joined self.now other.now }
     {
@@ -307,7 +343,8 @@ impl MemberSet {
 
     /// Another set that says the same of each dot. The one fault is want of memory.
     pub fn copy(&self) -> Result<MemberSet, Memory>
-        ensures { IfOk result (λ copy. IsUnchanged self.now copy) }
+        ensures same { IfOk result (λ copy. SaysTheSame self.now copy) }
+        ensures retired { IfOk result (λ copy. copy.retired ≡ self.now.retired) }
     {
         let cells = copy_all(*self.cells.allocator(), &self.cells)?;
         let index = copy_all(*self.index.allocator(), &self.index)?;

@@ -32,14 +32,16 @@ impl<'a> Model for Rows<'a> {
 
     ghost use Rattle.member_orset.specs.Cells.{entries_of, live_of};
     ghost use Rattle.member_orset.specs.Index.{IsIndex};
-    ghost use Rattle.member_orset.specs.Shown.{cells_read, rows_after};
+    ghost use Rattle.member_orset.specs.Shown.{cells_view, rows_after};
 
-    ghost view = { λ r. rows_after (cells_read r.cells.now) r.queue (option_map (λ i. i.now) r.last) };
+    ghost view = { λ r. rows_after (cells_view r.cells.now) r.queue
+        (option_map (λ i. i.now) r.last) };
 
-    ghost invariant = { λ r. IsTrue (map.is_sorted dot_cmp (entries_of r.cells.now)) × IsIndex r.index.now (live_of r.cells.now) };
+    ghost invariant = { λ r. IsTrue (map.is_sorted dot_cmp (entries_of r.cells.now))
+        × IsIndex r.index.now (live_of r.cells.now) };
 }
 
-/// Whether an interface lies after another one, where there is one.
+// Whether an interface lies after another one, where there is one.
 fn lies_after(last: Option<&Interface>, interface: &Interface) -> bool
     ensures { result ≡ is_after (option_map (λ i. i.now) last.entry) interface.now }
 {
@@ -49,7 +51,7 @@ fn lies_after(last: Option<&Interface>, interface: &Interface) -> bool
     }
 }
 
-/// Whether an entry lies before those of a queue whose interfaces lie after another one, where there is one.
+// Whether an entry lies before those of a queue whose interfaces lie after another one, where there is one.
 fn is_passed(entry: &Listed, queue: u16, last: Option<&Interface>) -> bool
     ensures { result ≡ is_passed queue (option_map (λ i. i.now) last.entry) entry.now.member }
 {
@@ -57,10 +59,11 @@ fn is_passed(entry: &Listed, queue: u16, last: Option<&Interface>) -> bool
         || (entry.member.queue == queue && !lies_after(last, &entry.member.interface))
 }
 
-/// An entry of the least interface of a queue that lies after another one, where there is one.
+// An entry of the least interface of a queue that lies after another one, where there is one.
 fn least_after<'a>(index: &'a [Listed], queue: u16, last: Option<&Interface>) -> Option<&'a Listed>
     requires { Rises index.now }
-    ensures { IsLeastAfter queue (option_map (λ i. i.now) last.entry) index.now (option_map (λ l. l.now) result) }
+    ensures { IsLeastAfter queue (option_map (λ i. i.now) last.entry) index.now
+        (option_map (λ l. l.now) result) }
 {
     let place = index.partition_point(|entry| is_passed(entry, queue, last));
     if place == index.len() {
@@ -79,13 +82,13 @@ impl<'a> Rows<'a> {
     ghost use Rattle.dots.specs.Orders.{dot_cmp};
     ghost use Rattle.member_orset.specs.Cells.{entries_of, live_of};
     ghost use Rattle.member_orset.specs.Index.{IsIndex};
-    ghost use Rattle.member_orset.specs.Shown.{cells_read, rows_after};
+    ghost use Rattle.member_orset.specs.Shown.{cells_view, rows_after};
 
-    /// Those of a queue in a list of cells, of which this is the index.
+    // Those of a queue in a list of cells, of which this is the index.
     pub(crate) fn of(cells: &'a [LiveDot], index: &'a [Listed], queue: u16) -> Rows<'a>
         requires rise { IsTrue (map.is_sorted dot_cmp (entries_of cells.now)) }
         requires index { IsIndex index.now (live_of cells.now) }
-        ensures { result ≡ rows_after (cells_read cells.now) queue None }
+        ensures { result ≡ rows_after (cells_view cells.now) queue None }
     {
         Rows {
             cells,

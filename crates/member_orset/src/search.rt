@@ -4,23 +4,25 @@ ghost use Rattle.std.specs.Option.{option_map};
 ghost use Rattle.std.specs.Ordering.{is_lt};
 ghost use Rattle.std.specs.FinMap as map;
 ghost use Rattle.dots.specs.Orders.{dot_cmp};
-ghost use Rattle.member_orset.specs.Cells.{IsAt, IsGap, cell_read, entries_of, live_of};
+ghost use Rattle.member_orset.specs.Reads.{cell_read};
+ghost use Rattle.member_orset.specs.Cells.{IsAt, IsGap, entries_of, live_of};
 
 use crate::Cell;
 use crate::live_dot::LiveDot;
 use dots::Dot;
 
-/// How many cells lie before a dot.
+// How many cells lie before a dot.
 pub(crate) fn place(cells: &[LiveDot], dot: Dot) -> usize
     requires { IsTrue (map.is_sorted dot_cmp (entries_of cells.now)) }
     ensures within { result ≤ length cells.now }
     ensures before { AllWithin (λ c. is_lt (dot_cmp c.dot dot) ≡ true) cells.now 0 result }
-    ensures after { AllWithin (λ c. is_lt (dot_cmp c.dot dot) ≡ false) cells.now result (length cells.now) }
+    ensures after { AllWithin (λ c. is_lt (dot_cmp c.dot dot) ≡ false) cells.now result
+        (length cells.now) }
 {
     cells.partition_point(|cell| cell.dot < dot)
 }
 
-/// The place of a dot's cell, or, where it has none, the place where it would go in.
+// The place of a dot's cell, or, where it has none, the place where it would go in.
 pub(crate) fn find(cells: &[LiveDot], dot: Dot) -> Result<usize, usize>
     requires { IsTrue (map.is_sorted dot_cmp (entries_of cells.now)) }
     ensures found { IfOk result (IsAt cells.now dot) }
@@ -37,7 +39,7 @@ pub(crate) fn find(cells: &[LiveDot], dot: Dot) -> Result<usize, usize>
     Ok(index)
 }
 
-/// The cell of a dot, where it is live.
+// The cell of a dot, where it is live.
 pub(crate) fn cell_at<'a>(cells: &'a [LiveDot], dot: Dot) -> Option<Cell<'a>>
     requires { IsTrue (map.is_sorted dot_cmp (entries_of cells.now)) }
     ensures { option_map cell_read result ≡ map.get (live_of cells.now) dot }

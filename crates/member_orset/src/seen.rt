@@ -8,7 +8,8 @@ ghost use Rattle.dots.specs.DotSets.{AreApart, IsRunsOf, in_stretches, run_count
 ghost use Rattle.causal_context.specs.Contexts.{IsRun, most_runs};
 ghost use Rattle.causal_context.specs.RunLists.{is_below};
 ghost use Rattle.member_orset.specs.Cells.{entries_of, live_of};
-ghost use Rattle.member_orset.specs.Seen.{IsGathered, IsGreatest, IsPiece, is_given, part_before, seen_dots};
+ghost use Rattle.member_orset.specs.Reads.{seen_dots};
+ghost use Rattle.member_orset.specs.Seen.{IsGathered, IsGreatest, IsPiece, is_given, part_before};
 
 use crate::gathered::Gathered;
 use crate::live_dot::LiveDot;
@@ -18,10 +19,10 @@ use causal_context::{Context, ContextFault, Run};
 use dots::{Dot, SiteId};
 use std::alloc::Global;
 
-/// How many sites there are.
+// How many sites there are.
 const SITES: u16 = 64;
 
-/// The greatest count of the given dots of a site: 0 where none is of it.
+// The greatest count of the given dots of a site: 0 where none is of it.
 fn greatest_of(given: &[Dot], site: SiteId) -> u64
     ensures greatest { IsGreatest given.now site result }
     ensures limit { result ≤ 2 ^ 40 }
@@ -38,10 +39,11 @@ fn greatest_of(given: &[Dot], site: SiteId) -> u64
     greatest
 }
 
-/// Whether a dot is given, and how far this is so of the counts from its own on.
+// Whether a dot is given, and how far this is so of the counts from its own on.
 fn given_piece(given: &[Dot], from: Dot, last: u64) -> Piece
     requires { from.count ≤ last }
-    ensures { IsPiece (λ n. is_given given.now (record { site = from.site; count = n })) from.count last result }
+    ensures { IsPiece (λ n. is_given given.now (record { site = from.site; count = n }))
+        from.count last result }
 {
     let mut end = last;
     for dot in given {
@@ -65,7 +67,7 @@ fn given_piece(given: &[Dot], from: Dot, last: u64) -> Piece
     }
 }
 
-/// How many runs end before a dot.
+// How many runs end before a dot.
 fn runs_below(runs: &[Run], dot: Dot) -> usize
     requires { AreApart runs.now }
     ensures within { result ≤ length runs.now }
@@ -76,11 +78,12 @@ fn runs_below(runs: &[Run], dot: Dot) -> usize
     runs.partition_point(|run| run.site < site || run.site == site && run.last < count)
 }
 
-/// Whether a dot is in runs, and how far this is so of the counts from its own on.
-fn known_piece(runs: &[Run], from: Dot, last: u64) -> Piece
+// Whether a dot is in runs, and how far this is so of the counts from its own on.
+pub(crate) fn known_piece(runs: &[Run], from: Dot, last: u64) -> Piece
     requires apart { AreApart runs.now }
     requires order { from.count ≤ last }
-    ensures { IsPiece (λ n. in_stretches runs.now (record { site = from.site; count = n })) from.count last result }
+    ensures { IsPiece (λ n. in_stretches runs.now (record { site = from.site; count = n }))
+        from.count last result }
 {
     let place = runs_below(runs, from);
     if place == runs.len() {
@@ -108,11 +111,14 @@ fn known_piece(runs: &[Run], from: Dot, last: u64) -> Piece
     }
 }
 
-/// Whether a dot is live, and how far this is so of the counts from its own on.
-fn live_piece(cells: &[LiveDot], from: Dot, last: u64) -> Piece
+// Whether a dot is live, and how far this is so of the counts from its own on.
+pub(crate) fn live_piece(cells: &[LiveDot], from: Dot, last: u64) -> Piece
     requires rise { IsTrue (map.is_sorted dot_cmp (entries_of cells.now)) }
     requires order { from.count ≤ last }
-    ensures { IsPiece (λ n. map.contains_key (live_of cells.now) (record { site = from.site; count = n })) from.count last result }
+    ensures { IsPiece
+        (λ n. map.contains_key (live_of cells.now)
+        (record { site = from.site; count = n }))
+        from.count last result }
 {
     let Err(place) = find(cells, from) else {
         return Piece {
@@ -139,15 +145,20 @@ fn live_piece(cells: &[LiveDot], from: Dot, last: u64) -> Piece
     }
 }
 
-/// Whether a dot is given or dead here, and how far this is so of the counts from its own on. The last count is the
-/// greatest given one of its site.
+// Whether a dot is given or dead here, and how far this is so of the counts from its own on. The last count is the
+// greatest given one of its site.
 fn seen_piece(runs: &[Run], cells: &[LiveDot], given: &[Dot], from: Dot, last: u64) -> Piece
     requires apart { AreApart runs.now }
     requires rise { IsTrue (map.is_sorted dot_cmp (entries_of cells.now)) }
     requires least { 1 ≤ from.count }
     requires order { from.count ≤ last }
     requires greatest { IsGreatest given.now from.site last }
-    ensures { (known : set.FinSet dot_cmp) → IsRunsOf runs.now known → IsPiece (λ n. set.contains (seen_dots known (live_of cells.now) given.now) (record { site = from.site; count = n })) from.count last result }
+    ensures { (known : set.FinSet dot_cmp)
+        → IsRunsOf runs.now known
+        → IsPiece
+        (λ n. set.contains (seen_dots known (live_of cells.now) given.now)
+        (record { site = from.site; count = n }))
+        from.count last result }
 {
     let given = given_piece(given, from, last);
     if given.inside {
@@ -164,13 +175,17 @@ fn seen_piece(runs: &[Run], cells: &[LiveDot], given: &[Dot], from: Dot, last: u
     }
 }
 
-/// Gathers the dots of a piece, where they are in: they go on with a run, or begin one.
-fn gather_piece(gathered: &mut Gathered, from: Dot, piece: Piece, goes_on: bool)
+// Gathers the dots of a piece, where they are in: they go on with a run, or begin one.
+pub(crate) fn gather_piece(gathered: &mut Gathered, from: Dot, piece: Piece, goes_on: bool)
     requires order { from.count ≤ piece.last }
     requires limit { piece.last ≤ 2 ^ 40 }
     requires few { gathered.old.runs < 2 ^ 60 }
-    ensures gathered { (dots : set.FinSet dot_cmp) (last : ℕ) → IsGathered gathered.old (part_before dots from.site from.count) → IsPiece (λ n. set.contains dots (record { site = from.site; count = n })) from.count last piece
-        → goes_on ≡ set.contains dots (record { site = from.site; count = from.count - 1 }) → IsGathered gathered.new (part_before dots from.site (piece.last + 1)) }
+    ensures gathered { (dots : set.FinSet dot_cmp) (last : ℕ)
+        → IsGathered gathered.old (part_before dots from.site from.count)
+        → IsPiece (λ n. set.contains dots (record { site = from.site; count = n }))
+        from.count last piece
+        → goes_on ≡ set.contains dots (record { site = from.site; count = from.count - 1 })
+        → IsGathered gathered.new (part_before dots from.site (piece.last + 1)) }
     ensures few { gathered.new.runs ≤ gathered.old.runs + 1 }
 {
     let (site, first) = (from.site(), from.count());
@@ -180,7 +195,7 @@ fn gather_piece(gathered: &mut Gathered, from: Dot, piece: Piece, goes_on: bool)
     gathered.add(site, first, piece.last, !goes_on);
 }
 
-/// Gathers the dots of a site, up to the greatest given one.
+// Gathers the dots of a site, up to the greatest given one.
 fn gather_site(
     gathered: &mut Gathered,
     runs: &[Run],
@@ -195,8 +210,12 @@ fn gather_site(
     requires greatest { IsGreatest given.now site last }
     requires limit { last ≤ 2 ^ 40 }
     requires few { gathered.old.runs ≤ site * 2 ^ 41 }
-    ensures gathered { (known : set.FinSet dot_cmp) → IsRunsOf runs.now known → IsGathered gathered.old (part_before (seen_dots known (live_of cells.now) given.now) site 0)
-        → IsGathered gathered.new (part_before (seen_dots known (live_of cells.now) given.now) (site + 1) 0) }
+    ensures gathered { (known : set.FinSet dot_cmp)
+        → IsRunsOf runs.now known
+        → IsGathered gathered.old
+        (part_before (seen_dots known (live_of cells.now) given.now) site 0)
+        → IsGathered gathered.new
+        (part_before (seen_dots known (live_of cells.now) given.now) (site + 1) 0) }
     ensures few { gathered.new.runs ≤ (site + 1) * 2 ^ 41 }
 {
     let _ = site.number(); // so that its limit is known
@@ -213,7 +232,7 @@ fn gather_site(
     }
 }
 
-/// The given dots, with all that are dead here and older than a given one of their site.
+// The given dots, with all that are dead here and older than a given one of their site.
 pub(crate) fn gather(
     alloc: Global,
     context: &Context,
@@ -221,8 +240,11 @@ pub(crate) fn gather(
     given: &[Dot],
 ) -> Result<Context, ContextFault>
     requires { IsTrue (map.is_sorted dot_cmp (entries_of cells.now)) }
-    ensures ok { IfOk result (λ seen. seen.dots ≡ seen_dots context.now.dots (live_of cells.now) given.now) }
-    ensures full { (result ≡ Err ContextFault.RunsFull) ↔ (most_runs < run_count (seen_dots context.now.dots (live_of cells.now) given.now)) }
+    ensures ok { IfOk result
+        (λ seen. seen.dots ≡ seen_dots context.now.dots (live_of cells.now) given.now) }
+    ensures full { (result ≡ Err ContextFault.RunsFull)
+        ↔ (most_runs
+        < run_count (seen_dots context.now.dots (live_of cells.now) given.now)) }
 {
     let runs = context.as_slice();
     let mut gathered = Gathered::none(alloc);

@@ -1,11 +1,11 @@
-ghost use Rattle.std.specs.Prelude.{◌≡◌, ◌<◌, IsSome, OnErr, OnOk, true};
+ghost use Rattle.std.specs.Prelude.{◌≡◌, ◌<◌, IsOk, IsSome, OnErr, OnOk, true};
 ghost use Rattle.std.specs.FinMap as map;
 ghost use Rattle.std.specs.FinSet as set;
 ghost use Rattle.std.specs.declared.cmp.Ordering.TheVariants.{Less};
 ghost use Rattle.dots.specs.Values.{Tag};
 ghost use Rattle.dots.specs.Orders.{dot_cmp};
-ghost use Rattle.member_orset.specs.Members.{HasField, IsUnchanged, most_cells};
-ghost use Rattle.member_orset.specs.Cells.{dot_fields};
+ghost use Rattle.member_orset.specs.Members.{HasField, SaysTheSame, most_cells};
+ghost use Rattle.member_orset.specs.Reads.{dot_fields};
 
 use crate::MemberSet;
 use crate::index::list_cells;
@@ -34,19 +34,23 @@ impl Model for SetBuilder {
 
     ghost coded = { members_code };
 
+    ghost use Rattle.std.specs.Prelude.{min};
     ghost use Rattle.member_orset.specs.Cells.{live_of, AreCells};
 
     ghost view = { λ b. record {
       known = b.context.dots;
       live = live_of b.cells.items;
       retired = 0;
-      cell_room = vec_capacity b.cells;
+      cell_room = min (vec_capacity b.cells) (vec_capacity b.index);
       run_room = b.context.room;
     } };
 
-    ghost use Rattle.std.specs.Prelude.{◌≤◌, vec_len};
+    ghost use Rattle.std.specs.Prelude.{◌≡◌, ◌≤◌, [], vec_len};
 
-    ghost invariant = { λ b. AreCells b.cells.items b.context.dots × (vec_len b.cells ≤ vec_capacity b.index) };
+    ghost invariant = { λ b.
+        AreCells b.cells.items b.context.dots
+        × (vec_len b.cells ≤ vec_capacity b.index)
+        × (b.index.items ≡ []) };
 }
 
 impl SetBuilder {
@@ -54,6 +58,7 @@ impl SetBuilder {
     pub fn new(alloc: Global, context: Context) -> SetBuilder
         ensures known { result.known ≡ context.dots }
         ensures live { result.live ≡ map.empty }
+        ensures retired { result.retired ≡ 0 }
     {
         SetBuilder {
             context,
@@ -62,15 +67,27 @@ impl SetBuilder {
         }
     }
 
+    /// The dots that are known.
+    pub fn context(&self) -> &Context
+        ensures { result.now.dots ≡ self.now.known }
+    {
+        &self.context
+    }
+
     /// Makes a dot live, with its member and fields. It is one of the context and greater than those before, a field is
-    /// set, and fewer than 16,384 dots are live so far. The one fault is want of memory, which changes nothing.
+    /// set, and fewer than 16,384 dots are live so far. The one fault is want of memory, which changes nothing, and comes
+    /// only where there is no room for one more live dot.
     pub fn cell(&mut self, dot: Dot, member: &Member, fields: &Fields) -> Result<(), Memory>
         requires in_context { set.contains self.old.known dot ≡ true }
         requires greater { (q : Tag) → IsSome (map.get self.old.live q) → dot_cmp q dot ≡ Less }
         requires field { HasField (dot_fields fields.now) }
         requires room { map.len self.old.live < most_cells }
-        ensures ok { OnOk result (self.new.live ≡ map.insert self.old.live dot (member.now, dot_fields fields.now)) }
+        ensures ok { OnOk result (
+            self.new.live ≡ map.insert self.old.live dot (member.now, dot_fields fields.now)
+            ) }
+        ensures with_room { map.len self.old.live < self.old.cell_room → IsOk result }
         ensures known { self.new.known ≡ self.old.known }
+        ensures retired { self.new.retired ≡ self.old.retired }
         ensures err { OnErr result (self.new.live ≡ self.old.live) }
     {
         self.index.reserve(self.cells.len() + 1)?;
@@ -84,7 +101,8 @@ impl SetBuilder {
 
     /// The set: the given dots are live, and the others of the context dead.
     pub fn finish(self) -> MemberSet
-        ensures { IsUnchanged self result }
+        ensures same { SaysTheSame self result }
+        ensures retired { result.retired ≡ 0 }
     {
         let SetBuilder {
             context,

@@ -10,7 +10,7 @@ use denote.Struct.Owning.{shape, fields, to}
 use denote.Param.Send.{IsSend, IsSync, Common, AllSend, part_keyless, owning_send, struct_send, struct_sync, sendable}
 use Rattle.core.specs.declared.alloc.Allocator.{Ghosts}
 use Rattle.std_alloc.proofs.SendSync.{FreesAnywhere, quiet}
-use Rattle.op_arena.specs.Rows.{owns_row, owns_places, lends_row, lends_places}
+use Rattle.op_arena.specs.CellRows.{owns_row, owns_places, lends_row, lends_places}
 use Rattle.op_arena.specs.contracts.places.Places as places
 use Rattle.op_arena.specs.contracts.places.Lease as lease
 

@@ -2,7 +2,7 @@
 use Rattle.std.proofs.Common.{◌≡◌, ℕ, zero, suc, ◌+◌, ◌-◌, ◌^◌, ◌<◌, ◌≤◌, List, [], ◌∷◌, ◌++◌, length, map, replicate, get_or, slice_get, slice_set, Some, None, refl, sym, ap, ◌∙◌, arith}
 use Rattle.std.specs.Prelude.{Option}
 use Rattle.std.proofs.lemmas.List.{length-replicate, length-set}
-use Rattle.op_arena.specs.Rows.{values, IsFilled}
+use Rattle.op_arena.specs.CellRows.{values, IsFilled}
 
 module _ {X : Type 0} where
   abbrev pub laid : List X → ℕ → List (Option X)

@@ -12,7 +12,7 @@ use denote.SharingLaws.{nothing_shr_laws, said_shr_laws, beside_shr_laws}
 use denote.Struct.Lending.{Lends, Lends-nothing, Lends-said, Lends-both, Lends-false}
 use Rattle.std.specs.Prelude.{List, [], ◌∷◌, Option, Some, None}
 use Rattle.std.specs.Mem.{type_size}
-use Rattle.op_arena.specs.Rows.{owns_place, owns_row, owns_places, lends_place, lends_row, lends_places, below_limit}
+use Rattle.op_arena.specs.CellRows.{owns_place, owns_row, owns_places, lends_place, lends_row, lends_places, below_limit}
 
 module _ (R : RattleType) (laws : RowLaws R) where
   place_laws : (b at : ℕ) (place : Option R.Denot) → ShrLaws (lends_place R b at place)

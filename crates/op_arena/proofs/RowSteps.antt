@@ -26,7 +26,7 @@ use denote.Struct.Owning.{shape}
 use Rattle.std.specs.Prelude.{Option}
 use Rattle.std.specs.Mem.{type_size}
 use Rattle.core.proofs.mem.Param.{El, R, el_x, elτ}
-use Rattle.op_arena.specs.Rows.{owns_place, owns_row, lends_place, lends_row}
+use Rattle.op_arena.specs.CellRows.{owns_place, owns_row, lends_place, lends_row}
 use Rattle.op_arena.specs.contracts.places.Places as places
 
 abbrev pub data_val : Ptr → Val

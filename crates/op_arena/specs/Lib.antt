@@ -4,7 +4,7 @@ pub mod ColumnLends
 pub mod Columns
 pub mod Ids
 pub mod RowLends
-pub mod Rows
+pub mod CellRows
 pub mod Sizes
 pub mod SlotLends
 pub mod Slots

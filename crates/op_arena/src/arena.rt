@@ -13,7 +13,7 @@ use crate::slot::Slot;
 use std::alloc::Global;
 use std::marker::Model;
 
-/// How many cells an arena has at most.
+// How many cells an arena has at most.
 const LIMIT: usize = 1_048_576;
 
 /// Values, each under an id that the arena picks. A cell whose value was taken is used again in its next generation, up to generation
@@ -151,7 +151,7 @@ impl<T, const LAST: u32> Arena<T, LAST> {
         slot.value()
     }
 
-    /// Whether the value of `id` is held.
+    // Whether the value of `id` is held.
     fn holds(&self, id: CellId) -> bool
         ensures value { result ≡ map.contains_key self.now.held id }
         ensures spent { IsTrue (set.contains self.now.spent id) → result ≡ false }

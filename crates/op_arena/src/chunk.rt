@@ -1,7 +1,7 @@
 //! A chunk: memory for a fixed number of values, which are added one after another and never move.
 ghost use Rattle.std.specs.Prelude.{◌≡◌, ℕ, ◌+◌, ◌<◌, ◌++◌, ◌∷◌, [], None, Some, length, map, replicate, slice_get, IfOk};
 ghost use Rattle.std.specs.Borrow.{sem};
-ghost use Rattle.op_arena.specs.Rows.{IsFilled};
+ghost use Rattle.op_arena.specs.CellRows.{IsFilled};
 ghost use Rattle.op_arena.specs.Columns.{column};
 
 use crate::places::{Lease, Places};
@@ -9,7 +9,7 @@ use std::alloc::{AllocError, Global};
 use std::marker::Model;
 use std_alloc::room::may_hold;
 
-/// The first `len` places hold the values, in the order in which they were added, and the others are empty.
+// The first `len` places hold the values, in the order in which they were added, and the others are empty.
 pub(crate) struct Chunk<T> {
     places: Places<T>,
     lease: Lease<T, Global>,
@@ -26,14 +26,14 @@ impl<T> Model for Chunk<T> {
     ghost coded = { column_code T.code };
 
     ghost use Rattle.std.specs.Prelude.{◌≡◌};
-    ghost use Rattle.op_arena.specs.Rows.{values, IsFilled};
+    ghost use Rattle.op_arena.specs.CellRows.{values, IsFilled};
 
     ghost view = { λ c. column (values c.places.slots) c.capacity };
 
     ghost invariant = { λ c. IsFilled c.places.slots c.len c.capacity × (c.lease.first ≡ c.places.first) × (c.lease.count ≡ c.capacity) × (c.lease.alloc ≡ c.alloc) };
 }
 
-/// Drops the values in the first `len` places, from the front.
+// Drops the values in the first `len` places, from the front.
 fn drop_values<T: Drop>(places: &mut Places<T>, len: usize, capacity: usize)
     requires { IsFilled places.old.slots len capacity }
     ensures emptied { places.new.slots ≡ replicate capacity None }
@@ -61,7 +61,7 @@ impl<T: Drop> Drop for Chunk<T> {
 impl<T> Chunk<T> {
     ghost use Rattle.op_arena.specs.ColumnLends.{lends_item};
 
-    /// Memory for `capacity` values.
+    // Memory for `capacity` values.
     pub(crate) fn new(alloc: Global, capacity: usize) -> Result<Self, AllocError>
         ensures { IfOk result (λ c. c ≡ column [] capacity) }
     {
@@ -78,7 +78,7 @@ impl<T> Chunk<T> {
         })
     }
 
-    /// Adds a value after the others.
+    // Adds a value after the others.
     pub(crate) fn push(&mut self, value: T)
         requires { length self.old.items < self.old.capacity }
         ensures { self.new ≡ column (self.old.items ++ value ∷ []) self.old.capacity }
@@ -87,7 +87,7 @@ impl<T> Chunk<T> {
         self.len += 1;
     }
 
-    /// The value at `index`.
+    // The value at `index`.
     pub(crate) fn get(&self, index: usize) -> &T
         requires { index < length self.now.items }
         ensures { slice_get self.now.items index ≡ Some result.now }
@@ -95,7 +95,7 @@ impl<T> Chunk<T> {
         self.places.read(index)
     }
 
-    /// The value at `index`, for writing.
+    // The value at `index`, for writing.
     pub(crate) fn get_mut(&mut self, index: usize) -> &mut T
         requires { index < length self.old.items }
         ensures* writes_back { sem 𝓛 (lends_item T.row self.entry index result) }

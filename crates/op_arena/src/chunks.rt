@@ -8,10 +8,10 @@ use crate::chunk::Chunk;
 use std::alloc::{AllocError, Global};
 use std::marker::Model;
 
-/// How many values the first chunk holds.
+// How many values the first chunk holds.
 const FIRST: usize = 16;
 
-/// Chunks of 16, 16, 32, 64, .. places. Each is full before the next one gets a value.
+// Chunks of 16, 16, 32, 64, .. places. Each is full before the next one gets a value.
 #[derive(Drop)]
 pub(crate) struct Chunks<T> {
     chunks: Vec<Chunk<T>>,
@@ -35,7 +35,7 @@ impl<T> Model for Chunks<T> {
     ghost invariant = { λ c. IsLaid 0 c.len c.chunks.items × (c.capacity ≡ total (length c.chunks.items)) × (length c.chunks.items ≤ 17) };
 }
 
-/// The chunk that the value at `index` is in, and its place there.
+// The chunk that the value at `index` is in, and its place there.
 fn locate(index: usize) -> (usize, usize)
     ensures { IsAt index result.0 result.1 }
 {
@@ -49,7 +49,7 @@ fn locate(index: usize) -> (usize, usize)
 impl<T> Chunks<T> {
     ghost use Rattle.op_arena.specs.ChunksLends.{lends_item};
 
-    /// No chunk. It takes no memory.
+    // No chunk. It takes no memory.
     pub(crate) fn new(alloc: Global) -> Self
         ensures { result ≡ column [] 0 }
     {
@@ -61,7 +61,7 @@ impl<T> Chunks<T> {
         }
     }
 
-    /// How many values there are.
+    // How many values there are.
     pub(crate) fn len(&self) -> usize
         ensures value { result ≡ length self.now.items }
         ensures within { result ≤ self.now.capacity }
@@ -69,7 +69,7 @@ impl<T> Chunks<T> {
         self.len
     }
 
-    /// How many values there is memory for.
+    // How many values there is memory for.
     pub(crate) fn capacity(&self) -> usize
         ensures value { result ≡ self.now.capacity }
         ensures limit { result ≤ 2 ^ 20 }
@@ -77,7 +77,7 @@ impl<T> Chunks<T> {
         self.capacity
     }
 
-    /// Adds the next chunk.
+    // Adds the next chunk.
     pub(crate) fn grow(&mut self) -> Result<(), AllocError>
         requires { self.old.capacity < 2 ^ 20 }
         ensures items { self.new.items ≡ self.old.items }
@@ -97,7 +97,7 @@ impl<T> Chunks<T> {
         Ok(())
     }
 
-    /// Adds chunks until there is memory for `needed` values. Where memory runs out, chunks may have been added.
+    // Adds chunks until there is memory for `needed` values. Where memory runs out, chunks may have been added.
     pub(crate) fn reserve(&mut self, needed: usize) -> Result<(), AllocError>
         requires { needed ≤ 2 ^ 20 }
         ensures items { self.new.items ≡ self.old.items }
@@ -112,7 +112,7 @@ impl<T> Chunks<T> {
         Ok(())
     }
 
-    /// Adds a value after the others.
+    // Adds a value after the others.
     pub(crate) fn push(&mut self, value: T)
         requires { length self.old.items < self.old.capacity }
         ensures { self.new ≡ column (self.old.items ++ value ∷ []) self.old.capacity }
@@ -122,7 +122,7 @@ impl<T> Chunks<T> {
         self.len += 1;
     }
 
-    /// The value at `index`.
+    // The value at `index`.
     pub(crate) fn get(&self, index: usize) -> &T
         requires { index < length self.now.items }
         ensures { slice_get self.now.items index ≡ Some result.now }
@@ -131,7 +131,7 @@ impl<T> Chunks<T> {
         self.chunks[chunk].get(place)
     }
 
-    /// The value at `index`, for writing.
+    // The value at `index`, for writing.
     pub(crate) fn get_mut(&mut self, index: usize) -> &mut T
         requires { index < length self.old.items }
         ensures* writes_back { sem 𝓛 (lends_item T.row self.entry index result) }

@@ -6,13 +6,13 @@ ghost use Rattle.std.specs.Borrow.{sem};
 ghost use Rattle.std.specs.Vec.Ownership.{FitsInBlock};
 ghost use base.Fml.{ftrue};
 ghost use denote.RawPtr.{Ptr};
-ghost use Rattle.op_arena.specs.Rows.{Holds, owns_places, lends_places, owns_lease};
+ghost use Rattle.op_arena.specs.CellRows.{Holds, owns_places, lends_places, owns_lease};
 
 use std::alloc::{AllocError, Allocator};
 use std::marker::{Model, PhantomData, Send, Sync};
 use std::mem::{align_of, size_of};
 
-/// Places side by side. No place moves while they live, so an address stays good.
+// Places side by side. No place moves while they live, so an address stays good.
 pub(crate) struct Places<T> {
     first: *mut T,
     ghost slots: { List (Option T) },
@@ -28,7 +28,7 @@ unsafe impl<T: Send> Send for Places<T> {}
 
 unsafe impl<T: Sync> Sync for Places<T> {}
 
-/// The right to give the memory of `count` places back to `alloc`. It takes no space.
+// The right to give the memory of `count` places back to `alloc`. It takes no space.
 pub(crate) struct Lease<T, A: Allocator> {
     marker: PhantomData<*const (T, A)>,
     ghost first: { Ptr },
@@ -50,7 +50,7 @@ unsafe impl<T, A: Allocator> Sync for Lease<T, A> {}
 impl<T> Places<T> {
     ghost use Rattle.op_arena.specs.RowLends.{lends_value};
 
-    /// Memory for `count` places, all empty, and the right to give it back.
+    // Memory for `count` places, all empty, and the right to give it back.
     pub(crate) fn add<A: Allocator>(
         alloc: &A,
         count: usize,
@@ -74,7 +74,7 @@ impl<T> Places<T> {
         }
     }
 
-    /// Puts `value` into the empty place at `index`.
+    // Puts `value` into the empty place at `index`.
     pub(crate) fn place(&mut self, index: usize, value: T)
         requires { (index < length self.old.slots) × (get_or self.old.slots index None ≡ None) }
         ensures { (self.new.first ≡ self.old.first) × (self.new.slots ≡ slice_set self.old.slots index (Some value)) }
@@ -82,7 +82,7 @@ impl<T> Places<T> {
         unsafe { self.first.add(index).write(value) }
     }
 
-    /// The value at `index`.
+    // The value at `index`.
     pub(crate) fn read(&self, index: usize) -> &T
         requires { Holds self.now.slots index }
         ensures { get_or self.now.slots index None ≡ Some result.now }
@@ -90,7 +90,7 @@ impl<T> Places<T> {
         unsafe { &*self.first.add(index) }
     }
 
-    /// The value at `index`, for writing.
+    // The value at `index`, for writing.
     pub(crate) fn write(&mut self, index: usize) -> &mut T
         requires { Holds self.old.slots index }
         ensures* writes_back { sem 𝓛 (lends_value T.row self.entry index result) }
@@ -99,7 +99,7 @@ impl<T> Places<T> {
         unsafe { &mut *self.first.add(index) }
     }
 
-    /// Moves the value at `index` out, and leaves the place empty.
+    // Moves the value at `index` out, and leaves the place empty.
     pub(crate) fn take(&mut self, index: usize) -> T
         requires { Holds self.old.slots index }
         ensures { (get_or self.old.slots index None ≡ Some result) × (self.new.first ≡ self.old.first) × (self.new.slots ≡ slice_set self.old.slots index None) }
@@ -107,7 +107,7 @@ impl<T> Places<T> {
         unsafe { self.first.add(index).read() }
     }
 
-    /// Gives the memory of the places, all empty, back to `alloc`.
+    // Gives the memory of the places, all empty, back to `alloc`.
     pub(crate) fn release<A: Allocator>(self, lease: Lease<T, A>, alloc: &A, count: usize)
         requires { (self.slots ≡ replicate count None) × (lease.first ≡ self.first) × (lease.count ≡ count) × (lease.alloc ≡ alloc.now) }
     {

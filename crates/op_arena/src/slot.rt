@@ -5,14 +5,14 @@ ghost use Rattle.op_arena.specs.Slots.{slot, value_of, IsFree, emptied};
 
 use std::mem;
 
-/// A cell: how many values it held before, and what it holds. It is always a whole value.
+// A cell: how many values it held before, and what it holds. It is always a whole value.
 #[derive(Drop)]
 pub(crate) struct Slot<T> {
     pub(crate) generation: u32,
     pub(crate) state: State<T>,
 }
 
-/// What a cell holds.
+// What a cell holds.
 #[derive(Drop)]
 pub(crate) enum State<T> {
     /// Nothing, and the index of the next free cell, if there is one.
@@ -28,7 +28,7 @@ pub(crate) enum State<T> {
 impl<T> State<T> {
     ghost use Rattle.op_arena.specs.contracts.slot.State.{the_row};
 
-    /// The value, if there is one.
+    // The value, if there is one.
     fn value(&self) -> Option<&T>
         ensures { option_copied result ≡ value_of self.now }
     {
@@ -38,7 +38,7 @@ impl<T> State<T> {
         }
     }
 
-    /// The value, for writing.
+    // The value, for writing.
     fn value_mut(&mut self) -> &mut T
         requires { IsSome (value_of self.old) }
         ensures* lends { sem 𝓛 (Lends (the_row T.row) T.row self.entry result State.Held) }
@@ -50,7 +50,7 @@ impl<T> State<T> {
         }
     }
 
-    /// The value by itself.
+    // The value by itself.
     fn into_value(self) -> T
         requires { IsSome (value_of self) }
         ensures { value_of self ≡ Some result }
@@ -61,7 +61,7 @@ impl<T> State<T> {
         }
     }
 
-    /// The next free cell, of a free one.
+    // The next free cell, of a free one.
     fn into_next(self) -> Option<u32>
         requires { IsFree self }
         ensures { self ≡ State.Free result }
@@ -76,7 +76,7 @@ impl<T> State<T> {
 impl<T> Slot<T> {
     ghost use Rattle.op_arena.specs.SlotLends.{lends_value};
 
-    /// A cell with its first value.
+    // A cell with its first value.
     pub(crate) fn new(value: T) -> Self
         ensures { result ≡ slot 0 (State.Held value) }
     {
@@ -86,14 +86,14 @@ impl<T> Slot<T> {
         }
     }
 
-    /// The value, if there is one.
+    // The value, if there is one.
     pub(crate) fn value(&self) -> Option<&T>
         ensures { option_copied result ≡ value_of self.now.state }
     {
         self.state.value()
     }
 
-    /// The value, for writing.
+    // The value, for writing.
     pub(crate) fn value_mut(&mut self) -> &mut T
         requires { IsSome (value_of self.old.state) }
         ensures* writes_back { sem 𝓛 (lends_value T.row self.entry result) }
@@ -102,7 +102,7 @@ impl<T> Slot<T> {
         self.state.value_mut()
     }
 
-    /// Gives a free cell a value, and tells the next free cell.
+    // Gives a free cell a value, and tells the next free cell.
     pub(crate) fn fill(&mut self, value: T) -> Option<u32>
         requires { IsFree self.old.state }
         ensures next { self.old.state ≡ State.Free result }
@@ -111,7 +111,7 @@ impl<T> Slot<T> {
         mem::replace(&mut self.state, State::Held(value)).into_next()
     }
 
-    /// Takes the value out. The cell is free in its next generation, before `next`, or retired after the last one.
+    // Takes the value out. The cell is free in its next generation, before `next`, or retired after the last one.
     pub(crate) fn empty(&mut self, next: Option<u32>, last: u32) -> T
         requires { IsSome (value_of self.old.state) × (self.old.generation ≤ last) }
         ensures value { value_of self.old.state ≡ Some result }

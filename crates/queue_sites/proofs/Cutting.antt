@@ -4,7 +4,7 @@ use lib.Pointwise.{pointwise}
 use Rattle.std.specs.Option.{MatchOption, option_map}
 use Rattle.std.proofs.lemmas.List.{take_rest}
 use Rattle.ami_text.specs.Lines.{content}
-use Rattle.queue_sites.specs.Lines.{behind, last_line, lines_after, lines_of, stream_of}
+use Rattle.queue_sites.specs.ScriptLines.{behind, last_line, lines_after, lines_of, stream_of}
 
 -- two bytes are the same
 abbrev pub same : ℕ → ℕ → Bool

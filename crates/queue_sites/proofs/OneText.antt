@@ -1,17 +1,17 @@
 -- The lines of a script have one text.
 use Rattle.std.proofs.Common.{◌≡◌, ◌⊎◌, ℕ, ◌+◌, List, [], ◌∷◌, ◌++◌, refl, sym, ◌∙◌, ap, subst, inl, inr}
 use mathlib.Core.List.{cons≢nil, nil≢cons, head-eq_of_cons-eq, tail-eq_of_cons-eq}
-use Rattle.ami_text.specs.Fields.{NameAndValue}
+use Rattle.ami_text.specs.MessageFields.{NameAndValue}
 use Rattle.ami_text.specs.Stream.{Ending, Rest, Fault, FirstMessage, Gives as StreamGives, IsRest, Reads}
 use Rattle.replica.specs.Steps.{SiteKnowledge}
-use Rattle.queue_sites.specs.Lines.{Sense, Nothing, Message, Unknown, IsMessage, sense_of, stream_of}
+use Rattle.queue_sites.specs.ScriptLines.{Sense, Nothing, Message, Unknown, IsMessage, sense_of, stream_of}
 use Rattle.queue_sites.specs.Script.{AreGiven, Given, Gives, HasOneText, Place, given_by, not_understood, nothing_given, unknown_in}
 
 -- the messages of a stream
 abbrev Messages : Type 0
 Messages = List (List NameAndValue)
 
--- each stream has a reading
+-- each stream has an outcome
 abbrev pub EachReads : Type 0
 EachReads = (bytes : List ℕ) → (messages : Messages) × (ending : Ending) × Reads bytes messages ending
 
@@ -43,8 +43,8 @@ some-given : EachReads → OneList → OneEnding → (place : Place) (s : SiteKn
 some-given each one end place s number Nothing = (nothing_given s, refl)
 some-given each one end place s number Unknown = (not_understood s number, refl)
 some-given each one end place s number (Message fields) =
-    let reading = each (stream_of fields) in
-    by (message-or-none one end fields reading.0 reading.1 reading.2) where
+    let outcome = each (stream_of fields) in
+    by (message-or-none one end fields outcome.0 outcome.1 outcome.2) where
       by : ((message : List NameAndValue) × IsMessage fields message) ⊎ ((message : List NameAndValue) → IsMessage fields message → ⊥)
           → (given : Given) × Gives place s number (Message fields) given
       by (inl found) = (given_by place s found.0, inl (found.0, found.1, refl))
@@ -85,7 +85,7 @@ text-one one place s number (line ∷ lines) text other unknown others a b =
 -- behind the first message of fields that are one message there is nothing
 pub nothing-behind : EachReads → OneList → OneEnding → (fields : List ℕ) (message only : List NameAndValue) (held : List ℕ) → FirstMessage (stream_of fields) message held
     → IsMessage fields only → (rest : List ℕ) × StreamGives held [] rest × IsRest rest
-nothing-behind each one end fields message only held first is = let reading = each held in by reading.0 reading.1 reading.2 where
+nothing-behind each one end fields message only held first is = let outcome = each held in by outcome.0 outcome.1 outcome.2 where
   by : (messages : Messages) (ending : Ending) → Reads held messages ending → (rest : List ℕ) × StreamGives held [] rest × IsRest rest
   by messages (Rest rest) reads =
       let whole : Reads (stream_of fields) (message ∷ messages) (Rest rest) = ((held, first, reads.0), reads.1) in

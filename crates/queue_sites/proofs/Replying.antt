@@ -1,7 +1,7 @@
 -- What a message gives is what its session does at the site.
 use Rattle.std.proofs.Common.{◌≡◌, ℕ, true, subst, inl, inr, List, [], refl, ap, append-nil}
 use Rattle.ami_session.specs.Checks.{Reaction, Replies, Asks, Ends, reaction}
-use Rattle.ami_session.specs.Reading.{Fields}
+use Rattle.ami_session.specs.FieldValues.{Fields}
 use Rattle.ami_session.specs.Replies.{answer_reply}
 use Rattle.ami_session.specs.Text.{asked, asks, written}
 use Rattle.replica.specs.Steps.{SiteKnowledge}
@@ -10,9 +10,9 @@ use Rattle.status_report.specs.declared.asks.Answer.{Answer}
 use Rattle.replica.specs.Site.{SiteState}
 use Rattle.replica.specs.Standing.{StandsFor}
 use Rattle.queue_sites.specs.declared.script.Output.{Output}
-use Rattle.queue_sites.specs.Lines.{IsMessage, Message, Nothing, Sense, Unknown}
+use Rattle.queue_sites.specs.ScriptLines.{IsMessage, Message, Nothing, Sense, Unknown}
 use Rattle.queue_sites.specs.Script.{Place, answers_in, given_by, not_understood, nothing_given, trusted}
-use Rattle.queue_sites.specs.Steps.{IsOutput, IsReplied, IsUnknown, acted}
+use Rattle.queue_sites.specs.LineSteps.{IsOutput, IsReplied, IsUnknown, acted}
 
 -- no more messages, no more replies
 abbrev no_replies : List Answer → List ℕ

@@ -4,9 +4,9 @@ use Rattle.std.specs.Io.KnownBytes.{append_known}
 use Rattle.replica.specs.Site.{SiteState}
 use Rattle.replica.specs.Standing.{StandsFor}
 use Rattle.replica.specs.Steps.{SiteKnowledge}
-use Rattle.queue_sites.specs.Lines.{lines_of}
+use Rattle.queue_sites.specs.ScriptLines.{lines_of}
 use Rattle.queue_sites.specs.Script.{AreGiven, HasBegun, HasOneText, HasWritten, Place, unknown_in}
-use Rattle.queue_sites.specs.Steps.{BeganLine, GaveLine}
+use Rattle.queue_sites.specs.LineSteps.{BeganLine, GaveLine}
 use Rattle.queue_sites.proofs.Taking.{taken-grows, taken-none}
 
 -- lines have a text, whatever the site knows

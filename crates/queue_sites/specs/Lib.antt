@@ -1,4 +1,4 @@
-pub mod Lines
+pub mod ScriptLines
 pub mod Script
-pub mod Seen
-pub mod Steps
+pub mod Views
+pub mod LineSteps

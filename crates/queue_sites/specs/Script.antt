@@ -2,13 +2,13 @@
 use Rattle.std.specs.Prelude.{ℕ, ◌≡◌, ◌≤◌, ◌+◌, ◌⊎◌, Bool, true, false, List, [], ◌∷◌, ◌++◌, length, Option, None, codes, decimal, if◌then◌else◌}
 use Rattle.std.specs.Io.KnownBytes.{append_known}
 use Rattle.ami_session.specs.Checks.{SessionState}
-use Rattle.ami_session.specs.Reading.{Fields}
+use Rattle.ami_session.specs.FieldValues.{Fields}
 use Rattle.ami_session.specs.Text.{asks, replies}
 use Rattle.replica.specs.Steps.{SiteKnowledge, new_site}
 use Rattle.status_report.specs.Knowing.{answer_in}
 use Rattle.status_report.specs.declared.asks.Answer.{Answer}
 use Rattle.status_report.specs.declared.asks.Ask.{Ask}
-use Rattle.queue_sites.specs.Lines.{Sense, Nothing, Message, Unknown, IsMessage, lines_of, sense_of}
+use Rattle.queue_sites.specs.ScriptLines.{Sense, Nothing, Message, Unknown, IsMessage, lines_of, sense_of}
 
 -- a site: its number, and the names of its queues
 pub record Place : Type 0 where
@@ -97,15 +97,17 @@ pub record HasBegun (place : Place) (s : SiteKnowledge) (script : List ℕ) (bef
 abbrev pub one_site : List (List ℕ) → Place
 one_site names = record { site = 0; names = names }
 
--- a script was read, and its text was written
+-- a script of at most 16,777,216 bytes was read, and its text was written
 pub record IsRun (names : List (List ℕ)) (given_before given_after taken_before taken_after : Option (List ℕ)) (unknown : ℕ) : Type 0 where
   pub script : List ℕ
+  pub short : length script ≤ 16777216
   pub read : given_after ≡ append_known given_before script
   pub written : HasWritten (one_site names) new_site script taken_before taken_after unknown
 
--- a script was read, and the front of its text was written
+-- a script of at most 16,777,216 bytes was read, and the front of its text was written
 pub record IsRunInPart (names : List (List ℕ)) (given_before given_after taken_before taken_after : Option (List ℕ)) : Type 0 where
   pub script : List ℕ
+  pub short : length script ≤ 16777216
   pub read : given_after ≡ append_known given_before script
   pub written : HasBegun (one_site names) new_site script taken_before taken_after
 

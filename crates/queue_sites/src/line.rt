@@ -1,9 +1,9 @@
 //! The lines of a script (this project's own).
 ghost use Rattle.std.specs.Prelude.{◌≡◌, ◌<◌, ◌∷◌, length};
 ghost use Rattle.std.specs.Option.{option_copied};
-ghost use Rattle.queue_sites.specs.Lines.{behind, lines_of, sense_of, words_sense};
+ghost use Rattle.queue_sites.specs.ScriptLines.{behind, lines_of, sense_of, words_sense};
 ghost use Rattle.ami_text.specs.Lines.{content};
-ghost use Rattle.queue_sites.specs.Seen.{sense};
+ghost use Rattle.queue_sites.specs.Views.{sense};
 
 use bstr::ByteSlice;
 

@@ -1,10 +1,11 @@
 //! The message that a script's line has for the site.
 ghost use Rattle.std.specs.Prelude.{◌≡◌, ◌≢◌, ℕ, List, [], ◌++◌, None, Some, Ok, IfOk, OnOk, OnErr, IfSome, codes};
-ghost use Rattle.ami_session.specs.Reading.{Fields};
+ghost use Rattle.ami_session.specs.FieldValues.{Fields};
 ghost use Rattle.ami_text.specs.Stream.{Gives, IsRest};
-ghost use Rattle.queue_sites.specs.Lines.{IsMessage, stream_of};
+ghost use Rattle.queue_sites.specs.ScriptLines.{IsMessage, stream_of};
 
-use ami_text::{Feed, FeedFault, Message, stream_has_one_reading};
+use ami_text::laws::stream_has_one_outcome;
+use ami_text::{Feed, FeedFault, Message};
 use bstr::ByteSlice;
 use dots::Memory;
 use std::alloc::Global;
@@ -15,7 +16,7 @@ pub fn message_of(alloc: Global, fields: &[u8]) -> Result<Option<Message>, Memor
     ensures one { IfOk result (λ found. IfSome found (λ message. IsMessage fields.now message)) }
     ensures none { result ≡ Ok None → (message : Fields) → IsMessage fields.now message → ⊥ }
 {
-    stream_has_one_reading();
+    stream_has_one_outcome();
     let mut feed = feed_of(alloc, fields)?;
     match feed.next_message() {
         Ok(Some(message)) => only_message(feed, message),

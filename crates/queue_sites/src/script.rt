@@ -1,10 +1,10 @@
 ghost use Rattle.std.specs.Prelude.{◌≡◌, ◌≢◌, ◌≤◌, ◌++◌, ◌+◌, ◌⊎◌, true, false, codes, decimal, length, vec_len, IfOk, IfErr, OnOk, IsErrOf};
 ghost use Rattle.replica.specs.Standing.{StandsFor};
 ghost use Rattle.replica.specs.Steps.{SiteKnowledge};
-ghost use Rattle.ami_session.specs.Seen.{seen};
-ghost use Rattle.queue_sites.specs.Lines.{Message as asks_message, sense_of};
+ghost use Rattle.ami_session.specs.Views.{seen};
+ghost use Rattle.queue_sites.specs.ScriptLines.{Message as asks_message, sense_of};
 ghost use Rattle.queue_sites.specs.Script.{HasBegun, HasGiven, HasWritten, IsRun, IsRunInPart};
-ghost use Rattle.queue_sites.specs.Steps.{BeganLine, GaveLine, IsActed, IsAnswer, IsOutput, IsReplied, IsUnknown, place_of};
+ghost use Rattle.queue_sites.specs.LineSteps.{BeganLine, GaveLine, IsActed, IsAnswer, IsOutput, IsReplied, IsUnknown, place_of};
 
 use crate::devices::{read_script, write_all};
 use crate::laws::script_has_one_text;

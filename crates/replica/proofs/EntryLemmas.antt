@@ -19,7 +19,8 @@ use Rattle.replica.specs.declared.entry.Entry.{Entry}
 use Rattle.replica.specs.Listed.{entry_row, listed}
 use Rattle.replica.specs.Site.{rows_of}
 use Rattle.replica.specs.Held.{Held, IsRising, member_at, IsAt, IsGapFor, IsKept, held, held_of, members_of}
-use Rattle.replica.proofs.HeldLemmas.{truth, fact, members_total, exact_members, rising_at, searchable, find_at, find_in_gap, put_in_gap}
+use Rattle.dots.proofs.MemberOrder.{members_total, exact_members}
+use Rattle.replica.proofs.HeldLemmas.{truth, fact, rising_at, searchable, find_at, find_in_gap, put_in_gap}
 
 -- the member at a place
 pub member_is : (es : List Entry) (i : ℕ) (d : Entry) → i < length es → (get_or es i d).member ≡ member_at (held es) i

@@ -15,14 +15,8 @@ use Rattle.std.proofs.lemmas.List.Sorted.{searchable_from_sorted}
 use Rattle.dots.specs.declared.member.Member.{Member}
 use Rattle.dots.specs.Orders.{member_cmp, text_cmp}
 use Rattle.dots.specs.Rows.{MemberRow}
+use Rattle.dots.proofs.MemberOrder.{members_total}
 use Rattle.replica.specs.Held.{Held, IsRising, member_at, IsAt, IsGapFor}
-
-pub members_total : IsTotalOrder member_cmp
-members_total = then_total (on_total (λ m. m.queue) nat_cmp_total) (on_total (λ m. m.interface) nat_list_cmp_total)
-
--- members that compare alike are one
-pub exact_members : (a b : Member) → member_cmp a b ≡ Equal → a ≡ b
-exact_members a b h = ap (λ (p : ℕ × List ℕ). record { queue = p.0; interface = p.1 }) (exact_pairs nat_cmp text_cmp exact_unsigned (map.slice_cmp-IsAntisymmetric map.nat_cmp-IsAntisymmetric) (a.queue, a.interface) (b.queue, b.interface) h)
 
 less_of : (o : Ordering) → is_lt o ≡ true → o ≡ Less
 less_of Less h = refl

@@ -1,9 +1,10 @@
 pub mod AddLemmas
+pub mod AlikeSites
 pub mod EntryLemmas
 pub mod HeldLemmas
 pub mod Meanings
 pub mod NameLemmas
 pub mod OneMoreAdd
-pub mod ReadingLaws
+pub mod SiteViewLaws
 pub mod RowsShown
 pub mod StepLaws

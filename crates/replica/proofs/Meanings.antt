@@ -15,7 +15,7 @@ use Rattle.dots.specs.Orders.{dot_cmp, member_cmp}
 use Rattle.dots.specs.DotSets.{Stretch, in_stretch, run_count, dots_from}
 use Rattle.dots.specs.Operations.{Operation}
 use Rattle.dots.specs.Knowledge.{Knowledge, is_asserted, is_named, visible_dots, known_dots, names}
-use Rattle.dots.specs.Rows.{MemberRow, dots_read, is_of, dots_of, row_if}
+use Rattle.dots.specs.Rows.{MemberRow, dot_view, is_of, dots_of, row_if}
 use Rattle.dots.proofs.DotOrder.{dots_total, dots_exact, same_dot}
 use Rattle.dots.proofs.RunCounts.{run_count-runs}
 use Rattle.dots.proofs.VisibleLaws.{visible-dot}
@@ -26,15 +26,15 @@ use Rattle.replica.specs.declared.refusal.Refusal.TheVariants.{NoSuchQueue, Alre
 use Rattle.replica.specs.Changes.{Meaning, Refused, Makes, change_of, add_at, is_full, is_exhausted, within_limits, in_queue, where_absent}
 use Rattle.replica.specs.Commands.{IsAnswer, HasMember, HasQueue, IsFull, IsExhausted, member_made, row_made, after}
 use Rattle.replica.specs.Queues.{number_of}
-use Rattle.replica.specs.Readings.{Reading, reading_in, greatest, count_used, time_used, is_older, older_dots, dots_seen, is_past_limits}
+use Rattle.replica.specs.SiteViews.{SiteView, site_view, greatest, count_used, time_used, is_older, older_dots, dots_seen, is_past_limits}
 use Rattle.replica.specs.Site.{SiteState}
 use Rattle.replica.specs.Standing.{StandsFor, IsMeant}
 use Rattle.replica.specs.Steps.{SiteKnowledge, new_site, Do, after_meaning, step}
 use Rattle.replica.proofs.AddLemmas.{named_at}
-use Rattle.replica.proofs.HeldLemmas.{members_total}
+use Rattle.dots.proofs.MemberOrder.{members_total}
 use Rattle.replica.proofs.NameLemmas.{same_names, found-at}
 use Rattle.replica.proofs.OneMoreAdd.{or_false, listed, still_unnamed, one_more_visible, visible_count, rows_again}
-use Rattle.replica.proofs.ReadingLaws.{known-dot, one-more, older-named}
+use Rattle.replica.proofs.SiteViewLaws.{known-dot, one-more, older-named}
 
 -- a name that has no number isn't in the list
 no_number : (names : List (List ℕ)) (name : List ℕ) → number_of names name ≡ None → Contains names name → ⊥
@@ -61,8 +61,8 @@ module _ (old : SiteState) (s : SiteKnowledge) (stands : StandsFor old s) (queue
   abbrev the_command : Command
   the_command = command.Add queue interface penalty paused label
 
-  abbrev read : Reading
-  read = reading_in old.site s.known
+  abbrev read : SiteView
+  read = site_view old.site s.known
 
   module _ (q : ℕ) (numbered : number_of old.names queue ≡ Some q) where
     abbrev member : Member
@@ -72,13 +72,13 @@ module _ (old : SiteState) (s : SiteKnowledge) (stands : StandsFor old s) (queue
     member_is i = record { queue = unwrap_or (numbered i) 0; interface = interface }
 
     -- the member is there where it has a dot
-    present : (d : Tag) (ds : List Tag) → dots_of (dots_read s.known) member ≡ d ∷ ds → HasMember old the_command
-    present d ds e = ap is_some (ap (map.get old.members) member_is ∙ sym (stands.rows member)) ∙ row_there (dots_of (dots_read s.known) member) _ d ds e
+    present : (d : Tag) (ds : List Tag) → dots_of (dot_view s.known) member ≡ d ∷ ds → HasMember old the_command
+    present d ds e = ap is_some (ap (map.get old.members) member_is ∙ sym (stands.rows member)) ∙ row_there (dots_of (dot_view s.known) member) _ d ds e
 
-    absent : dots_of (dots_read s.known) member ≡ [] → map.get old.members member ≡ None
-    absent e = sym (stands.rows member) ∙ no_row (dots_of (dots_read s.known) member) _ e
+    absent : dots_of (dot_view s.known) member ≡ [] → map.get old.members member ≡ None
+    absent e = sym (stands.rows member) ∙ no_row (dots_of (dot_view s.known) member) _ e
 
-    not_there : dots_of (dots_read s.known) member ≡ [] → HasMember old the_command → ⊥
+    not_there : dots_of (dot_view s.known) member ≡ [] → HasMember old the_command → ⊥
     not_there e has = true≢false (sym has ∙ ap is_some (ap (map.get old.members) member_is ∙ absent e))
 
     abbrev next : Tag
@@ -163,9 +163,9 @@ module _ (old : SiteState) (s : SiteKnowledge) (stands : StandsFor old s) (queue
         twice true = refl
         twice false = refl
 
-    limits : within_limits read (reading_in old.site s.buffer) made ≡ (if too_many then Refused MembersFull else if used_up then Refused Exhausted else Makes made)
+    limits : within_limits read (site_view old.site s.buffer) made ≡ (if too_many then Refused MembersFull else if used_up then Refused Exhausted else Makes made)
     limits =
-        let buffered : is_full (reading_in old.site s.buffer) made ≡ too_many = ap (λ k. is_full (reading_in old.site k) made) stands.uncut ∙ full_is in
+        let buffered : is_full (site_view old.site s.buffer) made ≡ too_many = ap (λ k. is_full (site_view old.site k) made) stands.uncut ∙ full_is in
         (λ i. if full_is i || (buffered i || nat_lt 65536 (one_run_alone i)) then Refused MembersFull else if used_up_is i then Refused Exhausted else Makes made)
         ∙ ap (λ b. if b then Refused MembersFull else if used_up then Refused Exhausted else Makes made) (same too_many)
       where
@@ -269,8 +269,8 @@ module _ (old : SiteState) (s : SiteKnowledge) (stands : StandsFor old s) (queue
 
   -- once the limits are looked at
   module _ (q : ℕ) (numbered : number_of old.names queue ≡ Some q) where
-    within : dots_of (dots_read s.known) (record { queue = q; interface = interface }) ≡ []
-        → IsSo (within_limits (reading_in old.site s.known) (reading_in old.site s.buffer) (add_at old.site (reading_in old.site s.known) (record { queue = q; interface = interface }) penalty paused label))
+    within : dots_of (dot_view s.known) (record { queue = q; interface = interface }) ≡ []
+        → IsSo (within_limits (site_view old.site s.known) (site_view old.site s.buffer) (add_at old.site (site_view old.site s.known) (record { queue = q; interface = interface }) penalty paused label))
     unfolding IsSo too_many used_up
     within none = subst IsSo (sym (limits old s stands queue interface penalty paused label q numbered)) (by (nat_lt 16384 (map.len old.members + 1)) refl (nat_lt (2 ^ 40) (old.adds + 1)) refl)
       where
@@ -281,7 +281,7 @@ module _ (old : SiteState) (s : SiteKnowledge) (stands : StandsFor old s) (queue
         free = not_there old s stands queue interface penalty paused label q numbered none
 
         o : Operation
-        o = add_at old.site (reading_in old.site s.known) (record { queue = q; interface = interface }) penalty paused label
+        o = add_at old.site (site_view old.site s.known) (record { queue = q; interface = interface }) penalty paused label
 
         by : (a : Bool) → nat_lt 16384 (map.len old.members + 1) ≡ a → (b : Bool) → nat_lt (2 ^ 40) (old.adds + 1) ≡ b
             → IsSo (if a then Refused MembersFull else if b then Refused Exhausted else Makes o)
@@ -293,12 +293,12 @@ module _ (old : SiteState) (s : SiteKnowledge) (stands : StandsFor old s) (queue
             done (inl h) = inl (h.0, subst (λ n. StandsFor n (record { known = o ∷ s.known; buffer = o ∷ s.buffer; frames = s.frames })) (sym h.1) (stands_then old s stands queue interface penalty paused label q numbered (absent old s stands queue interface penalty paused label q numbered none)))
             done (inr h) = inr h
 
-    seen : IsSo (where_absent (dots_seen (dots_read s.known) (Some q) interface) (within_limits (reading_in old.site s.known) (reading_in old.site s.buffer) (add_at old.site (reading_in old.site s.known) (record { queue = q; interface = interface }) penalty paused label)))
+    seen : IsSo (where_absent (dots_seen (dot_view s.known) (Some q) interface) (within_limits (site_view old.site s.known) (site_view old.site s.buffer) (add_at old.site (site_view old.site s.known) (record { queue = q; interface = interface }) penalty paused label)))
     unfolding IsSo
-    seen = by (dots_of (dots_read s.known) (record { queue = q; interface = interface })) refl
+    seen = by (dots_of (dot_view s.known) (record { queue = q; interface = interface })) refl
       where
-        by : (ds : List Tag) → dots_of (dots_read s.known) (record { queue = q; interface = interface }) ≡ ds
-            → IsSo (where_absent (each (λ dot. (dot, record { queue = q; interface = interface })) ds) (within_limits (reading_in old.site s.known) (reading_in old.site s.buffer) (add_at old.site (reading_in old.site s.known) (record { queue = q; interface = interface }) penalty paused label)))
+        by : (ds : List Tag) → dots_of (dot_view s.known) (record { queue = q; interface = interface }) ≡ ds
+            → IsSo (where_absent (each (λ dot. (dot, record { queue = q; interface = interface })) ds) (within_limits (site_view old.site s.known) (site_view old.site s.buffer) (add_at old.site (site_view old.site s.known) (record { queue = q; interface = interface }) penalty paused label)))
         by [] e = within e
         by (d ∷ ds) e = there_already old the_add new (has_number old.names queue q numbered) (present old s stands queue interface penalty paused label q numbered d ds e) r answer
 
@@ -307,8 +307,8 @@ module _ (old : SiteState) (s : SiteKnowledge) (stands : StandsFor old s) (queue
   is_meant = by (number_of old.names queue) refl
     where
       by : (n : Option ℕ) → number_of old.names queue ≡ n → IsSo (in_queue n (λ q.
-          where_absent (dots_seen (dots_read s.known) (Some q) interface)
-          (within_limits (reading_in old.site s.known) (reading_in old.site s.buffer) (add_at old.site (reading_in old.site s.known) (record { queue = q; interface = interface }) penalty paused label))))
+          where_absent (dots_seen (dot_view s.known) (Some q) interface)
+          (within_limits (site_view old.site s.known) (site_view old.site s.buffer) (add_at old.site (site_view old.site s.known) (record { queue = q; interface = interface }) penalty paused label))))
       by None e = no_queue old the_add new (no_number old.names queue e) r answer
       by (Some q) e = seen q e
 
@@ -328,7 +328,7 @@ stands_new state none zero = record {
   unnamed = λ dot. refl;
   uncounted = λ site queue calls. refl;
   uncut = refl;
-  rows = λ member. no_row (dots_of (dots_read []) member) _ (ap (filter (is_of (dots_read []) member)) (listed (visible_dots []) 0 0 (λ dot. visible-dot [] dot ∙ none_at (nat_eq 0 dot.site) dot.count))) ∙ sym (ap (λ m. map.get m member) none ∙ map.get-empty member_cmp member);
+  rows = λ member. no_row (dots_of (dot_view []) member) _ (ap (filter (is_of (dot_view []) member)) (listed (visible_dots []) 0 0 (λ dot. visible-dot [] dot ∙ none_at (nat_eq 0 dot.site) dot.count))) ∙ sym (ap (λ m. map.get m member) none ∙ map.get-empty member_cmp member);
 }
   where
     none_at : (b : Bool) (c : ℕ) → false ≡ (b && (nat_le 1 c && nat_le c 0))

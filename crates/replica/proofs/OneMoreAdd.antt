@@ -22,14 +22,14 @@ use Rattle.dots.specs.DotSets.{in_stretch, dots_from}
 use Rattle.dots.specs.Operations.{Operation, Field, Add, penalty_field, pause_field, label_field}
 use Rattle.dots.specs.Knowledge.{Knowledge, is_dot, asserts, is_asserted, is_named, all_asserted, visible_dots, member_of, settings_of, field_of, latest_of}
 use Rattle.dots.specs.SetItems.{in_order}
-use Rattle.dots.specs.Rows.{MemberRow, dots_read, is_of, dots_of, row_if, row_of_fields, row_of}
+use Rattle.dots.specs.Rows.{MemberRow, dot_view, is_of, dots_of, row_if, row_of_fields, row_of}
 use Rattle.dots.proofs.DotOrder.{dots_total, dots_exact, same_dot}
 use Rattle.dots.proofs.ItemOrder.{units, in_order-list}
 use Rattle.dots.proofs.Membership.{first-in, later-in, cases-in, any-in}
 use Rattle.dots.proofs.Stretches.{any_from}
 use Rattle.dots.proofs.VisibleLaws.{visible-dot}
 use Rattle.replica.proofs.HeldLemmas.{both, truth}
-use Rattle.replica.proofs.HeldLemmas.{members_total, exact_members}
+use Rattle.dots.proofs.MemberOrder.{members_total, exact_members}
 
 pub or_false : (b : Bool) → (b || false) ≡ b
 or_false true = refl
@@ -189,40 +189,40 @@ module _ (site n : ℕ) (k : Knowledge) (made : (dot : Tag) → set.contains (vi
       apart true c h = grind (arith, nat_tests, h)
       apart false c h = refl
 
-  of_member : (m : Member) → is_of (dots_read after) m new_dot ≡ eq_by_cmp member_cmp m member
+  of_member : (m : Member) → is_of (dot_view after) m new_dot ≡ eq_by_cmp member_cmp m member
   of_member m = ap (λ o. option_map_or (eq_by_cmp member_cmp m) o false) member_made
 
   -- a member's dots are those before, and the new one if it is its
-  dots_are : (m : Member) → dots_of (dots_read after) m ≡ dots_of (dots_read k) m ++ cond (eq_by_cmp member_cmp m member) (new_dot ∷ []) []
+  dots_are : (m : Member) → dots_of (dot_view after) m ≡ dots_of (dot_view k) m ++ cond (eq_by_cmp member_cmp m member) (new_dot ∷ []) []
   dots_are m =
-      ap (filter (is_of (dots_read after) m)) (listed (visible_dots after) site (suc n) one_more_visible ∙ from_one_more site n)
-      ∙ filter-append (is_of (dots_read after) m) (dots_from site 1 n) (new_dot ∷ [])
-      ∙ (λ i. filter_same (is_of (dots_read after) m) (is_of (dots_read k) m) (dots_from site 1 n)
+      ap (filter (is_of (dot_view after) m)) (listed (visible_dots after) site (suc n) one_more_visible ∙ from_one_more site n)
+      ∙ filter-append (is_of (dot_view after) m) (dots_from site 1 n) (new_dot ∷ [])
+      ∙ (λ i. filter_same (is_of (dot_view after) m) (is_of (dot_view k) m) (dots_from site 1 n)
       (λ dot here. ap (λ o. option_map_or (eq_by_cmp member_cmp m) o false) (member_kept dot (other_dot dot here))) i
       ++ cond (of_member m i) (new_dot ∷ []) [])
-      ∙ ap (λ ds. filter (is_of (dots_read k) m) ds ++ cond (eq_by_cmp member_cmp m member) (new_dot ∷ []) []) (sym (listed (visible_dots k) site n made))
+      ∙ ap (λ ds. filter (is_of (dot_view k) m) ds ++ cond (eq_by_cmp member_cmp m member) (new_dot ∷ []) []) (sym (listed (visible_dots k) site n made))
 
-  old_dot : (m : Member) (dot : Tag) → Contains (dots_of (dots_read k) m) dot → is_dot dot new_dot ≡ false
-  old_dot m dot here = other_dot dot (subst (λ ds. Contains ds dot) (listed (visible_dots k) site n made) (filter_of (is_of (dots_read k) m) (in_order (visible_dots k)) dot here))
+  old_dot : (m : Member) (dot : Tag) → Contains (dots_of (dot_view k) m) dot → is_dot dot new_dot ≡ false
+  old_dot m dot here = other_dot dot (subst (λ ds. Contains ds dot) (listed (visible_dots k) site n made) (filter_of (is_of (dot_view k) m) (in_order (visible_dots k)) dot here))
 
   -- the row of another member is as before
-  row_kept : (m : Member) → eq_by_cmp member_cmp m member ≡ false → row_of (dots_read after) m ≡ row_of (dots_read k) m
+  row_kept : (m : Member) → eq_by_cmp member_cmp m member ≡ false → row_of (dot_view after) m ≡ row_of (dot_view k) m
   unfolding row_by
   row_kept m other =
-      let dots : dots_of (dots_read after) m ≡ dots_of (dots_read k) m =
-      dots_are m ∙ ap (λ b. dots_of (dots_read k) m ++ cond b (new_dot ∷ []) []) other ∙ append-nil (dots_of (dots_read k) m) in
+      let dots : dots_of (dot_view after) m ≡ dots_of (dot_view k) m =
+      dots_are m ∙ ap (λ b. dots_of (dot_view k) m ++ cond b (new_dot ∷ []) []) other ∙ append-nil (dots_of (dot_view k) m) in
       ap (λ ds. row_by ds (field_of penalty_field after) (field_of pause_field after) (field_of label_field after)) dots
-      ∙ (λ i. row_if (dots_of (dots_read k) m) (row_of_fields
-      (latest_of (map_same (field_of penalty_field after) (field_of penalty_field k) (dots_of (dots_read k) m) (λ dot here. field_kept penalty_field dot (old_dot m dot here)) i))
-      (latest_of (map_same (field_of pause_field after) (field_of pause_field k) (dots_of (dots_read k) m) (λ dot here. field_kept pause_field dot (old_dot m dot here)) i))
-      (latest_of (map_same (field_of label_field after) (field_of label_field k) (dots_of (dots_read k) m) (λ dot here. field_kept label_field dot (old_dot m dot here)) i))))
+      ∙ (λ i. row_if (dots_of (dot_view k) m) (row_of_fields
+      (latest_of (map_same (field_of penalty_field after) (field_of penalty_field k) (dots_of (dot_view k) m) (λ dot here. field_kept penalty_field dot (old_dot m dot here)) i))
+      (latest_of (map_same (field_of pause_field after) (field_of pause_field k) (dots_of (dot_view k) m) (λ dot here. field_kept pause_field dot (old_dot m dot here)) i))
+      (latest_of (map_same (field_of label_field after) (field_of label_field k) (dots_of (dot_view k) m) (λ dot here. field_kept label_field dot (old_dot m dot here)) i))))
 
   -- the row of the new member is what was set
-  row_made : row_of (dots_read k) member ≡ None → row_of (dots_read after) member ≡ Some (record { penalty = penalty; paused = pause.paused; reason = pause.reason; name = label.name; state = label.state })
+  row_made : row_of (dot_view k) member ≡ None → row_of (dot_view after) member ≡ Some (record { penalty = penalty; paused = pause.paused; reason = pause.reason; name = label.name; state = label.state })
   unfolding row_by
   row_made absent =
-      let none : dots_of (dots_read k) member ≡ [] = no_dots (dots_of (dots_read k) member) absent in
-      let dots : dots_of (dots_read after) member ≡ new_dot ∷ [] =
+      let none : dots_of (dot_view k) member ≡ [] = no_dots (dots_of (dot_view k) member) absent in
+      let dots : dots_of (dot_view after) member ≡ new_dot ∷ [] =
       dots_are member ∙ (λ i. none i ++ cond (is_eq (tied_itself members_total member i)) (new_dot ∷ []) []) in
       ap (λ ds. row_by ds (field_of penalty_field after) (field_of pause_field after) (field_of label_field after)) dots
       ∙ (λ i. row_if (new_dot ∷ []) (row_of_fields
@@ -233,8 +233,8 @@ module _ (site n : ℕ) (k : Knowledge) (made : (dot : Tag) → set.contains (vi
       no_dots (d ∷ ds) h = (cc)
 
   -- so a map of rows that is that of the knowledge is so again with the new row
-  pub rows_again : (members : map.FinMap member_cmp MemberRow) → ((m : Member) → row_of (dots_read k) m ≡ map.get members m) → map.get members member ≡ None
-      → (m : Member) → row_of (dots_read after) m ≡ map.get (map.insert members member (record { penalty = penalty; paused = pause.paused; reason = pause.reason; name = label.name; state = label.state })) m
+  pub rows_again : (members : map.FinMap member_cmp MemberRow) → ((m : Member) → row_of (dot_view k) m ≡ map.get members m) → map.get members member ≡ None
+      → (m : Member) → row_of (dot_view after) m ≡ map.get (map.insert members member (record { penalty = penalty; paused = pause.paused; reason = pause.reason; name = label.name; state = label.state })) m
   rows_again members same absent m = by (eq_by_cmp member_cmp m member) refl ∙ sym (map.get-insert members_total members member made_row m)
     where
       made_row : MemberRow
@@ -245,6 +245,6 @@ module _ (site n : ℕ) (k : Knowledge) (made : (dot : Tag) → set.contains (vi
       equal Equal h = refl
       equal Greater h = absurd (true≢false (sym h))
 
-      by : (b : Bool) → eq_by_cmp member_cmp m member ≡ b → row_of (dots_read after) m ≡ cond b (Some made_row) (map.get members m)
-      by true e = ap (row_of (dots_read after)) (exact_members m member (equal (member_cmp m member) e)) ∙ row_made (same member ∙ absent)
+      by : (b : Bool) → eq_by_cmp member_cmp m member ≡ b → row_of (dot_view after) m ≡ cond b (Some made_row) (map.get members m)
+      by true e = ap (row_of (dot_view after)) (exact_members m member (equal (member_cmp m member) e)) ∙ row_made (same member ∙ absent)
       by false e = row_kept m e ∙ same m

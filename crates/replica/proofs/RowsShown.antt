@@ -16,7 +16,7 @@ use Rattle.dots.specs.Values.{Tag}
 use Rattle.dots.specs.Orders.{member_cmp, text_cmp}
 use Rattle.dots.specs.Knowledge.{Knowledge}
 use Rattle.dots.specs.SetItems.{in_order}
-use Rattle.dots.specs.Rows.{MemberRow, DotReading, dots_read, is_of, row_if, row_of, interface_in, interfaces_of, rows_of as rows_read}
+use Rattle.dots.specs.Rows.{MemberRow, DotView, dot_view, is_of, row_if, row_of, interface_in, interfaces_of, rows_of as rows_read}
 use Rattle.dots.proofs.ItemOrder.{in_order-keys}
 use Rattle.dots.proofs.Membership.{cases-in, first-in, later-in}
 use Rattle.replica.specs.Held.{Held}
@@ -87,14 +87,14 @@ find_row queue interface (e ∷ es) =
 abbrev member_in : ℕ → List ℕ → Member
 member_in queue interface = record { queue = queue; interface = interface }
 
-abbrev interfaces_seen : DotReading → ℕ → List Tag → List (List ℕ)
+abbrev interfaces_seen : DotView → ℕ → List Tag → List (List ℕ)
 interfaces_seen r queue dots = filter_map (λ dot. option_and_then (interface_in queue) (r.member dot)) dots
 
-abbrev dots_kept : DotReading → ℕ → List ℕ → List Tag → List Tag
+abbrev dots_kept : DotView → ℕ → List ℕ → List Tag → List Tag
 dots_kept r queue interface dots = filter (is_of r (member_in queue interface)) dots
 
 -- an interface is shown where a dot of the member is visible
-shown_where : (r : DotReading) (queue : ℕ) (interface : List ℕ) (row : MemberRow) (dots : List Tag)
+shown_where : (r : DotView) (queue : ℕ) (interface : List ℕ) (row : MemberRow) (dots : List Tag)
     → list_any (eq_by_cmp text_cmp interface) (interfaces_seen r queue dots) ≡ is_some (row_if (dots_kept r queue interface dots) row)
 shown_where r queue interface row [] = refl
 shown_where r queue interface row (dot ∷ dots) = by (r.member dot) (shown_where r queue interface row dots)
@@ -141,7 +141,7 @@ by_keys f [] h = refl
 by_keys f (e ∷ es) h = λ i. cons_option (option_map (λ v. (e.0, v)) (h e (first-in e es) i)) (by_keys f es (λ x here. h x (later-in e es x here)) i)
 
 -- where each member has the row that a knowledge shows, so has each queue
-module _ (k : Knowledge) (members : Members) (same : (m : Member) → row_of (dots_read k) m ≡ map.get members m) (queue : ℕ) where
+module _ (k : Knowledge) (members : Members) (same : (m : Member) → row_of (dot_view k) m ≡ map.get members m) (queue : ℕ) where
   abbrev listed : List (List ℕ × MemberRow)
   listed = rows_in queue (map.entries members)
 
@@ -154,20 +154,20 @@ module _ (k : Knowledge) (members : Members) (same : (m : Member) → row_of (do
   entries : map.entries rows_map ≡ listed
   entries = map.entries-from_sorted text_cmp listed (truth (map.is_sorted text_cmp listed) rises)
 
-  row_found : (interface : List ℕ) → find text_cmp interface listed ≡ row_of (dots_read k) (member_in queue interface)
+  row_found : (interface : List ℕ) → find text_cmp interface listed ≡ row_of (dot_view k) (member_in queue interface)
   row_found interface = find_row queue interface (map.entries members) ∙ sym (map.get-entries members (member_in queue interface)) ∙ sym (same (member_in queue interface))
 
-  found : (e : List ℕ × MemberRow) → Contains listed e → row_of (dots_read k) (member_in queue e.0) ≡ Some e.1
+  found : (e : List ℕ × MemberRow) → Contains listed e → row_of (dot_view k) (member_in queue e.0) ≡ Some e.1
   found e here = sym (row_found e.0) ∙ finds nat_list_cmp_total listed e rises here
 
-  names : in_order (interfaces_of (dots_read k) queue) ≡ map.keys rows_map
+  names : in_order (interfaces_of (dot_view k) queue) ≡ map.keys rows_map
   unfolding interfaces_of
-  names = in_order-keys nat_list_cmp_total (map.slice_cmp-IsAntisymmetric map.nat_cmp-IsAntisymmetric) (interfaces_of (dots_read k) queue) rows_map (λ interface.
-      set.contains-from_list nat_list_cmp_total (interfaces_seen (dots_read k) queue (in_order (dots_read k).visible)) interface
-      ∙ shown_where (dots_read k) queue interface _ (in_order (dots_read k).visible)
+  names = in_order-keys nat_list_cmp_total (map.slice_cmp-IsAntisymmetric map.nat_cmp-IsAntisymmetric) (interfaces_of (dot_view k) queue) rows_map (λ interface.
+      set.contains-from_list nat_list_cmp_total (interfaces_seen (dot_view k) queue (in_order (dot_view k).visible)) interface
+      ∙ shown_where (dot_view k) queue interface _ (in_order (dot_view k).visible)
       ∙ ap is_some (sym (row_found interface) ∙ ap (find text_cmp interface) (sym entries) ∙ sym (map.get-entries rows_map interface)))
 
-  pub rows_shown : rows_of members queue ≡ rows_read (dots_read k) queue
+  pub rows_shown : rows_of members queue ≡ rows_read (dot_view k) queue
   rows_shown =
-      sym (by_keys (λ interface. row_of (dots_read k) (member_in queue interface)) listed found)
-      ∙ ap (filter_map (λ interface. option_map (λ row. (interface, row)) (row_of (dots_read k) (member_in queue interface)))) (ap (each (λ e. e.0)) (sym entries) ∙ sym names)
+      sym (by_keys (λ interface. row_of (dot_view k) (member_in queue interface)) listed found)
+      ∙ ap (filter_map (λ interface. option_map (λ row. (interface, row)) (row_of (dot_view k) (member_in queue interface)))) (ap (each (λ e. e.0)) (sym entries) ∙ sym names)

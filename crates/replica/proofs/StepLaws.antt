@@ -5,7 +5,7 @@ use Rattle.dots.specs.DotSets.{run_count}
 use Rattle.dots.specs.Knowledge.{Knowledge, visible_dots, known_dots}
 use Rattle.replica.specs.Changes.{Meaning, Refused, Makes, meaning}
 use Rattle.replica.specs.Promises.{RefusalsChangeNothing}
-use Rattle.replica.specs.Readings.{reading_in}
+use Rattle.replica.specs.SiteViews.{site_view}
 use Rattle.replica.specs.Steps.{SiteKnowledge, Step, Do, Cut, Whole, Take, Outcome, Done, Denied, Framed, Nothing, NoNumber, Taken, CellsFull, RunsFull, after_meaning, framed, cut, take, step}
 
 -- whether an outcome is a change
@@ -53,7 +53,7 @@ kept-take s frame = by (nat_lt 16384 (set.len (visible_dots (frame ++ s.known)))
     by false false h = no h
 
 kept : (site : ℕ) (names : List (List ℕ)) (s : SiteKnowledge) (event : Step) → Kept s (step site names s event)
-kept site names s (Do change) = kept-meaning s (meaning site names (reading_in site s.known) (reading_in site s.buffer) change)
+kept site names s (Do change) = kept-meaning s (meaning site names (site_view site s.known) (site_view site s.buffer) change)
 kept site names s Cut = kept-cut s s.buffer
 kept site names s Whole = kept-framed s s.known s.buffer
 kept site names s (Take frame) = kept-take s frame

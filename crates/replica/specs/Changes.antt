@@ -9,13 +9,13 @@ use Rattle.dots.specs.Registers.{Entry}
 use Rattle.dots.specs.Operations.{Operation, Calls, Setting, Add, Write, Remove, Count, SetPenalty, SetPause, SetLabel}
 use Rattle.dots.specs.Knowledge.{known_dots}
 use Rattle.dots.specs.DotSets.{run_count}
-use Rattle.dots.specs.Rows.{DotReading}
+use Rattle.dots.specs.Rows.{DotView}
 use Rattle.replica.specs.declared.command.Command.{Command}
 use Rattle.replica.specs.declared.command.Command.TheVariants as command
 use Rattle.replica.specs.declared.refusal.Refusal.{Refusal}
 use Rattle.replica.specs.declared.refusal.Refusal.TheVariants.{NoSuchQueue, AlreadyThere, NotThere, MembersFull, Exhausted, TotalFull}
 use Rattle.replica.specs.Queues.{number_of}
-use Rattle.replica.specs.Readings.{Reading, greatest, older_dots, dots_seen, visible_with, known_with, is_past_limits}
+use Rattle.replica.specs.SiteViews.{SiteView, greatest, older_dots, dots_seen, visible_with, known_with, is_past_limits}
 
 -- A change that is asked of a site: to add an interface to a queue, to remove it from there, to set one field of it in one
 -- queue or in every one that it is a member of, and to count a call of a queue.
@@ -40,19 +40,19 @@ time_of None = 0
 time_of (Some entry) = entry.stamp.time
 
 -- the time of what a setting replaces on a dot: the latest setting of the same field
-abbrev pub time_replaced : DotReading → Setting → Tag → ℕ
+abbrev pub time_replaced : DotView → Setting → Tag → ℕ
 time_replaced r (SetPenalty penalty) dot = time_of (r.penalty dot)
 time_replaced r (SetPause pause) dot = time_of (r.pause dot)
 time_replaced r (SetLabel label) dot = time_of (r.label dot)
 
 -- an add: the site's next count and time, and an empty reason
-abbrev pub add_at : ℕ → Reading → Member → ℕ → Bool → Label → Operation
+abbrev pub add_at : ℕ → SiteView → Member → ℕ → Bool → Label → Operation
 add_at site r member penalty paused label =
     let dot : Tag = record { site = site; count = suc r.last_count } in
     Add dot member (record { time = suc r.last_time; site = site }) penalty (record { paused = paused; reason = [] }) label (older_dots r (dot ∷ []))
 
 -- a write of one field on dots: later than all that the site has written itself, and than all that it replaces
-abbrev pub write_at : ℕ → Reading → Setting → List (Tag × Member) → Operation
+abbrev pub write_at : ℕ → SiteView → Setting → List (Tag × Member) → Operation
 write_at site r setting dots =
     Write dots setting (record { time = suc (max r.last_time (greatest (λ d. time_replaced r.dots setting d.0) dots)); site = site })
     (older_dots r (each (λ d. d.0) dots))
@@ -62,11 +62,11 @@ abbrev pub remove_of : List (Tag × Member) → Operation
 remove_of dots = Remove (set.from_list (each (λ d. d.0) dots))
 
 -- one call more than the site has counted
-abbrev pub count_at : ℕ → Reading → ℕ → Calls → Operation
+abbrev pub count_at : ℕ → SiteView → ℕ → Calls → Operation
 count_at site r queue calls = Count site queue calls (suc (r.totals site queue calls))
 
 -- whether what is read can't take an operation more: the visible dots or the runs of the known ones would be too many
-abbrev pub is_full : Reading → Operation → Bool
+abbrev pub is_full : SiteView → Operation → Bool
 is_full r o = is_past_limits (visible_with r o) (known_with r o)
 
 -- whether an operation alone has too many runs
@@ -92,7 +92,7 @@ is_past_total (Remove dots) = false
 is_past_total (Count site queue calls total) = nat_lt 1000000000 total
 
 -- an operation within the limits of the knowledge and of the buffer, whose readings these are, is made; the refusals in their order
-abbrev pub within_limits : Reading → Reading → Operation → Meaning
+abbrev pub within_limits : SiteView → SiteView → Operation → Meaning
 within_limits r buffer o =
     if is_full r o || (is_full buffer o || is_too_long o) then Refused MembersFull
     else if is_exhausted o then Refused Exhausted else if is_past_total o then Refused TotalFull else Makes o
@@ -113,11 +113,11 @@ where_present [] made = Refused NotThere
 where_present (d ∷ ds) made = made
 
 -- a setting on the dots that are seen
-abbrev pub meaning_of_setting : ℕ → Reading → Reading → Setting → List (Tag × Member) → Meaning
+abbrev pub meaning_of_setting : ℕ → SiteView → SiteView → Setting → List (Tag × Member) → Meaning
 meaning_of_setting site r buffer setting dots = where_present dots (within_limits r buffer (write_at site r setting dots))
 
 -- what a change means at a site that has these queues, reads this of its knowledge, and this of its buffer
-abbrev pub meaning : ℕ → List (List ℕ) → Reading → Reading → Change → Meaning
+abbrev pub meaning : ℕ → List (List ℕ) → SiteView → SiteView → Change → Meaning
 meaning site names r buffer (AddMember queue interface penalty paused label) = in_queue (number_of names queue) (λ q.
     where_absent (dots_seen r.dots (Some q) interface)
     (within_limits r buffer (add_at site r (record { queue = q; interface = interface }) penalty paused label)))

@@ -4,8 +4,7 @@ pub mod Held
 pub mod Listed
 pub mod Promises
 pub mod Queues
-pub mod Readings
-pub mod Rows
+pub mod SiteViews
 pub mod Site
 pub mod Standing
 pub mod Steps

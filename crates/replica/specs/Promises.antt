@@ -1,28 +1,42 @@
 -- What the definitions of commands and steps promise.
-use Rattle.std.specs.Prelude.{ℕ, ◌≡◌, List, ◌∷◌, ◌&&◌}
+use Rattle.std.specs.Prelude.{ℕ, ◌≡◌, Option, List, ◌∷◌, ◌&&◌}
 use Rattle.std.specs.FinSet as set
 use Rattle.dots.specs.Values.{Tag}
-use Rattle.dots.specs.Operations.{Operation}
+use Rattle.dots.specs.Operations.{Operation, Calls}
 use Rattle.dots.specs.Knowledge.{Knowledge, SameOperations, IsConsistent, is_named, visible_dots, known_dots}
+use Rattle.dots.specs.Rows.{ShowAlike}
 use Rattle.replica.specs.declared.refusal.Refusal.{Refusal}
 use Rattle.replica.specs.Changes.{Change, meaning}
-use Rattle.replica.specs.Readings.{reading_in, is_older, older_dots, visible_with, known_with}
+use Rattle.replica.specs.SiteViews.{SiteView, site_view, dots_seen, is_older, older_dots, visible_with, known_with}
 use Rattle.replica.specs.Steps.{SiteKnowledge, Step, Denied, NoNumber, Nothing, CellsFull, RunsFull, step}
 
--- what a reading says of one operation more is what is read of the knowledge that has it
-pub record ReadsOneMore (site : ℕ) (k : Knowledge) (o : Operation) : Type 0 where
-  pub visible : visible_with (reading_in site k) o ≡ visible_dots (o ∷ k)
-  pub known : known_with (reading_in site k) o ≡ known_dots (o ∷ k)
+-- what a site view says of one operation more is what is seen of the knowledge that has it
+pub record ForeseesOneMore (site : ℕ) (k : Knowledge) (o : Operation) : Type 0 where
+  pub visible : visible_with (site_view site k) o ≡ visible_dots (o ∷ k)
+  pub known : known_with (site_view site k) o ≡ known_dots (o ∷ k)
 
 -- the older dots are the dead ones of lesser counts: those that are known, and that some operation has named
 abbrev pub OlderAreNamed : Type 0
-OlderAreNamed = (site : ℕ) (k : Knowledge) (dots : List Tag) (dot : Tag) → set.contains (older_dots (reading_in site k) dots) dot ≡ (is_named k dot && is_older dots dot)
+OlderAreNamed = (site : ℕ) (k : Knowledge) (dots : List Tag) (dot : Tag) → set.contains (older_dots (site_view site k) dots) dot ≡ (is_named k dot && is_older dots dot)
 
 -- a command means the same wherever the operations of the knowledge, and those of the buffer, are the same
 abbrev pub MeansTheSame : Type 0
 MeansTheSame = (site : ℕ) (names : List (List ℕ)) (change : Change) (k l buffer other : Knowledge) → IsConsistent k → SameOperations k l
     → IsConsistent buffer → SameOperations buffer other
-    → meaning site names (reading_in site k) (reading_in site buffer) change ≡ meaning site names (reading_in site l) (reading_in site other) change
+    → meaning site names (site_view site k) (site_view site buffer) change ≡ meaning site names (site_view site l) (site_view site other) change
+
+-- What sites read is alike: their dots show alike, and known dots, totals and last numbers are the same.
+pub record AreAlike (r s : SiteView) : Type 0 where
+  pub dots : ShowAlike r.dots s.dots
+  pub known : r.known ≡ s.known
+  pub totals : (site queue : ℕ) (calls : Calls) → r.totals site queue calls ≡ s.totals site queue calls
+  pub last_count : r.last_count ≡ s.last_count
+  pub last_time : r.last_time ≡ s.last_time
+
+-- where it is alike, of knowledges and of buffers, a command goes over the same dots and means the same
+pub record MeansTheSameAlike (r s buffer other : SiteView) : Type 0 where
+  pub seen : (queue : Option ℕ) (interface : List ℕ) → dots_seen r.dots queue interface ≡ dots_seen s.dots queue interface
+  pub meanings : (site : ℕ) (names : List (List ℕ)) (change : Change) → meaning site names r buffer change ≡ meaning site names s other change
 
 -- a step that is refused changes nothing, for whatever cause
 pub record RefusalsChangeNothing (site : ℕ) (names : List (List ℕ)) (s : SiteKnowledge) (event : Step) : Type 0 where

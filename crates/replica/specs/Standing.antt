@@ -7,11 +7,11 @@ use Rattle.dots.specs.Values.{Tag}
 use Rattle.dots.specs.DotSets.{Stretch, in_stretch}
 use Rattle.dots.specs.Operations.{Calls}
 use Rattle.dots.specs.Knowledge.{is_named, visible_dots}
-use Rattle.dots.specs.Rows.{dots_read, row_of}
+use Rattle.dots.specs.Rows.{dot_view, row_of}
 use Rattle.dots.specs.Counts.{site_total}
 use Rattle.replica.specs.declared.refusal.Refusal.{Refusal}
 use Rattle.replica.specs.declared.refusal.Refusal.TheVariants.{Memory}
-use Rattle.replica.specs.Readings.{greatest, count_used, time_used}
+use Rattle.replica.specs.SiteViews.{greatest, count_used, time_used}
 use Rattle.replica.specs.Site.{SiteState}
 use Rattle.replica.specs.Steps.{SiteKnowledge, Outcome, Done, Denied, Framed, Nothing, NoNumber, Taken, CellsFull, RunsFull}
 
@@ -29,7 +29,7 @@ pub record StandsFor (state : SiteState) (s : SiteKnowledge) : Type 0 where
   pub unnamed : (dot : Tag) → is_named s.known dot ≡ false
   pub uncounted : (site queue : ℕ) (calls : Calls) → site_total s.known site queue calls ≡ 0
   pub uncut : s.buffer ≡ s.known
-  pub rows : (member : Member) → row_of (dots_read s.known) member ≡ map.get state.members member
+  pub rows : (member : Member) → row_of (dot_view s.known) member ≡ map.get state.members member
 
 -- A result and the state after it are what a command means, given the site after it and what comes of it by the meaning. Where it
 -- is done, memory may also have been wanting, and then it changes nothing.

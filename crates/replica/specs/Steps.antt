@@ -6,7 +6,7 @@ use Rattle.dots.specs.DotSets.{run_count}
 use Rattle.dots.specs.Knowledge.{Knowledge, visible_dots, known_dots}
 use Rattle.replica.specs.declared.refusal.Refusal.{Refusal}
 use Rattle.replica.specs.Changes.{Change, Meaning, Refused, Makes, meaning}
-use Rattle.replica.specs.Readings.{reading_in}
+use Rattle.replica.specs.SiteViews.{site_view}
 
 -- a site: what it knows, what of its own it has put in no frame yet, and how many frames it has made
 pub record SiteKnowledge : Type 0 where
@@ -62,7 +62,7 @@ take s frame =
 
 -- a step of the site of this number with these queues
 abbrev pub step : ℕ → List (List ℕ) → SiteKnowledge → Step → SiteKnowledge × Outcome
-step site names s (Do change) = after_meaning s (meaning site names (reading_in site s.known) (reading_in site s.buffer) change)
+step site names s (Do change) = after_meaning s (meaning site names (site_view site s.known) (site_view site s.buffer) change)
 step site names s Cut = cut s s.buffer
 step site names s Whole = framed s s.known s.buffer
 step site names s (Take frame) = take s frame

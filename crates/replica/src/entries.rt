@@ -3,7 +3,7 @@ ghost use Rattle.std.specs.Prelude.{◌≡◌, ◌==◌, ◌≤◌, length, filt
 ghost use Rattle.std.specs.FinMap as map;
 ghost use Rattle.dots.specs.Orders.{member_cmp};
 ghost use Rattle.replica.specs.Held.{IsRising, IsAt, IsGapFor, held};
-ghost use Rattle.replica.specs.Rows.{row_of};
+ghost use Rattle.dots.specs.Views.{row_view};
 
 use crate::Row;
 use crate::entry::Entry;
@@ -21,7 +21,7 @@ pub(crate) fn place(entries: &[Entry], member: &Member) -> Result<usize, usize>
 // The row of the member, where it is among the entries.
 pub(crate) fn row_in<'a>(entries: &'a [Entry], member: &Member) -> Option<Row<'a>>
     requires { IsRising (held entries.now) }
-    ensures { option_map row_of result ≡ map.find member_cmp member.now (held entries.now) }
+    ensures { option_map row_view result ≡ map.find member_cmp member.now (held entries.now) }
 {
     match place(entries, member) {
         Ok(at) => Some(entries[at].row()),

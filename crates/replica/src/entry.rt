@@ -15,7 +15,7 @@ pub struct Entry {
 impl Entry {
     ghost use Rattle.std.specs.Prelude.{◌≡◌};
     ghost use Rattle.replica.specs.Listed.{entry_row};
-    ghost use Rattle.replica.specs.Rows.{row_of};
+    ghost use Rattle.dots.specs.Views.{row_view};
 
     pub fn interface(&self) -> &Interface
         ensures { result.now ≡ self.now.member.interface }
@@ -24,7 +24,7 @@ impl Entry {
     }
 
     pub fn row(&self) -> Row<'_>
-        ensures { row_of result ≡ entry_row self.now }
+        ensures { row_view result ≡ entry_row self.now }
     {
         Row {
             penalty: self.penalty.get(),

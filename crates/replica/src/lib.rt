@@ -11,13 +11,11 @@ pub mod laws;
 mod queue_list;
 mod refusal;
 mod replica;
-mod row;
 mod rows;
 
 pub use command::Command;
-pub use dots::Memory;
+pub use dots::{Memory, Row};
 pub use queue_list::{ListFault, QueueList};
 pub use refusal::Refusal;
 pub use replica::Replica;
-pub use row::Row;
 pub use rows::Rows;

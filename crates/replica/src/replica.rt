@@ -1,9 +1,9 @@
 ghost use Rattle.std.specs.Prelude.{◌≡◌, ◌≤◌, length, option_map, OnOk, OnErr, IsErrOf};
 ghost use Rattle.std.specs.FinMap as map;
-ghost use Rattle.dots.specs.Rows.{dots_read, row_of as row_read, rows_of as rows_read};
+ghost use Rattle.dots.specs.Rows.{dot_view, row_of, rows_of as rows_read};
 ghost use Rattle.replica.specs.Commands.{CanAdd, HasMember, HasQueue, IsExhausted, IsFull, IsNewMember, IsAnswer, after};
 ghost use Rattle.replica.specs.Changes.{change_of};
-ghost use Rattle.replica.specs.Rows.{row_of};
+ghost use Rattle.dots.specs.Views.{row_view};
 ghost use Rattle.replica.specs.Site.{rows_of};
 ghost use Rattle.replica.specs.Standing.{StandsFor, IsMeant};
 ghost use Rattle.replica.specs.Steps.{SiteKnowledge, Do, new_site, step};
@@ -77,8 +77,8 @@ impl Replica {
 
     /// What is set of this member. `None` where it isn't in its queue.
     pub fn row(&self, member: &Member) -> Option<Row<'_>>
-        ensures value { option_map row_of result ≡ map.get self.now.members member.now }
-        ensures meaning { (s : SiteKnowledge) → StandsFor self.now s → option_map row_of result ≡ row_read (dots_read s.known) member.now }
+        ensures value { option_map row_view result ≡ map.get self.now.members member.now }
+        ensures meaning { (s : SiteKnowledge) → StandsFor self.now s → option_map row_view result ≡ row_of (dot_view s.known) member.now }
     {
         row_in(&self.entries, member)
     }
@@ -86,7 +86,7 @@ impl Replica {
     /// The members of the queue of this number with their rows, in the order of their interfaces' bytes.
     pub fn rows(&self, queue: u16) -> Rows<'_>
         ensures value { result ≡ rows_of self.now.members queue }
-        ensures meaning { (s : SiteKnowledge) → StandsFor self.now s → result ≡ rows_read (dots_read s.known) queue }
+        ensures meaning { (s : SiteKnowledge) → StandsFor self.now s → result ≡ rows_read (dot_view s.known) queue }
         ensures few { length result ≤ 16384 }
     {
         Rows::new(of_queue(&self.entries, queue))

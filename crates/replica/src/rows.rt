@@ -33,11 +33,11 @@ impl<'a> Rows<'a> {
 
 impl<'a> Iterator for Rows<'a> {
     ghost use Rattle.std.specs.Iterator.{YieldsFirstBy, item_count};
-    ghost use Rattle.replica.specs.Rows.{listed_row_of};
+    ghost use Rattle.dots.specs.Views.{listed_row_view};
 
     type Item = (&'a Interface, Row<'a>);
 
-    ghost next_gives = { YieldsFirstBy listed_row_of (λ rows. rows) };
+    ghost next_gives = { YieldsFirstBy listed_row_view (λ rows. rows) };
 
     ghost remaining = { item_count (λ rows. rows) };
 

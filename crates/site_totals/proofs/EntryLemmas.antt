@@ -13,7 +13,7 @@ use Rattle.dots.specs.Values.{IsSite}
 use Rattle.site_totals.specs.declared.kind.Kind.{Kind}
 use Rattle.site_totals.specs.declared.kind.Kind.TheVariants.{Completed, Abandoned}
 use Rattle.site_totals.specs.Kind.{number_of, one_more, raised}
-use Rattle.site_totals.specs.Rows.{Row, IsRising, IsKept, pair_in, entries_of}
+use Rattle.site_totals.specs.TotalLists.{Row, IsRising, IsKept, pair_in, entries_of}
 use Rattle.site_totals.proofs.RowLemmas.{truth, fact, rising_tail, rising_drop, find_first_in_rest, find_at, key_of}
 
 -- the map has these entries

@@ -12,7 +12,7 @@ use Rattle.std.proofs.lemmas.Cmp.{tied_itself}
 use Rattle.std.proofs.lemmas.List.Sorted.{searchable_from_sorted}
 use Rattle.dots.specs.Totals.{Key, key_cmp}
 use Rattle.dots.proofs.TotalsLaws.{keys_total, exact_keys}
-use Rattle.site_totals.specs.Rows.{Row, IsRising, key_at, IsAt, IsGapFor}
+use Rattle.site_totals.specs.TotalLists.{Row, IsRising, key_at, IsAt, IsGapFor}
 
 less_of : (o : Ordering) → is_lt o ≡ true → o ≡ Less
 less_of Less h = refl

@@ -11,7 +11,7 @@ pub enum Kind {
 }
 
 impl Kind {
-    /// Which of a pair's numbers is meant: how many calls were completed, or how many abandoned.
+    // Which of a pair's numbers is meant: how many calls were completed, or how many abandoned.
     pub(crate) fn number_of(self, pair: (u64, u64)) -> u64
         ensures { result ≡ number_of self pair }
     {
@@ -21,7 +21,7 @@ impl Kind {
         }
     }
 
-    /// The pair with one more of this kind.
+    // The pair with one more of this kind.
     pub(crate) fn one_more(self, pair: (u64, u64)) -> (u64, u64)
         requires { number_of self pair < 1000000000 }
         ensures { result ≡ one_more self pair }

@@ -1,22 +1,13 @@
-//! What holds of every join, whatever the totals. The functions do nothing: their contracts say it.
+//! What holds of every join, whatever the totals. The functions have no body: their contracts are the laws.
 ghost use Rattle.std.specs.Prelude.{◌≡◌, ◌+◌, ℕ};
+ghost use Rattle.dots.specs.Joins.{IsJoin};
 ghost use Rattle.dots.specs.Totals.{Entries, InLimits, Key, joined, single, pair_at, total_of, greater};
 ghost use Rattle.site_totals.specs.Kind.{alone, number_of, raised};
 ghost use Rattle.site_totals.specs.declared.kind.Kind.{Kind};
 
-/// It is all the same which of two totals is joined into the other.
-pub fn join_is_commutative()
-    ensures { (x y : Entries) → joined x y ≡ joined y x }
-{}
-
-/// It is all the same in which order three totals are joined.
-pub fn join_is_associative()
-    ensures { (x y z : Entries) → joined (joined x y) z ≡ joined x (joined y z) }
-{}
-
-/// Totals joined with themselves are as before.
-pub fn join_is_idempotent()
-    ensures { (x : Entries) → joined x x ≡ x }
+/// Totals are joined in any order (RR-7506's grow-only counter). Each two agree.
+pub fn totals_are_joined()
+    ensures { IsJoin {T = Entries} (λ _ _. Unit {0}) joined }
 {}
 
 /// The join of two totals reads as the greater of both.

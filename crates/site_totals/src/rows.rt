@@ -4,12 +4,12 @@ ghost use Rattle.std.specs.Vec.{vec_capacity, vec_len};
 ghost use Rattle.std.specs.FinMap as map;
 ghost use Rattle.dots.specs.Values.{IsSite};
 ghost use Rattle.dots.specs.Totals.{InLimits, key_cmp, greater, pair_at, joined, single, count_missing};
-ghost use Rattle.site_totals.specs.Rows.{IsRising, IsKept, IsAt, IsGapFor, pair_in, entries_of};
+ghost use Rattle.site_totals.specs.TotalLists.{IsRising, IsKept, IsAt, IsGapFor, pair_in, entries_of};
 ghost use Rattle.site_totals.specs.Kind.{number_of, raised};
 
 use crate::{Kind, Memory, TotalFault, TotalKey};
 
-/// An entry: a key with how many calls were completed and how many abandoned.
+// An entry: a key with how many calls were completed and how many abandoned.
 pub(crate) type Row = (TotalKey, (u64, u64));
 
 // Where the key is, or where it would go.
@@ -21,7 +21,7 @@ fn search(rows: &[Row], key: TotalKey) -> Result<usize, usize>
     rows.binary_search_by_key(&key, |&(key, _)| key)
 }
 
-/// What the entries have at a key, two zeros where they have none.
+// What the entries have at a key, two zeros where they have none.
 pub(crate) fn pair_in(rows: &[Row], key: TotalKey) -> (u64, u64)
     requires { IsRising rows.now }
     ensures { result ≡ pair_in rows.now key }
@@ -32,21 +32,21 @@ pub(crate) fn pair_in(rows: &[Row], key: TotalKey) -> (u64, u64)
     }
 }
 
-/// Whether both lists are one.
+// Whether both lists are one.
 pub(crate) fn same_rows(rows: &[Row], others: &[Row]) -> bool
     ensures { IsTrue result ↔ (rows.now ≡ others.now) }
 {
     rows == others
 }
 
-/// The greater of two pairs, number by number.
+// The greater of two pairs, number by number.
 pub(crate) fn greater(left: (u64, u64), right: (u64, u64)) -> (u64, u64)
     ensures { result ≡ greater left right }
 {
     (left.0.max(right.0), left.1.max(right.1))
 }
 
-/// Puts a pair at a key, over the one that is there or as a new entry.
+// Puts a pair at a key, over the one that is there or as a new entry.
 pub(crate) fn put(rows: &mut Vec<Row>, key: TotalKey, pair: (u64, u64)) -> Result<(), Memory>
     requires { IsRising rows.old.items }
     ensures ok { OnOk result (rows.new.items ≡ map.put key_cmp key pair rows.old.items) }
@@ -69,7 +69,7 @@ pub(crate) fn put(rows: &mut Vec<Row>, key: TotalKey, pair: (u64, u64)) -> Resul
     }
 }
 
-/// Joins one entry in: the greater of what is there and the pair. Two zeros are no entry.
+// Joins one entry in: the greater of what is there and the pair. Two zeros are no entry.
 pub(crate) fn join_one(rows: &mut Vec<Row>, key: TotalKey, pair: (u64, u64)) -> Result<(), Memory>
     requires kept { IsKept rows.old.items }
     requires limits { InLimits (single key pair) }
@@ -89,7 +89,7 @@ pub(crate) fn join_one(rows: &mut Vec<Row>, key: TotalKey, pair: (u64, u64)) -> 
     Ok(())
 }
 
-/// Counts one more call of a kind at a key, and answers the new total.
+// Counts one more call of a kind at a key, and answers the new total.
 pub(crate) fn raise_one(rows: &mut Vec<Row>, key: TotalKey, kind: Kind) -> Result<u64, TotalFault>
     requires kept { IsKept rows.old.items }
     requires site { IsSite key.site }
@@ -122,7 +122,7 @@ fn lacks(rows: &[Row], key: TotalKey) -> bool
     search(rows, key).is_err()
 }
 
-/// How many keys of the others these lack.
+// How many keys of the others these lack.
 pub(crate) fn count_missing(rows: &[Row], others: &[Row]) -> usize
     requires rising { IsRising rows.now }
     requires others_rising { IsRising others.now }
@@ -137,7 +137,7 @@ pub(crate) fn count_missing(rows: &[Row], others: &[Row]) -> usize
     missing
 }
 
-/// Joins the others in, in room that was reserved. It takes no memory.
+// Joins the others in, in room that was reserved. It takes no memory.
 pub(crate) fn merge(rows: &mut Vec<Row>, others: &[Row])
     requires kept { IsKept rows.old.items }
     requires others_kept { IsKept others.now }

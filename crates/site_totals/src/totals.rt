@@ -21,7 +21,7 @@ impl Model for Totals {
     ghost use Rattle.std.specs.Prelude.{◌-◌};
     ghost use Rattle.std.specs.Vec.{vec_capacity, vec_len};
     ghost use Rattle.site_totals.specs.Tally.{Tally, tally_code};
-    ghost use Rattle.site_totals.specs.Rows.{IsKept, entries_of};
+    ghost use Rattle.site_totals.specs.TotalLists.{IsKept, entries_of};
 
     ghost Value = { Tally };
 

@@ -1,17 +1,17 @@
 -- The answer to an ask is what a site that knows the same answers.
-use Rattle.std.proofs.Common.{◌≡◌, ◌⊎◌, ℕ, zero, suc, ◌+◌, List, Result, Ok, Err, refl, sym, ap, subst, ◌∙◌, inl, inr, arith}
+use Rattle.std.proofs.Common.{◌≡◌, ◌⊎◌, ℕ, zero, suc, ◌+◌, List, Result, Ok, Err, IfOk, refl, sym, ap, subst, ◌∙◌, inl, inr, arith}
 use Rattle.std.specs.FinMap as map
 use Rattle.dots.specs.Totals.{sum_below}
 use Rattle.dots.specs.Operations.{Completed, Abandoned}
 use Rattle.dots.specs.Knowledge.{Knowledge}
-use Rattle.dots.specs.Rows.{dots_read, rows_of as rows_read}
+use Rattle.dots.specs.Rows.{dot_view, rows_of as rows_read}
 use Rattle.dots.specs.Counts.{site_total, queue_total}
 use Rattle.replica.specs.declared.command.Command.{Command}
 use Rattle.replica.specs.declared.refusal.Refusal.{Refusal}
 use Rattle.replica.specs.declared.refusal.Refusal.TheVariants.{Memory}
 use Rattle.replica.specs.Changes.{Meaning, Refused as Denied, Makes, change_of, meaning}
 use Rattle.replica.specs.Commands.{IsAnswer}
-use Rattle.replica.specs.Readings.{reading_in}
+use Rattle.replica.specs.SiteViews.{site_view}
 use Rattle.replica.specs.Site.{SiteState, rows_of}
 use Rattle.replica.specs.Standing.{StandsFor, IsMeant}
 use Rattle.replica.specs.Steps.{SiteKnowledge, after_meaning}
@@ -20,12 +20,12 @@ use Rattle.status_report.specs.declared.asks.Answer.{Answer}
 use Rattle.status_report.specs.declared.asks.Answer.TheVariants.{Refused, Report}
 use Rattle.status_report.specs.declared.request.StatusRequest.{StatusRequest}
 use Rattle.status_report.specs.Answers.{answer_of}
-use Rattle.status_report.specs.Knowing.{status_in, totals_in, answer_of_meaning, IsAnswered}
+use Rattle.status_report.specs.Knowing.{status_in, totals_in, answer_of_outcome, IsAnswered}
 use Rattle.status_report.specs.Status.{no_calls, status_text, report_of}
 
 -- a result that is meant is the answer of its meaning
 pub by-meaning : (old new : SiteState) (r : Result (Unit {0}) Refusal) (s : SiteKnowledge) → StandsFor old s → (m : Meaning) → IsMeant old new r (after_meaning s m)
-    → IsAnswered old new (answer_of r) ((after_meaning s m).0, answer_of_meaning m)
+    → IsAnswered old new (answer_of r) ((after_meaning s m).0, answer_of_outcome (after_meaning s m).1)
 by-meaning old new r s stands (Denied refusal) is = inl (subst (λ x. StandsFor x s) (sym is.1) stands, ap answer_of is.0)
 by-meaning old new r s stands (Makes o) (inl h) = inl (h.1, ap answer_of h.0)
 by-meaning old new r s stands (Makes o) (inr h) = inr (h.1, ap answer_of h.0)
@@ -52,3 +52,8 @@ same-site old command new (Err e) a = ap (λ x. x.site) a.unchanged
 pub same-names : (old : SiteState) (command : Command) (new : SiteState) (r : Result (Unit {0}) Refusal) → IsAnswer old command new r → new.names ≡ old.names
 same-names old command new (Ok u) a = ap (λ x. x.names) a.done
 same-names old command new (Err e) a = ap (λ x. x.names) a.unchanged
+
+-- what holds of an Ok, and what follows from it
+pub of-ok : {A E : Type 0} (P Q : A → Type 0) (r : Result A E) → IfOk r P → ((x : A) → P x → Q x) → IfOk r Q
+of-ok P Q (Ok x) h more = more x h
+of-ok P Q (Err e) h more = h

@@ -2,7 +2,7 @@
 use Rattle.std.proofs.Common.{◌≡◌, ap, refl}
 use Rattle.dots.specs.Operations.{Completed, Abandoned}
 use Rattle.dots.specs.Knowledge.{Knowledge, SameOperations, IsConsistent}
-use Rattle.dots.specs.Rows.{dots_read, rows_of}
+use Rattle.dots.specs.Rows.{dot_view, rows_of}
 use Rattle.dots.proofs.RowLaws.{show-the-same}
 use Rattle.status_report.specs.Knowing.{SameStatusTexts, totals_in, status_in}
 use Rattle.status_report.specs.Status.{status_text}

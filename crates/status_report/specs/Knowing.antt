@@ -3,13 +3,12 @@
 use Rattle.std.specs.Prelude.{ℕ, ◌≡◌, ◌⊎◌, List}
 use Rattle.dots.specs.Operations.{Completed, Abandoned}
 use Rattle.dots.specs.Knowledge.{Knowledge, SameOperations, IsConsistent}
-use Rattle.dots.specs.Rows.{dots_read, rows_of}
+use Rattle.dots.specs.Rows.{dot_view, rows_of}
 use Rattle.dots.specs.Counts.{queue_total}
-use Rattle.replica.specs.Changes.{Meaning, Refused as Denied, Makes, change_of, meaning}
-use Rattle.replica.specs.Readings.{reading_in}
+use Rattle.replica.specs.Changes.{change_of}
 use Rattle.replica.specs.Site.{SiteState}
 use Rattle.replica.specs.Standing.{StandsFor}
-use Rattle.replica.specs.Steps.{SiteKnowledge, after_meaning}
+use Rattle.replica.specs.Steps.{SiteKnowledge, Outcome, Denied, Do, step}
 use Rattle.replica.specs.declared.refusal.Refusal.TheVariants.{Memory}
 use Rattle.status_report.specs.declared.asks.Answer.{Answer}
 use Rattle.status_report.specs.declared.asks.Answer.TheVariants.{Done, Refused, Report}
@@ -24,23 +23,21 @@ totals_in k queue = (queue_total k queue Completed, queue_total k queue Abandone
 
 -- the status text of a knowledge: of the queues of these names, with the totals and the rows that it shows
 abbrev pub status_in : Knowledge → List (List ℕ) → StatusRequest → List ℕ
-status_in k names request = status_text names (totals_in k) (rows_of (dots_read k)) request
+status_in k names request = status_text names (totals_in k) (rows_of (dot_view k)) request
 
 -- consistent knowledges of the same operations have the same status texts
 abbrev pub SameStatusTexts : Type 0
 SameStatusTexts = (k l : Knowledge) (names : List (List ℕ)) (request : StatusRequest) → IsConsistent k → SameOperations k l → status_in k names request ≡ status_in l names request
 
--- how a command of this meaning is answered
-abbrev pub answer_of_meaning : Meaning → Answer
-answer_of_meaning (Denied refusal) = Refused refusal
-answer_of_meaning (Makes operation) = Done
+-- how a command is answered of which this comes: it is refused, or done
+abbrev pub answer_of_outcome : Outcome → Answer
+answer_of_outcome (Denied refusal) = Refused refusal
+answer_of_outcome outcome = Done
 
--- what a site of this number with these queues answers, and what it knows then: a command is answered by its meaning, a status by
--- its text, and a status changes nothing
+-- what a site of this number with these queues answers, and what it knows then: a command is one step of the site, a status is
+-- answered by its text, and changes nothing
 abbrev pub answer_in : ℕ → List (List ℕ) → SiteKnowledge → Ask → SiteKnowledge × Answer
-answer_in site names s (asked_command command) =
-    let m = meaning site names (reading_in site s.known) (reading_in site s.buffer) (change_of command) in
-    ((after_meaning s m).0, answer_of_meaning m)
+answer_in site names s (asked_command command) = let done = step site names s (Do (change_of command)) in (done.0, answer_of_outcome done.1)
 answer_in site names s (Status request) = (s, Report (status_in s.known names request))
 
 -- a state, and an answer, are those of a site that knows this now; or memory was wanting, and the state is as before

@@ -1,4 +1,4 @@
 pub mod Answers
 pub mod Knowing
-pub mod Lines
+pub mod WrittenLines
 pub mod Status

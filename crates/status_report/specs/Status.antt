@@ -5,7 +5,7 @@ use Rattle.std.specs.List.{concat}
 use Rattle.dots.specs.Rows.{MemberRow}
 use Rattle.replica.specs.Site.{SiteState, rows_of}
 use Rattle.status_report.specs.declared.request.StatusRequest.{StatusRequest}
-use Rattle.status_report.specs.Lines.{field, action_id_line}
+use Rattle.status_report.specs.WrittenLines.{field, action_id_line}
 
 -- an interface with its row
 abbrev pub Row : Type 0

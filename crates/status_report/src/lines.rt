@@ -1,6 +1,6 @@
 //! Lines of a message that is written: `Name: value`, ended by CR LF, and an empty line at the message's end.
 ghost use Rattle.std.specs.Prelude.{◌≡◌, ◌++◌, codes, decimal, OnOk};
-ghost use Rattle.status_report.specs.Lines.{field, action_id_line};
+ghost use Rattle.status_report.specs.WrittenLines.{field, action_id_line};
 
 use dots::Memory;
 use itoa::Buffer;

@@ -1,5 +1,5 @@
 ghost use Rattle.std.specs.Prelude.{◌≡◌, ℕ, List, map as each, IfOk};
-ghost use Rattle.replica.specs.Rows.{listed_row_of};
+ghost use Rattle.dots.specs.Views.{listed_row_view};
 ghost use Rattle.replica.specs.Site.{rows_of};
 ghost use Rattle.status_report.specs.Status.{Row as ShownRow, Totals, no_calls};
 
@@ -29,7 +29,7 @@ pub trait Queues {
     /// The members of the queue of this number with their rows, in the order of their interfaces' bytes. The one
     /// fault is want of memory.
     fn rows(&self, alloc: Global, number: u16) -> Result<Vec<(&Interface, Row<'_>)>, Memory>
-        ensures { IfOk result (λ listed. each listed_row_of listed.items ≡ rows self.now number) };
+        ensures { IfOk result (λ listed. each listed_row_view listed.items ≡ rows self.now number) };
 }
 
 // What a replica shows. It counts no calls yet.

@@ -1,8 +1,11 @@
 ghost use Rattle.std.specs.Prelude.{◌≡◌, ◌≤◌, ◌+◌, ◌++◌, length, map as each, slice_get, IfOk, OnOk};
 ghost use Rattle.std.specs.List.{concat};
-ghost use Rattle.replica.specs.Rows.{row_of, listed_row_of};
+ghost use Rattle.dots.specs.Views.{row_view, listed_row_view};
+ghost use Rattle.replica.specs.Standing.{StandsFor};
+ghost use Rattle.replica.specs.Steps.{SiteKnowledge};
+ghost use Rattle.status_report.specs.Knowing.{status_in};
 ghost use Rattle.status_report.specs.Status.{blocks_named, closing, event_lines, is_member_wanted, is_queue_wanted, member_block, member_blocks, opening, queue_block, report_of, shown, status_text};
-ghost use Rattle.status_report.specs.Lines.{action_id_line};
+ghost use Rattle.status_report.specs.WrittenLines.{action_id_line};
 
 use crate::lines::{push_action_id_line, push_end, push_field, push_number};
 use crate::{Queues, StatusRequest};
@@ -10,9 +13,12 @@ use dots::{Interface, Memory, QueueName};
 use replica::{Replica, Row};
 use std::alloc::Global;
 
-/// The report of what the replica's queues show, as `write_report` writes it. The one fault is want of memory.
+/// The report of what the replica's queues show, as `write_report` writes it. Where the replica stands for what a site
+/// knows, it is the status text of that. The one fault is want of memory.
 pub fn report(alloc: Global, replica: &Replica, request: &StatusRequest) -> Result<Vec<u8>, Memory>
-    ensures { IfOk result (λ out. out.items ≡ report_of replica.now request.now) }
+    ensures value { IfOk result (λ out. out.items ≡ report_of replica.now request.now) }
+    ensures meaning { IfOk result (λ out. (s : SiteKnowledge) → StandsFor replica.now s
+        → out.items ≡ status_in s.known replica.now.names request.now) }
 {
     write_report(alloc, replica, request)
 }
@@ -107,9 +113,9 @@ fn push_members(
     rows: &[(&Interface, Row<'_>)],
 ) -> Result<u64, Memory>
     ensures text { OnOk result (out.new.items
-        ≡ out.old.items ++ concat (member_blocks request.now name.now (each listed_row_of rows.now))) }
+        ≡ out.old.items ++ concat (member_blocks request.now name.now (each listed_row_view rows.now))) }
     ensures count { IfOk result (λ members.
-        members ≡ length (member_blocks request.now name.now (each listed_row_of rows.now))) }
+        members ≡ length (member_blocks request.now name.now (each listed_row_view rows.now))) }
     ensures few { IfOk result (λ members. length out.old.items + members ≤ length out.new.items) }
 {
     let mut members = 0;
@@ -132,7 +138,7 @@ fn is_queue_wanted(request: &StatusRequest, name: &QueueName) -> bool
 }
 
 fn is_member_wanted(request: &StatusRequest, interface: &Interface, row: &Row<'_>) -> bool
-    ensures { result ≡ is_member_wanted request.now.member (interface.now, row_of row.now) }
+    ensures { result ≡ is_member_wanted request.now.member (interface.now, row_view row.now) }
 {
     match &request.member {
         None => true,
@@ -179,7 +185,7 @@ fn push_member(
     row: &Row<'_>,
 ) -> Result<(), Memory>
     ensures { OnOk result (out.new.items
-        ≡ out.old.items ++ member_block request.now.action_id name.now (interface.now, row_of row.now)) }
+        ≡ out.old.items ++ member_block request.now.action_id name.now (interface.now, row_view row.now)) }
 {
     push_event(out, request, b"QueueMember")?;
     push_field(out, "Queue", name.as_bytes())?;

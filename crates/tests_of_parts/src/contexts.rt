@@ -2,7 +2,7 @@ ghost use Rattle.std.specs.Prelude.{◌≤◌};
 
 use crate::values::{assert_same, dot, site};
 use causal_context::laws::{
-    covers_by_subset, has_longest_runs, has_one_list_of_runs, joins_in_any_order,
+    contexts_are_joined, covers_by_subset, has_longest_runs, has_one_list_of_runs,
 };
 use causal_context::{Context, ContextFault, Run};
 use std::alloc::Global;
@@ -172,7 +172,7 @@ fn absorbs_what_was_prepared(rt: HostRuntime) {
 
 #[test]
 fn laws_are_called() {
-    joins_in_any_order();
+    contexts_are_joined();
     covers_by_subset();
     has_one_list_of_runs();
     has_longest_runs();

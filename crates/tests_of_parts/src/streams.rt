@@ -1,9 +1,10 @@
 ghost use Rattle.std.specs.Prelude.{◌≡◌, ◌<◌, false};
 
 use crate::values::{assert_bytes, assert_same};
+use ami_text::laws::{messages_so_far, stream_has_one_outcome, stream_of_two_pieces};
 use ami_text::{
     Failed, Feed, FeedFault, Memory, MemorySink, MemorySource, Message, Sink, Source, StdSink,
-    StdSource, messages_so_far, stream_has_one_reading, stream_of_two_pieces,
+    StdSource,
 };
 use std::alloc::Global;
 use std::io;
@@ -452,6 +453,6 @@ fn a_writer_that_is_interrupted_is_written_to_again(rt: HostRuntime) {
 #[test]
 fn laws_are_called() {
     messages_so_far();
-    stream_has_one_reading();
+    stream_has_one_outcome();
     stream_of_two_pieces();
 }

@@ -1,6 +1,6 @@
 //! Sets of members: the dots that are live, joins of sets, and the rows that a queue shows.
 ghost use Rattle.member_orset.specs.Members.{HasField};
-ghost use Rattle.member_orset.specs.Cells.{dot_fields};
+ghost use Rattle.member_orset.specs.Reads.{dot_fields};
 
 use causal_context::Context;
 use dots::{Dot, Interface, Member, Penalty, SiteId, Stamp};
@@ -142,6 +142,7 @@ fn a_dot_is_live_until_it_is_killed(rt: HostRuntime) {
     const CHANGES: &[(Told, bool, State)] = &[
         (Told::Put(FIRST, SIP_1, 5, 7), true, State::Live(7)),
         (Told::Kill(FIRST), false, State::Dead),
+        (Told::Kill(FIRST), false, State::Dead),
         (Told::Kill(SECOND), false, State::Dead),
         (Told::Put(SECOND, SIP_1, 6, 8), false, State::Dead),
     ];
@@ -215,6 +216,7 @@ fn built(rt: &impl Abort, alloc: Global) -> MemberSet {
     }
     assert!(rt; context.contains(second));
     let mut builder = SetBuilder::new(alloc, context);
+    assert!(rt; builder.context().runs() == 1);
     builder
         .cell(second, &member(rt, SIP_1), &penalty(rt, 5, 7))
         .expect(rt, "memory");
@@ -233,6 +235,46 @@ fn a_builder_kills_what_it_is_not_given(rt: HostRuntime) {
     for (live, cell) in set.iter() {
         assert!(rt; live == dot(&rt, SECOND) && *cell.member == member(&rt, SIP_1));
     }
+}
+
+// A set that was built of 80 known dots of site 0, of which the first 40 are live, each with its
+// count as its penalty.
+fn built_of_40(rt: &impl Abort, alloc: Global) -> MemberSet {
+    let site = SiteId::new(0).expect(rt, "a site");
+    let mut context = Context::new(alloc);
+    context.insert_run(site, 1, 80).expect(rt, "room");
+    let mut builder = SetBuilder::new(alloc, context);
+    for count in 1..41 {
+        let next = Dot::new(site, count).expect(rt, "a dot");
+        assert!(rt; builder.context().contains(next));
+        builder
+            .cell(next, &member(rt, SIP_1), &penalty(rt, 5, count as u32))
+            .expect(rt, "memory");
+    }
+    builder.finish()
+}
+
+#[test]
+fn a_builder_takes_40_cells(rt: HostRuntime) {
+    const STATES: &[(ToldDot, State)] = &[
+        ((0, 1), State::Live(1)),
+        ((0, 40), State::Live(40)),
+        ((0, 41), State::Dead),
+        ((0, 80), State::Dead),
+        ((0, 81), State::Unknown),
+    ];
+    assert_dots(&rt, &built_of_40(&rt, rt.alloc()), 40, STATES);
+}
+
+#[test]
+fn a_full_set_is_copied(rt: HostRuntime) {
+    const STATES: &[(ToldDot, State)] = &[
+        ((0, 1), State::Live(0)),
+        ((0, 16_384), State::Live(0)),
+        ((0, 16_385), State::Unknown),
+    ];
+    let set = full_set(&rt, rt.alloc());
+    assert_dots(&rt, &copy_of(&rt, &set), 16_384, STATES);
 }
 
 // Joins each of two sets with a copy of the other.
@@ -480,4 +522,33 @@ fn a_live_dot_is_not_seen_and_a_given_one_may_be_unknown(rt: HostRuntime) {
     let set = built(&rt, rt.alloc());
     let given = [dot(&rt, (0, 3)), dot(&rt, (1, 9))];
     assert_seen(&rt, &set, &given, WANTED, 3);
+}
+
+#[test]
+fn dead_dots_are_seen_in_many_runs(rt: HostRuntime) {
+    let mut set = MemberSet::new(rt.alloc());
+    for half in 1..41 {
+        change_all(&rt, &mut set, &[Told::Kill((0, 2 * half))]);
+    }
+    let given = dot(&rt, (0, 82));
+    let wanted = [((0, 1), false), ((0, 2), true), ((0, 80), true)];
+    assert_seen(&rt, &set, &[given], &wanted, 41);
+}
+
+#[test]
+fn the_dead_dots_of_a_site_are_told(rt: HostRuntime) {
+    let set = built(&rt, rt.alloc());
+    let site = SiteId::new(0).expect(&rt, "a site");
+    let dead = set.dead_of(site).expect(&rt, "memory");
+    assert!(rt; dead.contains(dot(&rt, FIRST)) && !dead.contains(dot(&rt, SECOND)));
+    assert!(rt; dead.runs() == 1);
+}
+
+#[test]
+fn live_dots_are_counted_without_others(rt: HostRuntime) {
+    let set = built_of_40(&rt, rt.alloc());
+    let site = SiteId::new(0).expect(&rt, "a site");
+    let mut dead = Context::new(rt.alloc());
+    dead.insert_run(site, 31, 50).expect(&rt, "room");
+    assert!(rt; set.live_without(&dead) == 30);
 }

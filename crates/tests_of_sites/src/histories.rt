@@ -5,7 +5,7 @@ use crate::shared::{
     queue_block, request, site, text,
 };
 use dots::{Dot, Member, Pause, Penalty, Stamp};
-use reading::{Calls, Operation, Setting, Total, row, rows, status, totals};
+use reference_model::{Calls, Operation, Setting, Total, row, rows, status, totals};
 use std::alloc::Global;
 use std::process::Abort;
 

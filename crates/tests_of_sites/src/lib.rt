@@ -1,4 +1,4 @@
-//! Tests of replicas, reports, sessions and the reading of histories by their public calls. This
+//! Tests of replicas, reports, sessions and what histories show by their public calls. This
 //! crate has no code of its own.
 #![tactic(auto)]
 

@@ -1,5 +1,5 @@
 use Rattle.std.proofs.Common.{◌≡◌, length}
-use Rattle.ami_text.specs.Fields.{trimmed_end}
+use Rattle.ami_text.specs.MessageFields.{trimmed_end}
 use Rattle.ami_text.proofs.line.trimmed_end.Given as goal
 
 abbrev pub invariant-loop-rest : goal.invariant-loop-rest

@@ -1,5 +1,5 @@
 use Rattle.std.proofs.Common.{◌≡◌, ap, sym, ◌∙◌, Some, true, false}
-use Rattle.ami_text.specs.Fields.{same_name}
+use Rattle.ami_text.specs.MessageFields.{same_name}
 use Rattle.ami_text.proofs.FieldLemmas.{same_name-tested, first_value-found, first_value-passed}
 use Rattle.ami_text.proofs.message.first_value.Goals as goal
 

@@ -1,5 +1,5 @@
 use Rattle.std.proofs.Common.{◌≡◌, drop, map}
-use Rattle.ami_text.specs.Fields.{first_value}
+use Rattle.ami_text.specs.MessageFields.{first_value}
 use Rattle.ami_text.specs.Field.{pair_of}
 use Rattle.ami_text.proofs.message.first_value.Given as goal
 

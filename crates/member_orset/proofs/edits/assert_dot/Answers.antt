@@ -3,10 +3,11 @@ use Rattle.std.proofs.Common.{ℕ, List, ◌≡◌, false, true, Some, sym, subs
 use Rattle.std.proofs.lemmas.Result.{on_ok_weaker}
 use Rattle.dots.specs.Conditions.{Live}
 use Rattle.member_orset.specs.declared.live_dot.LiveDot.{LiveDot}
-use Rattle.member_orset.specs.Cells.{IsAt, IsGap, dot_fields}
+use Rattle.member_orset.specs.Reads.{dot_fields}
+use Rattle.member_orset.specs.Cells.{IsAt, IsGap}
 use Rattle.member_orset.proofs.CellLists.{same_place}
 use Rattle.member_orset.proofs.Changes.{present_known, absent}
-use Rattle.member_orset.proofs.Asserting.{on_ok_always, on_ok_both, unless_conflict, never_cells, never_runs, known_already, no_more_runs, met_conditions, met_agree, met_conflict, dead_conditions, dead_agree, dead_no_conflict, brought_conditions, unknown_agree, unknown_no_conflict}
+use Rattle.member_orset.proofs.Asserting.{on_ok_always, on_ok_both, unless_conflict, never_cells, never_runs, never_memory, known_already, no_more_runs, met_conditions, met_agree, met_conflict, dead_conditions, dead_agree, dead_no_conflict, brought_conditions, unknown_agree, unknown_no_conflict}
 use Rattle.member_orset.proofs.edits.assert_dot.Goals as goal
 
 -- it is dead
@@ -80,6 +81,12 @@ returns-in-Ok-clause-runs_full c =
     let e : LiveDot = record { dot = c.args.dot; member = c.args.member.now; fields = c.args.fields.now } in
     let here = present_known c.args.cells.now.items c.args.dot c.in-Ok.place (get_or c.args.cells.now.items c.in-Ok.place e) c.args.context.now.dots c.requires.valid.are_cells at (same_place c.args.cells.now.items c.in-Ok.place e (get_or c.args.cells.now.items c.in-Ok.place e) at.within) in
     (λ h. absurd (never_runs c.meet.result c.meet.ensures.only h), λ h. absurd (no_more_runs c.args.context.now.dots c.args.dot here c.requires.runs h.1))
+
+pub returns-in-Ok-clause-known_dot : goal.returns-in-Ok-clause-known_dot
+returns-in-Ok-clause-known_dot c known = never_memory c.meet.result c.meet.ensures.only
+
+pub returns-in-Ok-clause-with_room : goal.returns-in-Ok-clause-with_room
+returns-in-Ok-clause-with_room c cells index runs = never_memory c.meet.result c.meet.ensures.only
 
 -- it is unknown
 pub returns-else-contains-clause-conditions : goal.returns-else-contains-clause-conditions

@@ -1,7 +1,8 @@
 use Rattle.std.proofs.Common.{set, refl, sym, ap, ◌∙◌}
 use Rattle.dots.specs.Conditions.{fields_joined}
 use Rattle.member_orset.specs.declared.live_dot.LiveDot.{LiveDot}
-use Rattle.member_orset.specs.Cells.{dot_fields, live_of}
+use Rattle.member_orset.specs.Reads.{dot_fields}
+use Rattle.member_orset.specs.Cells.{live_of}
 use Rattle.member_orset.proofs.CellLists.{same_place}
 use Rattle.member_orset.proofs.Changes.{met_cells, met_members}
 use Rattle.member_orset.proofs.FieldReadings.{agree_as_read}

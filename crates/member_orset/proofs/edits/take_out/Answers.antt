@@ -4,7 +4,7 @@ use Rattle.std.specs.Option.{option_map, option_map_or}
 use Rattle.std.specs.Ordering.{eq_by_cmp, is_eq}
 use Rattle.std.proofs.lemmas.Cmp.{tied_itself}
 use Rattle.dots.specs.Orders.{member_cmp}
-use Rattle.dots.proofs.RowLaws.{members_total}
+use Rattle.dots.proofs.MemberOrder.{members_total}
 use Rattle.dots.specs.Values.{Tag}
 use Rattle.member_orset.specs.declared.live_dot.LiveDot.{LiveDot}
 use Rattle.member_orset.specs.Cells.{IsAt, IsGap, AreCells, holding, live_of}

@@ -1,5 +1,5 @@
 use Rattle.std.proofs.Common.{◌≡◌, suc, ◌-◌, ◌+◌, length, get_or, slice_set, None, ◌∙◌, ap, arith}
-use Rattle.op_arena.specs.Rows.{values}
+use Rattle.op_arena.specs.CellRows.{values}
 use Rattle.op_arena.proofs.Filled.{gone, gone_at, gone_set, gone_all}
 use Rattle.op_arena.proofs.chunk.drop_values.Goals as goal
 

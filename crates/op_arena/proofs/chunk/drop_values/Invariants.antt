@@ -1,5 +1,5 @@
 use Rattle.std.proofs.Common.{◌≡◌, ◌-◌}
-use Rattle.op_arena.specs.Rows.{values}
+use Rattle.op_arena.specs.CellRows.{values}
 use Rattle.op_arena.proofs.Filled.{gone}
 use Rattle.op_arena.proofs.chunk.drop_values.Given as goal
 

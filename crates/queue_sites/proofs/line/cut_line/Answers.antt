@@ -2,7 +2,7 @@ use Rattle.std.proofs.Common.{◌+◌, ◌∷◌, [], length, drop, sym, ◌∙�
 use Rattle.std.proofs.lemmas.List.{take_rest}
 use Rattle.bstr.specs.Find.{is_byte}
 use Rattle.ami_text.proofs.ByteSearch.{fails-before}
-use Rattle.queue_sites.specs.Lines.{lines_of}
+use Rattle.queue_sites.specs.ScriptLines.{lines_of}
 use Rattle.queue_sites.proofs.Cutting.{last-some, lines-found, lines-last}
 use Rattle.queue_sites.proofs.line.cut_line.Goals as goal
 

@@ -1,5 +1,5 @@
 use Rattle.std.proofs.Common.{◌≡◌, ◌≤◌, ◌++◌, None, length}
-use Rattle.queue_sites.specs.Lines.{stream_of}
+use Rattle.queue_sites.specs.ScriptLines.{stream_of}
 use Rattle.queue_sites.proofs.message.feed_of.Given as goal
 
 -- the feed works, and what it holds with the stream of what is left is the fields' stream

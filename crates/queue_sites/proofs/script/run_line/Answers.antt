@@ -1,6 +1,6 @@
 use Rattle.std.proofs.lemmas.Result.{IfOk-weaker}
 use Rattle.std.proofs.Common.{◌∙◌, refl, sym, ap}
-use Rattle.queue_sites.specs.Seen.{sense}
+use Rattle.queue_sites.specs.Views.{sense}
 use Rattle.queue_sites.proofs.Replying.{output-nothing, output-unknown}
 use Rattle.queue_sites.proofs.script.run_line.Goals as goal
 

@@ -1,7 +1,7 @@
 use Rattle.std.proofs.Common.{◌≡◌, ◌+◌, ◌≤◌, false, length}
 use Rattle.replica.specs.Standing.{StandsFor}
 use Rattle.replica.specs.Steps.{SiteKnowledge}
-use Rattle.queue_sites.specs.Steps.{place_of}
+use Rattle.queue_sites.specs.LineSteps.{place_of}
 use Rattle.queue_sites.proofs.Running.{Going}
 use Rattle.queue_sites.proofs.script.run_lines.Given as goal
 

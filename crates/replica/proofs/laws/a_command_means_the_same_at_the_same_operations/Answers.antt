@@ -1,4 +1,4 @@
-use Rattle.replica.proofs.ReadingLaws.{means-the-same}
+use Rattle.replica.proofs.SiteViewLaws.{means-the-same}
 use Rattle.replica.proofs.laws.a_command_means_the_same_at_the_same_operations.Goals as goal
 
 pub returns : goal.returns

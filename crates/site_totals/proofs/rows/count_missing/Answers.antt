@@ -3,7 +3,7 @@ use Rattle.std.specs.List.{count_by}
 use Rattle.std.specs.FinMap as map
 use Rattle.std.proofs.lemmas.Grind.{common_steps}
 use Rattle.dots.specs.Totals.{key_cmp}
-use Rattle.site_totals.specs.Rows.{Row}
+use Rattle.site_totals.specs.TotalLists.{Row}
 use Rattle.site_totals.proofs.EntryLemmas.{count_missing_in}
 use Rattle.site_totals.proofs.rows.count_missing.Goals as goal
 

@@ -2,7 +2,7 @@ use Rattle.std.proofs.Common.{◌≡◌, ◌≤◌, take, is_none}
 use Rattle.std.specs.List.{count_by}
 use Rattle.std.specs.FinMap as map
 use Rattle.dots.specs.Totals.{key_cmp}
-use Rattle.site_totals.specs.Rows.{Row}
+use Rattle.site_totals.specs.TotalLists.{Row}
 use Rattle.site_totals.proofs.rows.count_missing.Given as goal
 
 -- the missing keys of those that were seen are counted

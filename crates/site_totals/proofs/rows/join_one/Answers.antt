@@ -3,7 +3,7 @@ use Rattle.std.specs.Vec.{vec_capacity, vec_len}
 use Rattle.std.specs.FinMap as map
 use Rattle.dots.specs.Totals.{key_cmp, greater}
 use Rattle.dots.proofs.TotalsLaws.{joined_zero}
-use Rattle.site_totals.specs.Rows.{IsKept, pair_in, entries_of}
+use Rattle.site_totals.specs.TotalLists.{IsKept, pair_in, entries_of}
 use Rattle.site_totals.proofs.EntryLemmas.{joined_by_put, kept_by_put, missing_one, length-put}
 use Rattle.site_totals.proofs.rows.join_one.Goals as goal
 use Rattle.site_totals.proofs.rows.join_one.Goals.{In_ok-put, In_err-put}

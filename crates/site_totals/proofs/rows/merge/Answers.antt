@@ -3,7 +3,7 @@ use Rattle.std.specs.Vec.{vec_capacity, vec_len}
 use Rattle.std.proofs.lemmas.Grind.{common_steps}
 use Rattle.dots.specs.Totals.{single, joined, count_missing}
 use Rattle.dots.proofs.TotalsLaws.{single_limits, count_missing-joined}
-use Rattle.site_totals.specs.Rows.{entries_of}
+use Rattle.site_totals.specs.TotalLists.{entries_of}
 use Rattle.site_totals.proofs.EntryLemmas.{row_limits, rest_joined, rest_missing, joined_none}
 use Rattle.site_totals.proofs.rows.merge.Goals as goal
 use Rattle.site_totals.proofs.rows.merge.Goals.{After-join_one}

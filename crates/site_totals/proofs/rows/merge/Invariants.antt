@@ -1,7 +1,7 @@
 use Rattle.std.proofs.Common.{◌≡◌, ◌-◌, ◌≤◌, drop}
 use Rattle.std.specs.Vec.{vec_capacity, vec_len}
 use Rattle.dots.specs.Totals.{joined, count_missing}
-use Rattle.site_totals.specs.Rows.{IsKept, entries_of}
+use Rattle.site_totals.specs.TotalLists.{IsKept, entries_of}
 use Rattle.site_totals.proofs.rows.merge.Given as goal
 
 -- what was joined in so far, and what is left, make the join, and there is room for what is left

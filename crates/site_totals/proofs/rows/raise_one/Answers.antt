@@ -5,7 +5,7 @@ use Rattle.std.proofs.lemmas.Bool.{cases_lt}
 use Rattle.dots.specs.Totals.{key_cmp, pair_at}
 use Rattle.dots.proofs.TotalsLaws.{pair_at_limit}
 use Rattle.site_totals.specs.Kind.{number_of, one_more}
-use Rattle.site_totals.specs.Rows.{IsKept, pair_in, entries_of}
+use Rattle.site_totals.specs.TotalLists.{IsKept, pair_in, entries_of}
 use Rattle.site_totals.proofs.EntryLemmas.{pair_is, get_is, kept_by_raise, raised_by_put, number_limit, number_of-one_more}
 use Rattle.site_totals.proofs.rows.raise_one.Goals as goal
 use Rattle.site_totals.proofs.rows.raise_one.Goals.{After-number_of, After-number_of-in-Ok}

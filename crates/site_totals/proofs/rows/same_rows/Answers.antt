@@ -1,7 +1,7 @@
 use Rattle.std.proofs.Common.{◌≡◌, Bool, true, eqb, ◌&&◌, subst, arith}
 use Rattle.std.proofs.lemmas.Bool.Decides.{nat_tests}
 use Rattle.std.proofs.lemmas.Slice.Eq.{slice_eq-Decides}
-use Rattle.site_totals.specs.Rows.{Row}
+use Rattle.site_totals.specs.TotalLists.{Row}
 use Rattle.site_totals.proofs.rows.same_rows.Goals as goal
 
 -- whether four numbers are the same

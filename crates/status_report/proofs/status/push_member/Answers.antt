@@ -1,7 +1,7 @@
 use Rattle.std.proofs.Common.{◌≡◌, ◌∙◌, Bool, true, false, codes, decimal, ap, refl, if◌then◌else◌}
 use Rattle.std.specs.Int.{from_bool}
-use Rattle.replica.specs.Rows.{row_of}
-use Rattle.status_report.specs.Lines.{field}
+use Rattle.dots.specs.Views.{row_view}
+use Rattle.status_report.specs.WrittenLines.{field}
 use Rattle.status_report.specs.Status.{event_lines, end, member_block, shown}
 use Rattle.status_report.proofs.TextLemmas.{wrote, wrote_value, and_then, all_written}
 use Rattle.status_report.proofs.status.push_member.Goals as goal
@@ -11,7 +11,7 @@ digit_of true = refl
 digit_of false = refl
 
 pub returns : goal.returns
-returns c = all_written c.push_end.result c.args.out.now.items (member_block c.args.request.now.action_id c.args.name.now (c.args.interface.now, row_of c.args.row.now)) c.push_field-6.new.out.items end c.push_end.new.out.items (λ last.
+returns c = all_written c.push_end.result c.args.out.now.items (member_block c.args.request.now.action_id c.args.name.now (c.args.interface.now, row_view c.args.row.now)) c.push_field-6.new.out.items end c.push_end.new.out.items (λ last.
     (and_then (wrote c.args.out.now.items (event_lines c.args.request.now.action_id (codes "QueueMember")) c.push_event.new.out.items c.in_ok-push_event.ensures)
     (and_then (wrote_value c.push_event.new.out.items (codes "Queue") c.as_bytes.result.now c.push_field.new.out.items c.args.name.now c.as_bytes.ensures.value c.in_ok-push_field.ensures)
     (and_then (wrote_value c.push_field.new.out.items (codes "Name") c.shown.result.now c.push_field-2.new.out.items (shown c.args.row.now.name.now c.args.interface.now) c.shown.ensures c.in_ok-push_field-2.ensures)

@@ -1,6 +1,6 @@
 use Rattle.std.proofs.Common.{◌≡◌, ◌≤◌, ◌++◌, length, map}
 use Rattle.ami_text.specs.Field.{pair_of}
-use Rattle.ami_text.specs.Fields.{fields_of}
+use Rattle.ami_text.specs.MessageFields.{fields_of}
 use Rattle.ami_text.proofs.WholeLines.{whole_lines}
 use Rattle.ami_text.proofs.message.Message.parse.Given as goal
 

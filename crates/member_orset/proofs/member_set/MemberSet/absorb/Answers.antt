@@ -75,8 +75,8 @@ invariant_of-self c =
       is_index = subst (λ xs. IsIndex c.absorb_index.new.index.items (live_of xs)) c.deref-3.ensures.value c.absorb_index.ensures.index;
     }
 
-pub returns : goal.returns
-returns c =
+pub returns-clause-joined : goal.returns-clause-joined
+returns-clause-joined c =
     let cs = c.self.inside.cells.items in
     let ds = c.other.inside.cells.items in
     let known = c.self.inside.context.dots in
@@ -90,3 +90,6 @@ returns c =
           ∙ joined_conditions cs ds known more new is c.self.invariant.are_cells.sorted c.other.invariant.are_cells.sorted q
           ∙ (λ i. both_joined (c.self.view_is i) (c.other.view_is i) q);
     }
+
+pub returns-clause-retired : goal.returns-clause-retired
+returns-clause-retired c = ap (λ s. s.retired) c.self.view_is

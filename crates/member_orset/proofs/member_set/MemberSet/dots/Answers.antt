@@ -1,6 +1,6 @@
 use Rattle.std.proofs.Common.{ap, ◌∙◌}
 use Rattle.dots.specs.Rows.{dots_of}
-use Rattle.member_orset.specs.Members.{reading_of}
+use Rattle.member_orset.specs.Members.{dot_view_of}
 use Rattle.member_orset.specs.Shown.{dots_listed, group}
 use Rattle.member_orset.proofs.MemberDots.{dots_are}
 use Rattle.member_orset.proofs.member_set.MemberSet.dots.Goals as goal
@@ -9,4 +9,4 @@ pub returns : goal.returns
 returns c =
     let m = c.args.member.now in
     c.of.ensures ∙ ap (λ ls. dots_listed (group m ls)) c.deref.ensures.value ∙ dots_are c.self.inside.cells.items c.self.inside.index.items m c.self.invariant.are_cells.sorted c.self.invariant.is_index
-    ∙ ap (λ s. dots_of (reading_of s) m) c.self.view_is
+    ∙ ap (λ s. dots_of (dot_view_of s) m) c.self.view_is

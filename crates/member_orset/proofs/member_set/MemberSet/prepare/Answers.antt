@@ -1,6 +1,7 @@
 use Rattle.std.proofs.Common.{◌≡◌, ◌<◌, min, length, vec_len, rules, arith, ap, sym, subst, ◌∙◌}
 use Rattle.std.specs.FinSet as set
 use Rattle.std.specs.Vec.{vec_capacity}
+use Rattle.std.proofs.lemmas.Grind.{common_steps}
 use Rattle.dots.specs.DotSets.{run_count}
 use Rattle.causal_context.specs.Contexts.{most_runs}
 use Rattle.member_orset.specs.Members.{runs_joined}
@@ -27,33 +28,31 @@ returns-clause-ready c = on_ok_both c.make_room.result _ _ _ (λ cells runs.
     (omega (arith, united, runs.few)) (omega (arith, runs_there, runs.room)) (omega (arith, ours, theirs, same, len, len2, cells, c.len.ensures)))
     c.make_room.ensures.room c.make_room.ensures.runs
 
-pub returns-clause-cells_full : goal.returns-clause-cells_full
-returns-clause-cells_full c =
-    let ours = len_cells c.args.self.now c.self.inside.cells.items c.self.inside.context.dots c.self.invariant.are_cells (ap (λ s. s.live) c.self.view_is) in
-    let theirs = len_cells c.args.other.now c.other.inside.cells.items c.other.inside.context.dots c.other.invariant.are_cells (ap (λ s. s.live) c.other.view_is) in
-    let few_ours = c.self.invariant.are_cells.few in
-    let few_theirs = c.other.invariant.are_cells.few in (
-      λ h. absurd (c.make_room.ensures.has_place h),
-      λ h. absurd (lacks_none c.args.self.now c.args.other.now (sym (ap (λ s. s.retired) c.self.view_is)) (omega (arith, c.joined_cells.ensures, c.if-joined_cells-gt-MOST_CELLS.false))
-          (omega (arith, ours, few_ours)) (omega (arith, theirs, few_theirs)) h.1),
-    )
-
-pub returns-clause-runs_full : goal.returns-clause-runs_full
-returns-clause-runs_full c =
+pub returns-clause-refusals : goal.returns-clause-refusals
+returns-clause-refusals c =
     let ours = len_cells c.args.self.now c.self.inside.cells.items c.self.inside.context.dots c.self.invariant.are_cells (ap (λ s. s.live) c.self.view_is) in
     let theirs = len_cells c.args.other.now c.other.inside.cells.items c.other.inside.context.dots c.other.invariant.are_cells (ap (λ s. s.live) c.other.view_is) in
     let few_ours = c.self.invariant.are_cells.few in
     let few_theirs = c.other.invariant.are_cells.few in
     let same : run_count (set.union c.self.inside.context.dots c.other.inside.context.dots) ≡ runs_joined c.args.self.now c.args.other.now =
-    λ i. run_count (set.union (ap (λ s. s.known) c.self.view_is i) (ap (λ s. s.known) c.other.view_is i)) in (
-      λ h. (
-        c.agrees.ensures.agree.0 c.if-not-agrees.false,
-        has_places c.args.self.now c.args.other.now (sym (ap (λ s. s.retired) c.self.view_is)) (omega (arith, c.joined_cells.ensures, c.if-joined_cells-gt-MOST_CELLS.false))
-            (omega (arith, ours, few_ours)) (omega (arith, theirs, few_theirs)),
-        subst (λ n. most_runs < n) same (c.make_room.ensures.full.0 h),
-      ),
-      λ h. c.make_room.ensures.full.1 (subst (λ n. most_runs < n) (sym same) h.2),
-    )
+    λ i. run_count (set.union (ap (λ s. s.known) c.self.view_is i) (ap (λ s. s.known) c.other.view_is i)) in
+    record {
+      conflict = grind (arith, common_steps);
+      cells_full = (
+        λ h. absurd (c.make_room.ensures.has_place h),
+        λ h. absurd (lacks_none c.args.self.now c.args.other.now (sym (ap (λ s. s.retired) c.self.view_is)) (omega (arith, c.joined_cells.ensures, c.if-joined_cells-gt-MOST_CELLS.false))
+            (omega (arith, ours, few_ours)) (omega (arith, theirs, few_theirs)) h.1),
+      );
+      runs_full = (
+        λ h. (
+          c.agrees.ensures.agree.0 c.if-not-agrees.false,
+          has_places c.args.self.now c.args.other.now (sym (ap (λ s. s.retired) c.self.view_is)) (omega (arith, c.joined_cells.ensures, c.if-joined_cells-gt-MOST_CELLS.false))
+              (omega (arith, ours, few_ours)) (omega (arith, theirs, few_theirs)),
+          subst (λ n. most_runs < n) same (c.make_room.ensures.full.0 h),
+        ),
+        λ h. c.make_room.ensures.full.1 (subst (λ n. most_runs < n) (sym same) h.2),
+      );
+    }
 
 pub returns-clause-again : goal.returns-clause-again
 returns-clause-again c h =

@@ -3,7 +3,7 @@ use Rattle.std.proofs.lemmas.Result.{IfOk-weaker}
 use Rattle.dots.specs.DotSets.{run_count}
 use Rattle.causal_context.specs.Contexts.{most_runs}
 use Rattle.member_orset.specs.Cells.{live_of}
-use Rattle.member_orset.specs.Seen.{dots_seen_below, seen_dots}
+use Rattle.member_orset.specs.Reads.{dots_seen_below, seen_dots}
 use Rattle.member_orset.proofs.member_set.MemberSet.seen_below.Goals as goal
 
 pub returns-clause-ok : goal.returns-clause-ok

@@ -1,7 +1,8 @@
 use Rattle.std.proofs.Common.{◌≡◌, [], length, sym, ap, subst, ◌∙◌, arith}
 use Rattle.std.specs.Iterator.{YieldsFirstBy}
 use Rattle.std.specs.Option.{option_map}
-use Rattle.member_orset.specs.Shown.{listed_row, row_read}
+use Rattle.dots.specs.Views.{row_view}
+use Rattle.member_orset.specs.Shown.{listed_row}
 use Rattle.member_orset.proofs.Shows.{next_row, no_more_rows, has_row}
 use Rattle.member_orset.proofs.rows.RowsIterator.next.Goals as goal
 
@@ -20,11 +21,11 @@ pub returns-clause-steps : goal.returns-clause-steps
 returns-clause-steps c =
     let r = c.self.inside in
     sym c.self.view_is
-    ∙ next_row r.cells.now r.index.now r.queue c.self.invariant.0 c.self.invariant.1 (option_map (λ i. i.now) r.last) c.in_ok-entry.entry.now (row_read c.in_ok-row.row) c.in_ok-entry.ensures (sym c.in_ok-row.ensures)
+    ∙ next_row r.cells.now r.index.now r.queue c.self.invariant.0 c.self.invariant.1 (option_map (λ i. i.now) r.last) c.in_ok-entry.entry.now (row_view c.in_ok-row.row) c.in_ok-entry.ensures (sym c.in_ok-row.ensures)
 
 pub returns-clause-goes : goal.returns-clause-goes
 returns-clause-goes c =
     let r = c.self.inside in
     let steps = sym c.self.view_is
-    ∙ next_row r.cells.now r.index.now r.queue c.self.invariant.0 c.self.invariant.1 (option_map (λ i. i.now) r.last) c.in_ok-entry.entry.now (row_read c.in_ok-row.row) c.in_ok-entry.ensures (sym c.in_ok-row.ensures) in
+    ∙ next_row r.cells.now r.index.now r.queue c.self.invariant.0 c.self.invariant.1 (option_map (λ i. i.now) r.last) c.in_ok-entry.entry.now (row_view c.in_ok-row.row) c.in_ok-entry.ensures (sym c.in_ok-row.ensures) in
     record { on = λ f. (tt, tt, omega (arith, ap length steps)); keeps = tt; rests = λ f. tt }

@@ -1,5 +1,5 @@
 use Rattle.std.proofs.Common.{sym, ◌∙◌, ap, get_or, None, ◌-◌}
-use Rattle.op_arena.specs.Rows.{values}
+use Rattle.op_arena.specs.CellRows.{values}
 use Rattle.op_arena.proofs.Filled.{get_or-laid, one_there}
 use Rattle.op_arena.proofs.chunk.Chunk.get.Goals as goal
 

@@ -1,5 +1,5 @@
 use Rattle.std.proofs.Common.{◌-◌, ◌<◌, ◌∙◌, ap, sym, arith, length, get_or, slice_get, None}
-use Rattle.op_arena.specs.Rows.{values}
+use Rattle.op_arena.specs.CellRows.{values}
 use Rattle.op_arena.specs.Columns.{column}
 use Rattle.op_arena.proofs.Filled.{pushed, get_or-laid, length-laid, none_past}
 use Rattle.op_arena.proofs.chunk.Chunk.push.Goals as goal

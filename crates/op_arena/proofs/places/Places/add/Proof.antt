@@ -43,7 +43,7 @@ use Rattle.core.proofs.atomic.Steps.{fm}
 use Rattle.core.proofs.mem.Param.{El, elτ}
 use Rattle.core.proofs.slots.Leases.{uncapped, block_ty, block_size, block_align}
 use Rattle.std_alloc.proofs.ResultValues.{ok_of, err_of}
-use Rattle.op_arena.specs.Rows.{owns_row}
+use Rattle.op_arena.specs.CellRows.{owns_row}
 use Rattle.op_arena.specs.contracts.places.Places as places
 use Rattle.op_arena.specs.contracts.places.Lease as lease
 use Rattle.op_arena.specs.contracts.places.Places.add.{ended, clauses}

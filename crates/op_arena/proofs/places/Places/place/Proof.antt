@@ -31,7 +31,7 @@ use Rattle.std.specs.Prelude.{Option}
 use Rattle.core.proofs.atomic.Steps.{tail}
 use Rattle.core.proofs.mem.Param.{El, Good, one, lawful}
 use Rattle.core.proofs.ptr.Rows as rows
-use Rattle.op_arena.specs.Rows.{owns_place, owns_row, owns_places}
+use Rattle.op_arena.specs.CellRows.{owns_place, owns_row, owns_places}
 use Rattle.op_arena.specs.contracts.places.Places as places
 use Rattle.op_arena.specs.contracts.places.Places.place.{ended, clauses}
 use Rattle.op_arena.specs.contracts.places.Places.place.Key.{name as #self}

@@ -32,7 +32,7 @@ use Rattle.std.specs.Prelude.{Option}
 use Rattle.core.proofs.atomic.Steps.{tail}
 use Rattle.core.proofs.mem.Param.{El}
 use Rattle.core.proofs.ptr.Rows.{times_below, one_below}
-use Rattle.op_arena.specs.Rows.{Holds, lends_place, lends_places}
+use Rattle.op_arena.specs.CellRows.{Holds, lends_place, lends_places}
 use Rattle.op_arena.specs.contracts.places.Places as places
 use Rattle.op_arena.specs.contracts.places.Places.read.{ended, clauses}
 use Rattle.op_arena.specs.contracts.places.Places.read.Key.{name as #self}

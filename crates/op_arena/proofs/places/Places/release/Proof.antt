@@ -35,7 +35,7 @@ use Rattle.core.proofs.alloc.Shapes.{after}
 use Rattle.core.proofs.atomic.Steps.{fm}
 use Rattle.core.proofs.mem.Param.{El, elτ}
 use Rattle.core.proofs.slots.Leases.{uncapped, block_ty, block_size, block_align}
-use Rattle.op_arena.specs.Rows.{owns_places, owns_lease}
+use Rattle.op_arena.specs.CellRows.{owns_places, owns_lease}
 use Rattle.op_arena.specs.contracts.places.Places as places
 use Rattle.op_arena.specs.contracts.places.Lease as lease
 use Rattle.op_arena.specs.contracts.places.Places.release.{ended, clauses}

@@ -33,7 +33,7 @@ use Rattle.std.specs.Prelude.{Option}
 use Rattle.core.proofs.atomic.Steps.{tail}
 use Rattle.core.proofs.mem.Param.{El, Good}
 use Rattle.core.proofs.ptr.Rows as rows
-use Rattle.op_arena.specs.Rows.{Holds, owns_place, owns_row, owns_places}
+use Rattle.op_arena.specs.CellRows.{Holds, owns_place, owns_row, owns_places}
 use Rattle.op_arena.specs.contracts.places.Places as places
 use Rattle.op_arena.specs.contracts.places.Places.take.{ended, clauses}
 use Rattle.op_arena.specs.contracts.places.Places.take.Key.{name as #self}

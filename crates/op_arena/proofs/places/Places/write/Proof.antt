@@ -35,7 +35,7 @@ use Rattle.std.specs.Prelude.{Option}
 use Rattle.core.proofs.atomic.Steps.{tail}
 use Rattle.core.proofs.mem.Param.{El}
 use Rattle.core.proofs.ptr.Rows.{times_below, one_below}
-use Rattle.op_arena.specs.Rows.{Holds, owns_place, owns_row, owns_places}
+use Rattle.op_arena.specs.CellRows.{Holds, owns_place, owns_row, owns_places}
 use Rattle.op_arena.specs.RowLends.{with_value}
 use Rattle.op_arena.specs.contracts.places.Places as places
 use Rattle.op_arena.specs.contracts.places.Places.write.{ended, clauses}

@@ -2,7 +2,7 @@ use Rattle.std.proofs.Common.{◌≡◌, List, [], ◌∷◌, length, refl, sym,
 use Rattle.std.proofs.lemmas.Bool.Decides.{nat_tests}
 use Rattle.std.specs.FinMap as map
 use Rattle.dots.proofs.TotalsLaws.{entries_empty}
-use Rattle.site_totals.specs.Rows.{Row, entries_of}
+use Rattle.site_totals.specs.TotalLists.{Row, entries_of}
 use Rattle.site_totals.specs.Tally.{Tally}
 use Rattle.site_totals.proofs.EntryLemmas.{entries_are, entries_none}
 use Rattle.site_totals.proofs.totals.Totals.is_empty.Goals as goal

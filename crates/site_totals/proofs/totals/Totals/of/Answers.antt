@@ -1,7 +1,7 @@
 use Rattle.std.proofs.Common.{◌≡◌, ℕ, ◌≤◌, sym, ap, ◌∙◌, subst}
 use Rattle.dots.specs.Totals.{pair_at, total_of}
 use Rattle.dots.proofs.TotalsLaws.{pair_at_limit}
-use Rattle.site_totals.specs.Rows.{pair_in, entries_of}
+use Rattle.site_totals.specs.TotalLists.{pair_in, entries_of}
 use Rattle.site_totals.specs.Tally.{Tally}
 use Rattle.site_totals.proofs.EntryLemmas.{pair_is}
 use Rattle.site_totals.proofs.totals.Totals.of.Goals as goal

@@ -1,6 +1,6 @@
 use Rattle.std.proofs.Common.{sym, ap, ◌∙◌}
 use Rattle.std.specs.FinMap as map
-use Rattle.site_totals.specs.Rows.{entries_of}
+use Rattle.site_totals.specs.TotalLists.{entries_of}
 use Rattle.site_totals.specs.Tally.{Tally}
 use Rattle.site_totals.proofs.EntryLemmas.{entries_are}
 use Rattle.site_totals.proofs.totals.Totals.same.Goals as goal

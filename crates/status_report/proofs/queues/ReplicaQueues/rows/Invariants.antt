@@ -1,8 +1,8 @@
 use Rattle.std.proofs.Common.{◌≡◌, ◌++◌, map as each}
-use Rattle.replica.specs.Rows.{listed_row_of}
+use Rattle.dots.specs.Views.{listed_row_view}
 use Rattle.replica.specs.Site.{rows_of}
 use Rattle.status_report.proofs.queues.ReplicaQueues.rows.Given as goal
 
 -- what is listed, and what is left, are all rows
 abbrev pub invariant-loop-row : goal.invariant-loop-row
-invariant-loop-row l = each listed_row_of l.listed.items ++ l.row-iterator ≡ rows_of l.self.members l.number
+invariant-loop-row l = each listed_row_view l.listed.items ++ l.row-iterator ≡ rows_of l.self.members l.number

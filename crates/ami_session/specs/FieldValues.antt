@@ -1,0 +1,56 @@
+-- How the values of fields are read.
+use Rattle.std.specs.Prelude.{ℕ, ◌+◌, ◌*◌, ◌-◌, ◌==◌, ◌||◌, Bool, not, nat_lt, List, [], ◌∷◌, length, codes, Option, Some, None, unwrap_or, if◌then◌else◌}
+use Rattle.std.specs.List.{list_all, list_any}
+use Rattle.std.specs.Char.{is_ascii_digit}
+use Rattle.dots.specs.Values.{is_bad_byte}
+use Rattle.ami_text.specs.MessageFields.{same_name, value_of}
+
+-- a message: its fields, each a name and a value
+abbrev pub Fields : Type 0
+Fields = List (List ℕ × List ℕ)
+
+-- a word, compared without ASCII case as names are
+abbrev pub is_word : List ℕ → List ℕ → Bool
+is_word text word = same_name text word
+
+-- CR and NUL may not stand in an ActionID
+abbrev pub is_bad_in_id : ℕ → Bool
+is_bad_in_id b = b == 13 || b == 0
+
+-- an ActionID as it is repeated: none where a byte may not stand in it
+abbrev pub clean_id : List ℕ → List ℕ
+clean_id value = if list_any is_bad_in_id value then [] else value
+
+-- the ActionID of a message; no bytes where it has none
+abbrev pub id_of : Fields → List ℕ
+id_of m = clean_id (unwrap_or (value_of (codes "ActionID") m) [])
+
+-- the words that say yes
+abbrev pub is_yes : List ℕ → Bool
+is_yes value =
+    is_word value (codes "yes") || is_word value (codes "true") || is_word value (codes "y") || is_word value (codes "t") || is_word value (codes "1")
+    || is_word value (codes "on")
+
+-- a text of at most 80 bytes, without CR, LF and NUL
+abbrev pub text_of : List ℕ → Option (List ℕ)
+text_of bytes = if nat_lt 80 (length bytes) then None else if list_any is_bad_byte bytes then None else Some bytes
+
+-- a text that has a byte
+abbrev pub name_of : List ℕ → Option (List ℕ)
+name_of [] = None
+name_of (b ∷ bs) = text_of (b ∷ bs)
+
+-- the number that decimal digits stand for
+abbrev pub read_on : ℕ → List ℕ → ℕ
+read_on n [] = n
+read_on n (d ∷ ds) = read_on (n * 10 + (d - 48)) ds
+
+abbrev pub number_of : List ℕ → ℕ
+number_of digits = read_on 0 digits
+
+-- a penalty of 1 to 10 decimal digits, at most 2147483647
+abbrev pub penalty_of : List ℕ → Option ℕ
+penalty_of [] = None
+penalty_of (d ∷ ds) =
+    if nat_lt 10 (length (d ∷ ds)) then None else if not (list_all is_ascii_digit (d ∷ ds)) then None
+    else if nat_lt 2147483647 (number_of (d ∷ ds)) then None else Some (number_of (d ∷ ds))

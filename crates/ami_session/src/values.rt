@@ -1,0 +1,107 @@
+//! How the values of fields are read.
+ghost use Rattle.std.specs.Prelude.{◌≡◌, ◌<◌, ◌^◌, length, true, unwrap_or};
+ghost use Rattle.std.specs.Option.{SomeIff};
+ghost use Rattle.std.specs.List.{list_all, list_any};
+ghost use Rattle.std.specs.Char.{is_ascii_digit};
+ghost use Rattle.ami_session.specs.FieldValues.{is_word, is_yes, is_bad_in_id, clean_id, id_of, text_of, name_of, penalty_of, number_of};
+
+use ami_text::Message;
+use dots::{Interface, Penalty, QueueName, Text80};
+
+/// Whether a text is this word, without ASCII case.
+pub fn is_word(text: &[u8], word: &[u8]) -> bool
+    ensures { result ≡ is_word text.now word.now }
+{
+    text.eq_ignore_ascii_case(word)
+}
+
+/// Whether a value says yes: `yes`, `true`, `y`, `t`, `1` or `on`, without ASCII case.
+pub fn is_yes(value: &[u8]) -> bool
+    ensures { result ≡ is_yes value.now }
+{
+    is_word(value, b"yes")
+        || is_word(value, b"true")
+        || is_word(value, b"y")
+        || is_word(value, b"t")
+        || is_word(value, b"1")
+        || is_word(value, b"on")
+}
+
+/// The ActionID of a message; no bytes where it has none. One that holds a CR or NUL counts as absent.
+pub fn id_of(message: &Message) -> &[u8]
+    ensures { result.now ≡ id_of message.now }
+{
+    clean_id(message.get(b"ActionID").unwrap_or(b""))
+}
+
+fn clean_id(value: &[u8]) -> &[u8]
+    ensures { result.now ≡ clean_id value.now }
+{
+    if has_bad_in_id(value) { b"" } else { value }
+}
+
+fn has_bad_in_id(value: &[u8]) -> bool
+    ensures { result ≡ list_any is_bad_in_id value.now }
+{
+    value.iter().any(|b| *b == b'\r' || *b == 0)
+}
+
+/// The text of a value, where it is one.
+pub fn text_of(value: &[u8]) -> Option<Text80>
+    ensures { result ≡ text_of value.now }
+{
+    Text80::new(value).ok()
+}
+
+/// The interface of a value, where it is one.
+pub fn interface_of(value: &[u8]) -> Option<Interface>
+    ensures { result ≡ name_of value.now }
+{
+    Interface::new(value).ok()
+}
+
+/// The queue name of a value, where it is one.
+pub fn queue_of(value: &[u8]) -> Option<QueueName>
+    ensures { result ≡ name_of value.now }
+{
+    QueueName::new(value).ok()
+}
+
+/// The penalty of 1 to 10 decimal digits, at most 2147483647.
+pub fn penalty_of(digits: &[u8]) -> Option<Penalty>
+    ensures { result ≡ penalty_of digits.now }
+{
+    if digits.is_empty() || digits.len() > 10 || !are_digits(digits) {
+        return None;
+    }
+    Penalty::new(number_of(digits)?)
+}
+
+fn are_digits(digits: &[u8]) -> bool
+    ensures { result ≡ list_all is_ascii_digit digits.now }
+{
+    digits.iter().all(|b| b.is_ascii_digit())
+}
+
+// The number that digits stand for, where it is below 2^32.
+fn number_of(digits: &[u8]) -> Option<u32>
+    requires digits { list_all is_ascii_digit digits.now ≡ true }
+    requires some { 0 < length digits.now }
+    ensures { SomeIff result (number_of digits.now < 2 ^ 32) (number_of digits.now) }
+{
+    match str::from_utf8(digits) {
+        Ok(text) => parsed(text),
+        Err(_) => None,
+    }
+}
+
+fn parsed(text: &str) -> Option<u32>
+    requires digits { list_all is_ascii_digit text.now ≡ true }
+    requires some { 0 < length text.now }
+    ensures { SomeIff result (number_of text.now < 2 ^ 32) (number_of text.now) }
+{
+    match text.parse::<u32>() {
+        Ok(number) => Some(number),
+        Err(_) => None,
+    }
+}

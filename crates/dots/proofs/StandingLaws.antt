@@ -1,0 +1,27 @@
+-- What stands for a knowledge is one.
+use Rattle.std.proofs.Common.{◌≡◌, ℕ, true, false, true≢false, Option, Some, None, refl, sym, ap, ◌∙◌}
+use Rattle.std.specs.Option.{unwrap_or}
+use Rattle.std.specs.FinMap as map
+use Rattle.std.specs.FinSet as set
+use Rattle.dots.specs.Values.{Tag}
+use Rattle.dots.specs.Orders.{dot_cmp}
+use Rattle.dots.specs.Totals.{Key, Entries, is_zero}
+use Rattle.dots.specs.Knowledge.{Knowledge}
+use Rattle.dots.specs.Conditions.{Condition, Represents, IsOne}
+use Rattle.dots.proofs.TotalsLaws.{same_totals}
+
+-- entries that aren't two zeros and read alike are one
+read_one : (a b : Option (ℕ × ℕ)) → ((p : ℕ × ℕ) → a ≡ Some p → is_zero p ≡ false) → ((p : ℕ × ℕ) → b ≡ Some p → is_zero p ≡ false) → unwrap_or a (0, 0) ≡ unwrap_or b (0, 0) → a ≡ b
+read_one None None f g e = refl
+read_one None (Some q) f g e = absurd (true≢false (ap is_zero e ∙ g q refl))
+read_one (Some p) None f g e = absurd (true≢false (ap is_zero (sym e) ∙ f p refl))
+read_one (Some p) (Some q) f g e = ap Some e
+
+pub represents_one : (c d : Tag → Option Condition) (known heard : set.FinSet dot_cmp) (counts totals : Entries) (k : Knowledge)
+    → Represents c known counts k → Represents d heard totals k → IsOne c d known heard counts totals
+represents_one c d known heard counts totals k r s = record {
+  conditions = λ dot. r.conditions dot ∙ sym (s.conditions dot);
+  dots = r.dots ∙ sym s.dots;
+  totals_are = same_totals counts totals (λ q.
+      read_one (map.get counts q) (map.get totals q) (r.no_zeros q) (s.no_zeros q) (r.totals q.site q.queue ∙ sym (s.totals q.site q.queue)));
+}

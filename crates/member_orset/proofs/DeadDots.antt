@@ -1,0 +1,92 @@
+-- The dead dots of a site, gathered in the order of their counts.
+use Rattle.std.proofs.Common.{◌≡◌, ℕ, ◌+◌, ◌≤◌, ◌<◌, ◌^◌, Bool, true, false, not, ◌&&◌, ◌||◌, nat_eq, sym, ap, ◌∙◌, arith}
+use Rattle.std.specs.Prelude.{nat_lt, nat_le, List}
+use Rattle.std.specs.List.{All}
+use Rattle.std.specs.FinMap as maps
+use Rattle.std.specs.FinSet as sets
+use Rattle.std.proofs.lemmas.Bool.{and_parts}
+use Rattle.std.proofs.lemmas.Bool.Decides.{nat_tests}
+use Rattle.std.proofs.lemmas.List.Elements.{All-weaker}
+use Rattle.std.proofs.lemmas.List.Folds.{list_any_none}
+use Rattle.dots.specs.Values.{Tag}
+use Rattle.dots.specs.Orders.{dot_cmp}
+use Rattle.dots.specs.DotSets.{IsRunsOf, Stretch, in_stretch, in_stretches}
+use Rattle.dots.proofs.DotOrder.{dots_total, dots_exact}
+use Rattle.causal_context.specs.Contexts.{IsRun}
+use Rattle.member_orset.specs.declared.piece.Piece.{Piece}
+use Rattle.member_orset.specs.Members.{Holding}
+use Rattle.member_orset.specs.LiveDots.{dead_dots}
+use Rattle.member_orset.specs.Seen.{IsPiece, part_before}
+use Rattle.member_orset.proofs.SeenDots.{and_false, and_true, contains-part, under}
+
+abbrev at : ℕ → ℕ → Tag
+at site count = record { site = site; count = count }
+
+own_site : (s : ℕ) → nat_eq s s ≡ true
+own_site s = grind (arith, nat_tests)
+
+not_earlier : (t c s : ℕ) → nat_eq t s ≡ true → (nat_lt t s || (nat_eq t s && nat_lt c 0)) ≡ false
+not_earlier t c s h = grind (arith, nat_tests)
+
+before_next : (t c s : ℕ) → nat_eq t s ≡ true → (nat_lt t (s + 1) || (nat_eq t (s + 1) && nat_lt c 0)) ≡ true
+before_next t c s h = grind (arith, nat_tests)
+
+past_end : (s t f l n : ℕ) → l < n → (nat_eq s t && (nat_le f n && nat_le n l)) ≡ false
+past_end s t f l n h = grind (arith, nat_tests)
+
+-- no known dot has a count past the greatest
+known_past : (runs : List Stretch) (known : sets.FinSet dot_cmp) (site n : ℕ) → IsRunsOf runs known → All IsRun runs → 2 ^ 40 < n → sets.contains known (at site n) ≡ false
+known_past runs known site n is limits h =
+    is.same (at site n) ∙ list_any_none (in_stretch (at site n)) runs (All-weaker IsRun (λ r. in_stretch (at site n) r ≡ false) (λ r l. past_end r.site site r.first r.last n (let most = l.most in omega arith)) runs limits)
+
+module _ (known : sets.FinSet dot_cmp) (live : maps.FinMap dot_cmp Holding) (site : ℕ) where
+  abbrev dead : sets.FinSet dot_cmp
+  dead = dead_dots known live site
+
+  abbrev is_dead : Tag → Bool
+  is_dead q = nat_eq q.site site && not (maps.contains_key live q)
+
+  contains-dead : (q : Tag) → sets.contains dead q ≡ (sets.contains known q && is_dead q)
+  unfolding dead_dots
+  contains-dead q = sets.contains-retain known is_dead q (λ x h. ap is_dead (sym (dots_exact q x h)))
+
+  dead_at : (n : ℕ) → sets.contains dead (at site n) ≡ (sets.contains known (at site n) && not (maps.contains_key live (at site n)))
+  dead_at n = contains-dead (at site n) ∙ ap (λ b. sets.contains known (at site n) && (b && not (maps.contains_key live (at site n)))) (own_site site)
+
+  dead_site : (q : Tag) → sets.contains dead q ≡ true → nat_eq q.site site ≡ true
+  dead_site q h = (and_parts (nat_eq q.site site) (not (maps.contains_key live q)) (and_parts (sets.contains known q) (is_dead q) (sym (contains-dead q) ∙ h)).1).0
+
+  pub dead_unknown : (n : ℕ) → sets.contains known (at site n) ≡ false → sets.contains dead (at site n) ≡ false
+  dead_unknown n h = dead_at n ∙ ap (λ b. b && not (maps.contains_key live (at site n))) h
+
+  pub dead_past : (runs : List Stretch) (n : ℕ) → IsRunsOf runs known → All IsRun runs → 2 ^ 40 < n → sets.contains dead (at site n) ≡ false
+  dead_past runs n is limits h = dead_unknown n (known_past runs known site n is limits h)
+
+  -- all of them are of the site
+  pub none_earlier : part_before dead site 0 ≡ sets.empty
+  none_earlier = sets.same_set dots_total dots_exact _ _ (λ q.
+      contains-part dead site 0 q ∙ under (sets.contains dead q) _ false (λ t. not_earlier q.site q.count site (dead_site q t)) ∙ and_false (sets.contains dead q)
+      ∙ sym (sets.contains-empty dot_cmp q))
+
+  pub all_before_next : part_before dead (site + 1) 0 ≡ dead
+  all_before_next = sets.same_set dots_total dots_exact _ _ (λ q.
+      contains-part dead (site + 1) 0 q ∙ under (sets.contains dead q) _ true (λ t. before_next q.site q.count site (dead_site q t)) ∙ and_true (sets.contains dead q))
+
+  -- a piece where none is known, or where all are
+  module _ (runs : List Stretch) (are : IsRunsOf runs known) (first last : ℕ) (k : Piece) (known_is : IsPiece (λ n. in_stretches runs (at site n)) first last k) where
+    pub unknown_piece : k.inside ≡ false → IsPiece (λ n. sets.contains dead (at site n)) first last k
+    unknown_piece y = record {
+      some = known_is.some;
+      within = known_is.within;
+      same = λ n lo hi. dead_unknown n (are.same (at site n) ∙ known_is.same n lo hi ∙ y) ∙ sym y;
+    }
+
+    pub known_piece : (l r : Piece) → k.inside ≡ true → IsPiece (λ n. maps.contains_key live (at site n)) first k.last l → r.inside ≡ not l.inside → r.last ≡ l.last → IsPiece (λ n. sets.contains dead (at site n)) first last r
+    known_piece l r y live_is inside end = record {
+      some = let a = live_is.some in omega arith;
+      within = let a = live_is.within in let b = known_is.within in omega arith;
+      same = λ n lo hi.
+          let in_live : n ≤ l.last = omega arith in
+          let in_known : n ≤ k.last = let a = live_is.within in omega arith in
+          dead_at n ∙ (λ i. (are.same (at site n) ∙ known_is.same n lo in_known ∙ y) i && not (live_is.same n lo in_live i)) ∙ sym inside;
+    }

@@ -1,8 +1,0 @@
-use Rattle.std.proofs.Common.{◌∙◌, Bor}
-use Rattle.dots.specs.declared.member.Member.{Member}
-use Rattle.reading.specs.Plain.{operation_of}
-use Rattle.reading.proofs.DotSteps.{asserts_is}
-use Rattle.reading.proofs.operation.Operation.asserts.Goals as goal
-
-pub returns : goal.returns
-returns c = c.is_some.ensures ∙ asserts_is (λ (m : Bor Member). m.now) c.args.dot (operation_of c.args.self.now) c.member_of.result c.member_of.ensures

@@ -1,0 +1,35 @@
+-- What is seen of entries and fields, without where they lie in memory.
+use Rattle.std.specs.Prelude.{List, Option, Some, None}
+use Rattle.std.specs.List.{filter_map}
+use Rattle.dots.specs.Values.{Tag}
+use Rattle.dots.specs.Conditions.{DotFields}
+use Rattle.dots.specs.Knowledge.{Knowledge, field_of, latest_of}
+use Rattle.dots.specs.Operations.{Operation, penalty_field, pause_field, label_field}
+use Rattle.dots.specs.Registers.{Entry}
+use Rattle.reference_model.specs.declared.entry.Entry.{Entry as Held}
+use Rattle.reference_model.specs.declared.fields.Fields.{Fields}
+
+-- an entry, of what is seen of its value
+abbrev pub entry_of : {A B : Type 0} → (A → B) → Option (Held A) → Option (Entry B)
+entry_of see None = None
+entry_of see (Some entry) = Some (record { stamp = entry.stamp; value = see entry.value })
+
+-- three fields
+abbrev pub fields_of : Fields → DotFields
+fields_of fields = record { penalty = entry_of (λ n. n) fields.penalty; pause = entry_of (λ p. p.now) fields.pause; label = entry_of (λ l. l.now) fields.label }
+
+-- nothing is set
+abbrev pub no_fields : DotFields
+no_fields = record { penalty = None; pause = None; label = None }
+
+-- what an operation sets of each field
+abbrev pub fields_set : Operation → DotFields
+fields_set o = record { penalty = penalty_field o; pause = pause_field o; label = label_field o }
+
+-- the fields of dots together: of each the entry of the greatest stamp, of equal stamps that of the first dot
+abbrev pub fields_over : Knowledge → List Tag → DotFields
+fields_over k dots = record {
+  penalty = latest_of (filter_map (field_of penalty_field k) dots);
+  pause = latest_of (filter_map (field_of pause_field k) dots);
+  label = latest_of (filter_map (field_of label_field k) dots);
+}

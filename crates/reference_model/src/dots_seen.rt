@@ -1,0 +1,119 @@
+// Which dots a list of operations makes visible, and of which member each is.
+ghost use Rattle.std.specs.Prelude.{◌≡◌, ◌||◌, not, filter, option_map, IfOk, OnOk};
+ghost use Rattle.std.specs.List.{list_any};
+ghost use Rattle.std.specs.List.Sorted.{IsStrictlySortedBy};
+ghost use Rattle.dots.specs.Values.{Tag};
+ghost use Rattle.dots.specs.Knowledge.{is_dot, asserts, is_asserted, is_named, member_of, visible_dots};
+ghost use Rattle.dots.specs.Orders.{dot_cmp};
+ghost use Rattle.dots.specs.Rows.{dot_view, dots_of, is_of};
+ghost use Rattle.dots.specs.SetItems.{in_order};
+ghost use Rattle.reference_model.specs.Plain.{knowledge_of, operation_of};
+
+use crate::Operation;
+use dots::{Dot, Member, Memory};
+use std::alloc::Global;
+use std::collections::BTreeSet;
+
+// Whether some operation names the dot.
+fn is_named(operations: &[Operation], dot: Dot) -> bool
+    ensures { result ≡ is_named (knowledge_of operations.now) dot }
+{
+    operations.iter().any(|operation| operation.names(dot))
+}
+
+// Adds the dots that an operation asserts.
+fn add_asserted(found: &mut BTreeSet<Dot>, operation: &Operation) -> Result<(), Memory>
+    ensures { OnOk result ((dot : Tag) → list_any (is_dot dot) found.new.keys
+        ≡ (list_any (is_dot dot) found.old.keys || asserts dot (operation_of operation.now))) }
+{
+    match operation {
+        Operation::Add { dot, .. } => {
+            found.insert(*dot)?;
+            Ok(())
+        }
+        Operation::Write { dots, .. } => add_dots(found, dots),
+        Operation::Remove { .. } | Operation::Count { .. } => Ok(()),
+    }
+}
+
+fn add_dots(found: &mut BTreeSet<Dot>, dots: &[(Dot, Member)]) -> Result<(), Memory>
+    ensures { OnOk result ((dot : Tag) → list_any (is_dot dot) found.new.keys
+        ≡ (list_any (is_dot dot) found.old.keys || list_any (λ p. is_dot dot p.0) dots.now)) }
+{
+    for (dot, _) in dots {
+        found.insert(*dot)?;
+    }
+    Ok(())
+}
+
+// The dots that some operation asserts.
+fn asserted_dots(alloc: Global, operations: &[Operation]) -> Result<BTreeSet<Dot>, Memory>
+    ensures { IfOk result (λ found. (dot : Tag) → list_any (is_dot dot) found.keys ≡ is_asserted (knowledge_of operations.now) dot) }
+{
+    let mut found = BTreeSet::new(alloc);
+    for operation in operations {
+        add_asserted(&mut found, operation)?;
+    }
+    Ok(found)
+}
+
+// Those of the dots that no operation names, in their order.
+fn unnamed(
+    alloc: Global,
+    operations: &[Operation],
+    found: &BTreeSet<Dot>,
+) -> Result<Vec<Dot>, Memory>
+    ensures value { IfOk result (λ dots. dots.items ≡ filter (λ dot. not (is_named (knowledge_of operations.now) dot)) found.now.keys) }
+    ensures ordered { IsStrictlySortedBy dot_cmp found.now.keys }
+{
+    found
+        .iter()
+        .copied()
+        .filter(|dot| !is_named(operations, *dot))
+        .collect(alloc)
+}
+
+// The dots that some operation asserts and none names, in their order.
+pub(crate) fn visible_dots(alloc: Global, operations: &[Operation]) -> Result<Vec<Dot>, Memory>
+    ensures { IfOk result (λ dots. dots.items ≡ in_order (visible_dots (knowledge_of operations.now))) }
+{
+    let found = asserted_dots(alloc, operations)?;
+    unnamed(alloc, operations, &found)
+}
+
+// The member of a dot that some operation asserts.
+pub(crate) fn member_of(operations: &[Operation], dot: Dot) -> Option<&Member>
+    ensures { option_map (λ m. m.now) result ≡ member_of (knowledge_of operations.now) dot }
+{
+    for operation in operations {
+        if let Some(member) = operation.member_of(dot) {
+            return Some(member);
+        }
+    }
+    None
+}
+
+// Whether a dot is one of the member's.
+fn is_of(operations: &[Operation], member: &Member, dot: Dot) -> bool
+    ensures { result ≡ is_of (dot_view (knowledge_of operations.now)) member.now dot }
+{
+    match member_of(operations, dot) {
+        Some(other) => member.cmp(other).is_eq(),
+        None => false,
+    }
+}
+
+// The visible dots of a member, in their order.
+pub(crate) fn dots_of(
+    alloc: Global,
+    operations: &[Operation],
+    member: &Member,
+) -> Result<Vec<Dot>, Memory>
+    ensures { IfOk result (λ dots. dots.items ≡ dots_of (dot_view (knowledge_of operations.now)) member.now) }
+{
+    let dots = visible_dots(alloc, operations)?;
+    dots.iter()
+        .copied()
+        .filter(|dot| is_of(operations, member, *dot))
+        .collect(alloc)
+}

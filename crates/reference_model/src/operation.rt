@@ -1,0 +1,186 @@
+ghost use Rattle.std.specs.Prelude.{◌≡◌, ◌≤◌, option_map};
+ghost use Rattle.std.specs.FinSet as set;
+ghost use Rattle.std.specs.List.{list_any, find};
+ghost use Rattle.dots.specs.Operations.{named, asserted};
+ghost use Rattle.dots.specs.Knowledge.{is_dot, asserts, names};
+ghost use Rattle.dots.specs.Counts.{counted};
+ghost use Rattle.reference_model.specs.Plain.{calls_of, operation_of};
+ghost use Rattle.reference_model.specs.Views.{fields_of, fields_set};
+
+use crate::calls::are_same;
+use crate::entry::Entry;
+use crate::fields::Fields;
+use crate::{Calls, Setting, Total};
+use dots::{Dot, Label, Member, Pause, Penalty, SiteId, Stamp};
+
+/// A change that a site made, which is made once (RR-7506). Lists of dots stand for sets: neither their order nor
+/// repetition counts, but where a Write gives one dot two members, the first counts.
+#[derive(Drop)]
+pub enum Operation {
+    /// A new dot of a member, with its three fields under one stamp (RR-8083: an add makes a unique tag).
+    Add {
+        /// The dot.
+        dot: Dot,
+        /// The member that it is of.
+        member: Member,
+        /// When it was made, and where.
+        stamp: Stamp,
+        /// The penalty that it sets.
+        penalty: Penalty,
+        /// Whether the member is paused.
+        pause: Pause,
+        /// The member name and the state interface.
+        label: Label,
+        /// Older dots of the same site, dead where the add was made.
+        older: Vec<Dot>,
+    },
+    /// One field set on the dots of a member that its site sees.
+    Write {
+        /// The dots, each with its member.
+        dots: Vec<(Dot, Member)>,
+        /// The field and its value.
+        setting: Setting,
+        /// When it was written, and where.
+        stamp: Stamp,
+        /// Older dots of the same sites, dead where the write was made.
+        older: Vec<Dot>,
+    },
+    /// Dots that are dead from now on (RR-8083: a remove takes the tags that its replica has observed).
+    Remove {
+        /// The dots.
+        dots: Vec<Dot>,
+    },
+    /// How many calls a site has counted in a queue so far.
+    Count {
+        /// The site.
+        site: SiteId,
+        /// The number of the queue, from 0.
+        queue: u16,
+        /// Which calls.
+        calls: Calls,
+        /// How many.
+        total: Total,
+    },
+}
+
+// Whether two dots are one.
+pub(crate) fn is_dot(dot: Dot, other: Dot) -> bool
+    ensures { result ≡ is_dot dot other }
+{
+    dot.cmp(&other).is_eq()
+}
+
+// Whether a dot is among these.
+fn has_dot(dots: &[Dot], dot: Dot) -> bool
+    ensures { result ≡ list_any (is_dot dot) dots.now }
+{
+    dots.iter().any(|other| is_dot(dot, *other))
+}
+
+// The member of the first of these dots that is this one.
+fn find_member(dots: &[(Dot, Member)], dot: Dot) -> Option<&Member>
+    ensures { option_map (λ m. m.now) result ≡ option_map (λ p. p.1) (find (λ p. is_dot dot p.0) dots.now) }
+{
+    for (other, member) in dots {
+        if is_dot(dot, *other) {
+            return Some(member);
+        }
+    }
+    None
+}
+
+impl Operation {
+    // The member of a dot that it asserts.
+    pub(crate) fn member_of(&self, dot: Dot) -> Option<&Member>
+        ensures { option_map (λ m. m.now) result ≡ option_map (λ p. p.1) (find (λ p. is_dot dot p.0) (asserted (operation_of self.now))) }
+    {
+        match self {
+            Operation::Add {
+                dot: made,
+                member,
+                ..
+            } => {
+                if is_dot(dot, *made) {
+                    Some(member)
+                } else {
+                    None
+                }
+            }
+            Operation::Write { dots, .. } => find_member(dots, dot),
+            Operation::Remove { .. } | Operation::Count { .. } => None,
+        }
+    }
+
+    // Whether it asserts the dot.
+    pub(crate) fn asserts(&self, dot: Dot) -> bool
+        ensures { result ≡ asserts dot (operation_of self.now) }
+    {
+        self.member_of(dot).is_some()
+    }
+
+    // The dots that it names.
+    pub(crate) fn named(&self) -> &[Dot]
+        ensures { set.from_list result.now ≡ named (operation_of self.now) }
+    {
+        match self {
+            Operation::Add { older, .. } | Operation::Write { older, .. } => older,
+            Operation::Remove { dots } => dots,
+            Operation::Count { .. } => &[],
+        }
+    }
+
+    // Whether it names the dot.
+    pub(crate) fn names(&self, dot: Dot) -> bool
+        ensures { result ≡ names dot (operation_of self.now) }
+    {
+        has_dot(self.named(), dot)
+    }
+
+    // What it sets of each field.
+    pub(crate) fn fields(&self) -> Fields<'_>
+        ensures { fields_of result ≡ fields_set (operation_of self.now) }
+    {
+        match self {
+            Operation::Add {
+                stamp,
+                penalty,
+                pause,
+                label,
+                ..
+            } => Fields {
+                penalty: Some(Entry {
+                    stamp: *stamp,
+                    value: *penalty,
+                }),
+                pause: Some(Entry {
+                    stamp: *stamp,
+                    value: pause,
+                }),
+                label: Some(Entry {
+                    stamp: *stamp,
+                    value: label,
+                }),
+            },
+            Operation::Write { setting, stamp, .. } => setting.fields(*stamp),
+            Operation::Remove { .. } | Operation::Count { .. } => Fields::none(),
+        }
+    }
+
+    // What it says that a site has counted of a queue's calls; 0 where it says nothing of them.
+    pub(crate) fn counted(&self, site: u16, queue: u16, calls: Calls) -> u64
+        ensures value { result ≡ counted site queue (calls_of calls) (operation_of self.now) }
+        ensures limit { result ≤ 1000000000 }
+    {
+        match self {
+            Operation::Count {
+                site: counting,
+                queue: counted,
+                calls: kind,
+                total,
+            } if counting.number() == site && *counted == queue && are_same(*kind, calls) => {
+                u64::from(total.get())
+            }
+            _ => 0,
+        }
+    }
+}

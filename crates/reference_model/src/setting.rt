@@ -1,0 +1,53 @@
+ghost use Rattle.std.specs.Prelude.{◌≡◌};
+ghost use Rattle.dots.specs.Operations.{stamped, set_penalty, set_pause, set_label};
+ghost use Rattle.reference_model.specs.Plain.{setting_of};
+ghost use Rattle.reference_model.specs.Views.{fields_of};
+
+use crate::entry::Entry;
+use crate::fields::Fields;
+use dots::{Label, Pause, Penalty, Stamp};
+
+/// A value for one field of a member.
+#[derive(Drop)]
+pub enum Setting {
+    /// The penalty.
+    Penalty(Penalty),
+    /// Whether the member is paused, and why.
+    Pause(Pause),
+    /// The member name and the state interface.
+    Label(Label),
+}
+
+impl Setting {
+    // The one field that it sets, under this stamp.
+    pub(crate) fn fields(&self, stamp: Stamp) -> Fields<'_>
+        ensures { fields_of result ≡ record {
+          penalty = stamped stamp (set_penalty (setting_of self.now));
+          pause = stamped stamp (set_pause (setting_of self.now));
+          label = stamped stamp (set_label (setting_of self.now));
+        } }
+    {
+        let mut fields = Fields::none();
+        match self {
+            Setting::Penalty(penalty) => {
+                fields.penalty = Some(Entry {
+                    stamp,
+                    value: *penalty,
+                });
+            }
+            Setting::Pause(pause) => {
+                fields.pause = Some(Entry {
+                    stamp,
+                    value: pause,
+                });
+            }
+            Setting::Label(label) => {
+                fields.label = Some(Entry {
+                    stamp,
+                    value: label,
+                });
+            }
+        }
+        fields
+    }
+}
