@@ -1,12 +1,17 @@
--- The actions that a site answers, as a table (the actions and their fields are Asterisk's; which fields are required, how they are
--- read, and the texts are this project's own).
-use Rattle.std.specs.Prelude.{ℕ, ◌≡◌, ◌++◌, Bool, true, false, not, List, [], ◌∷◌, Option, Some, None, Result, Ok, Err, codes, is_none, is_some, if◌then◌else◌}
+-- The table of the actions that a site answers, which is their definition (the actions and their fields are Asterisk's; which fields are
+-- required, how they are read, and the texts are this project's own). An action more is a row more.
+use Rattle.std.specs.Prelude.{ℕ, ◌≡◌, ◌++◌, Bool, true, false, not, List, [], ◌∷◌, Option, Some, None, codes, is_none, is_some, unwrap_or}
 use Rattle.std.specs.List.{find}
+use Rattle.std.specs.Option.{option_map}
 use Rattle.ami_text.specs.MessageFields.{value_of}
+use Rattle.replica.specs.declared.command.Command.TheVariants.{Add}
+use Rattle.replica.specs.declared.refusal.Refusal.{Refusal}
+use Rattle.status_report.specs.declared.asks.Ask.{Ask}
+use Rattle.status_report.specs.declared.asks.Ask.TheVariants.{Command, Status}
 use Rattle.ami_session.specs.declared.action.Action.{Action}
-use Rattle.ami_session.specs.declared.action.Action.TheVariants as action
-use Rattle.ami_session.specs.Checks.{missing, ask_of}
-use Rattle.ami_session.specs.FieldValues.{Fields, is_word, text_of, name_of, penalty_of}
+use Rattle.ami_session.specs.declared.action.Action.TheVariants.{QueueAdd, QueueStatus}
+use Rattle.ami_session.specs.FieldValues.{Fields, is_word, is_yes, id_of, text_of, name_of, penalty_of, number_of}
+use Rattle.ami_session.specs.Replies.{refusal_text}
 
 -- how a field is read: as a name, which has a byte, as a text, as a penalty, or as yes or no, which every value is
 pub data Kind : Type 0 where
@@ -20,13 +25,15 @@ pub record FieldRow : Type 0 where
   pub name : List ℕ
   pub kind : Kind
 
--- an action: its name, its required fields and its optional ones, in order, and what is said of its success, by whether its `Paused`
--- says yes
+-- An action: its name, its required fields and its optional ones, in order, and what it asks where all of them can be read; and what is
+-- said where the site has done it, by whether its `Paused` says yes, and where the site has refused it.
 pub record ActionRow : Type 0 where
   pub name : List ℕ
   pub required : List FieldRow
   pub optional : List FieldRow
+  pub ask : Fields → Ask
   pub success : Bool → List ℕ
+  pub refusal : Refusal → List ℕ
 
 abbrev pub queue : FieldRow
 queue = record { name = codes "Queue"; kind = Name }
@@ -43,39 +50,53 @@ paused = record { name = codes "Paused"; kind = YesOrNo }
 abbrev pub text : List ℕ → FieldRow
 text name = record { name = name; kind = Text }
 
+-- the value of a field; an absent one counts as empty
+abbrev pub text_at : List ℕ → Fields → List ℕ
+text_at name m = unwrap_or (value_of name m) []
+
+-- the penalty of a message; 0 where it is absent
+abbrev pub penalty_in : Fields → ℕ
+penalty_in m = number_of (unwrap_or (value_of (codes "Penalty") m) (codes "0"))
+
+-- whether its `Paused` says yes
+abbrev pub says_yes : Fields → Bool
+says_yes m = is_yes (text_at (codes "Paused") m)
+
 abbrev pub queue_add : ActionRow
 queue_add = record {
   name = codes "QueueAdd";
   required = queue ∷ interface ∷ [];
   optional = penalty ∷ paused ∷ text (codes "MemberName") ∷ text (codes "StateInterface") ∷ [];
+  ask = λ m.
+      Command (Add (text_at (codes "Queue") m) (text_at (codes "Interface") m) (penalty_in m) (says_yes m)
+      (record { name = text_at (codes "MemberName") m; state = text_at (codes "StateInterface") m }));
   success = λ yes. codes "Added interface to queue";
+  refusal = refusal_text;
 }
-
-abbrev pub queue_remove : ActionRow
-queue_remove = record { name = codes "QueueRemove"; required = queue ∷ interface ∷ []; optional = []; success = λ yes. codes "Removed interface from queue" }
-
-abbrev pub queue_pause : ActionRow
-queue_pause = record {
-  name = codes "QueuePause";
-  required = interface ∷ paused ∷ [];
-  optional = queue ∷ text (codes "Reason") ∷ [];
-  success = λ yes. if yes then codes "Interface paused successfully" else codes "Interface unpaused successfully";
-}
-
-abbrev pub queue_penalty : ActionRow
-queue_penalty = record { name = codes "QueuePenalty"; required = interface ∷ penalty ∷ []; optional = queue ∷ []; success = λ yes. codes "Interface penalty set successfully" }
 
 -- its success is a report, and has no text
 abbrev pub queue_status : ActionRow
-queue_status = record { name = codes "QueueStatus"; required = []; optional = text (codes "Queue") ∷ text (codes "Member") ∷ []; success = λ yes. [] }
+queue_status = record {
+  name = codes "QueueStatus";
+  required = [];
+  optional = text (codes "Queue") ∷ text (codes "Member") ∷ [];
+  ask = λ m. Status (record { queue = value_of (codes "Queue") m; member = value_of (codes "Member") m; action_id = id_of m });
+  success = λ yes. [];
+  refusal = refusal_text;
+}
 
--- the table
-abbrev pub actions : List ActionRow
-actions = queue_add ∷ queue_remove ∷ queue_pause ∷ queue_penalty ∷ queue_status ∷ []
+-- the row of an action
+abbrev pub row_of : Action → ActionRow
+row_of QueueAdd = queue_add
+row_of QueueStatus = queue_status
+
+-- all actions
+abbrev pub actions : List Action
+actions = QueueAdd ∷ QueueStatus ∷ []
 
 -- the action of this name, if it has one
-abbrev pub row_named : List ℕ → Option ActionRow
-row_named name = find (λ row. is_word name row.name) actions
+abbrev pub action_named : List ℕ → Option Action
+action_named name = find (λ action. is_word name (row_of action).name) actions
 
 -- whether a value can be read
 abbrev pub can_read : Kind → List ℕ → Bool
@@ -89,34 +110,15 @@ abbrev pub is_unread : Kind → Option (List ℕ) → Bool
 is_unread kind None = false
 is_unread kind (Some value) = not (can_read kind value)
 
--- whether a field of a message can't be
-abbrev pub is_unreadable : Fields → FieldRow → Bool
-is_unreadable m field = is_unread field.kind (value_of field.name m)
+-- the name of the first required field that is absent
+abbrev pub absent_in : ActionRow → Fields → Option (List ℕ)
+absent_in row m = option_map (λ f. f.name) (find (λ field. is_none (value_of field.name m)) row.required)
 
--- the first required field that is absent
-abbrev pub first_absent : ActionRow → Fields → Option FieldRow
-first_absent row m = find (λ field. is_none (value_of field.name m)) row.required
+-- the name of the first field that can't be read, the required ones first
+abbrev pub unread_in : ActionRow → Fields → Option (List ℕ)
+unread_in row m = option_map (λ f. f.name) (find (λ field. is_unread field.kind (value_of field.name m)) (row.required ++ row.optional))
 
--- the first field that can't be read, the required ones first
-abbrev pub first_unreadable : ActionRow → Fields → Option FieldRow
-first_unreadable row m = find (is_unreadable m) (row.required ++ row.optional)
-
--- the row of an action that is in code
-abbrev pub row_of : Action → ActionRow
-row_of action.QueueAdd = queue_add
-row_of action.QueueStatus = queue_status
-
--- the name of a field, if there is one
-abbrev pub name_of_field : Option FieldRow → Option (List ℕ)
-name_of_field None = None
-name_of_field (Some field) = Some field.name
-
--- the field that an ask failed on, if it did
-abbrev pub failed_on : {A : Type 0} → Result A (List ℕ) → Option (List ℕ)
-failed_on (Ok ask) = None
-failed_on (Err name) = Some name
-
--- the checks of an action are those of its row: which required field is told as missing, and, where none is, which as not valid
-pub record KeepsToTable (action : Action) (m : Fields) : Type 0 where
-  pub absent : missing action m ≡ name_of_field (first_absent (row_of action) m)
-  pub unreadable : first_absent (row_of action) m ≡ None → failed_on (ask_of action m) ≡ name_of_field (first_unreadable (row_of action) m)
+-- a message asks this by the row of an action
+pub record AsksBy (row : ActionRow) (m : Fields) (ask : Ask) : Type 0 where
+  pub readable : unread_in row m ≡ None
+  pub asked : ask ≡ row.ask m

@@ -1,21 +1,14 @@
 -- What a session does upon a message: the checks, in their order (the actions and their fields are Asterisk's, the texts this project's own).
-use Rattle.std.specs.Prelude.{ℕ, Bool, true, false, not, ◌&&◌, List, [], ◌++◌, codes, Option, Some, None, unwrap_or, is_none, Result, Ok, Err, if◌then◌else◌}
-use Rattle.std.specs.Option.{option_map}
+use Rattle.std.specs.Prelude.{ℕ, Bool, true, false, not, ◌&&◌, List, ◌++◌, codes, Option, Some, None, if◌then◌else◌}
 use Rattle.std.specs.Str.{bytes_eq}
 use Rattle.ami_text.specs.MessageFields.{value_of}
-use Rattle.replica.specs.declared.command.Command.{Command as Change}
-use Rattle.replica.specs.declared.command.Command.TheVariants.{Add}
+use Rattle.status_report.specs.declared.asks.Answer.{Answer}
+use Rattle.status_report.specs.declared.asks.Answer.TheVariants.{Done, Refused, Report}
 use Rattle.status_report.specs.declared.asks.Ask.{Ask}
-use Rattle.status_report.specs.declared.asks.Ask.TheVariants.{Command, Status}
-use Rattle.status_report.specs.declared.request.StatusRequest.{StatusRequest}
 use Rattle.ami_session.specs.declared.action.Action.{Action}
-use Rattle.ami_session.specs.declared.action.Action.TheVariants.{QueueAdd, QueueStatus}
-use Rattle.ami_session.specs.FieldValues.{Fields, is_word, is_yes, id_of, text_of, name_of, penalty_of}
-use Rattle.ami_session.specs.Replies.{Waiting, reply}
-
--- the value of a field; an absent one counts as empty
-abbrev pub text_at : List ℕ → Fields → List ℕ
-text_at name m = unwrap_or (value_of name m) []
+use Rattle.ami_session.specs.Actions.{absent_in, action_named, row_of, says_yes, text_at, unread_in}
+use Rattle.ami_session.specs.FieldValues.{Fields, is_word, id_of}
+use Rattle.ami_session.specs.Replies.{reply}
 
 -- who may log in
 pub record Login : Type 0 where
@@ -32,47 +25,21 @@ abbrev pub accepts : Option Login → Fields → Bool
 accepts None m = true
 accepts (Some login) m = bytes_eq (text_at (codes "Username") m) login.user && bytes_eq (text_at (codes "Secret") m) login.secret
 
--- the actions that a site answers
-abbrev pub action_named : List ℕ → Option Action
-action_named name =
-    if is_word name (codes "QueueAdd") then Some QueueAdd else if is_word name (codes "QueueStatus") then Some QueueStatus else None
-
--- the first required field that is absent
-abbrev pub missing : Action → Fields → Option (List ℕ)
-missing QueueAdd m =
-    if is_none (value_of (codes "Queue") m) then Some (codes "Queue") else if is_none (value_of (codes "Interface") m) then Some (codes "Interface") else None
-missing QueueStatus m = None
-
--- what was read goes on; where nothing was, the field's name is the fault
-abbrev pub read_or_fault : {T A : Type 0} → List ℕ → Option T → (T → Result A (List ℕ)) → Result A (List ℕ)
-read_or_fault name None go = Err name
-read_or_fault name (Some x) go = go x
-
--- what a QueueAdd asks, or the first field that can't be read
-abbrev pub add_asked : Fields → Result Change (List ℕ)
-add_asked m =
-    read_or_fault (codes "Queue") (name_of (text_at (codes "Queue") m)) (λ queue.
-    read_or_fault (codes "Interface") (name_of (text_at (codes "Interface") m)) (λ interface.
-    read_or_fault (codes "Penalty") (penalty_of (unwrap_or (value_of (codes "Penalty") m) (codes "0"))) (λ penalty.
-    read_or_fault (codes "MemberName") (text_of (text_at (codes "MemberName") m)) (λ name.
-    read_or_fault (codes "StateInterface") (text_of (text_at (codes "StateInterface") m)) (λ state.
-    Ok (Add queue interface penalty (is_yes (text_at (codes "Paused") m)) (record { name = name; state = state })))))))
-
--- a text that may be absent
-abbrev pub optional_text : Option (List ℕ) → Option (Option (List ℕ))
-optional_text None = Some None
-optional_text (Some value) = option_map (λ text. Some text) (text_of value)
-
--- what a QueueStatus asks, or the first field that can't be read
-abbrev pub status_asked : Fields → Result StatusRequest (List ℕ)
-status_asked m =
-    read_or_fault (codes "Queue") (optional_text (value_of (codes "Queue") m)) (λ queue.
-    read_or_fault (codes "Member") (optional_text (value_of (codes "Member") m)) (λ member.
-    Ok (record { queue = queue; member = member; action_id = id_of m })))
-
 -- an error, under the message's ActionID
 abbrev pub error_reply : Fields → List ℕ → List ℕ
 error_reply m text = reply (codes "Error") (id_of m) text
+
+-- a message that waits for an answer: its action, whether its `Paused` says yes, and its ActionID
+pub record Waiting : Type 0 where
+  pub action : Action
+  pub says_yes : Bool
+  pub id : List ℕ
+
+-- the reply upon the site's answer
+abbrev pub answer_reply : Waiting → Answer → List ℕ
+answer_reply w Done = reply (codes "Success") w.id ((row_of w.action).success w.says_yes)
+answer_reply w (Refused refusal) = reply (codes "Error") w.id ((row_of w.action).refusal refusal)
+answer_reply w (Report report) = report
 
 -- what a session does: it replies by itself, or asks the site and keeps what waits for the answer, or replies and ends
 pub data Reaction : Type 0 where
@@ -80,34 +47,16 @@ pub data Reaction : Type 0 where
   Asks : Ask → Waiting → Reaction
   Ends : List ℕ → Reaction
 
--- an ask, or an error on the field that can't be read
-abbrev pub asks_or_faults : Action → Fields → Result Ask (List ℕ) → Reaction
-asks_or_faults action m (Ok ask) = Asks ask (record { action = action; id = id_of m })
-asks_or_faults action m (Err name) = Replies (error_reply m (codes "Field not valid: " ++ name ++ []))
-
--- an ask of a command, and of a report
-abbrev pub command_ask : Result Change (List ℕ) → Result Ask (List ℕ)
-command_ask (Ok change) = Ok (Command change)
-command_ask (Err name) = Err name
-
-abbrev pub status_ask : Result StatusRequest (List ℕ) → Result Ask (List ℕ)
-status_ask (Ok request) = Ok (Status request)
-status_ask (Err name) = Err name
-
--- what an action asks
-abbrev pub ask_of : Action → Fields → Result Ask (List ℕ)
-ask_of QueueAdd m = command_ask (add_asked m)
-ask_of QueueStatus m = status_ask (status_asked m)
-
--- a known action: first a required field that is absent, then a field that can't be read, then the ask
-abbrev pub action_reaction : Action → Fields → Option (List ℕ) → Reaction
-action_reaction action m (Some name) = Replies (error_reply m (codes "'" ++ name ++ codes "' not specified."))
-action_reaction action m None = asks_or_faults action m (ask_of action m)
+-- a message of an action by its row: a required field that is absent, then a field that can't be read, and then what is asked
+abbrev pub row_reaction : Action → Fields → Option (List ℕ) → Option (List ℕ) → Reaction
+row_reaction action m (Some name) unread = Replies (error_reply m (codes "'" ++ name ++ codes "' not specified."))
+row_reaction action m None (Some name) = Replies (error_reply m (codes "Field not valid: " ++ name))
+row_reaction action m None None = Asks ((row_of action).ask m) (record { action = action; says_yes = says_yes m; id = id_of m })
 
 -- an action that is known, or not
 abbrev pub named_reaction : Option Action → Fields → Reaction
 named_reaction None m = Replies (error_reply m (codes "Invalid/unknown command"))
-named_reaction (Some action) m = action_reaction action m (missing action m)
+named_reaction (Some action) m = row_reaction action m (absent_in (row_of action) m) (unread_in (row_of action) m)
 
 -- a Login
 abbrev pub login_reaction : SessionState → Fields → Reaction

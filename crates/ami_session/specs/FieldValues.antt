@@ -2,6 +2,7 @@
 use Rattle.std.specs.Prelude.{ℕ, ◌+◌, ◌*◌, ◌-◌, ◌==◌, ◌||◌, Bool, not, nat_lt, List, [], ◌∷◌, length, codes, Option, Some, None, unwrap_or, if◌then◌else◌}
 use Rattle.std.specs.List.{list_all, list_any}
 use Rattle.std.specs.Char.{is_ascii_digit}
+use Rattle.dots.specs.declared.limits.TheConstants.{MOST_PENALTY, TEXT_BYTES}
 use Rattle.dots.specs.Values.{is_bad_byte}
 use Rattle.ami_text.specs.MessageFields.{same_name, value_of}
 
@@ -33,7 +34,7 @@ is_yes value =
 
 -- a text of at most 80 bytes, without CR, LF and NUL
 abbrev pub text_of : List ℕ → Option (List ℕ)
-text_of bytes = if nat_lt 80 (length bytes) then None else if list_any is_bad_byte bytes then None else Some bytes
+text_of bytes = if nat_lt TEXT_BYTES (length bytes) then None else if list_any is_bad_byte bytes then None else Some bytes
 
 -- a text that has a byte
 abbrev pub name_of : List ℕ → Option (List ℕ)
@@ -53,4 +54,4 @@ abbrev pub penalty_of : List ℕ → Option ℕ
 penalty_of [] = None
 penalty_of (d ∷ ds) =
     if nat_lt 10 (length (d ∷ ds)) then None else if not (list_all is_ascii_digit (d ∷ ds)) then None
-    else if nat_lt 2147483647 (number_of (d ∷ ds)) then None else Some (number_of (d ∷ ds))
+    else if nat_lt MOST_PENALTY (number_of (d ∷ ds)) then None else Some (number_of (d ∷ ds))

@@ -1,8 +1,8 @@
 pub mod Actions
 pub mod Checks
-pub mod Logins
 pub mod FieldValues
+pub mod Logins
 pub mod Replies
 pub mod Responses
-pub mod Views
 pub mod Text
+pub mod Views

@@ -1,21 +1,12 @@
 -- The texts of replies. Their wording is this project's own; their lines are those of Asterisk's Manager Interface.
-use Rattle.std.specs.Prelude.{ℕ, List, [], ◌++◌, codes}
+use Rattle.std.specs.Prelude.{ℕ, List, ◌++◌, codes}
 use Rattle.status_report.specs.WrittenLines.{field, action_id_line}
-use Rattle.status_report.specs.declared.asks.Answer.{Answer}
-use Rattle.status_report.specs.declared.asks.Answer.TheVariants.{Done, Refused, Report}
 use Rattle.replica.specs.declared.refusal.Refusal.{Refusal}
 use Rattle.replica.specs.declared.refusal.Refusal.TheVariants.{NoSuchQueue, AlreadyThere, NotThere, MembersFull, Exhausted, TotalFull, Memory}
-use Rattle.ami_session.specs.declared.action.Action.{Action}
-use Rattle.ami_session.specs.declared.action.Action.TheVariants.{QueueAdd, QueueStatus}
 
 -- a reply: how it went, the ActionID of the request, what it says, and an empty line
 abbrev pub reply : List ℕ → List ℕ → List ℕ → List ℕ
 reply response id message = field (codes "Response") response ++ action_id_line id ++ field (codes "Message") message ++ codes "\r\n"
-
--- what a reply says of an action that is done
-abbrev pub success_text : Action → List ℕ
-success_text QueueAdd = codes "Added interface to queue"
-success_text QueueStatus = []
 
 -- what a reply says of a refusal
 abbrev pub refusal_text : Refusal → List ℕ
@@ -26,14 +17,3 @@ refusal_text MembersFull = codes "Unable to change members: Full"
 refusal_text Exhausted = codes "Unable to change members: Numbers used up"
 refusal_text TotalFull = codes "Total full"
 refusal_text Memory = codes "Out of memory"
-
--- a message that waits for an answer: its action and its ActionID
-pub record Waiting : Type 0 where
-  pub action : Action
-  pub id : List ℕ
-
--- the reply upon the site's answer, whatever the action
-abbrev pub answer_reply : Waiting → Answer → List ℕ
-answer_reply w Done = reply (codes "Success") w.id (success_text w.action)
-answer_reply w (Refused refusal) = reply (codes "Error") w.id (refusal_text refusal)
-answer_reply w (Report report) = report

@@ -5,38 +5,38 @@ use Rattle.status_report.specs.declared.asks.Answer.{Answer}
 use Rattle.status_report.specs.declared.asks.Ask.{Ask}
 use Rattle.ami_session.specs.Checks.{SessionState, Reaction, Replies, Asks, Ends, reaction, after}
 use Rattle.ami_session.specs.FieldValues.{Fields}
-use Rattle.ami_session.specs.Replies.{answer_reply}
+use Rattle.ami_session.specs.Checks.{answer_reply}
 
 -- the line that greets a client
 abbrev pub greeting : List ℕ
 greeting = codes "Queue Sites Call Manager/1.0.0\r\n"
 
 -- what a reaction writes before the rest; an ask takes the first of the answers, and without one nothing more is written
-abbrev pub written : Reaction → (List Answer → List ℕ) → List Answer → List ℕ
-written (Replies bytes) rest answers = bytes ++ rest answers
-written (Ends bytes) rest answers = bytes
-written (Asks ask waiting) rest [] = []
-written (Asks ask waiting) rest (answer ∷ answers) = answer_reply waiting answer ++ rest answers
+abbrev pub text_upon : Reaction → (List Answer → List ℕ) → List Answer → List ℕ
+text_upon (Replies bytes) rest answers = bytes ++ rest answers
+text_upon (Ends bytes) rest answers = bytes
+text_upon (Asks ask waiting) rest [] = []
+text_upon (Asks ask waiting) rest (answer ∷ answers) = answer_reply waiting answer ++ rest answers
 
 -- the replies to messages, up to the first Logoff or the end
 abbrev pub replies : SessionState → List Fields → List Answer → List ℕ
 replies s [] answers = []
-replies s (m ∷ ms) answers = written (reaction s m) (replies (after s m) ms) answers
+replies s (m ∷ ms) answers = text_upon (reaction s m) (replies (after s m) ms) answers
 
 -- the session's text
 abbrev pub session_text : SessionState → List Fields → List Answer → List ℕ
 session_text s ms answers = greeting ++ replies s ms answers
 
 -- what the site is asked before the rest; nothing after the end
-abbrev pub asked : Reaction → List Ask → List Ask
-asked (Replies bytes) more = more
-asked (Ends bytes) more = []
-asked (Asks ask waiting) more = ask ∷ more
+abbrev pub asks_upon : Reaction → List Ask → List Ask
+asks_upon (Replies bytes) more = more
+asks_upon (Ends bytes) more = []
+asks_upon (Asks ask waiting) more = ask ∷ more
 
 -- all that the site is asked, in order
 abbrev pub asks : SessionState → List Fields → List Ask
 asks s [] = []
-asks s (m ∷ ms) = asked (reaction s m) (asks (after s m) ms)
+asks s (m ∷ ms) = asks_upon (reaction s m) (asks (after s m) ms)
 
 -- a session after messages
 abbrev pub after_all : SessionState → List Fields → SessionState

@@ -4,7 +4,7 @@ use Rattle.ami_session.specs.declared.act.Act.TheVariants as act
 use Rattle.ami_session.specs.Checks.{Reaction, Replies, Asks, Ends}
 
 -- the reaction that an act is
-abbrev pub seen : Act → Reaction
-seen (act.Reply bytes) = Replies bytes.items
-seen (act.Ask ask pending) = Asks ask pending
-seen (act.End bytes) = Ends bytes.items
+abbrev pub reaction_of : Act → Reaction
+reaction_of (act.Reply bytes) = Replies bytes.items
+reaction_of (act.Ask ask pending) = Asks ask pending
+reaction_of (act.End bytes) = Ends bytes.items

@@ -1,6 +1,10 @@
 //! The actions that a site answers, with their fields.
+ghost use Rattle.std.specs.Prelude.{◌≡◌};
+ghost use Rattle.ami_session.specs.Replies.{refusal_text};
+
 use crate::values::is_word;
 use ami_text::Message;
+use replica::Refusal;
 
 /// An action of the Manager Interface that asks something of a site.
 #[derive(Clone, Copy)]
@@ -12,10 +16,8 @@ pub enum Action {
 }
 
 impl Action {
-    ghost use Rattle.std.specs.Prelude.{◌≡◌};
     ghost use Rattle.std.specs.Option.{option_map};
-    ghost use Rattle.ami_session.specs.Replies.{success_text};
-    ghost use Rattle.ami_session.specs.Checks.{action_named, missing};
+    ghost use Rattle.ami_session.specs.Actions.{absent_in, action_named, row_of};
 
     /// The action of this name, compared without ASCII case.
     pub fn named(name: &[u8]) -> Option<Action>
@@ -32,7 +34,7 @@ impl Action {
 
     /// The first field that the message must have and lacks, in the action's order.
     pub fn missing(self, message: &Message) -> Option<&'static str>
-        ensures { option_map (λ name. name.now) result ≡ missing self message.now }
+        ensures { option_map (λ name. name.now) result ≡ absent_in (row_of self) message.now }
     {
         match self {
             Action::QueueAdd if message.get(b"Queue").is_none() => Some("Queue"),
@@ -41,13 +43,38 @@ impl Action {
         }
     }
 
-    /// What a reply says where the site has done it.
-    pub fn success(self) -> &'static str
-        ensures { result.now ≡ success_text self }
+    /// What a reply says where the site has done it, by whether the message's `Paused` says yes.
+    pub fn success(self, says_yes: bool) -> &'static str
+        ensures { result.now ≡ (row_of self).success says_yes }
     {
+        let _ = says_yes;
         match self {
             Action::QueueAdd => "Added interface to queue",
             Action::QueueStatus => "",
         }
+    }
+
+    /// What a reply says where the site has refused it.
+    pub fn refusal(self, refusal: Refusal) -> &'static str
+        ensures { result.now ≡ (row_of self).refusal refusal }
+    {
+        match self {
+            Action::QueueAdd | Action::QueueStatus => refusal_text(refusal),
+        }
+    }
+}
+
+// What an error says of a refusal.
+fn refusal_text(refusal: Refusal) -> &'static str
+    ensures { result.now ≡ refusal_text refusal }
+{
+    match refusal {
+        Refusal::NoSuchQueue => "No such queue",
+        Refusal::AlreadyThere => "Unable to add interface: Already there",
+        Refusal::NotThere => "Interface not found",
+        Refusal::MembersFull => "Unable to change members: Full",
+        Refusal::Exhausted => "Unable to change members: Numbers used up",
+        Refusal::TotalFull => "Total full",
+        Refusal::Memory => "Out of memory",
     }
 }

@@ -1,14 +1,15 @@
 //! What the messages of the actions ask, field by field.
-ghost use Rattle.std.specs.Prelude.{◌≡◌, Ok, Err, MatchResult, IfOk};
+ghost use Rattle.std.specs.Prelude.{◌≡◌, true, false, Some, None, MatchOption, MatchResult, IfOk};
 ghost use Rattle.std.specs.Option.{option_map};
 ghost use Rattle.ami_session.specs.FieldValues.{id_of};
-ghost use Rattle.ami_session.specs.Checks.{text_at, optional_text, add_asked, status_asked};
+ghost use Rattle.ami_session.specs.Actions.{AsksBy, Text, absent_in, is_unread, row_of, says_yes, text_at, unread_in};
 
+use crate::action::Action;
 use crate::values::{id_of, interface_of, is_yes, penalty_of, queue_of, text_of};
 use ami_text::Message;
 use dots::{Bytes, Label, Memory, Text80};
 use replica::Command;
-use status_report::StatusRequest;
+use status_report::{Ask, StatusRequest};
 use std::alloc::Global;
 
 /// A field that is there but can't be read: its name.
@@ -29,10 +30,20 @@ pub fn text_at<'a>(message: &'a Message, name: &str) -> &'a [u8]
     message.get(name.as_bytes()).unwrap_or(b"")
 }
 
-/// What a QueueAdd asks. `Err` names the first field, in the order Queue, Interface, Penalty, Paused, MemberName,
+/// Whether the `Paused` of a message says yes.
+pub fn says_yes(message: &Message) -> bool
+    ensures { result ≡ says_yes message.now }
+{
+    is_yes(text_at(message, "Paused"))
+}
+
+/// What a QueueAdd asks that lacks no field. `Err` names the first field, in the order Queue, Interface, Penalty, Paused, MemberName,
 /// StateInterface, that can't be read. An absent penalty is 0, an absent Paused is no.
 pub fn queue_add(message: &Message) -> Result<Command, Unreadable>
-    ensures { MatchResult result (λ command. add_asked message.now ≡ Ok command) (λ name. add_asked message.now ≡ Err name.now) }
+    requires { absent_in (row_of Action.QueueAdd) message.now ≡ None }
+    ensures { MatchResult result
+        (λ command. AsksBy (row_of Action.QueueAdd) message.now (Ask.Command command))
+        (λ name. unread_in (row_of Action.QueueAdd) message.now ≡ Some name.now) }
 {
     let Some(queue) = queue_of(text_at(message, "Queue")) else {
         return Err("Queue");
@@ -53,7 +64,7 @@ pub fn queue_add(message: &Message) -> Result<Command, Unreadable>
         queue,
         interface,
         penalty,
-        paused: is_yes(text_at(message, "Paused")),
+        paused: says_yes(message),
         label: Label { name, state },
     })
 }
@@ -61,7 +72,9 @@ pub fn queue_add(message: &Message) -> Result<Command, Unreadable>
 /// What a QueueStatus asks, under this ActionID. `Err` names the first of Queue and Member that can't be read.
 pub fn queue_status(message: &Message, action_id: Bytes) -> Result<StatusRequest, Unreadable>
     requires { action_id ≡ id_of message.now }
-    ensures { MatchResult result (λ request. status_asked message.now ≡ Ok request) (λ name. status_asked message.now ≡ Err name.now) }
+    ensures { MatchResult result
+        (λ request. AsksBy (row_of Action.QueueStatus) message.now (Ask.Status request))
+        (λ name. unread_in (row_of Action.QueueStatus) message.now ≡ Some name.now) }
 {
     let Some(queue) = optional_text(message.get(b"Queue")) else {
         return Err("Queue");
@@ -78,7 +91,10 @@ pub fn queue_status(message: &Message, action_id: Bytes) -> Result<StatusRequest
 
 // The text of a value that may be absent; `None` where it is no text.
 fn optional_text(value: Option<&[u8]>) -> Option<Option<Text80>>
-    ensures { result ≡ optional_text (option_map (λ v. v.now) value.entry) }
+    ensures { MatchOption result
+        (is_unread Text (option_map (λ v. v.now) value.entry) ≡ true)
+        (λ text. (is_unread Text (option_map (λ v. v.now) value.entry) ≡ false)
+        × (text ≡ option_map (λ v. v.now) value.entry)) }
 {
     match value {
         None => Some(None),

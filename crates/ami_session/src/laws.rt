@@ -1,8 +1,6 @@
 //! What the definition of a session's text promises. The functions have no body: their contracts are the laws.
 ghost use Rattle.std.specs.Prelude.{List};
 ghost use Rattle.status_report.specs.declared.asks.Answer.{Answer};
-ghost use Rattle.ami_session.specs.declared.action.Action.{Action};
-ghost use Rattle.ami_session.specs.Actions.{KeepsToTable};
 ghost use Rattle.ami_session.specs.Checks.{SessionState};
 ghost use Rattle.ami_session.specs.FieldValues.{Fields};
 ghost use Rattle.ami_session.specs.Text.{NothingFollows, IsFrontOfMore};
@@ -16,10 +14,4 @@ pub fn nothing_follows_a_logoff()
 /// What a session writes upon the answers so far is the front of what it writes upon more of them (this project's own).
 pub fn text_grows_with_the_answers()
     ensures { (s : SessionState) (messages : List Fields) (answers more : List Answer) → IsFrontOfMore s messages answers more }
-{}
-
-/// The checks of each action keep to its row in the table of actions: which required field is told as missing, and which field
-/// as not valid (this project's own).
-pub fn actions_keep_to_their_table()
-    ensures { (action : Action) (message : Fields) → KeepsToTable action message }
 {}

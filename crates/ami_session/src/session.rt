@@ -1,11 +1,12 @@
-ghost use Rattle.std.specs.Prelude.{◌≡◌, Some, None, Ok, Err, true, false, codes, IfOk, OnOk, OnErr, MatchResult};
+ghost use Rattle.std.specs.Prelude.{◌≡◌, Some, None, true, false, codes, IfOk, OnOk, OnErr, MatchResult};
+ghost use Rattle.ami_session.specs.Actions.{AsksBy, absent_in, row_of, unread_in};
 ghost use Rattle.ami_session.specs.FieldValues.{id_of};
 ghost use Rattle.ami_session.specs.Replies.{reply};
-ghost use Rattle.ami_session.specs.Checks.{accepts, Replies, Ends, login_reaction, named_reaction, ask_of, reaction, reaction_to, after, after_action};
-ghost use Rattle.ami_session.specs.Views.{seen};
+ghost use Rattle.ami_session.specs.Checks.{accepts, Replies, Ends, login_reaction, named_reaction, reaction, reaction_to, after, after_action};
+ghost use Rattle.ami_session.specs.Views.{reaction_of};
 
 use crate::action::Action;
-use crate::fields::{Unreadable, action_id, queue_add, queue_status, text_at};
+use crate::fields::{Unreadable, action_id, queue_add, queue_status, says_yes, text_at};
 use crate::reply::{Response, field_error, message_reply};
 use crate::values::is_word;
 use crate::{Act, Pending};
@@ -67,7 +68,7 @@ impl Session {
     /// that is absent, then a field that can't be read; and then the site is asked. The one fault is want of memory,
     /// and leaves the session as it was.
     pub fn handle(&mut self, alloc: Global, message: &Message) -> Result<Act, Memory>
-        ensures reaction { IfOk result (λ act. seen act ≡ reaction self.old message.now) }
+        ensures reaction { IfOk result (λ act. reaction_of act ≡ reaction self.old message.now) }
         ensures after { OnOk result (self.new ≡ after self.old message.now) }
         ensures err { OnErr result (self.new ≡ self.old) }
     {
@@ -87,7 +88,7 @@ impl Session {
         id: Bytes,
     ) -> Result<Act, Memory>
         requires { id ≡ id_of message.now }
-        ensures reaction { IfOk result (λ act. seen act ≡ reaction_to self.old message.now (Some name.now)) }
+        ensures reaction { IfOk result (λ act. reaction_of act ≡ reaction_to self.old message.now (Some name.now)) }
         ensures after { OnOk result (self.new ≡ after_action self.old message.now (Some name.now)) }
         ensures err { OnErr result (self.new ≡ self.old) }
     {
@@ -109,7 +110,7 @@ impl Session {
     // A Login: accepted, or an error that leaves the session as it was.
     fn login(&mut self, alloc: Global, message: &Message, id: &Bytes) -> Result<Act, Memory>
         requires { id.now ≡ id_of message.now }
-        ensures reaction { IfOk result (λ act. seen act ≡ login_reaction self.old message.now) }
+        ensures reaction { IfOk result (λ act. reaction_of act ≡ login_reaction self.old message.now) }
         ensures accepted { OnOk result (accepts self.old.login message.now ≡ true → self.new ≡ record self.old { logged_in = true }) }
         ensures refused { OnOk result (accepts self.old.login message.now ≡ false → self.new ≡ self.old) }
         ensures err { OnErr result (self.new ≡ self.old) }
@@ -137,14 +138,14 @@ impl Session {
 }
 
 fn error(alloc: Global, id: &Bytes, text: &str) -> Result<Act, Memory>
-    ensures { IfOk result (λ act. seen act ≡ Replies (reply (codes "Error") id.now text.now)) }
+    ensures { IfOk result (λ act. reaction_of act ≡ Replies (reply (codes "Error") id.now text.now)) }
 {
     let bytes = message_reply(alloc, Response::Error, id, text.as_bytes())?;
     Ok(Act::Reply(bytes))
 }
 
 fn goodbye(alloc: Global, id: &Bytes) -> Result<Act, Memory>
-    ensures { IfOk result (λ act. seen act ≡ Ends (reply (codes "Goodbye") id.now (codes "Thanks for all the fish."))) }
+    ensures { IfOk result (λ act. reaction_of act ≡ Ends (reply (codes "Goodbye") id.now (codes "Thanks for all the fish."))) }
 {
     let bytes = message_reply(alloc, Response::Goodbye, id, b"Thanks for all the fish.")?;
     Ok(Act::End(bytes))
@@ -153,14 +154,14 @@ fn goodbye(alloc: Global, id: &Bytes) -> Result<Act, Memory>
 // What a message of a known action asks of the site, or what is wrong with it.
 fn asked(alloc: Global, action: Action, message: &Message, id: Bytes) -> Result<Act, Memory>
     requires { id ≡ id_of message.now }
-    ensures { IfOk result (λ act. seen act ≡ named_reaction (Some action) message.now) }
+    ensures { IfOk result (λ act. reaction_of act ≡ named_reaction (Some action) message.now) }
 {
     if let Some(name) = action.missing(message) {
         let bytes = field_error(alloc, &id, "'", name, "' not specified.")?;
         return Ok(Act::Reply(bytes));
     }
     match ask_of(action, message, id.copy()?) {
-        Ok(ask) => Ok(Act::Ask(ask, Pending::new(action, id))),
+        Ok(ask) => Ok(Act::Ask(ask, Pending::new(action, says_yes(message), id))),
         Err(name) => {
             let bytes = field_error(alloc, &id, "Field not valid: ", name, "")?;
             Ok(Act::Reply(bytes))
@@ -170,8 +171,11 @@ fn asked(alloc: Global, action: Action, message: &Message, id: Bytes) -> Result<
 
 // What an action asks, or the field that can't be read.
 fn ask_of(action: Action, message: &Message, id: Bytes) -> Result<Ask, Unreadable>
-    requires { id ≡ id_of message.now }
-    ensures { MatchResult result (λ ask. ask_of action message.now ≡ Ok ask) (λ name. ask_of action message.now ≡ Err name.now) }
+    requires id { id ≡ id_of message.now }
+    requires none_absent { absent_in (row_of action) message.now ≡ None }
+    ensures { MatchResult result
+        (λ ask. AsksBy (row_of action) message.now ask)
+        (λ name. unread_in (row_of action) message.now ≡ Some name.now) }
 {
     match action {
         Action::QueueAdd => match queue_add(message) {

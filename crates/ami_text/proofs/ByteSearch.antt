@@ -7,7 +7,7 @@ use Rattle.std.proofs.lemmas.List.{drop_more, take-append-drop, get_or-take, len
 use Rattle.std.proofs.lemmas.List.Elements.{All-from_get_or}
 use Rattle.std.proofs.lemmas.List.Folds.{list_any_none, list_any_at}
 use Rattle.std.proofs.lemmas.List.Sums.{position_or_len_is}
-use Rattle.ami_text.specs.MessageFields.{field_of, trimmed, is_colon}
+use Rattle.ami_text.specs.MessageFields.{field_of, trim_of, is_colon}
 use Rattle.ami_text.specs.Lines.{HasNoLf}
 use Rattle.ami_text.proofs.WholeLines.{whole_lines, whole_lines-line}
 
@@ -24,7 +24,7 @@ field_of-none text none =
 
 -- with one, what stands before and after the first
 pub field_of-some : (text : List ℕ) (k : ℕ) → NoneBefore (Passes (is_byte 58) text) 0 (length text) k → Passes (is_byte 58) text k
-    → field_of text ≡ Some (trimmed (take k text), trimmed (drop (k + 1) text))
+    → field_of text ≡ Some (trim_of (take k text), trim_of (drop (k + 1) text))
 field_of-some text k before here =
     let any : list_any is_colon text ≡ true = list_any_at is_colon text k 0 before.high here in
     let first : position_or_len is_colon text ≡ k =
@@ -51,10 +51,10 @@ around_lf hay n lt here =
 
 -- the same, where the second part is a part of the text
 pub field_of-parts : (text : List ℕ) (k : ℕ) (name value : List ℕ) → NoneBefore (Passes (is_byte 58) text) 0 (length text) k × Passes (is_byte 58) text k
-    → name ≡ trimmed (take k text) → value ≡ trimmed (take (length text - (k + 1)) (drop (k + 1) text))
+    → name ≡ trim_of (take k text) → value ≡ trim_of (take (length text - (k + 1)) (drop (k + 1) text))
     → Some (name, value) ≡ field_of text
 field_of-parts text k name value found is_name is_value =
-    let rest : value ≡ trimmed (drop (k + 1) text) = is_value ∙ ap trimmed (take_rest text (k + 1)) in
+    let rest : value ≡ trim_of (drop (k + 1) text) = is_value ∙ ap trim_of (take_rest text (k + 1)) in
     rw (is_name, rest) (sym (field_of-some text k found.0 found.1))
 
 -- the first line of bytes, found by its LF

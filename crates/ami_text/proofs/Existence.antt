@@ -6,11 +6,11 @@ use Rattle.std.proofs.lemmas.List.Elements.{All-cons, All-head, All-nil, All-pus
 use Rattle.ami_text.specs.declared.feed_fault.FeedFault.{FeedFault}
 use Rattle.ami_text.specs.declared.feed_fault.FeedFault.TheVariants.{LineTooLong, TooManyFields}
 use Rattle.ami_text.specs.MessageFields.{NameAndValue, fields_of}
-use Rattle.ami_text.specs.Lines.{HasNoLf, content, IsEmptyLine, IsFullLine, ended}
+use Rattle.ami_text.specs.Lines.{HasNoLf, content, IsEmptyLine, IsFullLine, lines_text}
 use Rattle.ami_text.specs.Stream.{FirstMessage, Gives, HasFault, IsRest, Ending, Rest, Fault, Reads}
 use Rattle.ami_text.proofs.Outcome.{last_part, no_line, rebuilt}
 use Rattle.ami_text.proofs.Outcomes.{gives-none}
-use Rattle.ami_text.proofs.Scanning.{ended-push}
+use Rattle.ami_text.proofs.Scanning.{lines_text-push}
 use Rattle.ami_text.proofs.WholeLines.{onto, whole_lines}
 
 no_lf_onto : (b : ℕ) (lines : List (List ℕ)) → b ≢ 10 → All HasNoLf lines → All HasNoLf (onto b lines)
@@ -42,12 +42,12 @@ Shows bytes =
     ⊎ (((rest : List ℕ) × Gives bytes [] rest × IsRest rest)
     ⊎ ((fault : FeedFault) × HasFault fault bytes))
 
-next_line : (line last : List ℕ) (lines : List (List ℕ)) → ended (line ∷ lines) ++ last ≡ line ++ 10 ∷ (ended lines ++ last)
+next_line : (line last : List ℕ) (lines : List (List ℕ)) → lines_text (line ∷ lines) ++ last ≡ line ++ 10 ∷ (lines_text lines ++ last)
 next_line line last lines =
-    append_assoc (line ++ 10 ∷ []) (ended lines) last ∙ append_assoc line (10 ∷ []) (ended lines ++ last)
+    append_assoc (line ++ 10 ∷ []) (lines_text lines) last ∙ append_assoc line (10 ∷ []) (lines_text lines ++ last)
 
 shows_rest : (empties seen : List (List ℕ)) (last bytes : List ℕ) → All IsEmptyLine empties → All IsFullLine seen → length seen ≤ 128 → HasNoLf last
-    → bytes ≡ ended empties ++ (ended seen ++ last) → Shows bytes
+    → bytes ≡ lines_text empties ++ (lines_text seen ++ last) → Shows bytes
 shows_rest empties seen last bytes each_empty each_full within no_lf whole =
     ⊎_elim
     (λ (long : 1024 < length (content last)). inr (inr (
@@ -63,12 +63,12 @@ shows_rest empties seen last bytes each_empty each_full within no_lf whole =
           each_empty = each_empty;
           each_full = each_full;
           within = within;
-          whole = whole ∙ ap (λ ys. ended empties ++ (ended seen ++ ys)) (sym (append-nil last));
+          whole = whole ∙ ap (λ ys. lines_text empties ++ (lines_text seen ++ ys)) (sym (append-nil last));
         };
       },
     )))
     (λ (fits : length (content last) ≤ 1024). inr (inl (
-      ended seen ++ last,
+      lines_text seen ++ last,
       (empties, each_empty, whole),
       record {
         lines = seen;
@@ -84,20 +84,20 @@ shows_rest empties seen last bytes each_empty each_full within no_lf whole =
 
 -- by one line after another
 shows : (lines empties seen : List (List ℕ)) (last bytes : List ℕ) → All IsEmptyLine empties → All IsFullLine seen → length seen ≤ 128
-    → All HasNoLf lines → HasNoLf last → bytes ≡ ended empties ++ (ended seen ++ (ended lines ++ last)) → Shows bytes
+    → All HasNoLf lines → HasNoLf last → bytes ≡ lines_text empties ++ (lines_text seen ++ (lines_text lines ++ last)) → Shows bytes
 shows [] empties seen last bytes each_empty each_full within no_lf no_lf_last whole =
     shows_rest empties seen last bytes each_empty each_full within no_lf_last whole
 shows (line ∷ lines) empties [] last bytes each_empty each_full within no_lf no_lf_last whole =
     let here = All-head HasNoLf line lines no_lf in
     let later = All-tail HasNoLf line lines no_lf in
-    let at : bytes ≡ ended empties ++ (line ++ 10 ∷ (ended lines ++ last)) = whole ∙ ap (λ ys. ended empties ++ ys) (next_line line last lines) in
+    let at : bytes ≡ lines_text empties ++ (line ++ 10 ∷ (lines_text lines ++ last)) = whole ∙ ap (λ ys. lines_text empties ++ ys) (next_line line last lines) in
     ⊎_elim
     (λ (long : 1024 < length (content line)). inr (inr (
       LineTooLong,
       record {
         lines = [];
         part = line;
-        more = 10 ∷ (ended lines ++ last);
+        more = 10 ∷ (lines_text lines ++ last);
         no_lf = here;
         too_long = long;
         begins = record { empties = empties; each_empty = each_empty; each_full = each_full; within = within; whole = at };
@@ -107,25 +107,25 @@ shows (line ∷ lines) empties [] last bytes each_empty each_full within no_lf n
     (λ (none : length (content line) ≡ 0).
     shows lines (empties ++ line ∷ []) [] last bytes
     (All-push IsEmptyLine empties line each_empty (record { no_lf = here; empty = none })) each_full within later no_lf_last
-    (at ∙ sym (ended-push empties line (ended lines ++ last))))
+    (at ∙ sym (lines_text-push empties line (lines_text lines ++ last))))
     (λ (some : length (content line) ≡ 0 → ⊥).
     shows lines empties (line ∷ []) last bytes each_empty
     (All-cons IsFullLine line [] (record { no_lf = here; some = omega (arith, some); fits = fits }) each_full) (omega arith) later no_lf_last
-    (at ∙ ap (λ ys. ended empties ++ ys) (sym (next_line line (ended lines ++ last) []))))
+    (at ∙ ap (λ ys. lines_text empties ++ ys) (sym (next_line line (lines_text lines ++ last) []))))
     (cases_eq (length (content line)) 0))
     (cases_lt 1024 (length (content line)))
 shows (line ∷ lines) empties (first ∷ seen) last bytes each_empty each_full within no_lf no_lf_last whole =
     let here = All-head HasNoLf line lines no_lf in
     let later = All-tail HasNoLf line lines no_lf in
-    let at : bytes ≡ ended empties ++ (ended (first ∷ seen) ++ (line ++ 10 ∷ (ended lines ++ last))) =
-    whole ∙ ap (λ ys. ended empties ++ (ended (first ∷ seen) ++ ys)) (next_line line last lines) in
+    let at : bytes ≡ lines_text empties ++ (lines_text (first ∷ seen) ++ (line ++ 10 ∷ (lines_text lines ++ last))) =
+    whole ∙ ap (λ ys. lines_text empties ++ (lines_text (first ∷ seen) ++ ys)) (next_line line last lines) in
     ⊎_elim
     (λ (long : 1024 < length (content line)). inr (inr (
       LineTooLong,
       record {
         lines = first ∷ seen;
         part = line;
-        more = 10 ∷ (ended lines ++ last);
+        more = 10 ∷ (lines_text lines ++ last);
         no_lf = here;
         too_long = long;
         begins = record { empties = empties; each_empty = each_empty; each_full = each_full; within = within; whole = at };
@@ -134,7 +134,7 @@ shows (line ∷ lines) empties (first ∷ seen) last bytes each_empty each_full 
     (λ (fits : length (content line) ≤ 1024). ⊎_elim
     (λ (none : length (content line) ≡ 0). inl (
       fields_of (first ∷ seen),
-      ended lines ++ last,
+      lines_text lines ++ last,
       record {
         lines = first ∷ seen;
         last = line;
@@ -151,13 +151,13 @@ shows (line ∷ lines) empties (first ∷ seen) last bytes each_empty each_full 
     shows lines empties ((first ∷ seen) ++ line ∷ []) last bytes each_empty
     (All-push IsFullLine (first ∷ seen) line each_full full)
     (omega (arith, few, length-append (first ∷ seen) (line ∷ []))) later no_lf_last
-    (at ∙ ap (λ ys. ended empties ++ ys) (sym (ended-push (first ∷ seen) line (ended lines ++ last)))))
+    (at ∙ ap (λ ys. lines_text empties ++ ys) (sym (lines_text-push (first ∷ seen) line (lines_text lines ++ last)))))
     (λ (many : 128 ≤ length (first ∷ seen)). inr (inr (
       TooManyFields,
       record {
         lines = first ∷ seen;
         line = line;
-        more = ended lines ++ last;
+        more = lines_text lines ++ last;
         all = omega (arith, many, within);
         is_full = full;
         begins = record { empties = empties; each_empty = each_empty; each_full = each_full; within = within; whole = at };
@@ -183,8 +183,8 @@ rest_shorter bytes rest message m =
     omega (
       arith,
       ap length m.begins.whole,
-      length-append (ended m.begins.empties) (ended m.lines ++ (m.last ++ 10 ∷ rest)),
-      length-append (ended m.lines) (m.last ++ 10 ∷ rest),
+      length-append (lines_text m.begins.empties) (lines_text m.lines ++ (m.last ++ 10 ∷ rest)),
+      length-append (lines_text m.lines) (m.last ++ 10 ∷ rest),
       length-append m.last (10 ∷ rest),
     )
 

@@ -7,7 +7,7 @@ use Rattle.ami_text.specs.declared.feed_fault.FeedFault.{FeedFault}
 use Rattle.ami_text.specs.declared.progress.Progress.{Progress}
 use Rattle.ami_text.specs.MessageFields.{NameAndValue, field_of, fields_of}
 use Rattle.ami_text.specs.Found.{EndsMessage, EndsInRest}
-use Rattle.ami_text.specs.Lines.{HasNoLf, content, IsEmptyLine, IsFullLine, ended}
+use Rattle.ami_text.specs.Lines.{HasNoLf, content, IsEmptyLine, IsFullLine, lines_text}
 use Rattle.ami_text.specs.Progress.{IsReached}
 use Rattle.ami_text.specs.Stream.{Begins, FirstMessage, Gives, HasFault, IsRest}
 use Rattle.ami_text.proofs.Outcome.{Whole, Partial, first_of, outcome-found, outcome-rest}
@@ -39,8 +39,8 @@ reached_more held piece progress r = record {
   no_lf = r.no_lf;
   line_at = r.line_at;
   looked_at = r.looked_at;
-  whole = ap (λ ys. ys ++ piece) r.whole ∙ append_assoc (ended r.read) (r.part ++ r.ahead) piece
-      ∙ ap (λ ys. ended r.read ++ ys) (append_assoc r.part r.ahead piece);
+  whole = ap (λ ys. ys ++ piece) r.whole ∙ append_assoc (lines_text r.read) (r.part ++ r.ahead) piece
+      ∙ ap (λ ys. lines_text r.read ++ ys) (append_assoc r.part r.ahead piece);
 }
 
 -- the same, where memory may have been refused
@@ -59,7 +59,7 @@ fields_of-empties (line ∷ lines) each =
 pub message_given : (bytes view : List ℕ) (head end next : ℕ) (message : List NameAndValue)
     → drop head bytes ≡ view
     → EndsMessage (take (length bytes - head) (drop head bytes)) end next
-    → ((lines : List (List ℕ)) → All HasNoLf lines → take (head + end - head) (drop head bytes) ≡ ended lines → message ≡ fields_of lines)
+    → ((lines : List (List ℕ)) → All HasNoLf lines → take (head + end - head) (drop head bytes) ≡ lines_text lines → message ≡ fields_of lines)
     → FirstMessage view message (drop (head + next) bytes)
 message_given bytes view head end next message is found parsed =
     let P : List ℕ → Type 0 = λ ys. EndsMessage ys end next in
@@ -67,7 +67,7 @@ message_given bytes view head end next message is found parsed =
     let rest : drop next view ≡ drop (head + next) bytes = ap (drop next) (sym is) ∙ drop-drop next head bytes in
     let Q : List ℕ → Type 0 = λ ys. Begins view m.lines (m.last ++ 10 ∷ ys) in
     let count : head + end - head ≡ end = omega arith in
-    let lines : take (head + end - head) (drop head bytes) ≡ ended (m.begins.empties ++ m.lines) =
+    let lines : take (head + end - head) (drop head bytes) ≡ lines_text (m.begins.empties ++ m.lines) =
     ap (λ n. take n (drop head bytes)) count ∙ ap (take end) is ∙ m.front
     ∙ sym (flat_map-append (λ l. l ++ 10 ∷ []) m.begins.empties m.lines) in
     let no_lf = All-append HasNoLf m.begins.empties m.lines
@@ -94,7 +94,7 @@ rest_given bytes view head empty progress is found =
     let r : P view = subst P (take_rest bytes head ∙ is) found in
     let rest : drop empty view ≡ drop (head + empty) bytes = ap (drop empty) (sym is) ∙ drop-drop empty head bytes in
     let R : List ℕ → Type 0 = λ ys. IsReached ys progress in
-    ((r.empties, r.each_empty, r.whole ∙ ap (λ ys. ended r.empties ++ ys) rest), subst IsRest rest r.is_rest, subst R rest r.reached)
+    ((r.empties, r.each_empty, r.whole ∙ ap (λ ys. lines_text r.empties ++ ys) rest), subst IsRest rest r.is_rest, subst R rest r.reached)
 
 -- what stands first, where a message was found
 pub outcome_of_message : (bytes view : List ℕ) (head end next : ℕ) → drop head bytes ≡ view

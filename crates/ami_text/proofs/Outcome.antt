@@ -7,9 +7,9 @@ use Rattle.ami_text.specs.declared.feed_fault.FeedFault.{FeedFault}
 use Rattle.ami_text.specs.declared.feed_fault.FeedFault.TheVariants.{LineTooLong, TooManyFields, Memory}
 use Rattle.ami_text.specs.MessageFields.{NameAndValue, fields_of}
 use Rattle.ami_text.specs.Found.{EndsMessage}
-use Rattle.ami_text.specs.Lines.{HasNoLf, content, IsEmptyLine, IsFullLine, ended}
+use Rattle.ami_text.specs.Lines.{HasNoLf, content, IsEmptyLine, IsFullLine, lines_text}
 use Rattle.ami_text.specs.Stream.{Begins, FirstMessage, HasFault, IsRest}
-use Rattle.ami_text.proofs.WholeLines.{onto, whole_lines, whole_lines-line, whole_lines-part, whole_lines-ended}
+use Rattle.ami_text.proofs.WholeLines.{onto, whole_lines, whole_lines-line, whole_lines-part, whole_lines-lines_text}
 
 -- whether there is no line
 abbrev pub no_line : List (List ℕ) → Bool
@@ -35,21 +35,21 @@ last_part-part (b ∷ part) none =
     let tail = All-tail (λ x. x ≢ 10) b part none in
     rw (other, whole_lines-part part tail) (ap (λ ys. b ∷ ys) (last_part-part part tail))
 
-pub last_part-ended : (lines : List (List ℕ)) (rest : List ℕ) → All HasNoLf lines → last_part (ended lines ++ rest) ≡ last_part rest
-last_part-ended [] rest none = refl
-last_part-ended (line ∷ lines) rest none =
-    rw (append_assoc (line ++ 10 ∷ []) (ended lines) rest, append_assoc line (10 ∷ []) (ended lines ++ rest))
-    (last_part-line line (ended lines ++ rest) (All-head HasNoLf line lines none)
-    ∙ last_part-ended lines rest (All-tail HasNoLf line lines none))
+pub last_part-lines_text : (lines : List (List ℕ)) (rest : List ℕ) → All HasNoLf lines → last_part (lines_text lines ++ rest) ≡ last_part rest
+last_part-lines_text [] rest none = refl
+last_part-lines_text (line ∷ lines) rest none =
+    rw (append_assoc (line ++ 10 ∷ []) (lines_text lines) rest, append_assoc line (10 ∷ []) (lines_text lines ++ rest))
+    (last_part-line line (lines_text lines ++ rest) (All-head HasNoLf line lines none)
+    ∙ last_part-lines_text lines rest (All-tail HasNoLf line lines none))
 
-rebuilt_more : (b : ℕ) (is : Bool) (lines : List (List ℕ)) (last bytes : List ℕ) → (b == 10) ≡ is → ended lines ++ last ≡ bytes
-    → ended (cond is ([] ∷ lines) (onto b lines)) ++ cond is last (cond (no_line lines) (b ∷ last) last) ≡ b ∷ bytes
+rebuilt_more : (b : ℕ) (is : Bool) (lines : List (List ℕ)) (last bytes : List ℕ) → (b == 10) ≡ is → lines_text lines ++ last ≡ bytes
+    → lines_text (cond is ([] ∷ lines) (onto b lines)) ++ cond is last (cond (no_line lines) (b ∷ last) last) ≡ b ∷ bytes
 rebuilt_more b true lines last bytes test whole = rw (eqb-true b 10 test) (ap (λ ys. 10 ∷ ys) whole)
 rebuilt_more b false [] last bytes test whole = ap (λ ys. b ∷ ys) whole
 rebuilt_more b false (line ∷ lines) last bytes test whole = ap (λ ys. b ∷ ys) whole
 
 -- bytes are their whole lines and what follows them
-pub rebuilt : (bytes : List ℕ) → ended (whole_lines bytes) ++ last_part bytes ≡ bytes
+pub rebuilt : (bytes : List ℕ) → lines_text (whole_lines bytes) ++ last_part bytes ≡ bytes
 rebuilt [] = refl
 rebuilt (b ∷ bytes) = rebuilt_more b (b == 10) (whole_lines bytes) (last_part bytes) bytes refl (rebuilt bytes)
 
@@ -110,11 +110,11 @@ pub data Outcome : Type 0 where
 
 -- after the lines of a message that were seen, by the whole lines and the part that follow
 abbrev pub walk : List (List ℕ) → List (List ℕ) → List ℕ → Outcome
-walk seen [] last = cond (nat_le (length (content last)) 1024) (Partial (ended seen ++ last)) (Bad LineTooLong)
+walk seen [] last = cond (nat_le (length (content last)) 1024) (Partial (lines_text seen ++ last)) (Bad LineTooLong)
 walk seen (line ∷ lines) last =
     cond (nat_lt 1024 (length (content line))) (Bad LineTooLong)
     (cond (length (content line) == 0)
-    (cond (length seen == 0) (walk seen lines last) (Whole (fields_of seen) (ended lines ++ last)))
+    (cond (length seen == 0) (walk seen lines last) (Whole (fields_of seen) (lines_text lines ++ last)))
     (cond (nat_lt (length seen) 128) (walk (seen ++ line ∷ []) lines last) (Bad TooManyFields)))
 
 -- of bytes
@@ -152,10 +152,10 @@ first_of-begins bytes lines more b =
     let none_empty : All HasNoLf b.empties = All-weaker IsEmptyLine HasNoLf (λ l e. e.no_lf) b.empties b.each_empty in
     let none_full : All HasNoLf lines = All-weaker IsFullLine HasNoLf (λ l e. e.no_lf) lines b.each_full in
     let whole : whole_lines bytes ≡ b.empties ++ (lines ++ whole_lines more) =
-    ap whole_lines b.whole ∙ whole_lines-ended b.empties (ended lines ++ more) none_empty
-    ∙ ap (λ ls. b.empties ++ ls) (whole_lines-ended lines more none_full) in
+    ap whole_lines b.whole ∙ whole_lines-lines_text b.empties (lines_text lines ++ more) none_empty
+    ∙ ap (λ ls. b.empties ++ ls) (whole_lines-lines_text lines more none_full) in
     let last : last_part bytes ≡ last_part more =
-    ap last_part b.whole ∙ last_part-ended b.empties (ended lines ++ more) none_empty ∙ last_part-ended lines more none_full in
+    ap last_part b.whole ∙ last_part-lines_text b.empties (lines_text lines ++ more) none_empty ∙ last_part-lines_text lines more none_full in
     let within : 0 + length lines ≤ 128 = omega (arith, b.within) in
     rw (whole, last)
     (walk-empties b.empties (lines ++ whole_lines more) (last_part more) b.each_empty
@@ -168,7 +168,7 @@ outcome-message bytes message rest m =
     first_of-begins bytes m.lines (m.last ++ 10 ∷ rest) m.begins
     ∙ rw (whole_lines-line m.last rest m.is_empty.no_lf, last_part-line m.last rest m.is_empty.no_lf, none, some, rebuilt rest, m.fields) refl
 
-pub outcome-rest : (bytes : List ℕ) (empties : List (List ℕ)) (rest : List ℕ) → All IsEmptyLine empties → bytes ≡ ended empties ++ rest → IsRest rest
+pub outcome-rest : (bytes : List ℕ) (empties : List (List ℕ)) (rest : List ℕ) → All IsEmptyLine empties → bytes ≡ lines_text empties ++ rest → IsRest rest
     → first_of bytes ≡ Partial rest
 outcome-rest bytes empties rest each is r =
     let fits : nat_le (length (content r.part)) 1024 ≡ true = le-leb (length (content r.part)) 1024 r.fits in
@@ -177,7 +177,7 @@ outcome-rest bytes empties rest each is r =
       each_empty = each;
       each_full = r.each_full;
       within = r.within;
-      whole = is ∙ ap (λ ys. ended empties ++ ys) r.whole;
+      whole = is ∙ ap (λ ys. lines_text empties ++ ys) r.whole;
     })
     ∙ rw (whole_lines-part r.part r.no_lf, last_part-part r.part r.no_lf, fits, r.whole) refl
 

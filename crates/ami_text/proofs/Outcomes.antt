@@ -5,7 +5,7 @@ use Rattle.std.proofs.lemmas.List.Elements.{All-append, All-nil}
 use Rattle.ami_text.specs.declared.feed_fault.FeedFault.{FeedFault}
 use Rattle.ami_text.specs.declared.feed_fault.FeedFault.TheVariants.{LineTooLong, TooManyFields, Memory}
 use Rattle.ami_text.specs.MessageFields.{NameAndValue}
-use Rattle.ami_text.specs.Lines.{IsEmptyLine, ended}
+use Rattle.ami_text.specs.Lines.{IsEmptyLine, lines_text}
 use Rattle.ami_text.specs.Stream.{Begins, FirstMessage, HasFault, Gives, Ending, Rest, Fault, Reads}
 use Rattle.ami_text.proofs.Outcome.{Outcome, Whole, Partial, Bad, first_of, outcome-message, outcome-rest, outcome-fault}
 
@@ -15,8 +15,8 @@ begins-more bytes more lines behind b = record {
   each_empty = b.each_empty;
   each_full = b.each_full;
   within = b.within;
-  whole = ap (λ ys. ys ++ more) b.whole ∙ append_assoc (ended b.empties) (ended lines ++ behind) more
-      ∙ ap (λ ys. ended b.empties ++ ys) (append_assoc (ended lines) behind more);
+  whole = ap (λ ys. ys ++ more) b.whole ∙ append_assoc (lines_text b.empties) (lines_text lines ++ behind) more
+      ∙ ap (λ ys. lines_text b.empties ++ ys) (append_assoc (lines_text lines) behind more);
 }
 
 first_message-more : (bytes more : List ℕ) (message : List NameAndValue) (rest : List ℕ) → FirstMessage bytes message rest
@@ -58,24 +58,24 @@ fault-more Memory bytes more none = absurd none
 
 -- messages stay, whatever follows
 pub gives-more : (messages : List (List NameAndValue)) (bytes more rest : List ℕ) → Gives bytes messages rest → Gives (bytes ++ more) messages (rest ++ more)
-gives-more [] bytes more rest g = (g.0, g.1, ap (λ ys. ys ++ more) g.2 ∙ append_assoc (ended g.0) rest more)
+gives-more [] bytes more rest g = (g.0, g.1, ap (λ ys. ys ++ more) g.2 ∙ append_assoc (lines_text g.0) rest more)
 gives-more (message ∷ messages) bytes more rest g =
     (g.0 ++ more, first_message-more bytes more message g.0 g.1, gives-more messages g.0 more rest g.2)
 
 begins-after : (empties : List (List ℕ)) (bytes : List ℕ) (lines : List (List ℕ)) (more : List ℕ) → All IsEmptyLine empties → Begins bytes lines more
-    → Begins (ended empties ++ bytes) lines more
+    → Begins (lines_text empties ++ bytes) lines more
 begins-after empties bytes lines more each b = record {
   empties = empties ++ b.empties;
   each_empty = All-append IsEmptyLine empties b.empties each b.each_empty;
   each_full = b.each_full;
   within = b.within;
-  whole = ap (λ ys. ended empties ++ ys) b.whole ∙ sym (append_assoc (ended empties) (ended b.empties) (ended lines ++ more))
-      ∙ ap (λ ys. ys ++ (ended lines ++ more)) (sym (flat_map-append (λ l. l ++ 10 ∷ []) empties b.empties));
+  whole = ap (λ ys. lines_text empties ++ ys) b.whole ∙ sym (append_assoc (lines_text empties) (lines_text b.empties) (lines_text lines ++ more))
+      ∙ ap (λ ys. ys ++ (lines_text lines ++ more)) (sym (flat_map-append (λ l. l ++ 10 ∷ []) empties b.empties));
 }
 
 -- empty lines before a fault are nothing
 pub fault-after : (fault : FeedFault) (empties : List (List ℕ)) (bytes : List ℕ) → All IsEmptyLine empties → HasFault fault bytes
-    → HasFault fault (ended empties ++ bytes)
+    → HasFault fault (lines_text empties ++ bytes)
 fault-after LineTooLong empties bytes each l = record {
   lines = l.lines;
   part = l.part;
@@ -96,11 +96,11 @@ fault-after Memory empties bytes each none = absurd none
 
 -- nor are they before messages
 pub gives-after : (empties : List (List ℕ)) (messages : List (List NameAndValue)) (bytes rest : List ℕ) → All IsEmptyLine empties → Gives bytes messages rest
-    → Gives (ended empties ++ bytes) messages rest
+    → Gives (lines_text empties ++ bytes) messages rest
 gives-after empties [] bytes rest each g = (
   empties ++ g.0,
   All-append IsEmptyLine empties g.0 each g.1,
-  ap (λ ys. ended empties ++ ys) g.2 ∙ sym (append_assoc (ended empties) (ended g.0) rest)
+  ap (λ ys. lines_text empties ++ ys) g.2 ∙ sym (append_assoc (lines_text empties) (lines_text g.0) rest)
       ∙ ap (λ ys. ys ++ rest) (sym (flat_map-append (λ l. l ++ 10 ∷ []) empties g.0)),
 )
 gives-after empties (message ∷ messages) bytes rest each g = (
@@ -138,7 +138,7 @@ ended_by (Fault fault) = Bad fault
 first_of-none : (bytes : List ℕ) (ending : Ending) → Reads bytes [] ending → first_of bytes ≡ ended_by ending
 first_of-none bytes (Rest rest) r = outcome-rest bytes r.0.0 rest r.0.1 r.0.2 r.1
 first_of-none bytes (Fault fault) r =
-    ap first_of r.1.2 ∙ outcome-fault fault (ended r.1.0 ++ r.0) (fault-after fault r.1.0 r.0 r.1.1 r.2)
+    ap first_of r.1.2 ∙ outcome-fault fault (lines_text r.1.0 ++ r.0) (fault-after fault r.1.0 r.0 r.1.1 r.2)
 
 first_of-some : (bytes : List ℕ) (message : List NameAndValue) (messages : List (List NameAndValue)) (ending : Ending) → Reads bytes (message ∷ messages) ending
     → (after : List ℕ) × (first_of bytes ≡ Whole message after) × Reads after messages ending

@@ -4,9 +4,9 @@ use Rattle.bstr.specs.Find.{Nowhere, NoneBefore, Passes, is_byte}
 use Rattle.std.proofs.lemmas.List.{take_rest, append-nil}
 use Rattle.std.proofs.lemmas.List.Elements.{filter_map-append}
 use Rattle.ami_text.specs.MessageFields.{NameAndValue, field_of, fields_of}
-use Rattle.ami_text.specs.Lines.{HasNoLf, content, ended}
+use Rattle.ami_text.specs.Lines.{HasNoLf, content, lines_text}
 use Rattle.ami_text.proofs.ByteSearch.{HasNoLf-all, whole_lines-found}
-use Rattle.ami_text.proofs.WholeLines.{whole_lines, whole_lines-part, whole_lines-ended}
+use Rattle.ami_text.proofs.WholeLines.{whole_lines, whole_lines-part, whole_lines-lines_text}
 
 -- the fields of a line, then those of others
 pub fields_of-cons : (line : List ℕ) (lines : List (List ℕ)) → fields_of (line ∷ lines) ≡ fields_of (line ∷ []) ++ fields_of lines
@@ -31,10 +31,10 @@ parse_more bytes rest part n fields more before found is_part is_more =
 pub parse_all : (bytes rest : List ℕ) (fields : List NameAndValue)
     → fields_of (whole_lines bytes) ≡ fields ++ fields_of (whole_lines rest)
     → Nowhere (Passes (is_byte 10) rest) 0 (length rest)
-    → (lines : List (List ℕ)) → All HasNoLf lines → bytes ≡ ended lines → fields ≡ fields_of lines
+    → (lines : List (List ℕ)) → All HasNoLf lines → bytes ≡ lines_text lines → fields ≡ fields_of lines
 parse_all bytes rest fields before none lines each is =
     let all : fields_of (whole_lines bytes) ≡ fields =
     before ∙ ap (λ ls. fields ++ fields_of ls) (whole_lines-part rest (HasNoLf-all rest none)) ∙ append-nil fields in
     let read : whole_lines bytes ≡ lines =
-    ap whole_lines (is ∙ sym (append-nil (ended lines))) ∙ whole_lines-ended lines [] each ∙ append-nil lines in
+    ap whole_lines (is ∙ sym (append-nil (lines_text lines))) ∙ whole_lines-lines_text lines [] each ∙ append-nil lines in
     sym all ∙ ap fields_of read

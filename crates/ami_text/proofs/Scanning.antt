@@ -9,7 +9,7 @@ use Rattle.ami_text.specs.declared.line_kind.LineKind.TheVariants.{Empty, Full, 
 use Rattle.ami_text.specs.LineKind.{HasKind}
 use Rattle.ami_text.specs.declared.progress.Progress.{Progress}
 use Rattle.ami_text.specs.Found.{EndsMessage, EndsInRest}
-use Rattle.ami_text.specs.Lines.{HasNoLf, content, IsEmptyLine, IsFullLine, ended}
+use Rattle.ami_text.specs.Lines.{HasNoLf, content, IsEmptyLine, IsFullLine, lines_text}
 use Rattle.ami_text.specs.Progress.{IsReached}
 use Rattle.ami_text.specs.Stream.{ShowsLongLine, EndsTooManyLines}
 use Rattle.ami_text.proofs.ByteSearch.{HasNoLf-take, HasNoLf-all, around_lf}
@@ -25,10 +25,10 @@ pub record Scanned (held : List ℕ) (empty line lines looked : ℕ) : Type 0 wh
   pub count : length read ≡ lines
   pub within : lines ≤ 128
   pub no_lf : HasNoLf part
-  pub empty_at : length (ended empties) ≡ empty
-  pub line_at : empty + length (ended read) ≡ line
+  pub empty_at : length (lines_text empties) ≡ empty
+  pub line_at : empty + length (lines_text read) ≡ line
   pub looked_at : line + length part ≡ looked
-  pub whole : held ≡ ended empties ++ (ended read ++ (part ++ ahead))
+  pub whole : held ≡ lines_text empties ++ (lines_text read ++ (part ++ ahead))
 
 -- the same, where the next line's LF is at `end`
 pub record LineFound (held : List ℕ) (empty line lines end : ℕ) : Type 0 where
@@ -41,10 +41,10 @@ pub record LineFound (held : List ℕ) (empty line lines end : ℕ) : Type 0 whe
   pub count : length read ≡ lines
   pub within : lines ≤ 128
   pub no_lf : HasNoLf text
-  pub empty_at : length (ended empties) ≡ empty
-  pub line_at : empty + length (ended read) ≡ line
+  pub empty_at : length (lines_text empties) ≡ empty
+  pub line_at : empty + length (lines_text read) ≡ line
   pub end_at : line + length text ≡ end
-  pub whole : held ≡ ended empties ++ (ended read ++ (text ++ 10 ∷ after))
+  pub whole : held ≡ lines_text empties ++ (lines_text read ++ (text ++ 10 ∷ after))
 
 -- where the last look stopped
 pub scanned_start : (held : List ℕ) (progress : Progress) → IsReached held progress → Scanned held 0 progress.line progress.lines progress.looked
@@ -73,30 +73,30 @@ drop_parts a b c d n e =
 -- what lies ahead
 pub ahead_is : (held : List ℕ) (empty line lines looked : ℕ) (s : Scanned held empty line lines looked) → drop looked held ≡ s.ahead
 ahead_is held empty line lines looked s =
-    rw s.whole (drop_parts (ended s.empties) (ended s.read) s.part s.ahead looked (omega (arith, s.empty_at, s.line_at, s.looked_at)))
+    rw s.whole (drop_parts (lines_text s.empties) (lines_text s.read) s.part s.ahead looked (omega (arith, s.empty_at, s.line_at, s.looked_at)))
 
 -- the bounds of the places
 pub scanned_bounds : (held : List ℕ) (empty line lines looked : ℕ) → Scanned held empty line lines looked
     → (empty ≤ line) × (line ≤ looked) × (looked ≤ length held)
 scanned_bounds held empty line lines looked s =
     let e = ap length s.whole in
-    let f = length-append (ended s.empties) (ended s.read ++ (s.part ++ s.ahead)) in
-    let g = length-append (ended s.read) (s.part ++ s.ahead) in
+    let f = length-append (lines_text s.empties) (lines_text s.read ++ (s.part ++ s.ahead)) in
+    let g = length-append (lines_text s.read) (s.part ++ s.ahead) in
     let h = length-append s.part s.ahead in
     (omega (arith, s.line_at), omega (arith, s.looked_at), omega (arith, e, f, g, h, s.empty_at, s.line_at, s.looked_at))
 
 -- the bytes of lines and one more
-pub ended-push : (lines : List (List ℕ)) (line after : List ℕ) → ended (lines ++ line ∷ []) ++ after ≡ ended lines ++ (line ++ 10 ∷ after)
-ended-push lines line after =
+pub lines_text-push : (lines : List (List ℕ)) (line after : List ℕ) → lines_text (lines ++ line ∷ []) ++ after ≡ lines_text lines ++ (line ++ 10 ∷ after)
+lines_text-push lines line after =
     ap (λ ys. ys ++ after) (flat_map-append (λ l. l ++ 10 ∷ []) lines (line ∷ []))
-    ∙ append_assoc (ended lines) ((line ++ 10 ∷ []) ++ []) after
-    ∙ ap (λ ys. ended lines ++ ys) (ap (λ ys. ys ++ after) (append-nil (line ++ 10 ∷ [])) ∙ append_assoc line (10 ∷ []) after)
+    ∙ append_assoc (lines_text lines) ((line ++ 10 ∷ []) ++ []) after
+    ∙ ap (λ ys. lines_text lines ++ ys) (ap (λ ys. ys ++ after) (append-nil (line ++ 10 ∷ [])) ∙ append_assoc line (10 ∷ []) after)
 
 -- how many they are
-pub length-ended-push : (lines : List (List ℕ)) (line : List ℕ) → length (ended (lines ++ line ∷ [])) ≡ length (ended lines) + (length line + 1)
-length-ended-push lines line =
-    let e = ap length (sym (append-nil (ended (lines ++ line ∷ []))) ∙ ended-push lines line []) in
-    omega (arith, e, length-append (ended lines) (line ++ 10 ∷ []), length-append line (10 ∷ []))
+pub length-lines_text-push : (lines : List (List ℕ)) (line : List ℕ) → length (lines_text (lines ++ line ∷ [])) ≡ length (lines_text lines) + (length line + 1)
+length-lines_text-push lines line =
+    let e = ap length (sym (append-nil (lines_text (lines ++ line ∷ []))) ∙ lines_text-push lines line []) in
+    omega (arith, e, length-append (lines_text lines) (line ++ 10 ∷ []), length-append line (10 ∷ []))
 
 -- the next LF
 pub line_found : (held : List ℕ) (empty line lines looked n : ℕ) → Scanned held empty line lines looked
@@ -121,7 +121,7 @@ line_found held empty line lines looked n s found =
       empty_at = s.empty_at;
       line_at = s.line_at;
       end_at = omega (arith, s.looked_at, length-append s.part (take n s.ahead), length-take-le n s.ahead within);
-      whole = s.whole ∙ ap (λ ys. ended s.empties ++ (ended s.read ++ ys))
+      whole = s.whole ∙ ap (λ ys. lines_text s.empties ++ (lines_text s.read ++ ys))
           (ap (λ ys. s.part ++ ys) (around_lf s.ahead n at.0.high at.1) ∙ sym (append_assoc s.part (take n s.ahead) (10 ∷ drop (n + 1) s.ahead)));
     }
 
@@ -129,22 +129,22 @@ line_found held empty line lines looked n s found =
 pub text_is : (held : List ℕ) (empty line lines end : ℕ) (f : LineFound held empty line lines end) → take (end - line) (drop line held) ≡ f.text
 text_is held empty line lines end f =
     let here : drop line held ≡ f.text ++ 10 ∷ f.after =
-    rw f.whole (drop_parts (ended f.empties) (ended f.read) [] (f.text ++ 10 ∷ f.after) line (omega (arith, f.empty_at, f.line_at))) in
+    rw f.whole (drop_parts (lines_text f.empties) (lines_text f.read) [] (f.text ++ 10 ∷ f.after) line (omega (arith, f.empty_at, f.line_at))) in
     rw here (take_at f.text (10 ∷ f.after) (end - line) (omega (arith, f.end_at)))
 
 -- what follows the line
 pub after_is : (held : List ℕ) (empty line lines end : ℕ) (f : LineFound held empty line lines end) → drop (end + 1) held ≡ f.after
 after_is held empty line lines end f =
     rw (f.whole, ← append_assoc f.text (10 ∷ []) f.after)
-    (drop_parts (ended f.empties) (ended f.read) (f.text ++ 10 ∷ []) f.after (end + 1)
+    (drop_parts (lines_text f.empties) (lines_text f.read) (f.text ++ 10 ∷ []) f.after (end + 1)
     (omega (arith, f.empty_at, f.line_at, f.end_at, length-append f.text (10 ∷ []))))
 
 -- the bounds of its places
 pub found_bounds : (held : List ℕ) (empty line lines end : ℕ) → LineFound held empty line lines end → (line ≤ end) × (end + 1 ≤ length held)
 found_bounds held empty line lines end f =
     let e = ap length f.whole in
-    let g = length-append (ended f.empties) (ended f.read ++ (f.text ++ 10 ∷ f.after)) in
-    let h = length-append (ended f.read) (f.text ++ 10 ∷ f.after) in
+    let g = length-append (lines_text f.empties) (lines_text f.read ++ (f.text ++ 10 ∷ f.after)) in
+    let h = length-append (lines_text f.read) (f.text ++ 10 ∷ f.after) in
     let i = length-append f.text (10 ∷ f.after) in
     (omega (arith, f.end_at), omega (arith, e, g, h, i, f.empty_at, f.line_at, f.end_at))
 
@@ -162,9 +162,9 @@ next_full held empty line lines end f full lt = record {
   within = omega (arith, lt);
   no_lf = All-nil (λ b. b ≢ 10);
   empty_at = f.empty_at;
-  line_at = omega (arith, f.line_at, f.end_at, length-ended-push f.read f.text);
+  line_at = omega (arith, f.line_at, f.end_at, length-lines_text-push f.read f.text);
   looked_at = omega arith;
-  whole = f.whole ∙ ap (λ ys. ended f.empties ++ ys) (sym (ended-push f.read f.text f.after));
+  whole = f.whole ∙ ap (λ ys. lines_text f.empties ++ ys) (sym (lines_text-push f.read f.text f.after));
 }
 
 -- one more empty line before a message
@@ -172,7 +172,7 @@ pub next_empty : (held : List ℕ) (empty line lines end : ℕ) (f : LineFound h
     → Scanned held (end + 1) (end + 1) lines (end + 1)
 next_empty held empty line lines end f is_empty none =
     let nil : f.read ≡ [] = nil_from_length f.read (f.count ∙ none) in
-    let none_read : length (ended f.read) ≡ 0 = ap (λ ls. length (ended ls)) nil in
+    let none_read : length (lines_text f.read) ≡ 0 = ap (λ ls. length (lines_text ls)) nil in
     record {
       empties = f.empties ++ f.text ∷ [];
       read = [];
@@ -183,10 +183,10 @@ next_empty held empty line lines end f is_empty none =
       count = sym none;
       within = f.within;
       no_lf = All-nil (λ b. b ≢ 10);
-      empty_at = omega (arith, f.empty_at, f.line_at, f.end_at, none_read, length-ended-push f.empties f.text);
+      empty_at = omega (arith, f.empty_at, f.line_at, f.end_at, none_read, length-lines_text-push f.empties f.text);
       line_at = omega arith;
       looked_at = omega arith;
-      whole = f.whole ∙ ap (λ ls. ended f.empties ++ (ended ls ++ (f.text ++ 10 ∷ f.after))) nil ∙ sym (ended-push f.empties f.text f.after);
+      whole = f.whole ∙ ap (λ ls. lines_text f.empties ++ (lines_text ls ++ (f.text ++ 10 ∷ f.after))) nil ∙ sym (lines_text-push f.empties f.text f.after);
     }
 
 -- the empty line that ends a message
@@ -202,13 +202,13 @@ ends_message held empty line lines end f is_empty some =
         each_empty = f.each_empty;
         each_full = f.each_full;
         within = rw f.count f.within;
-        whole = f.whole ∙ ap (λ ys. ended f.empties ++ (ended f.read ++ (f.text ++ 10 ∷ ys))) (sym (after_is held empty line lines end f));
+        whole = f.whole ∙ ap (λ ys. lines_text f.empties ++ (lines_text f.read ++ (f.text ++ 10 ∷ ys))) (sym (after_is held empty line lines end f));
       };
       some = rw f.count some;
       is_empty = is_empty;
-      front = ap (take line) (f.whole ∙ sym (append_assoc (ended f.empties) (ended f.read) (f.text ++ 10 ∷ f.after)))
-          ∙ take_at (ended f.empties ++ ended f.read) (f.text ++ 10 ∷ f.after) line
-          (omega (arith, length-append (ended f.empties) (ended f.read), f.empty_at, f.line_at));
+      front = ap (take line) (f.whole ∙ sym (append_assoc (lines_text f.empties) (lines_text f.read) (f.text ++ 10 ∷ f.after)))
+          ∙ take_at (lines_text f.empties ++ lines_text f.read) (f.text ++ 10 ∷ f.after) line
+          (omega (arith, length-append (lines_text f.empties) (lines_text f.read), f.empty_at, f.line_at));
       end_within = omega (arith, b.0, b.1);
       next_within = b.1;
     }
@@ -249,7 +249,7 @@ no_lf_ahead held empty line lines looked s none =
 pub part_is : (held : List ℕ) (empty line lines looked : ℕ) (s : Scanned held empty line lines looked)
     → take (length held - line) (drop line held) ≡ s.part ++ s.ahead
 part_is held empty line lines looked s =
-    take_rest held line ∙ rw s.whole (drop_parts (ended s.empties) (ended s.read) [] (s.part ++ s.ahead) line (omega (arith, s.empty_at, s.line_at)))
+    take_rest held line ∙ rw s.whole (drop_parts (lines_text s.empties) (lines_text s.read) [] (s.part ++ s.ahead) line (omega (arith, s.empty_at, s.line_at)))
 
 -- a line too long, without its end
 pub shows_long : (held : List ℕ) (empty line lines looked : ℕ) (s : Scanned held empty line lines looked) → HasNoLf (s.part ++ s.ahead)
@@ -263,7 +263,7 @@ shows_long held empty line lines looked s no_lf long = record {
     each_empty = s.each_empty;
     each_full = s.each_full;
     within = rw s.count s.within;
-    whole = s.whole ∙ ap (λ ys. ended s.empties ++ (ended s.read ++ ys)) (sym (append-nil (s.part ++ s.ahead)));
+    whole = s.whole ∙ ap (λ ys. lines_text s.empties ++ (lines_text s.read ++ ys)) (sym (append-nil (s.part ++ s.ahead)));
   };
   no_lf = no_lf;
   too_long = long;
@@ -275,14 +275,14 @@ pub ends_in_rest : (held : List ℕ) (empty line lines looked : ℕ) (s : Scanne
     → EndsInRest held empty (record { line = line - empty; lines = lines; looked = length held - empty })
 ends_in_rest held empty line lines looked s no_lf fits =
     let b = scanned_bounds held empty line lines looked s in
-    let behind : drop empty held ≡ ended s.read ++ (s.part ++ s.ahead) =
-    rw s.whole (drop_at (ended s.empties) (ended s.read ++ (s.part ++ s.ahead)) empty s.empty_at) in
-    let count : length held - empty ≡ length (ended s.read) + length (s.part ++ s.ahead) =
-    sym (length-drop empty held) ∙ ap length behind ∙ length-append (ended s.read) (s.part ++ s.ahead) in
+    let behind : drop empty held ≡ lines_text s.read ++ (s.part ++ s.ahead) =
+    rw s.whole (drop_at (lines_text s.empties) (lines_text s.read ++ (s.part ++ s.ahead)) empty s.empty_at) in
+    let count : length held - empty ≡ length (lines_text s.read) + length (s.part ++ s.ahead) =
+    sym (length-drop empty held) ∙ ap length behind ∙ length-append (lines_text s.read) (s.part ++ s.ahead) in
     record {
       empties = s.empties;
       each_empty = s.each_empty;
-      whole = s.whole ∙ ap (λ ys. ended s.empties ++ ys) (sym behind);
+      whole = s.whole ∙ ap (λ ys. lines_text s.empties ++ ys) (sym behind);
       empty_within = omega (arith, b.0, b.1, b.2);
       is_rest = record { lines = s.read; part = s.part ++ s.ahead; each_full = s.each_full; within = rw s.count s.within; no_lf = no_lf; fits = fits; whole = behind };
       reached = record {
@@ -295,7 +295,7 @@ ends_in_rest held empty line lines looked s no_lf fits =
         no_lf = no_lf;
         line_at = omega (arith, s.line_at);
         looked_at = omega (arith, s.line_at, count);
-        whole = behind ∙ ap (λ ys. ended s.read ++ ys) (sym (append-nil (s.part ++ s.ahead)));
+        whole = behind ∙ ap (λ ys. lines_text s.read ++ ys) (sym (append-nil (s.part ++ s.ahead)));
       };
     }
 

@@ -2,7 +2,7 @@
 use Rattle.std.proofs.Common.{◌≡◌, ◌≢◌, ℕ, ◌==◌, false, List, [], ◌∷◌, ◌++◌, refl, ◌∙◌, ap, All, append_assoc, cond}
 use Rattle.std.proofs.lemmas.Bool.{ne_eqb}
 use Rattle.std.proofs.lemmas.List.Elements.{All-head, All-tail}
-use Rattle.ami_text.specs.Lines.{HasNoLf, ended}
+use Rattle.ami_text.specs.Lines.{HasNoLf, lines_text}
 
 -- the lines with a byte put before the first
 abbrev pub onto : ℕ → List (List ℕ) → List (List ℕ)
@@ -29,9 +29,9 @@ whole_lines-part (b ∷ part) none =
     rw (other, whole_lines-part part (All-tail (λ x. x ≢ 10) b part none)) refl
 
 -- lines, and then others
-pub whole_lines-ended : (lines : List (List ℕ)) (rest : List ℕ) → All HasNoLf lines → whole_lines (ended lines ++ rest) ≡ lines ++ whole_lines rest
-whole_lines-ended [] rest none = refl
-whole_lines-ended (line ∷ lines) rest none =
-    rw (append_assoc (line ++ 10 ∷ []) (ended lines) rest, append_assoc line (10 ∷ []) (ended lines ++ rest))
-    (whole_lines-line line (ended lines ++ rest) (All-head HasNoLf line lines none)
-    ∙ ap (λ ls. line ∷ ls) (whole_lines-ended lines rest (All-tail HasNoLf line lines none)))
+pub whole_lines-lines_text : (lines : List (List ℕ)) (rest : List ℕ) → All HasNoLf lines → whole_lines (lines_text lines ++ rest) ≡ lines ++ whole_lines rest
+whole_lines-lines_text [] rest none = refl
+whole_lines-lines_text (line ∷ lines) rest none =
+    rw (append_assoc (line ++ 10 ∷ []) (lines_text lines) rest, append_assoc line (10 ∷ []) (lines_text lines ++ rest))
+    (whole_lines-line line (lines_text lines ++ rest) (All-head HasNoLf line lines none)
+    ∙ ap (λ ls. line ∷ ls) (whole_lines-lines_text lines rest (All-tail HasNoLf line lines none)))

@@ -3,7 +3,7 @@ use Rattle.std.specs.Prelude.{◌≡◌, ◌<◌, ◌≤◌, ℕ, List, ◌∷�
 use Rattle.ami_text.specs.declared.found.Found.{Found}
 use Rattle.ami_text.specs.declared.found.Found.TheVariants.{Message, Rest, Fault}
 use Rattle.ami_text.specs.declared.progress.Progress.{Progress}
-use Rattle.ami_text.specs.Lines.{IsEmptyLine, ended}
+use Rattle.ami_text.specs.Lines.{IsEmptyLine, lines_text}
 use Rattle.ami_text.specs.Progress.{IsReached}
 use Rattle.ami_text.specs.Stream.{Begins, HasFault, IsRest}
 
@@ -15,7 +15,7 @@ pub record EndsMessage (held : List ℕ) (end next : ℕ) : Type 0 where
   pub begins : Begins held lines (last ++ 10 ∷ drop next held)
   pub some : 0 < length lines
   pub is_empty : IsEmptyLine last
-  pub front : take end held ≡ ended begins.empties ++ ended lines
+  pub front : take end held ≡ lines_text begins.empties ++ lines_text lines
   pub end_within : end ≤ length held
   pub next_within : next ≤ length held
 
@@ -24,7 +24,7 @@ pub record EndsMessage (held : List ℕ) (end next : ℕ) : Type 0 where
 pub record EndsInRest (held : List ℕ) (empty : ℕ) (progress : Progress) : Type 0 where
   pub empties : List (List ℕ)
   pub each_empty : All IsEmptyLine empties
-  pub whole : held ≡ ended empties ++ drop empty held
+  pub whole : held ≡ lines_text empties ++ drop empty held
   pub empty_within : empty ≤ length held
   pub is_rest : IsRest (drop empty held)
   pub reached : IsReached (drop empty held) progress

@@ -22,5 +22,5 @@ pub record IsFullLine (line : List ℕ) : Type 0 where
   pub fits : length (content line) ≤ 1024
 
 -- the bytes of whole lines: LF ends each
-abbrev pub ended : List (List ℕ) → List ℕ
-ended lines = flat_map (λ line. line ++ 10 ∷ []) lines
+abbrev pub lines_text : List (List ℕ) → List ℕ
+lines_text lines = flat_map (λ line. line ++ 10 ∷ []) lines

@@ -27,15 +27,15 @@ abbrev pub trimmed_end : List ℕ → List ℕ
 trimmed_end bytes = reverse (trimmed_front (reverse bytes))
 
 -- the text without spaces and tabs at both ends
-abbrev pub trimmed : List ℕ → List ℕ
-trimmed bytes = trimmed_end (trimmed_front bytes)
+abbrev pub trim_of : List ℕ → List ℕ
+trim_of bytes = trimmed_end (trimmed_front bytes)
 
 -- the field that a content with a colon is: what stands before and after the first colon, each
 -- trimmed
 abbrev pub field_of : List ℕ → Option (List ℕ × List ℕ)
 field_of text =
     if list_any is_colon text
-    then Some (trimmed (before_first is_colon text), trimmed (after_first is_colon text))
+    then Some (trim_of (before_first is_colon text), trim_of (after_first is_colon text))
     else None
 
 -- the fields of lines, in order; a line without a colon has none

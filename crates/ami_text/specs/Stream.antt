@@ -3,7 +3,7 @@ use Rattle.std.specs.Prelude.{◌≡◌, ◌<◌, ◌≤◌, ℕ, List, [], ◌�
 use Rattle.ami_text.specs.declared.feed_fault.FeedFault.{FeedFault}
 use Rattle.ami_text.specs.declared.feed_fault.FeedFault.TheVariants.{LineTooLong, TooManyFields, Memory}
 use Rattle.ami_text.specs.MessageFields.{NameAndValue, fields_of}
-use Rattle.ami_text.specs.Lines.{HasNoLf, content, IsEmptyLine, IsFullLine, ended}
+use Rattle.ami_text.specs.Lines.{HasNoLf, content, IsEmptyLine, IsFullLine, lines_text}
 
 -- the bytes begin with empty lines, then have these lines of a message, at most 128, and then more
 pub record Begins (bytes : List ℕ) (lines : List (List ℕ)) (more : List ℕ) : Type 0 where
@@ -11,7 +11,7 @@ pub record Begins (bytes : List ℕ) (lines : List (List ℕ)) (more : List ℕ)
   pub each_empty : All IsEmptyLine empties
   pub each_full : All IsFullLine lines
   pub within : length lines ≤ 128
-  pub whole : bytes ≡ ended empties ++ (ended lines ++ more)
+  pub whole : bytes ≡ lines_text empties ++ (lines_text lines ++ more)
 
 -- the first message of the bytes: an empty line ends it, and the rest follows
 pub record FirstMessage (bytes : List ℕ) (message : List NameAndValue) (rest : List ℕ) : Type 0 where
@@ -31,7 +31,7 @@ pub record IsRest (bytes : List ℕ) : Type 0 where
   pub within : length lines ≤ 128
   pub no_lf : HasNoLf part
   pub fits : length (content part) ≤ 1024
-  pub whole : bytes ≡ ended lines ++ part
+  pub whole : bytes ≡ lines_text lines ++ part
 
 -- the next line's content has more than 1,024 bytes, whether or not the line's end has come
 pub record ShowsLongLine (bytes : List ℕ) : Type 0 where
@@ -61,7 +61,7 @@ HasFault Memory bytes = ⊥
 -- are nothing
 abbrev pub Gives : List ℕ → List (List NameAndValue) → List ℕ → Type 0
 Gives bytes [] rest =
-    (empties : List (List ℕ)) × All IsEmptyLine empties × (bytes ≡ ended empties ++ rest)
+    (empties : List (List ℕ)) × All IsEmptyLine empties × (bytes ≡ lines_text empties ++ rest)
 Gives bytes (message ∷ messages) rest =
     (after : List ℕ) × FirstMessage bytes message after × Gives after messages rest
 

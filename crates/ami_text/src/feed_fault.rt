@@ -1,14 +1,18 @@
 use std::alloc::AllocError;
+use thiserror::Error;
 
 /// Why a feed gives no message. The first two are faults of the stream and stay; after the last the
 /// feed is as before.
-#[derive(Clone, Copy, Debug, PartialEq, Eq)]
+#[derive(Clone, Copy, Debug, PartialEq, Eq, Error)]
 pub enum FeedFault {
     /// A line's content has more than 1,024 bytes.
+    #[error("line too long")]
     LineTooLong,
     /// A message has more than 128 lines that aren't empty.
+    #[error("too many fields")]
     TooManyFields,
-    /// Memory was refused.
+    /// An allocation was refused.
+    #[error("out of memory")]
     Memory,
 }
 

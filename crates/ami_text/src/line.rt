@@ -3,7 +3,7 @@
 ghost use Rattle.std.specs.Prelude.{◌≡◌, ℕ, List};
 ghost use Rattle.std.specs.Option.{option_map};
 ghost use Rattle.std.specs.Borrow.{Bor};
-ghost use Rattle.ami_text.specs.MessageFields.{field_of, trimmed as trimmed_of, trimmed_end as trimmed_end_of, trimmed_front as trimmed_front_of};
+ghost use Rattle.ami_text.specs.MessageFields.{field_of, trim_of, trimmed_end as trimmed_end_of, trimmed_front as trimmed_front_of};
 ghost use Rattle.ami_text.specs.LineKind.{HasKind};
 ghost use Rattle.ami_text.specs.Lines.{content as content_of};
 
@@ -58,7 +58,7 @@ pub fn trimmed_end(bytes: &[u8]) -> &[u8]
 
 /// The bytes without spaces and tabs at both ends.
 pub fn trimmed(bytes: &[u8]) -> &[u8]
-    ensures { result.now ≡ trimmed_of bytes.now }
+    ensures { result.now ≡ trim_of bytes.now }
 {
     trimmed_end(trimmed_front(bytes))
 }

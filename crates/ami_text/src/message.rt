@@ -2,7 +2,7 @@ ghost use Rattle.std.specs.Prelude.{◌≡◌, ℕ, List, [], ◌∷◌, ◌++�
 ghost use Rattle.std.specs.Option.{option_copied};
 ghost use Rattle.ami_text.specs.MessageFields.{fields_of, first_value, value_of};
 ghost use Rattle.ami_text.specs.Field.{pair_of};
-ghost use Rattle.ami_text.specs.Lines.{HasNoLf, ended};
+ghost use Rattle.ami_text.specs.Lines.{HasNoLf, lines_text};
 
 use crate::Memory;
 use crate::field::Field;
@@ -42,7 +42,7 @@ impl Message {
     // The message of these lines, each ended by LF.
     pub(crate) fn parse(alloc: Global, bytes: &[u8]) -> Result<Self, Memory>
         ensures { IfOk result (λ m. (lines : List (List ℕ)) →
-            All HasNoLf lines → bytes.now ≡ ended lines → m ≡ fields_of lines) }
+            All HasNoLf lines → bytes.now ≡ lines_text lines → m ≡ fields_of lines) }
     {
         let mut fields = Vec::new(alloc);
         let mut rest = bytes;

@@ -1,6 +1,5 @@
 ghost use Rattle.std.specs.Prelude.{◌≤◌};
 ghost use Rattle.member_orset.specs.Members.{HasField};
-ghost use Rattle.member_orset.specs.Reads.{dot_fields};
 
 use dots::{Dot, Interface, Member, Penalty, SiteId, Stamp};
 use lww_registers::{Fields, Register};
@@ -26,7 +25,7 @@ fn member(number: u64) -> Result<Member, JoinFault> {
 
 // Fields of which the penalty is set.
 fn penalty(stamp: Stamp, penalty: Penalty) -> Fields
-    ensures { HasField (dot_fields result) }
+    ensures { HasField result }
 {
     let mut fields = Fields::none();
     fields.penalty = Register::of(stamp, penalty);

@@ -1,4 +1,3 @@
-pub mod ListPlaces
 pub mod Places
 pub mod Members
 pub mod Covers

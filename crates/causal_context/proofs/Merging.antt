@@ -5,48 +5,42 @@ use Rattle.std.specs.List.{All}
 use Rattle.std.specs.FinSet as sets
 use Rattle.std.proofs.lemmas.Bool.{cases_lt}
 use Rattle.std.proofs.lemmas.Bool.Decides.{nat_tests}
-use Rattle.std.proofs.lemmas.List.{drop_at, drop-set-lt, length-append, length-drop, take-append-le, take-take, take_at, take_more_set}
+use Rattle.std.proofs.lemmas.List.{drop-set-lt, length-append, length-drop, take_more_set}
 use Rattle.std.proofs.lemmas.List.Folds.{list_any-append}
 use Rattle.std.proofs.lemmas.List.Elements.{All-nil, All-head, All-tail, All-cons, All-weaker, All-push}
-use Rattle.dots.specs.Values.{Tag}
+use Rattle.dots.specs.declared.limits.TheConstants.{MOST_RUNS}
+use Rattle.std.proofs.Math.Bool.{or-false, or_assoc}
+use Rattle.dots.specs.Values.{Dot}
 use Rattle.dots.specs.Orders.{dot_cmp}
-use Rattle.dots.specs.DotSets.{Stretch, in_stretch, in_stretches, is_apart, AreApart, IsRunsOf, run_count, set_of}
+use Rattle.dots.specs.DotSets.{Run, in_run, in_runs, is_apart, AreApart, IsRunsOf, run_count, set_of}
 use Rattle.dots.proofs.DotOrder.{dots_total, dots_exact}
 use Rattle.dots.proofs.Apart.{apart_trans}
 use Rattle.dots.proofs.RunCounts.{run_count-runs}
-use Rattle.dots.proofs.Stretches.{contains-set_of}
-use Rattle.causal_context.specs.Contexts.{IsContext, IsRun, most_runs}
-use Rattle.causal_context.specs.RunLists.{IsNext, begins_by, is_first_ours, joined}
-use Rattle.causal_context.proofs.ListPlaces.{open_at}
+use Rattle.dots.proofs.Runs.{contains-set_of}
+use Rattle.causal_context.specs.Contexts.{IsContext, IsRun}
+use Rattle.dots.proofs.TruthTables.{or_swap}
+use Rattle.dots.proofs.Fronts.{open_at}
+use Rattle.causal_context.specs.RunLists.{IsNext, begins_by, is_first_ours, run_over}
 
 -- all that follow a run begin after it
-later_begins : (r x : Stretch) → r.first ≤ r.last → IsTrue (is_apart r x) → begins_by r x ≡ true
+later_begins : (r x : Run) → r.first ≤ r.last → IsTrue (is_apart r x) → begins_by r x ≡ true
 later_begins r x w a = grind (arith, nat_tests)
 
-begins_trans : (r x y : Stretch) → begins_by r x ≡ true → begins_by x y ≡ true → begins_by r y ≡ true
+begins_trans : (r x y : Run) → begins_by r x ≡ true → begins_by x y ≡ true → begins_by r y ≡ true
 begins_trans r x y a b = grind (arith, nat_tests)
 
-begins_back : (r x : Stretch) → begins_by r x ≡ false → begins_by x r ≡ true
+begins_back : (r x : Run) → begins_by r x ≡ false → begins_by x r ≡ true
 begins_back r x a = grind (arith, nat_tests)
 
-begins_all : (r : Stretch) (rs : List Stretch) → AreApart (r ∷ rs) → All (λ x. begins_by r x ≡ true) rs
+begins_all : (r : Run) (rs : List Run) → AreApart (r ∷ rs) → All (λ x. begins_by r x ≡ true) rs
 begins_all r rs a = All-weaker (λ x. IsTrue (is_apart r x)) (λ x. begins_by r x ≡ true) (λ x p. later_begins r x a.0 p) rs a.1
 
-or_swap : (a b c : Bool) → (a || (b || c)) ≡ (b || (a || c))
-or_swap true true c = refl
-or_swap true false c = refl
-or_swap false b c = refl
-
 -- whatever begins where r does or later begins where what r begins before does
-begins_rest : (r x : Stretch) (xs : List Stretch) → begins_by r x ≡ true → AreApart (x ∷ xs) → All (λ y. begins_by r y ≡ true) (x ∷ xs)
+begins_rest : (r x : Run) (xs : List Run) → begins_by r x ≡ true → AreApart (x ∷ xs) → All (λ y. begins_by r y ≡ true) (x ∷ xs)
 begins_rest r x xs h a =
     All-cons (λ y. begins_by r y ≡ true) x xs h (All-weaker (λ y. begins_by x y ≡ true) (λ y. begins_by r y ≡ true) (λ y p. begins_trans r x y h p) xs (begins_all x xs a))
 
-or_assoc : (a b c : Bool) → ((a || b) || c) ≡ (a || (b || c))
-or_assoc true b c = refl
-or_assoc false b c = refl
-
-pub next_of_ours : (r : Stretch) (ours others : List Stretch) → AreApart (r ∷ ours) → AreApart others → All (λ x. begins_by r x ≡ true) others → IsNext r (r ∷ ours) others ours others
+pub next_of_ours : (r : Run) (ours others : List Run) → AreApart (r ∷ ours) → AreApart others → All (λ x. begins_by r x ≡ true) others → IsNext r (r ∷ ours) others ours others
 next_of_ours r ours others a b h = record {
   whole = a.0;
   least = λ x p q. All-head (λ y. begins_by x y ≡ true) r ours p;
@@ -54,10 +48,10 @@ next_of_ours r ours others a b h = record {
   before_others = h;
   apart_ours = a.2;
   apart_others = b;
-  same = λ d. or_assoc (in_stretch d r) (in_stretches ours d) (in_stretches others d);
+  same = λ d. or_assoc (in_run d r) (in_runs ours d) (in_runs others d);
 }
 
-pub next_of_others : (r : Stretch) (ours others : List Stretch) → AreApart ours → AreApart (r ∷ others) → All (λ x. begins_by r x ≡ true) ours → IsNext r ours (r ∷ others) ours others
+pub next_of_others : (r : Run) (ours others : List Run) → AreApart ours → AreApart (r ∷ others) → All (λ x. begins_by r x ≡ true) ours → IsNext r ours (r ∷ others) ours others
 next_of_others r ours others a b h = record {
   whole = b.0;
   least = λ x p q. All-head (λ y. begins_by x y ≡ true) r others q;
@@ -65,20 +59,20 @@ next_of_others r ours others a b h = record {
   before_others = begins_all r others b;
   apart_ours = a;
   apart_others = b.2;
-  same = λ d. or_swap (in_stretches ours d) (in_stretch d r) (in_stretches others d);
+  same = λ d. or_swap (in_runs ours d) (in_run d r) (in_runs others d);
 }
 
 -- what is written, the run at hand and what is left make the union
-pub record IsMerging (written : List Stretch) (current : Stretch) (ours others runs xs : List Stretch) : Type 0 where
+pub record IsMerging (written : List Run) (current : Run) (ours others runs xs : List Run) : Type 0 where
   pub apart : AreApart (written ++ current ∷ [])
   pub limits : All IsRun (written ++ current ∷ [])
   pub before_ours : All (λ x. begins_by current x ≡ true) ours
   pub before_others : All (λ x. begins_by current x ≡ true) others
   pub apart_ours : AreApart ours
   pub apart_others : AreApart others
-  pub same : (d : Tag) → (in_stretches (written ++ current ∷ []) d || (in_stretches ours d || in_stretches others d)) ≡ (in_stretches runs d || in_stretches xs d)
+  pub same : (d : Dot) → (in_runs (written ++ current ∷ []) d || (in_runs ours d || in_runs others d)) ≡ (in_runs runs d || in_runs xs d)
 
-pub merging_starts : (next : Stretch) (runs xs ours others : List Stretch) → IsNext next runs xs ours others → IsRun next → IsMerging [] next ours others runs xs
+pub merging_starts : (next : Run) (runs xs ours others : List Run) → IsNext next runs xs ours others → IsRun next → IsMerging [] next ours others runs xs
 merging_starts next runs xs ours others is l = record {
   apart = (is.whole, All-nil (λ x. IsTrue (is_apart next x)), tt);
   limits = All-cons IsRun next [] l (All-nil IsRun);
@@ -86,43 +80,43 @@ merging_starts next runs xs ours others is l = record {
   before_others = is.before_others;
   apart_ours = is.apart_ours;
   apart_others = is.apart_others;
-  same = λ d. or_none (in_stretch d next) (in_stretches ours d || in_stretches others d) ∙ sym (is.same d);
+  same = λ d. or_none (in_run d next) (in_runs ours d || in_runs others d) ∙ sym (is.same d);
 }
   where
     or_none : (a b : Bool) → ((a || false) || b) ≡ (a || b)
     or_none true b = refl
     or_none false b = refl
 
-push_all : (r x y : Stretch) (rs : List Stretch) → x.first ≤ x.last → IsTrue (is_apart x y) → All (λ z. IsTrue (is_apart r z)) (rs ++ x ∷ []) → All (λ z. IsTrue (is_apart r z)) ((rs ++ x ∷ []) ++ y ∷ [])
+push_all : (r x y : Run) (rs : List Run) → x.first ≤ x.last → IsTrue (is_apart x y) → All (λ z. IsTrue (is_apart r z)) (rs ++ x ∷ []) → All (λ z. IsTrue (is_apart r z)) ((rs ++ x ∷ []) ++ y ∷ [])
 push_all r x y rs w h a = All-push (λ z. IsTrue (is_apart r z)) (rs ++ x ∷ []) y a (apart_trans r x y (last rs a) w h)
   where
-    last : (rs : List Stretch) → All (λ z. IsTrue (is_apart r z)) (rs ++ x ∷ []) → IsTrue (is_apart r x)
+    last : (rs : List Run) → All (λ z. IsTrue (is_apart r z)) (rs ++ x ∷ []) → IsTrue (is_apart r x)
     last [] a = All-head (λ z. IsTrue (is_apart r z)) x [] a
     last (s ∷ rs) a = last rs (All-tail (λ z. IsTrue (is_apart r z)) s (rs ++ x ∷ []) a)
 
 -- a run past the last one is one more
-apart_push : (rs : List Stretch) (x y : Stretch) → AreApart (rs ++ x ∷ []) → IsTrue (is_apart x y) → y.first ≤ y.last → AreApart ((rs ++ x ∷ []) ++ y ∷ [])
+apart_push : (rs : List Run) (x y : Run) → AreApart (rs ++ x ∷ []) → IsTrue (is_apart x y) → y.first ≤ y.last → AreApart ((rs ++ x ∷ []) ++ y ∷ [])
 apart_push [] x y a h w = (a.0, All-cons (λ z. IsTrue (is_apart x z)) y [] h (All-nil (λ z. IsTrue (is_apart x z))), (w, All-nil (λ z. IsTrue (is_apart y z)), tt))
 apart_push (r ∷ rs) x y a h w = (a.0, push_all r x y rs (last_whole rs a.2) h a.1, apart_push rs x y a.2 h w)
   where
-    last_whole : (rs : List Stretch) → AreApart (rs ++ x ∷ []) → x.first ≤ x.last
+    last_whole : (rs : List Run) → AreApart (rs ++ x ∷ []) → x.first ≤ x.last
     last_whole [] a = a.0
     last_whole (s ∷ rs) a = last_whole rs a.2
 
 -- the last run may grow at its end
-apart_grows : (rs : List Stretch) (x y : Stretch) → AreApart (rs ++ x ∷ []) → x.site ≡ y.site → x.first ≡ y.first → y.first ≤ y.last → AreApart (rs ++ y ∷ [])
+apart_grows : (rs : List Run) (x y : Run) → AreApart (rs ++ x ∷ []) → x.site ≡ y.site → x.first ≡ y.first → y.first ≤ y.last → AreApart (rs ++ y ∷ [])
 apart_grows [] x y a s f w = (w, All-nil (λ z. IsTrue (is_apart y z)), tt)
 apart_grows (r ∷ rs) x y a s f w = (a.0, all rs a.1, apart_grows rs x y a.2 s f w)
   where
-    one : (r x y : Stretch) → x.site ≡ y.site → x.first ≡ y.first → IsTrue (is_apart r x) → IsTrue (is_apart r y)
+    one : (r x y : Run) → x.site ≡ y.site → x.first ≡ y.first → IsTrue (is_apart r x) → IsTrue (is_apart r y)
     one r x y s f h = grind (arith, nat_tests)
 
-    all : (rs : List Stretch) → All (λ z. IsTrue (is_apart r z)) (rs ++ x ∷ []) → All (λ z. IsTrue (is_apart r z)) (rs ++ y ∷ [])
+    all : (rs : List Run) → All (λ z. IsTrue (is_apart r z)) (rs ++ x ∷ []) → All (λ z. IsTrue (is_apart r z)) (rs ++ y ∷ [])
     all [] h = All-cons (λ z. IsTrue (is_apart r z)) y [] (one r x y s f (All-head (λ z. IsTrue (is_apart r z)) x [] h)) (All-nil (λ z. IsTrue (is_apart r z)))
     all (t ∷ rs) h = All-cons (λ z. IsTrue (is_apart r z)) t (rs ++ y ∷ []) (All-head (λ z. IsTrue (is_apart r z)) t (rs ++ x ∷ []) h) (all rs (All-tail (λ z. IsTrue (is_apart r z)) t (rs ++ x ∷ []) h))
 
 -- the next run lies apart: the one at hand is written
-pub merging_writes : (written : List Stretch) (current next : Stretch) (ours others ours' others' runs xs : List Stretch)
+pub merging_writes : (written : List Run) (current next : Run) (ours others ours' others' runs xs : List Run)
     → IsMerging written current ours others runs xs → IsNext next ours others ours' others' → IsRun next → is_apart current next ≡ true
     → IsMerging (written ++ current ∷ []) next ours' others' runs xs
 merging_writes written current next ours others ours' others' runs xs m n l h = record {
@@ -133,9 +127,9 @@ merging_writes written current next ours others ours' others' runs xs m n l h = 
   apart_ours = n.apart_ours;
   apart_others = n.apart_others;
   same = λ d.
-      ap (λ b. b || (in_stretches ours' d || in_stretches others' d)) (list_any-append (in_stretch d) (written ++ current ∷ []) (next ∷ []))
-      ∙ move (in_stretches (written ++ current ∷ []) d) (in_stretch d next) (in_stretches ours' d || in_stretches others' d)
-      ∙ ap (λ b. in_stretches (written ++ current ∷ []) d || b) (sym (n.same d)) ∙ m.same d;
+      ap (λ b. b || (in_runs ours' d || in_runs others' d)) (list_any-append (in_run d) (written ++ current ∷ []) (next ∷ []))
+      ∙ move (in_runs (written ++ current ∷ []) d) (in_run d next) (in_runs ours' d || in_runs others' d)
+      ∙ ap (λ b. in_runs (written ++ current ∷ []) d || b) (sym (n.same d)) ∙ m.same d;
 }
   where
     move : (a b c : Bool) → ((a || (b || false)) || c) ≡ (a || (b || c))
@@ -143,45 +137,45 @@ merging_writes written current next ours others ours' others' runs xs m n l h = 
     move false true c = refl
     move false false c = refl
 
-in_joined : (d : Tag) (r x : Stretch) → r.first ≤ r.last → x.first ≤ x.last → begins_by r x ≡ true → is_apart r x ≡ false → in_stretch d (joined r x) ≡ (in_stretch d r || in_stretch d x)
+in_joined : (d : Dot) (r x : Run) → r.first ≤ r.last → x.first ≤ x.last → begins_by r x ≡ true → is_apart r x ≡ false → in_run d (run_over r x) ≡ (in_run d r || in_run d x)
 in_joined d r x w v b h = grind (arith, nat_tests)
 
-joined_first : (r x : Stretch) → begins_by r x ≡ true → is_apart r x ≡ false → r.first ≡ min r.first x.first
+joined_first : (r x : Run) → begins_by r x ≡ true → is_apart r x ≡ false → r.first ≡ min r.first x.first
 joined_first r x b h = grind (arith, nat_tests)
 
-joined_begins : (r x y : Stretch) → begins_by r x ≡ true → is_apart r x ≡ false → begins_by x y ≡ true → begins_by (joined r x) y ≡ true
+joined_begins : (r x y : Run) → begins_by r x ≡ true → is_apart r x ≡ false → begins_by x y ≡ true → begins_by (run_over r x) y ≡ true
 joined_begins r x y b h k = grind (arith, nat_tests)
 
-joined_whole : (r x : Stretch) → r.first ≤ r.last → min r.first x.first ≤ max r.last x.last
+joined_whole : (r x : Run) → r.first ≤ r.last → min r.first x.first ≤ max r.last x.last
 joined_whole r x w = omega arith
 
-last_whole : (rs : List Stretch) (x : Stretch) → AreApart (rs ++ x ∷ []) → x.first ≤ x.last
+last_whole : (rs : List Run) (x : Run) → AreApart (rs ++ x ∷ []) → x.first ≤ x.last
 last_whole [] x a = a.0
 last_whole (s ∷ rs) x a = last_whole rs x a.2
 
-all_but_last : (P : Stretch → Type 0) (rs : List Stretch) (x y : Stretch) → All P (rs ++ x ∷ []) → P y → All P (rs ++ y ∷ [])
+all_but_last : (P : Run → Type 0) (rs : List Run) (x y : Run) → All P (rs ++ x ∷ []) → P y → All P (rs ++ y ∷ [])
 all_but_last P [] x y a p = All-cons P y [] p (All-nil P)
 all_but_last P (r ∷ rs) x y a p = All-cons P r (rs ++ y ∷ []) (All-head P r (rs ++ x ∷ []) a) (all_but_last P rs x y (All-tail P r (rs ++ x ∷ []) a) p)
 
 -- it touches: the one at hand grows
-pub merging_grows : (written : List Stretch) (current next : Stretch) (ours others ours' others' runs xs : List Stretch)
-    → IsMerging written current ours others runs xs → IsNext next ours others ours' others' → IsRun (joined current next) → is_apart current next ≡ false
-    → IsMerging written (joined current next) ours' others' runs xs
+pub merging_grows : (written : List Run) (current next : Run) (ours others ours' others' runs xs : List Run)
+    → IsMerging written current ours others runs xs → IsNext next ours others ours' others' → IsRun (run_over current next) → is_apart current next ≡ false
+    → IsMerging written (run_over current next) ours' others' runs xs
 merging_grows written current next ours others ours' others' runs xs m n l h =
     let begins : begins_by current next ≡ true = n.least current m.before_ours m.before_others in
     let whole : current.first ≤ current.last = last_whole written current m.apart in
     record {
-      apart = apart_grows written current (joined current next) m.apart refl (joined_first current next begins h) (joined_whole current next whole);
-      limits = all_but_last IsRun written current (joined current next) m.limits l;
-      before_ours = All-weaker (λ x. begins_by next x ≡ true) (λ x. begins_by (joined current next) x ≡ true) (λ x p. joined_begins current next x begins h p) ours' n.before_ours;
-      before_others = All-weaker (λ x. begins_by next x ≡ true) (λ x. begins_by (joined current next) x ≡ true) (λ x p. joined_begins current next x begins h p) others' n.before_others;
+      apart = apart_grows written current (run_over current next) m.apart refl (joined_first current next begins h) (joined_whole current next whole);
+      limits = all_but_last IsRun written current (run_over current next) m.limits l;
+      before_ours = All-weaker (λ x. begins_by next x ≡ true) (λ x. begins_by (run_over current next) x ≡ true) (λ x p. joined_begins current next x begins h p) ours' n.before_ours;
+      before_others = All-weaker (λ x. begins_by next x ≡ true) (λ x. begins_by (run_over current next) x ≡ true) (λ x p. joined_begins current next x begins h p) others' n.before_others;
       apart_ours = n.apart_ours;
       apart_others = n.apart_others;
       same = λ d.
-          ap (λ b. b || (in_stretches ours' d || in_stretches others' d)) (list_any-append (in_stretch d) written (joined current next ∷ []))
-          ∙ ap (λ b. (in_stretches written d || (b || false)) || (in_stretches ours' d || in_stretches others' d)) (in_joined d current next whole n.whole begins h)
-          ∙ move (in_stretches written d) (in_stretch d current) (in_stretch d next) (in_stretches ours' d || in_stretches others' d)
-          ∙ (λ i. (sym (list_any-append (in_stretch d) written (current ∷ [])) i) || (sym (n.same d) i)) ∙ m.same d;
+          ap (λ b. b || (in_runs ours' d || in_runs others' d)) (list_any-append (in_run d) written (run_over current next ∷ []))
+          ∙ ap (λ b. (in_runs written d || (b || false)) || (in_runs ours' d || in_runs others' d)) (in_joined d current next whole n.whole begins h)
+          ∙ move (in_runs written d) (in_run d current) (in_run d next) (in_runs ours' d || in_runs others' d)
+          ∙ (λ i. (sym (list_any-append (in_run d) written (current ∷ [])) i) || (sym (n.same d) i)) ∙ m.same d;
     }
   where
     move : (a b c e : Bool) → ((a || ((b || c) || false)) || e) ≡ ((a || (b || false)) || (c || e))
@@ -191,47 +185,43 @@ merging_grows written current next ours others ours' others' runs xs m n l h =
     move false false false e = refl
 
 -- nothing is left: the runs of the union
-pub merging_ends : (written : List Stretch) (current : Stretch) (runs xs : List Stretch) → IsMerging written current [] [] runs xs → IsRunsOf (written ++ current ∷ []) (sets.union (set_of runs) (set_of xs))
+pub merging_ends : (written : List Run) (current : Run) (runs xs : List Run) → IsMerging written current [] [] runs xs → IsRunsOf (written ++ current ∷ []) (sets.union (set_of runs) (set_of xs))
 merging_ends written current runs xs m = record {
   apart = m.apart;
   same = λ d.
       sets.contains-union dots_total (set_of runs) (set_of xs) d ∙ (λ i. contains-set_of runs d i || contains-set_of xs d i)
-      ∙ sym (m.same d) ∙ or_none (in_stretches (written ++ current ∷ []) d);
+      ∙ sym (m.same d) ∙ or-false (in_runs (written ++ current ∷ []) d);
 }
-  where
-    or_none : (a : Bool) → (a || false) ≡ a
-    or_none true = refl
-    or_none false = refl
 
 -- which list has the next run
-pub next_if_ours : (r : Stretch) (ours others : List Stretch) → AreApart (r ∷ ours) → AreApart others → is_first_ours (r ∷ ours) others ≡ true → IsNext r (r ∷ ours) others ours others
+pub next_if_ours : (r : Run) (ours others : List Run) → AreApart (r ∷ ours) → AreApart others → is_first_ours (r ∷ ours) others ≡ true → IsNext r (r ∷ ours) others ours others
 next_if_ours r ours [] a b h = next_of_ours r ours [] a b (All-nil (λ x. begins_by r x ≡ true))
 next_if_ours r ours (x ∷ others) a b h = next_of_ours r ours (x ∷ others) a b (begins_rest r x others h b)
 
-pub next_if_others : (r : Stretch) (ours others : List Stretch) → AreApart ours → AreApart (r ∷ others) → is_first_ours ours (r ∷ others) ≡ false → IsNext r ours (r ∷ others) ours others
+pub next_if_others : (r : Run) (ours others : List Run) → AreApart ours → AreApart (r ∷ others) → is_first_ours ours (r ∷ others) ≡ false → IsNext r ours (r ∷ others) ours others
 next_if_others r [] others a b h = next_of_others r [] others a b (All-nil (λ x. begins_by r x ≡ true))
 next_if_others r (x ∷ ours) others a b h = next_of_others r (x ∷ ours) others a b (begins_rest r x ours (begins_back x r h) a)
 
 -- the same, by the places that are reached
-pub first_left : (rs xs : List Stretch) (i j : ℕ) → i < length rs → length xs ≤ j → is_first_ours (drop i rs) (drop j xs) ≡ true
+pub first_left : (rs xs : List Run) (i j : ℕ) → i < length rs → length xs ≤ j → is_first_ours (drop i rs) (drop j xs) ≡ true
 first_left rs xs i j l p = alone (drop i rs) (drop j xs) (omega (arith, length-drop i rs)) (omega (arith, length-drop j xs))
   where
-    alone : (rs xs : List Stretch) → 0 < length rs → length xs ≡ 0 → is_first_ours rs xs ≡ true
+    alone : (rs xs : List Run) → 0 < length rs → length xs ≡ 0 → is_first_ours rs xs ≡ true
     alone [] xs l e = absurd (omega (arith, l))
     alone (r ∷ rs) [] l e = refl
     alone (r ∷ rs) (x ∷ xs) l e = absurd (omega (arith, e))
 
-pub others_left : (rs xs : List Stretch) (i j : ℕ) → j ≤ length xs → i + j < length rs + length xs → is_first_ours (drop i rs) (drop j xs) ≡ false → j < length xs
+pub others_left : (rs xs : List Run) (i j : ℕ) → j ≤ length xs → i + j < length rs + length xs → is_first_ours (drop i rs) (drop j xs) ≡ false → j < length xs
 others_left rs xs i j w l f = elim (cases_lt j (length xs)) [ inl y ↦ y | inr p ↦ absurd (let h = first_left rs xs i j (omega arith) p in cc) ]
 
-pub next_own_at : (rs xs : List Stretch) (i j : ℕ) (x : Stretch) → i < length rs → x ≡ get_or rs i x → AreApart (drop i rs) → AreApart (drop j xs) → is_first_ours (drop i rs) (drop j xs) ≡ true
+pub next_own_at : (rs xs : List Run) (i j : ℕ) (x : Run) → i < length rs → x ≡ get_or rs i x → AreApart (drop i rs) → AreApart (drop j xs) → is_first_ours (drop i rs) (drop j xs) ≡ true
     → IsNext x (drop i rs) (drop j xs) (drop (i + 1) rs) (drop j xs)
 next_own_at rs xs i j x l e a b h =
     let o = open_at rs i x l e in
     subst (λ ys. IsNext x ys (drop j xs) (drop (i + 1) rs) (drop j xs)) (sym o)
     (next_if_ours x (drop (i + 1) rs) (drop j xs) (subst AreApart o a) b (ap (λ ys. is_first_ours ys (drop j xs)) (sym o) ∙ h))
 
-pub next_other_at : (rs xs : List Stretch) (i j : ℕ) (x : Stretch) → j < length xs → x ≡ get_or xs j x → AreApart (drop i rs) → AreApart (drop j xs) → is_first_ours (drop i rs) (drop j xs) ≡ false
+pub next_other_at : (rs xs : List Run) (i j : ℕ) (x : Run) → j < length xs → x ≡ get_or xs j x → AreApart (drop i rs) → AreApart (drop j xs) → is_first_ours (drop i rs) (drop j xs) ≡ false
     → IsNext x (drop i rs) (drop j xs) (drop i rs) (drop (j + 1) xs)
 next_other_at rs xs i j x l e a b h =
     let o = open_at xs j x l e in
@@ -239,19 +229,19 @@ next_other_at rs xs i j x l e a b h =
     (next_if_others x (drop i rs) (drop (j + 1) xs) a (subst AreApart o b) (ap (is_first_ours (drop i rs)) (sym o) ∙ h))
 
 -- the same, where the run that grows is given by its value
-pub grown_merging : (written : List Stretch) (current next grown : Stretch) (ours others ours' others' runs xs : List Stretch)
-    → IsMerging written current ours others runs xs → IsNext next ours others ours' others' → is_apart current next ≡ false → grown ≡ joined current next → IsRun grown
+pub grown_merging : (written : List Run) (current next grown : Run) (ours others ours' others' runs xs : List Run)
+    → IsMerging written current ours others runs xs → IsNext next ours others ours' others' → is_apart current next ≡ false → grown ≡ run_over current next → IsRun grown
     → IsMerging written grown ours' others' runs xs
 grown_merging written current next grown ours others ours' others' runs xs m n h e l =
     subst (λ run. IsMerging written run ours' others' runs xs) (sym e) (merging_grows written current next ours others ours' others' runs xs m n (subst IsRun e l) h)
 
-pub ended_merging : (written : List Stretch) (current : Stretch) (ours others runs xs : List Stretch) → IsMerging written current ours others runs xs → ours ≡ [] → others ≡ []
+pub ended_merging : (written : List Run) (current : Run) (ours others runs xs : List Run) → IsMerging written current ours others runs xs → ours ≡ [] → others ≡ []
     → IsRunsOf (written ++ current ∷ []) (sets.union (set_of runs) (set_of xs))
 ended_merging written current ours others runs xs m a b =
     merging_ends written current runs xs (subst (λ ys. IsMerging written current ys [] runs xs) a (subst (λ ys. IsMerging written current ours ys runs xs) b m))
 
 -- the steps in place: writing at a place before what is left
-pub writing_merging : (ys : List Stretch) (k own own' : ℕ) (current next : Stretch) (others others' runs xs : List Stretch)
+pub writing_merging : (ys : List Run) (k own own' : ℕ) (current next : Run) (others others' runs xs : List Run)
     → k < length ys → k < own' → IsMerging (take k ys) current (drop own ys) others runs xs → IsNext next (drop own ys) others (drop own' ys) others' → IsRun next → is_apart current next ≡ true
     → IsMerging (take (k + 1) (set ys k current)) next (drop own' (set ys k current)) others' runs xs
 writing_merging ys k own own' current next others others' runs xs l p m n r h =
@@ -260,23 +250,23 @@ writing_merging ys k own own' current next others others' runs xs l p m n r h =
     (merging_writes (take k ys) current next (drop own ys) others (drop own' ys) others' runs xs m n r h))
 
 -- a count of the runs of what is merged
-pub record IsCounting (count : ℕ) (current : Stretch) (ours others runs xs : List Stretch) : Type 0 where
-  pub written : List Stretch
+pub record IsCounting (count : ℕ) (current : Run) (ours others runs xs : List Run) : Type 0 where
+  pub written : List Run
   pub merging : IsMerging written current ours others runs xs
   pub counted : count ≡ length written + 1
 
-pub ours_left : (rs xs : List Stretch) (i j : ℕ) → is_first_ours (drop i rs) (drop j xs) ≡ true → i < length rs
+pub ours_left : (rs xs : List Run) (i j : ℕ) → is_first_ours (drop i rs) (drop j xs) ≡ true → i < length rs
 ours_left rs xs i j h = elim (cases_lt i (length rs)) [ inl l ↦ l | inr p ↦ absurd (let e = none_first (drop i rs) (drop j xs) (omega (arith, length-drop i rs)) in cc) ]
   where
-    none_first : (ys zs : List Stretch) → length ys ≡ 0 → is_first_ours ys zs ≡ false
+    none_first : (ys zs : List Run) → length ys ≡ 0 → is_first_ours ys zs ≡ false
     none_first [] zs e = refl
     none_first (y ∷ ys) zs e = absurd (omega (arith, e))
 
 -- the steps of the count
-pub counting_starts : (next : Stretch) (runs xs ours others : List Stretch) → IsNext next runs xs ours others → IsRun next → IsCounting 1 next ours others runs xs
+pub counting_starts : (next : Run) (runs xs ours others : List Run) → IsNext next runs xs ours others → IsRun next → IsCounting 1 next ours others runs xs
 counting_starts next runs xs ours others n l = record { written = []; merging = merging_starts next runs xs ours others n l; counted = refl }
 
-pub counting_writes : (count : ℕ) (current next : Stretch) (ours others ours' others' runs xs : List Stretch)
+pub counting_writes : (count : ℕ) (current next : Run) (ours others ours' others' runs xs : List Run)
     → IsCounting count current ours others runs xs → IsNext next ours others ours' others' → IsRun next → is_apart current next ≡ true
     → IsCounting (count + 1) next ours' others' runs xs
 counting_writes count current next ours others ours' others' runs xs k n l h = record {
@@ -285,8 +275,8 @@ counting_writes count current next ours others ours' others' runs xs k n l h = r
   counted = ap (λ m. m + 1) k.counted ∙ omega (arith, length-append k.written (current ∷ []));
 }
 
-pub counting_grows : (count : ℕ) (current next grown : Stretch) (ours others ours' others' runs xs : List Stretch)
-    → IsCounting count current ours others runs xs → IsNext next ours others ours' others' → is_apart current next ≡ false → grown ≡ joined current next → IsRun grown
+pub counting_grows : (count : ℕ) (current next grown : Run) (ours others ours' others' runs xs : List Run)
+    → IsCounting count current ours others runs xs → IsNext next ours others ours' others' → is_apart current next ≡ false → grown ≡ run_over current next → IsRun grown
     → IsCounting count grown ours' others' runs xs
 counting_grows count current next grown ours others ours' others' runs xs k n h e l = record {
   written = k.written;
@@ -294,41 +284,28 @@ counting_grows count current next grown ours others ours' others' runs xs k n h 
   counted = k.counted;
 }
 
-pub counting_ends : (count : ℕ) (current : Stretch) (ours others runs xs : List Stretch) → IsCounting count current ours others runs xs → ours ≡ [] → others ≡ [] → count ≡ run_count (sets.union (set_of runs) (set_of xs))
+pub counting_ends : (count : ℕ) (current : Run) (ours others runs xs : List Run) → IsCounting count current ours others runs xs → ours ≡ [] → others ≡ [] → count ≡ run_count (sets.union (set_of runs) (set_of xs))
 counting_ends count current ours others runs xs k a b =
     k.counted ∙ sym (length-append k.written (current ∷ [])) ∙ sym (run_count-runs (k.written ++ current ∷ []) _ (ended_merging k.written current ours others runs xs k.merging a b))
 
 -- two empty lists have no runs
-pub counting_none : (runs xs : List Stretch) → length runs ≡ 0 → length xs ≡ 0 → 0 ≡ run_count (sets.union (set_of runs) (set_of xs))
+pub counting_none : (runs xs : List Run) → length runs ≡ 0 → length xs ≡ 0 → 0 ≡ run_count (sets.union (set_of runs) (set_of xs))
 counting_none [] [] a b = sym (run_count-runs [] _ (record { apart = tt; same = λ d. sets.contains-union dots_total (set_of []) (set_of []) d ∙ (λ i. contains-set_of [] d i || contains-set_of [] d i) }))
 counting_none (r ∷ rs) xs a b = absurd (omega (arith, a))
 counting_none [] (x ∷ xs) a b = absurd (omega (arith, b))
 
 -- the last run in its place
-pub last_merging : (ys : List Stretch) (k : ℕ) (current : Stretch) (ours others runs xs : List Stretch)
+pub last_merging : (ys : List Run) (k : ℕ) (current : Run) (ours others runs xs : List Run)
     → k < length ys → IsMerging (take k ys) current ours others runs xs → ours ≡ [] → others ≡ []
     → IsRunsOf (take (k + 1) (set ys k current)) (sets.union (set_of runs) (set_of xs))
 last_merging ys k current ours others runs xs l m a b =
     subst (λ zs. IsRunsOf zs (sets.union (set_of runs) (set_of xs))) (sym (take_more_set ys k current l)) (ended_merging (take k ys) current ours others runs xs m a b)
 
--- the others in front, then all that was there
-pub turned : (old xs ys : List Stretch) → ys ≡ drop (length old) (old ++ xs) ++ take (length old) (old ++ xs) → drop (length xs) ys ≡ old
-turned old xs ys e =
-    ap (drop (length xs)) (e ∙ (λ i. drop_at old xs (length old) refl i ++ take_at old xs (length old) refl i)) ∙ drop_at xs old (length xs) refl
-
 -- a list of runs within the limits is a context's
-pub context_of : (rs : List Stretch) (dots : sets.FinSet dot_cmp) → IsRunsOf rs dots → All IsRun rs → run_count dots ≤ most_runs → IsContext rs
+pub context_of : (rs : List Run) (dots : sets.FinSet dot_cmp) → IsRunsOf rs dots → All IsRun rs → run_count dots ≤ MOST_RUNS → IsContext rs
 context_of rs dots is limits few = record { apart = is.apart; limits = limits; few = omega (arith, run_count-runs rs dots is, few) }
 
 -- no others are no change
-pub union-none : (rs xs : List Stretch) → length xs ≡ 0 → set_of rs ≡ sets.union (set_of rs) (set_of xs)
-union-none rs [] e = sets.same_set dots_total dots_exact _ _ (λ q. sym (sets.contains-union dots_total (set_of rs) (set_of []) q ∙ ap (λ b. sets.contains (set_of rs) q || b) (contains-set_of [] q) ∙ or_none (sets.contains (set_of rs) q)))
-  where
-    or_none : (b : Bool) → (b || false) ≡ b
-    or_none true = refl
-    or_none false = refl
+pub union-none : (rs xs : List Run) → length xs ≡ 0 → set_of rs ≡ sets.union (set_of rs) (set_of xs)
+union-none rs [] e = sets.same_set dots_total dots_exact _ _ (λ q. sym (sets.contains-union dots_total (set_of rs) (set_of []) q ∙ ap (λ b. sets.contains (set_of rs) q || b) (contains-set_of [] q) ∙ or-false (sets.contains (set_of rs) q)))
 union-none rs (x ∷ xs) e = absurd (omega (arith, e))
-
--- what is taken of a list that was written back
-pub written_back : (k n : ℕ) (xs ys : List Stretch) → k ≤ length xs → k ≤ n → take k (take n (xs ++ ys)) ≡ take k xs
-written_back k n xs ys a b = take-take k n (xs ++ ys) b ∙ take-append-le k xs ys a

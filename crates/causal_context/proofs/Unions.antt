@@ -1,26 +1,14 @@
 -- The laws of union and of subsets, at dots.
 use Rattle.std.proofs.Common.{◌≡◌, Bool, true, false, ◌||◌, refl, sym, ap, ◌∙◌}
 use Rattle.std.specs.FinSet as sets
-use Rattle.dots.specs.Values.{Tag}
+use Rattle.std.proofs.Math.Bool.{or_assoc, or_comm, or_self}
+use Rattle.dots.specs.Values.{Dot}
 use Rattle.dots.specs.Orders.{dot_cmp}
 use Rattle.dots.proofs.DotOrder.{dots_total, dots_exact}
+use Rattle.dots.proofs.Membership.{same-tests}
 
 abbrev Dots : Type 0
 Dots = sets.FinSet dot_cmp
-
-or_comm : (a b : Bool) → (a || b) ≡ (b || a)
-or_comm true true = refl
-or_comm true false = refl
-or_comm false true = refl
-or_comm false false = refl
-
-or_assoc : (a b c : Bool) → ((a || b) || c) ≡ (a || (b || c))
-or_assoc true b c = refl
-or_assoc false b c = refl
-
-or_same : (a : Bool) → (a || a) ≡ a
-or_same true = refl
-or_same false = refl
 
 pub union-comm : (a b : Dots) → sets.union a b ≡ sets.union b a
 union-comm a b = sets.same_set dots_total dots_exact _ _ (λ q.
@@ -32,18 +20,13 @@ union-assoc a b c = sets.same_set dots_total dots_exact _ _ (λ q.
     ∙ sym (sets.contains-union dots_total a (sets.union b c) q ∙ ap (λ x. sets.contains a q || x) (sets.contains-union dots_total b c q)))
 
 pub union-same : (a : Dots) → sets.union a a ≡ a
-union-same a = sets.same_set dots_total dots_exact _ _ (λ q. sets.contains-union dots_total a a q ∙ or_same (sets.contains a q))
+union-same a = sets.same_set dots_total dots_exact _ _ (λ q. sets.contains-union dots_total a a q ∙ or_self (sets.contains a q))
 
-pub subset_members : (a b : Dots) → (sets.is_subset a b ≡ true → (d : Tag) → sets.contains a d ≡ true → sets.contains b d ≡ true) × (((d : Tag) → sets.contains a d ≡ true → sets.contains b d ≡ true) → sets.is_subset a b ≡ true)
+pub subset_members : (a b : Dots) → (sets.is_subset a b ≡ true → (d : Dot) → sets.contains a d ≡ true → sets.contains b d ≡ true) × (((d : Dot) → sets.contains a d ≡ true → sets.contains b d ≡ true) → sets.is_subset a b ≡ true)
 subset_members a b = (sets.is_subset-contains dots_total a b, sets.contains-is_subset dots_total a b)
 
-both_ways : (p q : Bool) → (p ≡ true → q ≡ true) → (q ≡ true → p ≡ true) → p ≡ q
-both_ways true q f g = sym (f refl)
-both_ways false true f g = g refl
-both_ways false false f g = refl
-
 pub subset_antisymm : (a b : Dots) → sets.is_subset a b ≡ true → sets.is_subset b a ≡ true → a ≡ b
-subset_antisymm a b h k = sets.same_set dots_total dots_exact _ _ (λ q. both_ways _ _ (sets.is_subset-contains dots_total a b h q) (sets.is_subset-contains dots_total b a k q))
+subset_antisymm a b h k = sets.same_set dots_total dots_exact _ _ (λ q. same-tests _ _ (sets.is_subset-contains dots_total a b h q) (sets.is_subset-contains dots_total b a k q))
 
 pub subset_trans : (a b c : Dots) → sets.is_subset a b ≡ true → sets.is_subset b c ≡ true → sets.is_subset a c ≡ true
 subset_trans a b c h k = sets.contains-is_subset dots_total a c (λ q i. sets.is_subset-contains dots_total b c k q (sets.is_subset-contains dots_total a b h q i))

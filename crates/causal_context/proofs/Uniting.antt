@@ -7,37 +7,38 @@ use Rattle.std.proofs.lemmas.Bool.Decides.{nat_tests}
 use Rattle.std.proofs.lemmas.List.{length-append, length-take, length-drop, get_or-take, get_or-drop, take-append-drop}
 use Rattle.std.proofs.lemmas.List.Folds.{list_any-append}
 use Rattle.std.proofs.lemmas.List.Elements.{All-nil, All-head, All-tail, All-cons, All-weaker, All-append, All-take}
-use Rattle.dots.specs.Values.{Tag}
-use Rattle.dots.specs.DotSets.{Stretch, in_stretch, in_stretches, is_apart, AreApart, IsRunsOf, set_of}
+use Rattle.std.proofs.Math.Bool.{or-false}
+use Rattle.dots.specs.Values.{Dot}
+use Rattle.dots.specs.DotSets.{Run, in_run, in_runs, is_apart, AreApart, IsRunsOf, set_of}
 use Rattle.dots.proofs.DotOrder.{dots_total}
 use Rattle.dots.proofs.Apart.{apart_trans}
-use Rattle.dots.proofs.Stretches.{contains-set_of, set_of-runs}
-use Rattle.causal_context.specs.RunLists.{joined}
-use Rattle.causal_context.proofs.ListPlaces.{open_at}
+use Rattle.dots.proofs.Runs.{contains-set_of, set_of-runs}
+use Rattle.dots.proofs.Fronts.{open_at}
+use Rattle.causal_context.specs.RunLists.{run_over}
 use Rattle.causal_context.proofs.Places.{apart_drop}
 
 -- a run and those that it took in, before the rest
-pub record IsUniting (before : List Stretch) (united : Stretch) (rest : List Stretch) (run : Stretch) (runs : List Stretch) : Type 0 where
+pub record IsUniting (before : List Run) (united : Run) (rest : List Run) (run : Run) (runs : List Run) : Type 0 where
   pub whole : united.first ≤ united.last
   pub apart_before : AreApart before
   pub all_before : All (λ r. is_apart r united ≡ true) before
   pub apart_rest : AreApart rest
   pub none_before : All (λ r. is_apart r united ≡ false) rest
-  pub same : (d : Tag) → (in_stretches before d || (in_stretch d united || in_stretches rest d)) ≡ (in_stretches runs d || in_stretch d run)
+  pub same : (d : Dot) → (in_runs before d || (in_run d united || in_runs rest d)) ≡ (in_runs runs d || in_run d run)
 
-apart_take : (n : ℕ) (rs : List Stretch) → AreApart rs → AreApart (take n rs)
+apart_take : (n : ℕ) (rs : List Run) → AreApart rs → AreApart (take n rs)
 apart_take zero rs a = tt
 apart_take (suc n) [] a = tt
 apart_take (suc n) (r ∷ rs) a = (a.0, All-take (λ x. IsTrue (is_apart r x)) n rs a.1, apart_take n rs a.2)
 
-apart_places : (rs : List Stretch) (i j : ℕ) (d e : Stretch) → AreApart rs → i < j → j < length rs → is_apart (get_or rs i d) (get_or rs j e) ≡ true
+apart_places : (rs : List Run) (i j : ℕ) (d e : Run) → AreApart rs → i < j → j < length rs → is_apart (get_or rs i d) (get_or rs j e) ≡ true
 apart_places [] i j d e a l h = absurd (omega (arith, h))
 apart_places (r ∷ rs) zero zero d e a l h = absurd (omega (arith, l))
 apart_places (r ∷ rs) zero (suc j) d e a l h = a.1 j e (omega arith)
 apart_places (r ∷ rs) (suc i) zero d e a l h = absurd (omega (arith, l))
 apart_places (r ∷ rs) (suc i) (suc j) d e a l h = apart_places rs i j d e a.2 (omega arith) (omega arith)
 
-pub uniting_starts : (runs : List Stretch) (start : ℕ) (run : Stretch) → AreApart runs → start ≤ length runs → run.first ≤ run.last
+pub uniting_starts : (runs : List Run) (start : ℕ) (run : Run) → AreApart runs → start ≤ length runs → run.first ≤ run.last
     → AllWithin (λ r. is_apart r run ≡ true) runs 0 start → AllWithin (λ r. is_apart r run ≡ false) runs start (length runs)
     → IsUniting (take start runs) run (drop start runs) run runs
 uniting_starts runs start run a l w before after = record {
@@ -50,8 +51,8 @@ uniting_starts runs start run a l w before after = record {
   none_before = λ k d h.
       subst (λ r. is_apart r run ≡ false) (sym (get_or-drop start runs k d)) (after (start + k) d (omega arith) (omega (arith, length-drop start runs, h)));
   same = λ d.
-      swap (in_stretches (take start runs) d) (in_stretch d run) (in_stretches (drop start runs) d)
-      ∙ ap (λ b. b || in_stretch d run) (sym (list_any-append (in_stretch d) (take start runs) (drop start runs)) ∙ ap (list_any (in_stretch d)) (take-append-drop start runs));
+      swap (in_runs (take start runs) d) (in_run d run) (in_runs (drop start runs) d)
+      ∙ ap (λ b. b || in_run d run) (sym (list_any-append (in_run d) (take start runs) (drop start runs)) ∙ ap (list_any (in_run d)) (take-append-drop start runs));
 }
   where
     swap : (a b c : Bool) → (a || (b || c)) ≡ ((a || c) || b)
@@ -62,22 +63,22 @@ uniting_starts runs start run a l w before after = record {
     swap false false false = refl
 
 -- where neither of two lies before the other, they are of one site
-pub touching_site : (r x : Stretch) → is_apart r x ≡ false → is_apart x r ≡ false → r.site ≡ x.site
+pub touching_site : (r x : Run) → is_apart r x ≡ false → is_apart x r ≡ false → r.site ≡ x.site
 touching_site r x a b = grind (arith, nat_tests)
 
-in_both : (d : Tag) (r x : Stretch) → r.first ≤ r.last → x.first ≤ x.last → is_apart r x ≡ false → is_apart x r ≡ false → in_stretch d (joined r x) ≡ (in_stretch d r || in_stretch d x)
+in_both : (d : Dot) (r x : Run) → r.first ≤ r.last → x.first ≤ x.last → is_apart r x ≡ false → is_apart x r ≡ false → in_run d (run_over r x) ≡ (in_run d r || in_run d x)
 in_both d r x w v a b = grind (arith, nat_tests)
 
-before_both : (y r x : Stretch) → r.site ≡ x.site → is_apart y r ≡ true → is_apart y x ≡ true → is_apart y (joined r x) ≡ true
+before_both : (y r x : Run) → r.site ≡ x.site → is_apart y r ≡ true → is_apart y x ≡ true → is_apart y (run_over r x) ≡ true
 before_both y r x s a b = grind (arith, nat_tests)
 
-not_before_both : (y r x : Stretch) → is_apart r x ≡ false → is_apart x r ≡ false → is_apart y r ≡ false → is_apart y (joined r x) ≡ false
+not_before_both : (y r x : Run) → is_apart r x ≡ false → is_apart x r ≡ false → is_apart y r ≡ false → is_apart y (run_over r x) ≡ false
 not_before_both y r x a b h = grind (arith, nat_tests)
 
 -- one more that it touches
-pub uniting_takes : (before : List Stretch) (united x : Stretch) (rest : List Stretch) (run : Stretch) (runs : List Stretch)
+pub uniting_takes : (before : List Run) (united x : Run) (rest : List Run) (run : Run) (runs : List Run)
     → IsUniting before united (x ∷ rest) run runs → All (λ r. is_apart r x ≡ true) before → is_apart united x ≡ false
-    → IsUniting before (joined united x) rest run runs
+    → IsUniting before (run_over united x) rest run runs
 uniting_takes before united x rest run runs u p h =
     let back : is_apart x united ≡ false = All-head (λ r. is_apart r united ≡ false) x rest u.none_before in
     record {
@@ -87,8 +88,8 @@ uniting_takes before united x rest run runs u p h =
       apart_rest = u.apart_rest.2;
       none_before = λ k d l. not_before_both (get_or rest k d) united x h back (All-tail (λ r. is_apart r united ≡ false) x rest u.none_before k d l);
       same = λ d.
-          ap (λ b. in_stretches before d || (b || in_stretches rest d)) (in_both d united x u.whole u.apart_rest.0 h back)
-          ∙ move (in_stretches before d) (in_stretch d united) (in_stretch d x) (in_stretches rest d) ∙ u.same d;
+          ap (λ b. in_runs before d || (b || in_runs rest d)) (in_both d united x u.whole u.apart_rest.0 h back)
+          ∙ move (in_runs before d) (in_run d united) (in_run d x) (in_runs rest d) ∙ u.same d;
     }
   where
     joined_whole : united.first ≤ united.last → min united.first x.first ≤ max united.last x.last
@@ -99,7 +100,7 @@ uniting_takes before united x rest run runs u p h =
     move false true c e = refl
     move false false c e = refl
 
-apart_join : (before : List Stretch) (r : Stretch) (rest : List Stretch) → r.first ≤ r.last → AreApart before → All (λ x. is_apart x r ≡ true) before → All (λ x. IsTrue (is_apart r x)) rest → AreApart rest → AreApart (before ++ r ∷ rest)
+apart_join : (before : List Run) (r : Run) (rest : List Run) → r.first ≤ r.last → AreApart before → All (λ x. is_apart x r ≡ true) before → All (λ x. IsTrue (is_apart r x)) rest → AreApart rest → AreApart (before ++ r ∷ rest)
 apart_join [] r rest w a p q b = (w, q, b)
 apart_join (x ∷ before) r rest w a p q b =
     let first : is_apart x r ≡ true = All-head (λ x. is_apart x r ≡ true) x before p in (
@@ -109,41 +110,37 @@ apart_join (x ∷ before) r rest w a p q b =
     )
 
 -- the run that is made lies before the rest
-before_rest : (r x : Stretch) (rest : List Stretch) → is_apart r x ≡ true → AreApart (x ∷ rest) → All (λ y. IsTrue (is_apart r y)) (x ∷ rest)
+before_rest : (r x : Run) (rest : List Run) → is_apart r x ≡ true → AreApart (x ∷ rest) → All (λ y. IsTrue (is_apart r y)) (x ∷ rest)
 before_rest r x rest h a = All-cons (λ y. IsTrue (is_apart r y)) x rest h (All-weaker (λ y. IsTrue (is_apart x y)) (λ y. IsTrue (is_apart r y)) (λ y p. apart_trans r x y h a.0 p) rest a.1)
 
 -- so all of them are the runs of the union
-united_runs : (before : List Stretch) (united : Stretch) (rest : List Stretch) (run : Stretch) (runs : List Stretch) → IsUniting before united rest run runs → All (λ y. IsTrue (is_apart united y)) rest
+united_runs : (before : List Run) (united : Run) (rest : List Run) (run : Run) (runs : List Run) → IsUniting before united rest run runs → All (λ y. IsTrue (is_apart united y)) rest
     → IsRunsOf (before ++ united ∷ rest) (sets.union (set_of runs) (set_of (run ∷ [])))
 united_runs before united rest run runs u p = record {
   apart = apart_join before united rest u.whole u.apart_before u.all_before p u.apart_rest;
   same = λ d.
       sets.contains-union dots_total (set_of runs) (set_of (run ∷ [])) d ∙ (λ i. contains-set_of runs d i || contains-set_of (run ∷ []) d i)
-      ∙ ap (λ b. in_stretches runs d || b) (or_none (in_stretch d run))
-      ∙ sym (list_any-append (in_stretch d) before (united ∷ rest) ∙ u.same d);
+      ∙ ap (λ b. in_runs runs d || b) (or-false (in_run d run))
+      ∙ sym (list_any-append (in_run d) before (united ∷ rest) ∙ u.same d);
 }
-  where
-    or_none : (b : Bool) → (b || false) ≡ b
-    or_none true = refl
-    or_none false = refl
 
-pub uniting_ends_apart : (before : List Stretch) (united x : Stretch) (rest ys : List Stretch) (run : Stretch) (runs : List Stretch) → IsUniting before united ys run runs → ys ≡ x ∷ rest → is_apart united x ≡ true
+pub uniting_ends_apart : (before : List Run) (united x : Run) (rest ys : List Run) (run : Run) (runs : List Run) → IsUniting before united ys run runs → ys ≡ x ∷ rest → is_apart united x ≡ true
     → IsRunsOf (before ++ united ∷ ys) (sets.union (set_of runs) (set_of (run ∷ [])))
 uniting_ends_apart before united x rest ys run runs u e h =
     united_runs before united ys run runs u (subst (λ zs. All (λ y. IsTrue (is_apart united y)) zs) (sym e) (before_rest united x rest h (subst AreApart e u.apart_rest)))
 
-pub uniting_ends_all : (before : List Stretch) (united : Stretch) (ys : List Stretch) (run : Stretch) (runs : List Stretch) → IsUniting before united ys run runs → ys ≡ []
+pub uniting_ends_all : (before : List Run) (united : Run) (ys : List Run) (run : Run) (runs : List Run) → IsUniting before united ys run runs → ys ≡ []
     → IsRunsOf (before ++ united ∷ ys) (sets.union (set_of runs) (set_of (run ∷ [])))
 uniting_ends_all before united ys run runs u e =
     united_runs before united ys run runs u (subst (λ zs. All (λ y. IsTrue (is_apart united y)) zs) (sym e) (All-nil (λ y. IsTrue (is_apart united y))))
 
 -- the same, by the places that are reached
-pub uniting_site : (runs : List Stretch) (start at : ℕ) (united x run : Stretch) → IsUniting (take start runs) united (drop at runs) run runs → at < length runs → x ≡ get_or runs at x → is_apart united x ≡ false → united.site ≡ x.site
+pub uniting_site : (runs : List Run) (start at : ℕ) (united x run : Run) → IsUniting (take start runs) united (drop at runs) run runs → at < length runs → x ≡ get_or runs at x → is_apart united x ≡ false → united.site ≡ x.site
 uniting_site runs start at united x run u l e h =
     touching_site united x h (All-head (λ r. is_apart r united ≡ false) x (drop (at + 1) runs) (subst (λ ys. All (λ r. is_apart r united ≡ false) ys) (open_at runs at x l e) u.none_before))
 
-pub uniting_takes_at : (runs : List Stretch) (start at : ℕ) (united x grown run : Stretch) → IsUniting (take start runs) united (drop at runs) run runs → AreApart runs → start ≤ at → at < length runs → x ≡ get_or runs at x
-    → is_apart united x ≡ false → grown ≡ joined united x → IsUniting (take start runs) grown (drop (at + 1) runs) run runs
+pub uniting_takes_at : (runs : List Run) (start at : ℕ) (united x grown run : Run) → IsUniting (take start runs) united (drop at runs) run runs → AreApart runs → start ≤ at → at < length runs → x ≡ get_or runs at x
+    → is_apart united x ≡ false → grown ≡ run_over united x → IsUniting (take start runs) grown (drop (at + 1) runs) run runs
 uniting_takes_at runs start at united x grown run u a m l e h g =
     subst (λ y. IsUniting (take start runs) y (drop (at + 1) runs) run runs) (sym g)
     (uniting_takes (take start runs) united x (drop (at + 1) runs) run runs (subst (λ ys. IsUniting (take start runs) united ys run runs) (open_at runs at x l e) u) all_before h)
@@ -153,16 +150,16 @@ uniting_takes_at runs start at united x grown run u a m l e h g =
         let q : k < start = omega (arith, length-take start runs, p) in
         (λ i. is_apart (get_or-take start runs k d q i) (e i)) ∙ apart_places runs k at d x a (omega arith) l
 
-pub uniting_ends_at : (runs : List Stretch) (start at : ℕ) (united x run : Stretch) → IsUniting (take start runs) united (drop at runs) run runs → at < length runs → x ≡ get_or runs at x → is_apart united x ≡ true
+pub uniting_ends_at : (runs : List Run) (start at : ℕ) (united x run : Run) → IsUniting (take start runs) united (drop at runs) run runs → at < length runs → x ≡ get_or runs at x → is_apart united x ≡ true
     → IsRunsOf (take start runs ++ united ∷ drop at runs) (sets.union (set_of runs) (set_of (run ∷ [])))
 uniting_ends_at runs start at united x run u l e h = uniting_ends_apart (take start runs) united x (drop (at + 1) runs) (drop at runs) run runs u (open_at runs at x l e) h
 
 -- how many runs there are then
-pub length_replaced : (runs : List Stretch) (start end : ℕ) (run : Stretch) → start ≤ end → end ≤ length runs → length (take start runs ++ run ∷ drop end runs) ≡ start + suc (length runs - end)
+pub length_replaced : (runs : List Run) (start end : ℕ) (run : Run) → start ≤ end → end ≤ length runs → length (take start runs ++ run ∷ drop end runs) ≡ start + suc (length runs - end)
 length_replaced runs start end run a b = omega (arith, length-append (take start runs) (run ∷ drop end runs), length-take start runs, length-drop end runs)
 
 -- the set of the list that is made
-pub set_replaced : (seen old new : List Stretch) (start end : ℕ) (united run : Stretch) → seen ≡ old
+pub set_replaced : (seen old new : List Run) (start end : ℕ) (united run : Run) → seen ≡ old
     → IsRunsOf (take start seen ++ united ∷ drop end seen) (sets.union (set_of seen) (set_of (run ∷ [])))
     → new ≡ take start old ++ united ∷ drop end old → set_of new ≡ sets.union (set_of old) (set_of (run ∷ []))
 set_replaced seen old new start end united run e is n =

@@ -5,48 +5,48 @@ use Rattle.std.specs.List.{Contains}
 use mir.Val.{bool_byte}
 use Rattle.std.specs.FinSet as sets
 use Rattle.std.proofs.lemmas.Bool.Decides.{nat_tests}
-use Rattle.dots.specs.Values.{Tag}
+use Rattle.dots.specs.Values.{Dot}
 use Rattle.dots.specs.Orders.{dot_cmp}
-use Rattle.dots.specs.DotSets.{Stretch, in_stretch, in_stretches, AreApart, IsRunsOf, IsPrefix, run_count, set_of, next_dot}
+use Rattle.dots.specs.DotSets.{Run, in_run, in_runs, AreApart, IsRunsOf, IsPrefix, run_count, set_of, next_dot}
 use Rattle.dots.proofs.DotOrder.{dots_total, dots_exact, same_dot}
 use Rattle.dots.proofs.OneMoreDot.{dot_before, run_count-insert}
 use Rattle.dots.proofs.RunCounts.{run_count-runs}
-use Rattle.dots.proofs.Stretches.{runs_of_set, contains-set_of}
+use Rattle.dots.proofs.Runs.{runs_of_set, contains-set_of}
 use Rattle.causal_context.proofs.Members.{has_of_run, misses_past_run}
 
-pub is_runs : (rs : List Stretch) (dots : sets.FinSet dot_cmp) → set_of rs ≡ dots → AreApart rs → IsRunsOf rs dots
+pub is_runs : (rs : List Run) (dots : sets.FinSet dot_cmp) → set_of rs ≡ dots → AreApart rs → IsRunsOf rs dots
 is_runs rs dots e a = subst (IsRunsOf rs) e (runs_of_set rs a)
 
 -- a run with the dot was found where the list has it
-pub found : (o : Option Stretch) (rs : List Stretch) (d : Tag) → MatchOption o (in_stretches rs d ≡ false) (λ r. Contains rs r × (in_stretch d r ≡ true)) → is_some o ≡ in_stretches rs d
+pub found : (o : Option Run) (rs : List Run) (d : Dot) → MatchOption o (in_runs rs d ≡ false) (λ r. Contains rs r × (in_run d r ≡ true)) → is_some o ≡ in_runs rs d
 found None rs d m = sym m
 found (Some r) rs d m = sym (has_of_run rs r d m.0 m.1)
 
 -- the run with the first count says how far the counts go
-pub prefix_of_run : (rs : List Stretch) (dots : sets.FinSet dot_cmp) (site : ℕ) (r : Stretch) → IsRunsOf rs dots → Contains rs r → in_stretch (record { site = site; count = 1 }) r ≡ true → IsPrefix dots site r.last
+pub prefix_of_run : (rs : List Run) (dots : sets.FinSet dot_cmp) (site : ℕ) (r : Run) → IsRunsOf rs dots → Contains rs r → in_run (record { site = site; count = 1 }) r ≡ true → IsPrefix dots site r.last
 prefix_of_run rs dots site r is m h = record {
   has = λ count lo hi. is.same (record { site = site; count = count }) ∙ has_of_run rs r (record { site = site; count = count }) m (between site count r lo hi h);
-  ends = is.same (record { site = site; count = suc r.last }) ∙ ap (λ s. in_stretches rs (record { site = s; count = suc r.last })) (sym (same_site site r h)) ∙ misses_past_run rs r is.apart m;
+  ends = is.same (record { site = site; count = suc r.last }) ∙ ap (λ s. in_runs rs (record { site = s; count = suc r.last })) (sym (same_site site r h)) ∙ misses_past_run rs r is.apart m;
 }
   where
-    between : (site count : ℕ) (r : Stretch) → 1 ≤ count → count ≤ r.last → in_stretch (record { site = site; count = 1 }) r ≡ true → in_stretch (record { site = site; count = count }) r ≡ true
+    between : (site count : ℕ) (r : Run) → 1 ≤ count → count ≤ r.last → in_run (record { site = site; count = 1 }) r ≡ true → in_run (record { site = site; count = count }) r ≡ true
     between site count r lo hi h = grind (arith, nat_tests)
 
-    same_site : (site : ℕ) (r : Stretch) → in_stretch (record { site = site; count = 1 }) r ≡ true → r.site ≡ site
+    same_site : (site : ℕ) (r : Run) → in_run (record { site = site; count = 1 }) r ≡ true → r.site ≡ site
     same_site site r h = grind (arith, nat_tests)
 
 -- with no such run there are none
-pub prefix_of_none : (rs : List Stretch) (dots : sets.FinSet dot_cmp) (site : ℕ) → IsRunsOf rs dots → in_stretches rs (record { site = site; count = 1 }) ≡ false → IsPrefix dots site 0
+pub prefix_of_none : (rs : List Run) (dots : sets.FinSet dot_cmp) (site : ℕ) → IsRunsOf rs dots → in_runs rs (record { site = site; count = 1 }) ≡ false → IsPrefix dots site 0
 prefix_of_none rs dots site is h = record {
   has = λ count lo hi. absurd (omega (arith, lo, hi));
   ends = is.same (record { site = site; count = 1 }) ∙ h;
 }
 
 -- one dot is the run of its count alone
-pub union-one : (seen dots : sets.FinSet dot_cmp) (d : Tag) (r : Stretch) → seen ≡ dots → r.site ≡ d.site → r.first ≡ d.count → r.last ≡ d.count → sets.union seen (set_of (r ∷ [])) ≡ sets.insert dots d
+pub union-one : (seen dots : sets.FinSet dot_cmp) (d : Dot) (r : Run) → seen ≡ dots → r.site ≡ d.site → r.first ≡ d.count → r.last ≡ d.count → sets.union seen (set_of (r ∷ [])) ≡ sets.insert dots d
 union-one seen dots d r e s f l = sets.same_set dots_total dots_exact _ _ (λ q.
     sets.contains-union dots_total seen (set_of (r ∷ [])) q ∙ (λ i. sets.contains (e i) q || contains-set_of (r ∷ []) q i)
-    ∙ swap (sets.contains dots q) (in_stretch q r)
+    ∙ swap (sets.contains dots q) (in_run q r)
     ∙ ap (λ b. b || sets.contains dots q) (numbers q r d s f l ∙ sym (same_dot q d))
     ∙ sym (sets.contains-insert dots_total dots d q))
   where
@@ -56,22 +56,22 @@ union-one seen dots d r e s f l = sets.same_set dots_total dots_exact _ _ (λ q.
     swap false true = refl
     swap false false = refl
 
-    numbers : (q : Tag) (r : Stretch) (d : Tag) → r.site ≡ d.site → r.first ≡ d.count → r.last ≡ d.count → in_stretch q r ≡ (nat_eq d.site q.site && nat_eq d.count q.count)
+    numbers : (q : Dot) (r : Run) (d : Dot) → r.site ≡ d.site → r.first ≡ d.count → r.last ≡ d.count → in_run q r ≡ (nat_eq d.site q.site && nat_eq d.count q.count)
     numbers q r d s f l = grind (arith, nat_tests)
 
 -- how many runs a context has
-pub count_of : (rs : List Stretch) (dots : sets.FinSet dot_cmp) → set_of rs ≡ dots → AreApart rs → run_count dots ≡ length rs
+pub count_of : (rs : List Run) (dots : sets.FinSet dot_cmp) → set_of rs ≡ dots → AreApart rs → run_count dots ≡ length rs
 count_of rs dots e a = run_count-runs rs dots (is_runs rs dots e a)
 
 -- how many the union of two has, as it was counted
-pub count_united : (n : ℕ) (seen seen' rs xs : List Stretch) (s t : sets.FinSet dot_cmp) → n ≡ run_count (sets.union (set_of seen) (set_of seen')) → seen ≡ rs → seen' ≡ xs → set_of rs ≡ s → set_of xs ≡ t → n ≡ run_count (sets.union s t)
+pub count_united : (n : ℕ) (seen seen' rs xs : List Run) (s t : sets.FinSet dot_cmp) → n ≡ run_count (sets.union (set_of seen) (set_of seen')) → seen ≡ rs → seen' ≡ xs → set_of rs ≡ s → set_of xs ≡ t → n ≡ run_count (sets.union s t)
 count_united n seen seen' rs xs s t e a b c d = e ∙ (λ i. run_count (sets.union (set_of (a i)) (set_of (b i)))) ∙ (λ i. run_count (sets.union (c i) (d i)))
 
 -- the union of two has a dot that the first has, or where it hasn't, that the second has
-pub has_first : (p : Bool) (s t : sets.FinSet dot_cmp) (d : Tag) → p ≡ sets.contains s d → p ≡ true → p ≡ sets.contains (sets.union s t) d
+pub has_first : (p : Bool) (s t : sets.FinSet dot_cmp) (d : Dot) → p ≡ sets.contains s d → p ≡ true → p ≡ sets.contains (sets.union s t) d
 has_first p s t d e y = y ∙ sym (sets.contains-union dots_total s t d ∙ ap (λ b. b || sets.contains t d) (sym e ∙ y))
 
-pub has_second : (p q : Bool) (s t : sets.FinSet dot_cmp) (d : Tag) → p ≡ sets.contains s d → p ≡ false → q ≡ sets.contains t d → q ≡ sets.contains (sets.union s t) d
+pub has_second : (p q : Bool) (s t : sets.FinSet dot_cmp) (d : Dot) → p ≡ sets.contains s d → p ≡ false → q ≡ sets.contains t d → q ≡ sets.contains (sets.union s t) d
 has_second p q s t d e n f = f ∙ sym (sets.contains-union dots_total s t d ∙ ap (λ b. b || sets.contains t d) (sym e ∙ n))
 
 -- the runs with one dot more, from those without it and the dots beside it
@@ -79,7 +79,7 @@ pub with_new : (n a b : ℕ) (dots : sets.FinSet dot_cmp) (site count : ℕ) (p 
     → p ≡ sets.contains dots (record { site = site; count = count + 1 }) → q ≡ sets.contains dots (record { site = site; count = count - 1 }) → a ≡ bool_byte p → b ≡ bool_byte q
     → (b ≤ (n + 1) - a) × (((n + 1) - a) - b ≡ run_count (sets.insert dots (record { site = site; count = count })))
 with_new n a b dots site count p q e l new f g h k =
-    let d : Tag = record { site = site; count = count } in
+    let d : Dot = record { site = site; count = count } in
     let next : cond (sets.contains dots (next_dot d)) 1 0 ≡ a = ap (λ m. cond (sets.contains dots (record { site = site; count = m })) 1 0) (sym (add-one count)) ∙ ap (λ x. cond x 1 0) (sym f) ∙ byte p ∙ sym h in
     let before : cond (sets.contains dots (dot_before d)) 1 0 ≡ b = ap (λ x. cond x 1 0) (sym g) ∙ byte q ∙ sym k in
     let counted = run_count-insert dots d l new in

@@ -1,18 +1,19 @@
 -- What contracts see of a context and of its runs.
-use Rattle.std.specs.Prelude.{ℕ, ◌≤◌, ◌+◌, ◌^◌, List, length, refl}
+use Rattle.std.specs.Prelude.{ℕ, ◌≤◌, ◌+◌, List, length, refl}
 use Rattle.std.specs.List.{All}
 use Rattle.std.specs.FinSet as set
 use Rattle.std.specs.Coded.{Coded, code_by, coded×, coded_ℕ}
+use Rattle.dots.specs.declared.limits.TheConstants.{MOST_COUNT, MOST_RUNS}
 use Rattle.dots.specs.Values.{IsSite}
 use Rattle.dots.specs.Orders.{dot_cmp}
-use Rattle.dots.specs.DotSets.{Stretch, AreApart, tag_code, run_count}
+use Rattle.dots.specs.DotSets.{Run, AreApart, dot_code, run_count}
 
--- a run is a stretch of a site's counts within the limits of dots
-pub record IsRun (r : Stretch) : Type 0 where
+-- a run is within the limits of dots
+pub record IsRun (r : Run) : Type 0 where
   pub site : IsSite r.site
   pub least : 1 ≤ r.first
   pub ordered : r.first ≤ r.last
-  pub most : r.last ≤ 2 ^ 40
+  pub most : r.last ≤ MOST_COUNT
 
 -- a context: its dots, and how many runs it has room for
 pub record Known : Type 0 where
@@ -22,20 +23,16 @@ pub record Known : Type 0 where
 -- it is stored as the pair of these
 abbrev pub known_code : Coded Known
 known_code =
-    code_by (set.FinSet dot_cmp × ℕ) (coded× (set.code tag_code) coded_ℕ)
+    code_by (set.FinSet dot_cmp × ℕ) (coded× (set.code dot_code) coded_ℕ)
     (λ k. (k.dots, k.room)) (λ p. record { dots = p.0; room = p.1 }) (λ _. refl)
-
--- the greatest number of runs of a context
-abbrev pub most_runs : ℕ
-most_runs = 65536
 
 -- nothing is left that could refuse the union with other dots: not too many runs, and room for the runs of both
 pub record IsPrepared (context : Known) (other : set.FinSet dot_cmp) : Type 0 where
-  pub few : run_count (set.union context.dots other) ≤ most_runs
+  pub few : run_count (set.union context.dots other) ≤ MOST_RUNS
   pub room : run_count context.dots + run_count other ≤ context.room
 
 -- what a context keeps of its list of runs
-pub record IsContext (runs : List Stretch) : Type 0 where
+pub record IsContext (runs : List Run) : Type 0 where
   pub apart : AreApart runs
   pub limits : All IsRun runs
-  pub few : length runs ≤ most_runs
+  pub few : length runs ≤ MOST_RUNS

@@ -1,16 +1,16 @@
-ghost use Rattle.std.specs.Prelude.{◌≡◌, ◌≢◌, ◌+◌, ◌≤◌, ◌<◌, ◌^◌, ◌↔◌, true, IfErr, IfOk, IsOk, IsTrue, OnErr, OnOk, length};
+ghost use Rattle.std.specs.Prelude.{◌≡◌, ◌≢◌, ◌+◌, ◌≤◌, ◌<◌, ◌↔◌, true, IfErr, IfOk, IsOk, IsTrue, OnErr, OnOk, length};
 ghost use Rattle.std.specs.FinSet as set;
 ghost use Rattle.std.specs.List.{All};
 ghost use Rattle.std.specs.Slice.Iter.{iter_rest};
 ghost use Rattle.dots.specs.DotSets.{IsRunsOf, IsPrefix, dots_between, run_count};
-ghost use Rattle.causal_context.specs.Contexts.{IsPrepared, IsRun, most_runs};
+ghost use Rattle.causal_context.specs.Contexts.{IsPrepared, IsRun};
 
 use crate::cover::covers_runs;
 use crate::merge::{absorb_runs, united_count};
 use crate::search::run_with;
-use crate::splice::{MOST_RUNS, unite_run};
+use crate::splice::unite_run;
 use crate::{ContextFault, Run};
-use dots::{Dot, SiteId};
+use dots::{Dot, MOST_COUNT, MOST_RUNS, SiteId};
 use std::alloc::Global;
 use std::marker::Model;
 use std::slice::Iter;
@@ -64,7 +64,7 @@ impl Context {
     /// The greatest n such that the counts 1 to n of the site are all in: 0 where the first isn't.
     pub fn prefix(&self, site: SiteId) -> u64
         ensures value { IsPrefix self.now.dots site result }
-        ensures limit { result ≤ 2 ^ 40 }
+        ensures limit { result ≤ MOST_COUNT }
     {
         match run_with(&self.runs, site, 1) {
             Some(run) => run.last,
@@ -75,16 +75,16 @@ impl Context {
     /// How many runs the dots make.
     pub fn runs(&self) -> usize
         ensures value { result ≡ run_count self.now.dots }
-        ensures limit { result ≤ most_runs }
+        ensures limit { result ≤ MOST_RUNS }
     {
         self.runs.len()
     }
 
-    /// The runs: the longest stretches of counts, in order by site, then first.
+    /// The runs, each as long as it can be, in order by site, then first.
     pub fn as_slice(&self) -> &[Run]
         ensures value { IsRunsOf result.now self.now.dots }
         ensures limits { All IsRun result.now }
-        ensures few { length result.now ≤ most_runs }
+        ensures few { length result.now ≤ MOST_RUNS }
     {
         self.runs.as_slice()
     }
@@ -93,7 +93,7 @@ impl Context {
     pub fn iter(&self) -> Iter<'_, Run>
         ensures value { IsRunsOf (iter_rest result) self.now.dots }
         ensures limits { All IsRun (iter_rest result) }
-        ensures few { length (iter_rest result) ≤ most_runs }
+        ensures few { length (iter_rest result) ≤ MOST_RUNS }
     {
         self.as_slice().iter()
     }
@@ -103,7 +103,7 @@ impl Context {
     pub fn insert(&mut self, dot: Dot) -> Result<(), ContextFault>
         ensures ok { OnOk result (self.new.dots ≡ set.insert self.old.dots dot) }
         ensures full { (result ≡ Err ContextFault.RunsFull)
-            ↔ (most_runs < run_count (set.insert self.old.dots dot)) }
+            ↔ (MOST_RUNS < run_count (set.insert self.old.dots dot)) }
         ensures known_dot { set.contains self.old.dots dot ≡ true → IsOk result }
         ensures with_room { run_count self.old.dots < self.old.room
             → result ≢ Err ContextFault.Memory }
@@ -122,11 +122,11 @@ impl Context {
     pub fn insert_run(&mut self, site: SiteId, first: u64, last: u64) -> Result<(), ContextFault>
         requires least { 1 ≤ first }
         requires ordered { first ≤ last }
-        requires most { last ≤ 2 ^ 40 }
+        requires most { last ≤ MOST_COUNT }
         ensures ok { OnOk result
             (self.new.dots ≡ set.union self.old.dots (dots_between site first last)) }
         ensures full { (result ≡ Err ContextFault.RunsFull)
-            ↔ (most_runs < run_count (set.union self.old.dots (dots_between site first last))) }
+            ↔ (MOST_RUNS < run_count (set.union self.old.dots (dots_between site first last))) }
         ensures err { OnErr result (self.new.dots ≡ self.old.dots) }
     {
         let _ = site.number();
@@ -139,7 +139,7 @@ impl Context {
     pub fn prepare(&mut self, other: &Context) -> Result<(), ContextFault>
         ensures ready { OnOk result (IsPrepared self.new other.now.dots) }
         ensures full { (result ≡ Err ContextFault.RunsFull)
-            ↔ (most_runs < run_count (set.union self.old.dots other.now.dots)) }
+            ↔ (MOST_RUNS < run_count (set.union self.old.dots other.now.dots)) }
         ensures again { IsPrepared self.old other.now.dots → IsOk result }
         ensures kept { self.new.dots ≡ self.old.dots }
         ensures room { self.old.room ≤ self.new.room }
@@ -175,7 +175,7 @@ impl Context {
     pub fn join(&mut self, other: &Context) -> Result<(), ContextFault>
         ensures ok { OnOk result (self.new.dots ≡ set.union self.old.dots other.now.dots) }
         ensures full { (result ≡ Err ContextFault.RunsFull)
-            ↔ (most_runs < run_count (set.union self.old.dots other.now.dots)) }
+            ↔ (MOST_RUNS < run_count (set.union self.old.dots other.now.dots)) }
         ensures prepared { IsPrepared self.old other.now.dots → IsOk result }
         ensures err { OnErr result (self.new.dots ≡ self.old.dots) }
     {
@@ -199,7 +199,7 @@ impl Context {
     /// dot, 2^40 + 1: what a site would have that used up its counts. It takes no memory.
     pub fn runs_with(&self, other: &Context, site: SiteId, count: u64) -> u64
         requires least { 1 ≤ count }
-        requires most { count ≤ 2 ^ 40 + 1 }
+        requires most { count ≤ MOST_COUNT + 1 }
         ensures { result
             ≡ run_count (set.insert (set.union self.now.dots other.now.dots)
             (record { site = site; count = count })) }

@@ -1,9 +1,12 @@
+use thiserror::Error;
+
 /// Why a context can't take more dots.
-#[derive(Clone, Copy, Debug, PartialEq, Eq)]
+#[derive(Clone, Copy, Debug, PartialEq, Eq, Error)]
 pub enum ContextFault {
     /// It would have more than 65,536 runs.
+    #[error("too many runs")]
     RunsFull,
-
-    /// Memory ran out.
+    /// An allocation was refused.
+    #[error("out of memory")]
     Memory,
 }

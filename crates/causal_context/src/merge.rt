@@ -3,10 +3,11 @@ ghost use Rattle.std.specs.FinSet as set;
 ghost use Rattle.std.specs.List.{All};
 ghost use Rattle.std.specs.Vec.{vec_capacity, vec_len};
 ghost use Rattle.dots.specs.DotSets.{AreApart, IsRunsOf, run_count, set_of};
-ghost use Rattle.causal_context.specs.Contexts.{IsContext, IsRun, most_runs};
+ghost use Rattle.causal_context.specs.Contexts.{IsContext, IsRun};
 ghost use Rattle.causal_context.specs.RunLists.{IsNext, is_first_ours};
 
 use crate::Run;
+use dots::MOST_RUNS;
 
 // Takes the first run that is left of two lists, by site and first.
 fn next_run(runs: &[Run], own: &mut usize, other: &[Run], theirs: &mut usize) -> Run
@@ -55,8 +56,8 @@ fn takes_own(runs: &[Run], own: usize, other: &[Run], theirs: usize) -> bool
 pub(crate) fn united_count(runs: &[Run], other: &[Run]) -> usize
     requires ours { AreApart runs.now }
     requires others { AreApart other.now }
-    requires few_ours { length runs.now ≤ most_runs }
-    requires few_others { length other.now ≤ most_runs }
+    requires few_ours { length runs.now ≤ MOST_RUNS }
+    requires few_others { length other.now ≤ MOST_RUNS }
     ensures value { result ≡ run_count (set.union (set_of runs.now) (set_of other.now)) }
     ensures few { result ≤ length runs.now + length other.now }
 {
@@ -113,7 +114,7 @@ pub(crate) fn merge(runs: &mut [Run], other: &[Run]) -> usize
 pub(crate) fn absorb_runs(runs: &mut Vec<Run>, other: &[Run])
     requires ours { IsContext runs.old.items }
     requires others { AreApart other.now }
-    requires few { run_count (set.union (set_of runs.old.items) (set_of other.now)) ≤ most_runs }
+    requires few { run_count (set.union (set_of runs.old.items) (set_of other.now)) ≤ MOST_RUNS }
     requires room { vec_len runs.old + length other.now ≤ vec_capacity runs.old }
     ensures valid { IsContext runs.new.items }
     ensures united { set_of runs.new.items ≡ set.union (set_of runs.old.items) (set_of other.now) }

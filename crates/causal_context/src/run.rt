@@ -1,12 +1,12 @@
 ghost use Rattle.std.specs.Prelude.{◌≡◌};
-ghost use Rattle.dots.specs.DotSets.{in_stretch, is_apart};
+ghost use Rattle.dots.specs.DotSets.{in_run, is_apart};
 ghost use Rattle.causal_context.specs.Contexts.{IsRun};
-ghost use Rattle.causal_context.specs.RunLists.{begins_by, holds, is_below, joined};
+ghost use Rattle.causal_context.specs.RunLists.{begins_by, holds, is_below, run_over};
 
 use dots::SiteId;
 use std::marker::Model;
 
-/// A run: a longest stretch of the counts of one site. `1 <= first <= last <= 2^40`.
+/// A run: the counts of one site from a first to a last; those of a context are the longest. `1 <= first <= last <= 2^40`.
 #[derive(Clone, Copy, Debug, PartialEq, Eq)]
 pub struct Run {
     /// The site that made the adds.
@@ -20,10 +20,10 @@ pub struct Run {
 }
 
 impl Model for Run {
-    ghost use Rattle.dots.specs.DotSets.{Stretch};
+    ghost use Rattle.dots.specs.DotSets.{Run};
     ghost use Rattle.causal_context.specs.Contexts.{IsRun};
 
-    ghost Value = { Stretch };
+    ghost Value = { Run };
 
     ghost view = { λ r. record { site = r.site; first = r.first; last = r.last } };
 
@@ -35,7 +35,7 @@ impl Model for Run {
 impl Run {
     // Whether the run has the dot of a site and a count.
     pub(crate) fn has(self, site: SiteId, count: u64) -> bool
-        ensures { result ≡ in_stretch (record { site = site; count = count }) self }
+        ensures { result ≡ in_run (record { site = site; count = count }) self }
     {
         self.site == site && self.first <= count && count <= self.last
     }
@@ -78,7 +78,7 @@ impl Run {
     // This run with another of its site, and what lies between them.
     pub(crate) fn joined(self, other: Run) -> Run
         requires { self.site ≡ other.site }
-        ensures value { result ≡ joined self other }
+        ensures value { result ≡ run_over self other }
         ensures limit { IsRun result }
     {
         Run {

@@ -1,6 +1,6 @@
 ghost use Rattle.std.specs.Prelude.{◌≡◌, ◌<◌, ◌≤◌, length, true, false, MatchOption};
 ghost use Rattle.std.specs.List.{AllWithin, Contains};
-ghost use Rattle.dots.specs.DotSets.{AreApart, in_stretch, in_stretches, is_apart};
+ghost use Rattle.dots.specs.DotSets.{AreApart, in_run, in_runs, is_apart};
 ghost use Rattle.causal_context.specs.RunLists.{is_below};
 
 use crate::Run;
@@ -22,9 +22,9 @@ fn place(runs: &[Run], site: SiteId, count: u64) -> usize
 pub(crate) fn run_with(runs: &[Run], site: SiteId, count: u64) -> Option<Run>
     requires { AreApart runs.now }
     ensures { MatchOption result
-        (in_stretches runs.now (record { site = site; count = count }) ≡ false)
+        (in_runs runs.now (record { site = site; count = count }) ≡ false)
         (λ r. Contains runs.now r
-        × (in_stretch (record { site = site; count = count }) r ≡ true)) }
+        × (in_run (record { site = site; count = count }) r ≡ true)) }
 {
     let index = place(runs, site, count);
     if index == runs.len() {

@@ -3,13 +3,11 @@ ghost use Rattle.std.specs.FinSet as set;
 ghost use Rattle.std.specs.List.{All};
 ghost use Rattle.std.specs.Vec.{vec_capacity};
 ghost use Rattle.dots.specs.DotSets.{AreApart, IsRunsOf, run_count, set_of};
-ghost use Rattle.causal_context.specs.Contexts.{IsContext, IsRun, most_runs};
+ghost use Rattle.causal_context.specs.Contexts.{IsContext, IsRun};
 
 use crate::search::runs_before;
 use crate::{ContextFault, Run};
-
-// The greatest number of runs of a context.
-pub(crate) const MOST_RUNS: usize = 65_536;
+use dots::MOST_RUNS;
 
 // A run with all that it touches, and the places of these: from the first to before the last.
 struct United {
@@ -59,7 +57,7 @@ fn replace(runs: &mut Vec<Run>, united: United) -> Result<(), ContextFault>
         ≡ take united.start runs.old.items
         ++ united.run ∷ drop united.end runs.old.items) }
     ensures full { (result ≡ Err ContextFault.RunsFull)
-        ↔ ((united.start ≡ united.end) × (most_runs ≤ length runs.old.items)) }
+        ↔ ((united.start ≡ united.end) × (MOST_RUNS ≤ length runs.old.items)) }
     ensures no_more { united.start < united.end → IsOk result }
     ensures with_room { vec_len runs.old < vec_capacity runs.old
         → result ≢ Err ContextFault.Memory }
@@ -87,7 +85,7 @@ pub(crate) fn unite_run(runs: &mut Vec<Run>, run: Run) -> Result<(), ContextFaul
     ensures ok { OnOk result
         (set_of runs.new.items ≡ set.union (set_of runs.old.items) (set_of (run ∷ []))) }
     ensures full { (result ≡ Err ContextFault.RunsFull)
-        ↔ (most_runs
+        ↔ (MOST_RUNS
         < run_count (set.union (set_of runs.old.items) (set_of (run ∷ [])))) }
     ensures no_more { run_count (set.union (set_of runs.old.items) (set_of (run ∷ [])))
         ≤ length runs.old.items

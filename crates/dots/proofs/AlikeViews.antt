@@ -6,11 +6,11 @@ use Rattle.std.specs.FinSet as set
 use Rattle.std.specs.Ordering.{eq_by_cmp, is_eq}
 use Rattle.std.proofs.lemmas.Cmp.{tied_itself}
 use Rattle.dots.specs.declared.member.Member.{Member}
-use Rattle.dots.specs.Values.{Tag}
-use Rattle.dots.specs.Orders.{dot_cmp, member_cmp, text_cmp}
+use Rattle.dots.specs.Values.{Dot}
+use Rattle.dots.specs.Orders.{dot_cmp, member_cmp}
 use Rattle.dots.specs.Registers.{Entry}
 use Rattle.dots.specs.Knowledge.{latest_of}
-use Rattle.dots.specs.Rows.{DotView, MemberRow, ShowAlike, is_of, dots_of, member_field, row_of_fields, row_if, row_of, interface_in, interfaces_of, rows_of}
+use Rattle.dots.specs.Rows.{DotView, ShowAlike, is_of, dots_of, member_field, row_of_fields, row_if, row_of, interface_in, interfaces_of, rows_of}
 use Rattle.dots.specs.SetItems.{in_order}
 use Rattle.dots.proofs.DotOrder.{dots_total}
 use Rattle.dots.proofs.ItemOrder.{in_order-has}
@@ -27,11 +27,11 @@ filter_map-same f g [] same = refl
 filter_map-same f g (x ∷ xs) same = λ i. cons_option (same x (first-in x xs) i) (filter_map-same f g xs (λ y here. same y (later-in x xs y here)) i)
 
 -- what is listed of a set is in it
-pub listed-in : (s : set.FinSet dot_cmp) (dot : Tag) → Contains (in_order s) dot → set.contains s dot ≡ true
+pub listed-in : (s : set.FinSet dot_cmp) (dot : Dot) → Contains (in_order s) dot → set.contains s dot ≡ true
 listed-in s dot here = sym (in_order-has dots_total s dot) ∙ any-in (eq_by_cmp dot_cmp dot) (in_order s) dot here (ap is_eq (tied_itself dots_total dot))
 
 -- a dot of a member is visible
-pub own-visible : (r : DotView) (member : Member) (dot : Tag) → Contains (dots_of r member) dot → set.contains r.visible dot ≡ true
+pub own-visible : (r : DotView) (member : Member) (dot : Dot) → Contains (dots_of r member) dot → set.contains r.visible dot ≡ true
 own-visible r member dot here = listed-in r.visible dot (filter-in (is_of r member) (in_order r.visible) dot here)
 
 pub same-dots : (r s : DotView) → ShowAlike r s → (member : Member) → dots_of r member ≡ dots_of s member
@@ -39,7 +39,7 @@ same-dots r s alike member =
     filter-same (is_of r member) (is_of s member) (in_order r.visible) (λ dot here. ap (λ o. option_map_or (eq_by_cmp member_cmp member) o false) (alike.member dot (listed-in r.visible dot here)))
     ∙ ap (λ v. filter (is_of s member) (in_order v)) alike.visible
 
-same-member_field : {T : Type 0} (f g : Tag → Option (Entry T)) (r s : DotView) → ShowAlike r s → ((dot : Tag) → set.contains r.visible dot ≡ true → f dot ≡ g dot)
+same-member_field : {T : Type 0} (f g : Dot → Option (Entry T)) (r s : DotView) → ShowAlike r s → ((dot : Dot) → set.contains r.visible dot ≡ true → f dot ≡ g dot)
     → (member : Member) → member_field f r member ≡ member_field g s member
 same-member_field f g r s alike same member =
     ap latest_of (filter_map-same f g (dots_of r member) (λ dot here. same dot (own-visible r member dot here)) ∙ ap (filter_map g) (same-dots r s alike member))

@@ -1,53 +1,53 @@
--- Stretches of which each lies before the next: what has a dot, and what has none.
+-- Runs of which each lies before the next: what has a dot, and what has none.
 use Rattle.std.proofs.Common.{◌≡◌, ◌≤◌, Bool, true, false, not, ◌&&◌, ◌||◌, List, [], ◌∷◌, refl, arith}
 use Rattle.std.specs.Prelude.{nat_eq, IsTrue}
 use Rattle.std.specs.List.{All, list_any}
 use Rattle.std.proofs.lemmas.Bool.Decides.{nat_tests}
 use Rattle.std.proofs.lemmas.List.Folds.{list_any_none}
 use Rattle.std.proofs.lemmas.List.Elements.{All-weaker}
-use Rattle.dots.specs.Values.{Tag}
-use Rattle.dots.specs.DotSets.{Stretch, in_stretch, in_stretches, is_apart, AreApart, next_dot}
+use Rattle.dots.specs.Values.{Dot}
+use Rattle.dots.specs.DotSets.{Run, in_run, in_runs, is_apart, AreApart, next_dot}
 
--- whether a stretch ends with the dot
-abbrev pub is_end : Tag → Stretch → Bool
+-- whether a run ends with the dot
+abbrev pub is_end : Dot → Run → Bool
 is_end d r = nat_eq r.site d.site && nat_eq r.last d.count
 
--- a dot of a stretch, and the next one, are in none that lies after it
-pub past_misses : (d : Tag) (r x : Stretch) → IsTrue (is_apart r x) → in_stretch d r ≡ true → in_stretch d x ≡ false
+-- a dot of a run, and the next one, are in none that lies after it
+pub past_misses : (d : Dot) (r x : Run) → IsTrue (is_apart r x) → in_run d r ≡ true → in_run d x ≡ false
 past_misses d r x a h = grind (arith, nat_tests)
 
-pub past_misses_next : (d : Tag) (r x : Stretch) → IsTrue (is_apart r x) → in_stretch d r ≡ true → in_stretch (next_dot d) x ≡ false
+pub past_misses_next : (d : Dot) (r x : Run) → IsTrue (is_apart r x) → in_run d r ≡ true → in_run (next_dot d) x ≡ false
 past_misses_next d r x a h = grind (arith, nat_tests)
 
--- a dot whose next one is in a stretch is in none that lies after it
-pub before_misses : (d : Tag) (r x : Stretch) → IsTrue (is_apart r x) → in_stretch (next_dot d) r ≡ true → in_stretch d x ≡ false
+-- a dot whose next one is in a run is in none that lies after it
+pub before_misses : (d : Dot) (r x : Run) → IsTrue (is_apart r x) → in_run (next_dot d) r ≡ true → in_run d x ≡ false
 before_misses d r x a h = grind (arith, nat_tests)
 
--- an end is a dot of its stretch
-pub end_is_in : (d : Tag) (r : Stretch) → r.first ≤ r.last → is_end d r ≡ true → in_stretch d r ≡ true
+-- an end is a dot of its run
+pub end_is_in : (d : Dot) (r : Run) → r.first ≤ r.last → is_end d r ≡ true → in_run d r ≡ true
 end_is_in d r w h = grind (arith, nat_tests)
 
--- one stretch ends at a dot where it has the dot and not the next
-pub end_of_one : (d : Tag) (r : Stretch) → r.first ≤ r.last → (in_stretch d r && not (in_stretch (next_dot d) r)) ≡ is_end d r
+-- one run ends at a dot where it has the dot and not the next
+pub end_of_one : (d : Dot) (r : Run) → r.first ≤ r.last → (in_run d r && not (in_run (next_dot d) r)) ≡ is_end d r
 end_of_one d r w = grind (arith, nat_tests)
 
-pub apart_trans : (r x y : Stretch) → IsTrue (is_apart r x) → x.first ≤ x.last → IsTrue (is_apart x y) → IsTrue (is_apart r y)
+pub apart_trans : (r x y : Run) → IsTrue (is_apart r x) → x.first ≤ x.last → IsTrue (is_apart x y) → IsTrue (is_apart r y)
 apart_trans r x y a w b = grind (arith, nat_tests)
 
--- where a stretch has the dot, none of those after it has it or the next one
-pub rest_misses : (d : Tag) (r : Stretch) (rs : List Stretch) → All (λ x. IsTrue (is_apart r x)) rs → in_stretch d r ≡ true → in_stretches rs d ≡ false
-rest_misses d r rs a h = list_any_none (in_stretch d) rs (All-weaker (λ x. IsTrue (is_apart r x)) (λ x. in_stretch d x ≡ false) (λ x p. past_misses d r x p h) rs a)
+-- where a run has the dot, none of those after it has it or the next one
+pub rest_misses : (d : Dot) (r : Run) (rs : List Run) → All (λ x. IsTrue (is_apart r x)) rs → in_run d r ≡ true → in_runs rs d ≡ false
+rest_misses d r rs a h = list_any_none (in_run d) rs (All-weaker (λ x. IsTrue (is_apart r x)) (λ x. in_run d x ≡ false) (λ x p. past_misses d r x p h) rs a)
 
-pub rest_misses_next : (d : Tag) (r : Stretch) (rs : List Stretch) → All (λ x. IsTrue (is_apart r x)) rs → in_stretch d r ≡ true → in_stretches rs (next_dot d) ≡ false
-rest_misses_next d r rs a h = list_any_none (in_stretch (next_dot d)) rs (All-weaker (λ x. IsTrue (is_apart r x)) (λ x. in_stretch (next_dot d) x ≡ false) (λ x p. past_misses_next d r x p h) rs a)
+pub rest_misses_next : (d : Dot) (r : Run) (rs : List Run) → All (λ x. IsTrue (is_apart r x)) rs → in_run d r ≡ true → in_runs rs (next_dot d) ≡ false
+rest_misses_next d r rs a h = list_any_none (in_run (next_dot d)) rs (All-weaker (λ x. IsTrue (is_apart r x)) (λ x. in_run (next_dot d) x ≡ false) (λ x p. past_misses_next d r x p h) rs a)
 
-pub rest_misses_before : (d : Tag) (r : Stretch) (rs : List Stretch) → All (λ x. IsTrue (is_apart r x)) rs → in_stretch (next_dot d) r ≡ true → in_stretches rs d ≡ false
-rest_misses_before d r rs a h = list_any_none (in_stretch d) rs (All-weaker (λ x. IsTrue (is_apart r x)) (λ x. in_stretch d x ≡ false) (λ x p. before_misses d r x p h) rs a)
+pub rest_misses_before : (d : Dot) (r : Run) (rs : List Run) → All (λ x. IsTrue (is_apart r x)) rs → in_run (next_dot d) r ≡ true → in_runs rs d ≡ false
+rest_misses_before d r rs a h = list_any_none (in_run d) rs (All-weaker (λ x. IsTrue (is_apart r x)) (λ x. in_run d x ≡ false) (λ x p. before_misses d r x p h) rs a)
 
--- what no stretch has, none ends with
-pub no_end : (d : Tag) (rs : List Stretch) → AreApart rs → in_stretches rs d ≡ false → list_any (is_end d) rs ≡ false
+-- what no run has, none ends with
+pub no_end : (d : Dot) (rs : List Run) → AreApart rs → in_runs rs d ≡ false → list_any (is_end d) rs ≡ false
 no_end d [] a h = refl
-no_end d (r ∷ rs) a h = split (in_stretch d r) (is_end d r) (in_stretches rs d) (list_any (is_end d) rs) (end_is_in d r a.0) (no_end d rs a.2) h
+no_end d (r ∷ rs) a h = split (in_run d r) (is_end d r) (in_runs rs d) (list_any (is_end d) rs) (end_is_in d r a.0) (no_end d rs a.2) h
   where
     split : (p e q f : Bool) → (e ≡ true → p ≡ true) → (q ≡ false → f ≡ false) → (p || q) ≡ false → (e || f) ≡ false
     split true e q f k l m = absurd (cc)
@@ -60,9 +60,9 @@ ends_split true false q q' e f a b c d g h = (let z = d refl in cc)
 ends_split false true q q' e f a b c d g h = (let z = h (g refl) in let y = g refl in cc)
 ends_split false false q q' e f a b c d g h = cc
 
--- stretches that are apart end where they have a dot and not the next
-pub ends_of_apart : (rs : List Stretch) → AreApart rs → (d : Tag) → (in_stretches rs d && not (in_stretches rs (next_dot d))) ≡ list_any (is_end d) rs
+-- runs that are apart end where they have a dot and not the next
+pub ends_of_apart : (rs : List Run) → AreApart rs → (d : Dot) → (in_runs rs d && not (in_runs rs (next_dot d))) ≡ list_any (is_end d) rs
 ends_of_apart [] a d = refl
 ends_of_apart (r ∷ rs) a d =
-    ends_split (in_stretch d r) (in_stretch (next_dot d) r) (in_stretches rs d) (in_stretches rs (next_dot d)) (is_end d r) (list_any (is_end d) rs)
+    ends_split (in_run d r) (in_run (next_dot d) r) (in_runs rs d) (in_runs rs (next_dot d)) (is_end d r) (list_any (is_end d) rs)
     (end_of_one d r a.0) (ends_of_apart rs a.2 d) (rest_misses d r rs a.1) (rest_misses_next d r rs a.1) (rest_misses_before d r rs a.1) (no_end d rs a.2)

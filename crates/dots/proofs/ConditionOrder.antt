@@ -5,14 +5,14 @@ use Rattle.std.specs.declared.cmp.Ordering.{Ordering}
 use Rattle.std.specs.declared.cmp.Ordering.TheVariants.{Less, Equal, Greater}
 use Rattle.std.proofs.lemmas.Cmp.{tied_itself}
 use Rattle.dots.specs.declared.member.Member.{Member}
-use Rattle.dots.specs.Values.{Timestamp}
+use Rattle.dots.specs.Values.{Stamp}
 use Rattle.dots.specs.Orders.{stamp_cmp}
-use Rattle.dots.specs.Registers.{Entry, Agree, IsBelow, joined, latest}
+use Rattle.dots.specs.Registers.{Entry, Agree, IsBelow, join_of}
 use Rattle.dots.specs.Joins.{IsOrder, IsLeastAbove}
 use Rattle.dots.specs.Conditions.{DotFields, Condition, Live, Dead, FieldsAgree, ConditionsAgree, FieldsBelow, IsConditionBelow, fields_joined, condition_joined}
 use Rattle.dots.proofs.RegisterLaws.{stamps_total, exact_stamps}
 
-not_less : (a : Timestamp) → stamp_cmp a a ≡ Less → ⊥
+not_less : (a : Stamp) → stamp_cmp a a ≡ Less → ⊥
 not_less a h = let tied = tied_itself stamps_total a in absurd (cc)
 
 module _ {T : Type 0} where
@@ -36,7 +36,7 @@ module _ {T : Type 0} where
   below_both_ways (Some a) (Some b) (inr less) (inl e) = ap Some (sym e)
   below_both_ways (Some a) (Some b) (inr less) (inr more) = absurd (not_less a.stamp (stamps_total.trans a.stamp b.stamp a.stamp less more))
 
-  pub below_joined : (x y : Option (Entry T)) → IsBelow x (joined x y)
+  pub below_joined : (x y : Option (Entry T)) → IsBelow x (join_of x y)
   below_joined None y = tt
   below_joined (Some a) None = inl refl
   below_joined (Some a) (Some b) = by (stamp_cmp a.stamp b.stamp) refl
@@ -46,7 +46,7 @@ module _ {T : Type 0} where
       by Equal e = inl refl
       by Greater e = inl refl
 
-  pub other_below_joined : (x y : Option (Entry T)) → Agree x y → IsBelow y (joined x y)
+  pub other_below_joined : (x y : Option (Entry T)) → Agree x y → IsBelow y (join_of x y)
   other_below_joined None y h = below_self y
   other_below_joined (Some a) None h = tt
   other_below_joined (Some a) (Some b) h = by (stamp_cmp a.stamp b.stamp) refl
@@ -59,7 +59,7 @@ module _ {T : Type 0} where
       by Equal e = inl (one (exact_stamps a.stamp b.stamp e))
       by Greater e = inr (stamps_total.antisymm b.stamp a.stamp ∙ ap ordering_reverse e)
 
-  pub joined_least : (x y z : Option (Entry T)) → IsBelow x z → IsBelow y z → IsBelow (joined x y) z
+  pub joined_least : (x y z : Option (Entry T)) → IsBelow x z → IsBelow y z → IsBelow (join_of x y) z
   joined_least None y z p q = q
   joined_least (Some a) None z p q = p
   joined_least (Some a) (Some b) z p q = by (is_lt (stamp_cmp a.stamp b.stamp))
@@ -71,7 +71,7 @@ module _ {T : Type 0} where
   pub registers_ordered : IsOrder (IsBelow {T = T})
   registers_ordered = record { reflexive = below_self; transitive = below_through; antisymmetric = below_both_ways }
 
-  pub registers_least : (x y : Option (Entry T)) → Agree x y → IsLeastAbove IsBelow x y (joined x y)
+  pub registers_least : (x y : Option (Entry T)) → Agree x y → IsLeastAbove IsBelow x y (join_of x y)
   registers_least x y h = record { first = below_joined x y; second = other_below_joined x y h; least = joined_least x y }
 
 pub fields_below_self : (x : DotFields) → FieldsBelow x x

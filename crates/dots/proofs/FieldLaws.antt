@@ -7,14 +7,15 @@ use Rattle.std.specs.declared.cmp.Ordering.{Ordering}
 use Rattle.std.specs.declared.cmp.Ordering.TheVariants.{Less, Equal, Greater}
 use Rattle.std.proofs.lemmas.Cmp.{upto, tied_itself}
 use Rattle.dots.specs.declared.member.Member.{Member}
-use Rattle.dots.specs.Values.{Tag, Timestamp}
+use Rattle.dots.specs.Values.{Dot, Stamp}
 use Rattle.dots.specs.Orders.{dot_cmp, stamp_cmp}
 use Rattle.dots.specs.Registers.{Entry}
-use Rattle.dots.specs.Operations.{Operation, Field, asserted}
+use Rattle.dots.specs.Operations.{Operation, Field, asserted_by}
 use Rattle.dots.specs.Knowledge.{Knowledge, SameOperations, OneValue, IsFieldOf, is_dot, asserts, all_asserted, member_of, settings_of, latest_of, field_of}
 use Rattle.dots.proofs.DotOrder.{dots_total, dots_exact}
 use Rattle.dots.proofs.RegisterLaws.{stamps_total, exact_stamps, joined_keeps_latest}
 use Rattle.dots.proofs.Membership.{first-in, later-in, cases-in, some-in, in-some, part-in, in-part, in-find, some-find, any-in}
+use Rattle.dots.proofs.TruthTables.{equal_of}
 
 -- the latest of a list is in it
 pub latest-in : {T : Type 0} (es : List (Entry T)) (e : Entry T) → latest_of es ≡ Some e → Contains es e
@@ -43,7 +44,7 @@ turned_back Equal h e = (cc)
 turned_back Greater h e = (cc)
 
 -- "not before" goes from one to the next
-not_before_through : (a b c : Timestamp) → stamp_cmp a b ≢ Less → stamp_cmp b c ≢ Less → stamp_cmp a c ≢ Less
+not_before_through : (a b c : Stamp) → stamp_cmp a b ≢ Less → stamp_cmp b c ≢ Less → stamp_cmp a c ≢ Less
 not_before_through a b c ab bc =
     turned_back (stamp_cmp a c) (sym (ap is_gt (stamps_total.antisymm c a))
     ∙ upto stamps_total c b a
@@ -66,7 +67,7 @@ latest-greatest {T} (y ∷ ys) e x h k = elim (cases-in y ys x k) [
     by (Some z) q deep some = not_before_through e.stamp z.stamp x.stamp ((joined_keeps_latest (Some y) (latest_of ys)).none_later e z h (inr q)) (deep z q)
 
 -- two stamps neither of which is later are one
-pub same_stamp : (a b : Timestamp) → stamp_cmp a b ≢ Less → stamp_cmp b a ≢ Less → a ≡ b
+pub same_stamp : (a b : Stamp) → stamp_cmp a b ≢ Less → stamp_cmp b a ≢ Less → a ≡ b
 same_stamp a b ab ba = exact_stamps a b (between (stamp_cmp a b) ab (subst (λ o. o ≢ Less) (stamps_total.antisymm b a) ba))
   where
     between : (o : Ordering) → o ≢ Less → ordering_reverse o ≢ Less → o ≡ Equal
@@ -75,7 +76,7 @@ same_stamp a b ab ba = exact_stamps a b (between (stamp_cmp a b) ab (subst (λ o
     between Greater p q = absurd (q refl)
 
 -- what is computed is the field
-pub field-is : {T : Type 0} (field : Field T) (k : Knowledge) (dot : Tag) (e : Entry T) → field_of field k dot ≡ Some e → IsFieldOf field k dot e
+pub field-is : {T : Type 0} (field : Field T) (k : Knowledge) (dot : Dot) (e : Entry T) → field_of field k dot ≡ Some e → IsFieldOf field k dot e
 field-is field k dot e h = record {
   given = latest-in (settings_of field k dot) e h;
   latest = λ x here. latest-greatest (settings_of field k dot) e x h here;
@@ -95,47 +96,42 @@ same_latest {T} xs ys to from one = by (latest_of xs) (latest_of ys) refl refl
         let values : e.value ≡ f.value = one e f (latest-in xs e q) (from f (latest-in ys f r)) stamps in
         q ∙ (λ i. Some (record { stamp = stamps i; value = values i })) ∙ sym r
 
-chosen_of : {T : Type 0} (field : Field T) (dot : Tag) → Operation → Option (Entry T)
+chosen_of : {T : Type 0} (field : Field T) (dot : Dot) → Operation → Option (Entry T)
 chosen_of field dot o = if asserts dot o then field o else None
 
-setting-moves : {T : Type 0} (field : Field T) (k l : Knowledge) (dot : Tag) → ((o : Operation) → Contains k o → Contains l o) → (e : Entry T) → Contains (settings_of field k dot) e → Contains (settings_of field l dot) e
+setting-moves : {T : Type 0} (field : Field T) (k l : Knowledge) (dot : Dot) → ((o : Operation) → Contains k o → Contains l o) → (e : Entry T) → Contains (settings_of field k dot) e → Contains (settings_of field l dot) e
 unfolding chosen_of
 setting-moves field k l dot to e h =
     let o = in-some (chosen_of field dot) k e h in some-in (chosen_of field dot) l o.0 e (to o.0 o.1) o.2
 
-pub same-field : {T : Type 0} (field : Field T) (k l : Knowledge) (dot : Tag) → SameOperations k l → OneValue field k → field_of field k dot ≡ field_of field l dot
+pub same-field : {T : Type 0} (field : Field T) (k l : Knowledge) (dot : Dot) → SameOperations k l → OneValue field k → field_of field k dot ≡ field_of field l dot
 same-field field k l dot same one =
     same_latest (settings_of field k dot) (settings_of field l dot) (setting-moves field k l dot (λ o. (same o).0)) (setting-moves field l k dot (λ o. (same o).1)) (one dot)
 
 -- the dot of a pair that is found
-own_dot : (dot : Tag) (p : Tag × Member) → is_dot dot p.0 ≡ true → dot ≡ p.0
-own_dot dot p h = dots_exact dot p.0 (equal (dot_cmp dot p.0) h)
-  where
-    equal : (o : Ordering) → is_eq o ≡ true → o ≡ Equal
-    equal Less h = absurd (true≢false (sym h))
-    equal Equal h = refl
-    equal Greater h = absurd (true≢false (sym h))
+own_dot : (dot : Dot) (p : Dot × Member) → is_dot dot p.0 ≡ true → dot ≡ p.0
+own_dot dot p h = dots_exact dot p.0 (equal_of (dot_cmp dot p.0) h)
 
-pair-moves : (k l : Knowledge) → ((o : Operation) → Contains k o → Contains l o) → (p : Tag × Member) → Contains (all_asserted k) p → Contains (all_asserted l) p
-pair-moves k l to p h = let o = in-part asserted k p h in part-in asserted l o.0 p (to o.0 o.1) o.2
+pair-moves : (k l : Knowledge) → ((o : Operation) → Contains k o → Contains l o) → (p : Dot × Member) → Contains (all_asserted k) p → Contains (all_asserted l) p
+pair-moves k l to p h = let o = in-part asserted_by k p h in part-in asserted_by l o.0 p (to o.0 o.1) o.2
 
 -- what is found for a dot stands in the knowledge under that very dot
-found_pair : (k : Knowledge) (dot : Tag) (p : Tag × Member) → find (λ q. is_dot dot q.0) (all_asserted k) ≡ Some p → Contains (all_asserted k) (dot, p.1)
+found_pair : (k : Knowledge) (dot : Dot) (p : Dot × Member) → find (λ q. is_dot dot q.0) (all_asserted k) ≡ Some p → Contains (all_asserted k) (dot, p.1)
 found_pair k dot p h =
-    let is = in-find (λ (q : Tag × Member). is_dot dot q.0) (all_asserted k) p h in
+    let is = in-find (λ (q : Dot × Member). is_dot dot q.0) (all_asserted k) p h in
     subst (λ d. Contains (all_asserted k) (d, p.1)) (sym (own_dot dot p is.1)) is.0
 
 -- where nothing is found for a dot, nothing stands there under it
-some_in_none : (k : Knowledge) (dot : Tag) → find (λ q. is_dot dot q.0) (all_asserted k) ≡ None → (p : Tag × Member) → p.0 ≡ dot → Contains (all_asserted k) p → ⊥
+some_in_none : (k : Knowledge) (dot : Dot) → find (λ q. is_dot dot q.0) (all_asserted k) ≡ None → (p : Dot × Member) → p.0 ≡ dot → Contains (all_asserted k) p → ⊥
 some_in_none k dot h p is here =
-    let test : Tag × Member → Bool = λ q. is_dot dot q.0 in
+    let test : Dot × Member → Bool = λ q. is_dot dot q.0 in
     true≢false (sym (any-in test (all_asserted k) p here (ap (is_dot dot) is ∙ ap is_eq (tied_itself dots_total dot))) ∙ sym (some-find test (all_asserted k)) ∙ ap is_some h)
 
-pub same-member : (k l : Knowledge) (dot : Tag) → SameOperations k l
-    → ((d : Tag) (m n : Member) → Contains (all_asserted k) (d, m) → Contains (all_asserted k) (d, n) → m ≡ n) → member_of k dot ≡ member_of l dot
+pub same-member : (k l : Knowledge) (dot : Dot) → SameOperations k l
+    → ((d : Dot) (m n : Member) → Contains (all_asserted k) (d, m) → Contains (all_asserted k) (d, n) → m ≡ n) → member_of k dot ≡ member_of l dot
 same-member k l dot same one = by (find (λ q. is_dot dot q.0) (all_asserted k)) (find (λ q. is_dot dot q.0) (all_asserted l)) refl refl
   where
-    by : (a b : Option (Tag × Member)) → find (λ q. is_dot dot q.0) (all_asserted k) ≡ a → find (λ q. is_dot dot q.0) (all_asserted l) ≡ b → member_of k dot ≡ member_of l dot
+    by : (a b : Option (Dot × Member)) → find (λ q. is_dot dot q.0) (all_asserted k) ≡ a → find (λ q. is_dot dot q.0) (all_asserted l) ≡ b → member_of k dot ≡ member_of l dot
     by None None p q = ap (option_map (λ r. r.1)) (p ∙ sym q)
     by None (Some r) p q = absurd (some_in_none k dot p (dot, r.1) refl (pair-moves l k (λ o. (same o).1) (dot, r.1) (found_pair l dot r q)))
     by (Some r) None p q = absurd (some_in_none l dot q (dot, r.1) refl (pair-moves k l (λ o. (same o).0) (dot, r.1) (found_pair k dot r p)))

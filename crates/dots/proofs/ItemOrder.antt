@@ -1,5 +1,5 @@
 -- The items of a set are the keys of each map that has these keys, in whatever way it came to be.
-use Rattle.std.proofs.Common.{◌≡◌, Bool, true, false, cond, ◌&&◌, List, [], ◌∷◌, Option, Some, None, is_some, T, refl, sym, ap, subst, ◌∙◌, map as each}
+use Rattle.std.proofs.Common.{◌≡◌, Bool, true, cond, ◌&&◌, List, [], ◌∷◌, Option, Some, None, is_some, T, refl, sym, ap, subst, ◌∙◌, map as each}
 use Rattle.std.specs.List.{list_any}
 use Rattle.std.specs.Cmp.{IsTotalOrder}
 use Rattle.std.specs.FinMap as map
@@ -8,10 +8,7 @@ use Rattle.std.specs.FinSet as set
 use Rattle.std.specs.Ordering.{eq_by_cmp, is_lt}
 use Rattle.std.specs.declared.cmp.Ordering.{Ordering}
 use Rattle.dots.specs.SetItems.{in_order}
-
-from_T : (b : Bool) → T b → b ≡ true
-from_T true h = refl
-from_T false h = absurd h
+use Rattle.dots.proofs.TruthTables.{fact}
 
 -- an entry for each key, with nothing at it
 abbrev pub units : {K : Type 0} → List K → List (K × Unit {0})
@@ -88,4 +85,4 @@ module _ {K : Type 0} {R : K → K → Ordering} where
   pub in_order-rises : (s : set.FinSet R) → map.is_sorted R (units (in_order s)) ≡ true
   in_order-rises s =
       let m : map.FinMap R (Unit {0}) = map.from_entries (each (λ k. (k, tt)) (set.items s)) in
-      sorted-units R (map.entries m) ∙ from_T _ (map.entries_sorted m)
+      sorted-units R (map.entries m) ∙ fact _ (map.entries_sorted m)

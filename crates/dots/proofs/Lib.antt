@@ -6,7 +6,9 @@ pub mod CountLaws
 pub mod DotOrder
 pub mod FieldLaws
 pub mod Filters
+pub mod Fronts
 pub mod ItemOrder
+pub mod KnownLaws
 pub mod MemberOrder
 pub mod Membership
 pub mod OneMoreDot
@@ -14,8 +16,11 @@ pub mod RegisterLaws
 pub mod RowLaws
 pub mod RunCounts
 pub mod ShownLaws
+pub mod SortedEntries
 pub mod StandingLaws
-pub mod Stretches
+pub mod Runs
 pub mod TotalsLaws
+pub mod TruthTables
 pub mod UniqueRuns
 pub mod VisibleLaws
+pub mod WithinLimitsLaws

@@ -3,6 +3,7 @@ use Rattle.std.proofs.Common.{◌≡◌, ℕ, ◌<◌, Bool, true, false, cond, 
 use Rattle.std.specs.List.{list_any, flat_map, filter_map, find, cons_option}
 use Rattle.std.proofs.lemmas.List.Elements.{Contains-get_or, Contains-append_left, Contains-append_right, Contains-append_cases}
 use Rattle.std.proofs.lemmas.List.Folds.{list_any-append}
+use Rattle.std.proofs.Math.Bool.{or-true}
 
 pub first-in : {X : Type 0} (x : X) (xs : List X) → Contains (x ∷ xs) x
 first-in x xs = Contains-get_or (x ∷ xs) 0 x (omega arith)
@@ -10,10 +11,10 @@ first-in x xs = Contains-get_or (x ∷ xs) 0 x (omega arith)
 pub later-in : {X : Type 0} (x : X) (xs : List X) (y : X) → Contains xs y → Contains (x ∷ xs) y
 later-in x xs y h = Contains-append_right (x ∷ []) xs y h
 
-nothing-in : {X : Type 0} (y : X) → Contains [] y → ⊥
+pub nothing-in : {X : Type 0} (y : X) → Contains [] y → ⊥
 nothing-in y h = omega (arith, h.1)
 
-only-in : {X : Type 0} (x y : X) → Contains (x ∷ []) y → x ≡ y
+pub only-in : {X : Type 0} (x y : X) → Contains (x ∷ []) y → x ≡ y
 only-in x y (i, within, is) = at i within is
   where
     at : (i : ℕ) → i < 1 → slice_index_or (x ∷ []) i y ≡ y → x ≡ y
@@ -27,12 +28,8 @@ pub any-in : {X : Type 0} (p : X → Bool) (xs : List X) (x : X) → Contains xs
 any-in p [] x h q = absurd (nothing-in x h)
 any-in p (y ∷ ys) x h q = elim (cases-in y ys x h) [
   | inl e ↦ ap (λ b. b || list_any p ys) (ap p e ∙ q)
-  | inr r ↦ ap (λ b. p y || b) (any-in p ys x r q) ∙ or_true (p y)
+  | inr r ↦ ap (λ b. p y || b) (any-in p ys x r q) ∙ or-true (p y)
 ]
-  where
-    or_true : (b : Bool) → (b || true) ≡ true
-    or_true true = refl
-    or_true false = refl
 
 -- and one that does
 pub in-any : {X : Type 0} (p : X → Bool) (xs : List X) → list_any p xs ≡ true → (x : X) × Contains xs x × (p x ≡ true)

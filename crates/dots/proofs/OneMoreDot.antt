@@ -6,18 +6,19 @@ use Rattle.std.specs.Cmp.{Equal-is}
 use Rattle.std.specs.FinSet as set
 use Rattle.std.proofs.lemmas.Bool.{cases_Bool}
 use Rattle.std.proofs.lemmas.Bool.Decides.{nat_tests}
-use Rattle.dots.specs.Values.{Tag}
+use Rattle.std.proofs.Math.Bool.{and-false, and-true}
+use Rattle.dots.specs.Values.{Dot}
 use Rattle.dots.specs.Orders.{dot_cmp}
 use Rattle.dots.specs.DotSets.{next_dot, run_ends, run_count}
 use Rattle.dots.proofs.DotOrder.{dots_total, dots_exact, same_dot}
 use Rattle.dots.proofs.RunCounts.{contains-run_ends}
 
 -- the dot of the count before
-abbrev pub dot_before : Tag → Tag
+abbrev pub dot_before : Dot → Dot
 dot_before d = record { site = d.site; count = d.count - 1 }
 
 -- a dot that a set has is no change
-pub insert_known : (dots : set.FinSet dot_cmp) (d : Tag) → set.contains dots d ≡ true → set.insert dots d ≡ dots
+pub insert_known : (dots : set.FinSet dot_cmp) (d : Dot) → set.contains dots d ≡ true → set.insert dots d ≡ dots
 insert_known dots d h = set.same_set dots_total dots_exact _ _ (λ q.
     set.contains-insert dots_total dots d q ∙ known (eq_by_cmp dot_cmp q d) (set.contains dots q)
     (λ e. set.contains_tied dots_total dots q d ((Equal-is (dot_cmp q d)).0 e)))
@@ -27,19 +28,19 @@ insert_known dots d h = set.same_set dots_total dots_exact _ _ (λ q.
     known false c g = refl
 
 -- the test that the next dot is d is the test that the dot is the one before d
-back_one : (q d : Tag) → 1 ≤ d.count → eq_by_cmp dot_cmp (next_dot q) d ≡ eq_by_cmp dot_cmp q (dot_before d)
+back_one : (q d : Dot) → 1 ≤ d.count → eq_by_cmp dot_cmp (next_dot q) d ≡ eq_by_cmp dot_cmp q (dot_before d)
 back_one q d l = same_dot (next_dot q) d ∙ numbers d.site q.site d.count q.count l ∙ sym (same_dot q (dot_before d))
   where
     numbers : (s t c n : ℕ) → 1 ≤ c → (nat_eq s t && nat_eq c (suc n)) ≡ (nat_eq s t && nat_eq (c - 1) n)
     numbers s t c n l = grind (arith, nat_tests)
 
-not_both : (q d : Tag) → 1 ≤ d.count → eq_by_cmp dot_cmp q d ≡ true → eq_by_cmp dot_cmp q (dot_before d) ≡ false
+not_both : (q d : Dot) → 1 ≤ d.count → eq_by_cmp dot_cmp q d ≡ true → eq_by_cmp dot_cmp q (dot_before d) ≡ false
 not_both q d l h = same_dot q (dot_before d) ∙ numbers d.site q.site d.count q.count l (sym (same_dot q d) ∙ h)
   where
     numbers : (s t c n : ℕ) → 1 ≤ c → (nat_eq s t && nat_eq c n) ≡ true → (nat_eq s t && nat_eq (c - 1) n) ≡ false
     numbers s t c n l h = grind (arith, nat_tests)
 
-module _ (dots : set.FinSet dot_cmp) (d : Tag) (counted : 1 ≤ d.count) (new : set.contains dots d ≡ false) where
+module _ (dots : set.FinSet dot_cmp) (d : Dot) (counted : 1 ≤ d.count) (new : set.contains dots d ≡ false) where
   -- the ends that stay
   abbrev kept : set.FinSet dot_cmp
   kept = set.remove (run_ends dots) (dot_before d)
@@ -50,36 +51,28 @@ module _ (dots : set.FinSet dot_cmp) (d : Tag) (counted : 1 ≤ d.count) (new : 
       at : (p c c' : Bool) → c ≡ false → c' ≡ true → not (p || c') ≡ (not p && (c && not c'))
       at true c c' a b = refl
       at false c c' a b = cc
-  with_next false true c c' f g = at c
-    where
-      at : (c : Bool) → (c && false) ≡ false
-      at true = refl
-      at false = refl
+  with_next false true c c' f g = and-false c
   with_next false false c c' f g = refl
 
   without_next : (e p c c' : Bool) → (e ≡ true → c' ≡ false) → (e ≡ true → p ≡ false) → ((e || c) && not (p || c')) ≡ (e || (not p && (c && not c')))
   without_next true p c c' f g = ap (λ b. not (b || c')) (g refl) ∙ ap not (f refl)
-  without_next false true c c' f g = at c
-    where
-      at : (c : Bool) → (c && false) ≡ false
-      at true = refl
-      at false = refl
+  without_next false true c c' f g = and-false c
   without_next false false c c' f g = refl
 
-  at_dot : (q : Tag) → eq_by_cmp dot_cmp q d ≡ true → set.contains dots q ≡ false
+  at_dot : (q : Dot) → eq_by_cmp dot_cmp q d ≡ true → set.contains dots q ≡ false
   at_dot q e = sym (set.contains_tied dots_total dots q d ((Equal-is (dot_cmp q d)).0 e)) ∙ new
 
-  at_next : (q : Tag) → eq_by_cmp dot_cmp q d ≡ true → set.contains dots (next_dot q) ≡ set.contains dots (next_dot d)
+  at_next : (q : Dot) → eq_by_cmp dot_cmp q d ≡ true → set.contains dots (next_dot q) ≡ set.contains dots (next_dot d)
   at_next q e = ap (λ x. set.contains dots (next_dot x)) (dots_exact q d ((Equal-is (dot_cmp q d)).0 e))
 
-  ends_after : (q : Tag) → set.contains (run_ends (set.insert dots d)) q
+  ends_after : (q : Dot) → set.contains (run_ends (set.insert dots d)) q
       ≡ ((eq_by_cmp dot_cmp q d || set.contains dots q) && not (eq_by_cmp dot_cmp q (dot_before d) || set.contains dots (next_dot q)))
   ends_after q =
       contains-run_ends (set.insert dots d) q
       ∙ (λ i. set.contains-insert dots_total dots d q i && not (set.contains-insert dots_total dots d (next_dot q) i))
       ∙ ap (λ b. (eq_by_cmp dot_cmp q d || set.contains dots q) && not (b || set.contains dots (next_dot q))) (back_one q d counted)
 
-  contains-kept : (q : Tag) → set.contains kept q ≡ (not (eq_by_cmp dot_cmp q (dot_before d)) && (set.contains dots q && not (set.contains dots (next_dot q))))
+  contains-kept : (q : Dot) → set.contains kept q ≡ (not (eq_by_cmp dot_cmp q (dot_before d)) && (set.contains dots q && not (set.contains dots (next_dot q))))
   contains-kept q = set.contains-remove dots_total (run_ends dots) (dot_before d) q ∙ ap (λ b. not (eq_by_cmp dot_cmp q (dot_before d)) && b) (contains-run_ends dots q)
 
   joined_ends : set.contains dots (next_dot d) ≡ true → run_ends (set.insert dots d) ≡ kept
@@ -93,11 +86,7 @@ module _ (dots : set.FinSet dot_cmp) (d : Tag) (counted : 1 ≤ d.count) (new : 
       ∙ sym (set.contains-insert dots_total kept d q ∙ ap (λ b. eq_by_cmp dot_cmp q d || b) (contains-kept q)))
 
   not_kept : set.contains kept d ≡ false
-  not_kept = contains-kept d ∙ ap (λ b. not (eq_by_cmp dot_cmp d (dot_before d)) && (b && not (set.contains dots (next_dot d)))) new ∙ either (not (eq_by_cmp dot_cmp d (dot_before d)))
-    where
-      either : (b : Bool) → (b && false) ≡ false
-      either true = refl
-      either false = refl
+  not_kept = contains-kept d ∙ ap (λ b. not (eq_by_cmp dot_cmp d (dot_before d)) && (b && not (set.contains dots (next_dot d)))) new ∙ and-false (not (eq_by_cmp dot_cmp d (dot_before d)))
 
   next_before : next_dot (dot_before d) ≡ d
   next_before = λ i. record { site = d.site; count = back d.count counted i }
@@ -106,13 +95,9 @@ module _ (dots : set.FinSet dot_cmp) (d : Tag) (counted : 1 ≤ d.count) (new : 
       back n l = omega arith
 
   end_before : set.contains (run_ends dots) (dot_before d) ≡ set.contains dots (dot_before d)
-  end_before = contains-run_ends dots (dot_before d) ∙ ap (λ b. set.contains dots (dot_before d) && not b) (ap (set.contains dots) next_before ∙ new) ∙ either (set.contains dots (dot_before d))
-    where
-      either : (b : Bool) → (b && true) ≡ b
-      either true = refl
-      either false = refl
+  end_before = contains-run_ends dots (dot_before d) ∙ ap (λ b. set.contains dots (dot_before d) && not b) (ap (set.contains dots) next_before ∙ new) ∙ and-true (set.contains dots (dot_before d))
 
-  some : (s : set.FinSet dot_cmp) (q : Tag) → set.contains s q ≡ true → 1 ≤ set.len s
+  some : (s : set.FinSet dot_cmp) (q : Dot) → set.contains s q ≡ true → 1 ≤ set.len s
   some s q h = elim (cases_zero (set.len s)) [ inl z ↦ absurd (let e = ap (λ t. set.contains t q) (set.empty_of_len s z) in let f = set.contains-empty dot_cmp q in cc) | inr l ↦ l ]
     where
       cases_zero : (n : ℕ) → (n ≡ 0) ⊎ (1 ≤ n)

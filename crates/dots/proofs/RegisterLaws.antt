@@ -7,23 +7,24 @@ use Rattle.std.specs.Cmp.{IsTotalOrder}
 use Rattle.std.specs.Option.{unwrap_or}
 use Rattle.std.proofs.lemmas.Cmp.{nat_cmp_total, on_total, then_total, tied_itself, upto}
 use Rattle.std.proofs.lemmas.Map.Lookups.{exact_unsigned, exact_pairs}
-use Rattle.dots.specs.Values.{Timestamp}
+use Rattle.dots.specs.Values.{Stamp}
 use Rattle.dots.specs.Orders.{stamp_cmp}
-use Rattle.dots.specs.Registers.{Entry, Agree, KeepsLatest, latest, joined}
+use Rattle.dots.specs.Registers.{Entry, Agree, KeepsLatest, latest, join_of}
+use Rattle.dots.proofs.TruthTables.{less_of}
 
 -- stamps are in a total order
 pub stamps_total : IsTotalOrder stamp_cmp
 stamps_total = then_total (on_total (λ s. s.time) nat_cmp_total) (on_total (λ s. s.site) nat_cmp_total)
 
 -- stamps that compare alike are one
-pub exact_stamps : (a b : Timestamp) → stamp_cmp a b ≡ Equal → a ≡ b
+pub exact_stamps : (a b : Stamp) → stamp_cmp a b ≡ Equal → a ≡ b
 exact_stamps a b h = ap (λ (p : ℕ × ℕ). record { time = p.0; site = p.1 }) (exact_pairs nat_cmp nat_cmp exact_unsigned exact_unsigned (a.time, a.site) (b.time, b.site) h)
 
 -- an entry that is not later than itself
 latest_self : {T : Type 0} (a : Entry T) → latest a a ≡ a
 latest_self a = ap (λ o. if is_lt o then a else a) (tied_itself stamps_total a.stamp)
 
-pub joined_self : {T : Type 0} (x : Option (Entry T)) → joined x x ≡ x
+pub joined_self : {T : Type 0} (x : Option (Entry T)) → join_of x x ≡ x
 joined_self None = refl
 joined_self (Some a) = ap Some (latest_self a)
 
@@ -37,18 +38,13 @@ chosen a b Less h = refl
 chosen a b Equal h = h refl
 chosen a b Greater h = refl
 
-pub joined_comm : {T : Type 0} (x y : Option (Entry T)) → Agree x y → joined x y ≡ joined y x
+pub joined_comm : {T : Type 0} (x y : Option (Entry T)) → Agree x y → join_of x y ≡ join_of y x
 joined_comm None None h = refl
 joined_comm None (Some b) h = refl
 joined_comm (Some a) None h = refl
 joined_comm (Some a) (Some b) h =
     ap Some (chosen a b (stamp_cmp a.stamp b.stamp) (λ e. let s = exact_stamps _ _ e in same_entry a b s (h a b refl refl s))
     ∙ ap (λ o. if is_lt o then a else b) (sym (stamps_total.antisymm b.stamp a.stamp)))
-
-less_of : (o : Ordering) → is_lt o ≡ true → o ≡ Less
-less_of Less h = refl
-less_of Equal h = (cc)
-less_of Greater h = (cc)
 
 turned : (o : Ordering) → is_gt (ordering_reverse o) ≡ is_lt o
 turned Less = refl
@@ -90,7 +86,7 @@ latest_assoc a b c =
       ] refl
     ] refl
 
-pub joined_assoc : {T : Type 0} (x y z : Option (Entry T)) → joined (joined x y) z ≡ joined x (joined y z)
+pub joined_assoc : {T : Type 0} (x y z : Option (Entry T)) → join_of (join_of x y) z ≡ join_of x (join_of y z)
 joined_assoc None y z = refl
 joined_assoc (Some a) None None = refl
 joined_assoc (Some a) None (Some c) = refl
@@ -102,7 +98,7 @@ latest_of_either : {T : Type 0} (a b : Entry T) → (latest a b ≡ a) ⊎ (late
 latest_of_either a b = elim (is_lt (stamp_cmp a.stamp b.stamp)) as (λ t. ((if t then b else a) ≡ a) ⊎ ((if t then b else a) ≡ b)) [ true ↦ inr refl | false ↦ inl refl ]
 
 -- the join's entry is one of both's
-pub joined_of_either : {T : Type 0} (x y : Option (Entry T)) (e : Entry T) → joined x y ≡ Some e → (x ≡ Some e) ⊎ (y ≡ Some e)
+pub joined_of_either : {T : Type 0} (x y : Option (Entry T)) (e : Entry T) → join_of x y ≡ Some e → (x ≡ Some e) ⊎ (y ≡ Some e)
 joined_of_either None y e h = inr h
 joined_of_either (Some a) None e h = inl h
 joined_of_either (Some a) (Some b) e h = elim (latest_of_either a b) [
@@ -111,7 +107,7 @@ joined_of_either (Some a) (Some b) e h = elim (latest_of_either a b) [
 ]
 
 -- what agrees with both agrees with their join
-pub joined_agrees : {T : Type 0} (x y z : Option (Entry T)) → Agree x z → Agree y z → Agree (joined x y) z
+pub joined_agrees : {T : Type 0} (x y z : Option (Entry T)) → Agree x z → Agree y z → Agree (join_of x y) z
 joined_agrees x y z f g a c p q = elim (joined_of_either x y a p) [
   | inl h ↦ f a c h q
   | inr h ↦ g a c h q
@@ -142,11 +138,12 @@ latest_not_before_second a b = elim (before a b) as (λ p. before a b ≡ p → 
   | false ↦ λ ab. ap (λ m. before m b) (latest_if a b false ab) ∙ ab
 ] refl
 
-one_entry : {T : Type 0} (x : Option (Entry T)) (a b : Entry T) → x ≡ Some a → x ≡ Some b → a ≡ b
+-- a register holds one entry
+pub one_entry : {T : Type 0} (x : Option (Entry T)) (a b : Entry T) → x ≡ Some a → x ≡ Some b → a ≡ b
 one_entry x a b p q = ap (λ o. unwrap_or o a) (sym p ∙ q)
 
 -- the entry of a join is before no entry of either
-joined_not_before : {T : Type 0} (x y : Option (Entry T)) (k e : Entry T) → joined x y ≡ Some k → (x ≡ Some e) ⊎ (y ≡ Some e) → before k e ≡ false
+joined_not_before : {T : Type 0} (x y : Option (Entry T)) (k e : Entry T) → join_of x y ≡ Some k → (x ≡ Some e) ⊎ (y ≡ Some e) → before k e ≡ false
 joined_not_before None None k e h (inl p) = (cc)
 joined_not_before None None k e h (inr p) = (cc)
 joined_not_before None (Some b) k e h (inl p) = (cc)
@@ -158,7 +155,7 @@ joined_not_before (Some a) (Some b) k e h (inl p) =
 joined_not_before (Some a) (Some b) k e h (inr p) =
     ap (λ m. before m e) (one_entry (Some (latest a b)) k (latest a b) h refl) ∙ ap (before (latest a b)) (one_entry (Some b) e b p refl) ∙ latest_not_before_second a b
 
-joined_has_one : {T : Type 0} (x y : Option (Entry T)) (e : Entry T) → (x ≡ Some e) ⊎ (y ≡ Some e) → IsSome (joined x y)
+joined_has_one : {T : Type 0} (x y : Option (Entry T)) (e : Entry T) → (x ≡ Some e) ⊎ (y ≡ Some e) → IsSome (join_of x y)
 joined_has_one None None e (inl p) = (cc)
 joined_has_one None None e (inr p) = (cc)
 joined_has_one None (Some b) e h = refl
@@ -170,7 +167,7 @@ not_less Less h p = (cc)
 not_less Equal h p = (cc)
 not_less Greater h p = (cc)
 
-pub joined_keeps_latest : {T : Type 0} (x y : Option (Entry T)) → KeepsLatest x y (joined x y)
+pub joined_keeps_latest : {T : Type 0} (x y : Option (Entry T)) → KeepsLatest x y (join_of x y)
 unfolding before
 joined_keeps_latest x y = record {
   has_one = joined_has_one x y;

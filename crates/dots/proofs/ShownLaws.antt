@@ -1,5 +1,5 @@
 -- What is shown: of which dot each value of a row is, and where there is none.
-use Rattle.std.proofs.Common.{◌≡◌, ◌≢◌, ◌↔◌, ◌⊎◌, ◌≤◌, ◌&&◌, inl, inr, ℕ, Bool, true, false, List, [], ◌∷◌, Contains, Option, Some, None, IsSome, is_some, true≢false, refl, sym, ap, subst, ◌∙◌, if◌then◌else◌, max, T, arith, filter, cond}
+use Rattle.std.proofs.Common.{◌≡◌, ◌≢◌, ◌↔◌, ◌⊎◌, ◌≤◌, inl, inr, ℕ, Bool, true, false, List, [], ◌∷◌, Contains, Option, Some, None, IsSome, is_some, true≢false, refl, sym, ap, subst, ◌∙◌, if◌then◌else◌, max, arith, filter, cond}
 use Rattle.std.specs.List.{filter_map, cons_option}
 use Rattle.std.specs.FinMap as map
 use Rattle.std.specs.FinMap.Entries.{below_all}
@@ -9,14 +9,16 @@ use Rattle.std.specs.Ordering.{eq_by_cmp, is_eq, is_lt}
 use Rattle.std.specs.declared.cmp.Ordering.{Ordering}
 use Rattle.std.specs.declared.cmp.Ordering.TheVariants.{Less, Equal, Greater}
 use Rattle.std.proofs.lemmas.Cmp.{tied_itself}
+use Rattle.std.proofs.lemmas.Bool.{and_parts}
 use Rattle.dots.specs.declared.member.Member.{Member}
-use Rattle.dots.specs.Values.{Tag, Timestamp}
+use Rattle.dots.specs.Values.{Dot, Stamp}
 use Rattle.dots.specs.Orders.{dot_cmp, member_cmp, stamp_cmp}
-use Rattle.dots.specs.Registers.{Entry, joined}
-use Rattle.dots.specs.Operations.{Operation, Field, Calls, penalty_field, pause_field, label_field}
-use Rattle.dots.specs.Knowledge.{Knowledge, IsFieldOf, settings_of, field_of, latest_of, visible_dots, member_of}
+use Rattle.dots.specs.Registers.{Entry, join_of}
+use Rattle.dots.specs.declared.calls.Calls.{Calls}
+use Rattle.dots.specs.Operations.{Operation, Field, penalty_field, pause_field, label_field}
+use Rattle.dots.specs.Knowledge.{Knowledge, settings_of, field_of, latest_of, visible_dots, member_of}
 use Rattle.dots.specs.Rows.{MemberRow, dot_view, is_of, dots_of, member_field, row_of_fields, row_if, row_of}
-use Rattle.dots.specs.Counts.{counted, site_total}
+use Rattle.dots.specs.Counts.{count_in, site_total}
 use Rattle.dots.specs.Shown.{IsComputed, HasVisibleDot, IsShown, ShowsField, HasValues, IsGreatestCount}
 use Rattle.dots.specs.SetItems.{in_order}
 use Rattle.dots.proofs.DotOrder.{dots_total}
@@ -27,9 +29,10 @@ use Rattle.dots.proofs.RowLaws.{has-row}
 use Rattle.dots.proofs.Membership.{first-in, later-in, cases-in, any-in, some-in}
 use Rattle.dots.proofs.Filters.{filter-in, passes}
 use Rattle.dots.proofs.FieldLaws.{latest-in, latest-some, latest-greatest, field-is}
+use Rattle.dots.proofs.TruthTables.{equal_of, less_of}
 
 -- the field that is computed is the latest setting
-pub is-computed : {T : Type 0} (field : Field T) (k : Knowledge) (dot : Tag) → IsComputed field k dot
+pub is-computed : {T : Type 0} (field : Field T) (k : Knowledge) (dot : Dot) → IsComputed field k dot
 is-computed {T} field k dot = record { latest = field-is field k dot; there = (to (field_of field k dot) refl, λ h. latest-some (settings_of field k dot) h.0 h.1) }
   where
     to : (o : Option (Entry T)) → field_of field k dot ≡ o → IsSome (field_of field k dot) → (entry : Entry T) × Contains (settings_of field k dot) entry
@@ -41,47 +44,47 @@ pub is-greatest : (k : Knowledge) (site queue : ℕ) (calls : Calls) → IsGreat
 is-greatest [] site queue calls = record { is_one = inl refl; at_least = λ o h. absurd (omega (arith, h.1)) }
 is-greatest (p ∷ k) site queue calls =
     let rest = is-greatest k site queue calls in
-    record { is_one = one rest (larger (counted site queue calls p) (site_total k site queue calls)); at_least = bound rest }
+    record { is_one = one rest (larger (count_in site queue calls p) (site_total k site queue calls)); at_least = bound rest }
   where
     larger : (a b : ℕ) → (max a b ≡ a) ⊎ (max a b ≡ b)
     larger a b = grind arith
 
-    one : IsGreatestCount k site queue calls (site_total k site queue calls) → ((max (counted site queue calls p) (site_total k site queue calls) ≡ counted site queue calls p) ⊎ (max (counted site queue calls p) (site_total k site queue calls) ≡ site_total k site queue calls))
-        → (site_total (p ∷ k) site queue calls ≡ 0) ⊎ ((o : Operation) × Contains (p ∷ k) o × (counted site queue calls o ≡ site_total (p ∷ k) site queue calls))
+    one : IsGreatestCount k site queue calls (site_total k site queue calls) → ((max (count_in site queue calls p) (site_total k site queue calls) ≡ count_in site queue calls p) ⊎ (max (count_in site queue calls p) (site_total k site queue calls) ≡ site_total k site queue calls))
+        → (site_total (p ∷ k) site queue calls ≡ 0) ⊎ ((o : Operation) × Contains (p ∷ k) o × (count_in site queue calls o ≡ site_total (p ∷ k) site queue calls))
     one rest (inl e) = inr (p, first-in p k, sym e)
     one rest (inr e) = elim rest.is_one [
       | inl z ↦ inl (e ∙ z)
       | inr s ↦ inr (s.0, later-in p k s.0 s.1, s.2 ∙ sym e)
     ]
 
-    bound : IsGreatestCount k site queue calls (site_total k site queue calls) → (o : Operation) → Contains (p ∷ k) o → counted site queue calls o ≤ site_total (p ∷ k) site queue calls
+    bound : IsGreatestCount k site queue calls (site_total k site queue calls) → (o : Operation) → Contains (p ∷ k) o → count_in site queue calls o ≤ site_total (p ∷ k) site queue calls
     bound rest o h = elim (cases-in p k o h) [
-      | inl e ↦ let same : counted site queue calls p ≡ counted site queue calls o = ap (counted site queue calls) e in omega arith
+      | inl e ↦ let same : count_in site queue calls p ≡ count_in site queue calls o = ap (count_in site queue calls) e in omega arith
       | inr r ↦ omega (arith, rest.at_least o r)
     ]
 
 -- dots of which each lies before all that follow it
-abbrev Rise : List Tag → Type 0
+abbrev Rise : List Dot → Type 0
 Rise [] = Unit {0}
-Rise (d ∷ ds) = ((x : Tag) → Contains ds x → dot_cmp d x ≡ Less) × Rise ds
+Rise (d ∷ ds) = ((x : Dot) → Contains ds x → dot_cmp d x ≡ Less) × Rise ds
 
 -- the latest of what a function gives of dots that rise is that of the least dot among equal stamps
-record IsFirstLatest {T : Type 0} (f : Tag → Option (Entry T)) (ds : List Tag) (entry : Entry T) : Type 0 where
-  dot : Tag
+record IsFirstLatest {T : Type 0} (f : Dot → Option (Entry T)) (ds : List Dot) (entry : Entry T) : Type 0 where
+  dot : Dot
   own : Contains ds dot
   has : f dot ≡ Some entry
-  none_lesser : (d : Tag) (e : Entry T) → Contains ds d → f d ≡ Some e → e.stamp ≡ entry.stamp → dot_cmp d dot ≢ Less
+  none_lesser : (d : Dot) (e : Entry T) → Contains ds d → f d ≡ Some e → e.stamp ≡ entry.stamp → dot_cmp d dot ≢ Less
 
-not_before_itself : (d : Tag) → dot_cmp d d ≢ Less
+not_before_itself : (d : Dot) → dot_cmp d d ≢ Less
 not_before_itself d h = let tied = tied_itself dots_total d in absurd (cc)
 
-not_turned : (a b : Tag) → dot_cmp a b ≡ Less → dot_cmp b a ≢ Less
+not_turned : (a b : Dot) → dot_cmp a b ≡ Less → dot_cmp b a ≢ Less
 not_turned a b h g = not_before_itself a (dots_total.trans a b a h g)
 
-stamp_not_before_itself : (s : Timestamp) → stamp_cmp s s ≢ Less
+stamp_not_before_itself : (s : Stamp) → stamp_cmp s s ≢ Less
 stamp_not_before_itself s h = let tied = tied_itself stamps_total s in absurd (cc)
 
-first-latest : {T : Type 0} (f : Tag → Option (Entry T)) (ds : List Tag) (entry : Entry T) → Rise ds → latest_of (filter_map f ds) ≡ Some entry → IsFirstLatest f ds entry
+first-latest : {T : Type 0} (f : Dot → Option (Entry T)) (ds : List Dot) (entry : Entry T) → Rise ds → latest_of (filter_map f ds) ≡ Some entry → IsFirstLatest f ds entry
 first-latest f [] entry rise h = absurd (none_some h)
   where
     none_some : None ≡ Some entry → ⊥
@@ -122,7 +125,7 @@ first-latest {T} f (d ∷ ds) entry rise h = of (λ e q. first-latest f ds e ris
     chosen tail a b is rest Equal e q = subst (IsFirstLatest f (d ∷ ds)) (one a entry q) (head a is)
     chosen tail a b is rest Greater e q = subst (IsFirstLatest f (d ∷ ds)) (one a entry q) (head a is)
 
-    with_head : ((e : Entry T) → latest_of (filter_map f ds) ≡ Some e → IsFirstLatest f ds e) → (a : Entry T) → f d ≡ Some a → (o : Option (Entry T)) → latest_of (filter_map f ds) ≡ o → joined (Some a) o ≡ Some entry → IsFirstLatest f (d ∷ ds) entry
+    with_head : ((e : Entry T) → latest_of (filter_map f ds) ≡ Some e → IsFirstLatest f ds e) → (a : Entry T) → f d ≡ Some a → (o : Option (Entry T)) → latest_of (filter_map f ds) ≡ o → join_of (Some a) o ≡ Some entry → IsFirstLatest f (d ∷ ds) entry
     with_head tail a is None rest q = subst (IsFirstLatest f (d ∷ ds)) (one a entry q) (head a is)
     with_head tail a is (Some b) rest q = chosen tail a b is rest (stamp_cmp a.stamp b.stamp) refl q
 
@@ -133,31 +136,21 @@ first-latest {T} f (d ∷ ds) entry rise h = of (λ e q. first-latest f ds e ris
     of tail None is q = deeper entry (tail entry q) (λ x has same. none_is x is has)
     of tail (Some a) is q = with_head tail a is (latest_of (filter_map f ds)) refl q
 
--- what a sorted list of keys says: it rises
-less_of : (o : Ordering) → is_lt o ≡ true → o ≡ Less
-less_of Less h = refl
-less_of Equal h = (cc)
-less_of Greater h = (cc)
-
-split : (a b : Bool) → (a && b) ≡ true → (a ≡ true) × (b ≡ true)
-split true b h = (refl, h)
-split false b h = absurd (true≢false (sym h))
-
-before_all : (d : Tag) (ds : List Tag) → below_all dot_cmp d (units ds) ≡ true → (x : Tag) → Contains ds x → dot_cmp d x ≡ Less
+before_all : (d : Dot) (ds : List Dot) → below_all dot_cmp d (units ds) ≡ true → (x : Dot) → Contains ds x → dot_cmp d x ≡ Less
 before_all d [] h x here = absurd (omega (arith, here.1))
 before_all d (e ∷ ds) h x here =
-    let s = split (is_lt (dot_cmp d e)) (below_all dot_cmp d (units ds)) h in
+    let s = and_parts (is_lt (dot_cmp d e)) (below_all dot_cmp d (units ds)) h in
     elim (cases-in e ds x here) [
       | inl p ↦ subst (λ y. dot_cmp d y ≡ Less) p (less_of (dot_cmp d e) s.0)
       | inr r ↦ before_all d ds s.1 x r
     ]
 
-rises : (ds : List Tag) → map.is_sorted dot_cmp (units ds) ≡ true → Rise ds
+rises : (ds : List Dot) → map.is_sorted dot_cmp (units ds) ≡ true → Rise ds
 rises [] h = tt
-rises (d ∷ ds) h = let s = split (below_all dot_cmp d (units ds)) (map.is_sorted dot_cmp (units ds)) h in (before_all d ds s.0, rises ds s.1)
+rises (d ∷ ds) h = let s = and_parts (below_all dot_cmp d (units ds)) (map.is_sorted dot_cmp (units ds)) h in (before_all d ds s.0, rises ds s.1)
 
 -- what is left of dots that rise, rises
-rise-filter : (p : Tag → Bool) (ds : List Tag) → Rise ds → Rise (filter p ds)
+rise-filter : (p : Dot → Bool) (ds : List Dot) → Rise ds → Rise (filter p ds)
 rise-filter p [] h = tt
 rise-filter p (d ∷ ds) h = by (rise-filter p ds h.1) (p d)
   where
@@ -184,18 +177,18 @@ shows-field {T} field k member = record { shown = shown; unset = (nowhere, λ h.
           none_lesser = l.none_lesser;
         }
 
-    none_at : (d : Tag) → member_field (field_of field k) (dot_view k) member ≡ None → Contains (dots_of (dot_view k) member) d → (o : Option (Entry T)) → field_of field k d ≡ o → o ≡ None
+    none_at : (d : Dot) → member_field (field_of field k) (dot_view k) member ≡ None → Contains (dots_of (dot_view k) member) d → (o : Option (Entry T)) → field_of field k d ≡ o → o ≡ None
     none_at d h here None e = refl
     none_at d h here (Some entry) e =
         absurd (true≢false (sym (latest-some (filter_map (field_of field k) (dots_of (dot_view k) member)) entry (some-in (field_of field k) (dots_of (dot_view k) member) d entry here e)) ∙ ap is_some h))
 
-    nowhere : member_field (field_of field k) (dot_view k) member ≡ None → (d : Tag) → Contains (dots_of (dot_view k) member) d → field_of field k d ≡ None
+    nowhere : member_field (field_of field k) (dot_view k) member ≡ None → (d : Dot) → Contains (dots_of (dot_view k) member) d → field_of field k d ≡ None
     nowhere h d here = none_at d h here (field_of field k d) refl
 
     some_none : (e : Entry T) (o : Option (Entry T)) → o ≡ Some e → o ≡ None → ⊥
     some_none e o p q = (cc)
 
-    nothing : ((d : Tag) → Contains (dots_of (dot_view k) member) d → field_of field k d ≡ None) → (o : Option (Entry T)) → member_field (field_of field k) (dot_view k) member ≡ o → o ≡ None
+    nothing : ((d : Dot) → Contains (dots_of (dot_view k) member) d → field_of field k d ≡ None) → (o : Option (Entry T)) → member_field (field_of field k) (dot_view k) member ≡ o → o ≡ None
     nothing h None e = refl
     nothing h (Some entry) e = let s = shown entry e in absurd (some_none entry (field_of field k s.dot) s.is_its_field (h s.dot s.is_own))
 
@@ -209,20 +202,15 @@ has-values k member row h = of (dots_of (dot_view k) member) h
     one : (a b : MemberRow) → Some a ≡ Some b → b ≡ a
     one a b e = cc
 
-    of : (ds : List Tag) → row_if ds shown ≡ Some row → HasValues k member row
+    of : (ds : List Dot) → row_if ds shown ≡ Some row → HasValues k member row
     of [] h = absurd (none_some h)
       where
         none_some : None ≡ Some row → ⊥
         none_some h = (cc)
     of (d ∷ ds) h = subst (HasValues k member) (sym (one shown row h)) (record { penalty = refl; paused = refl; reason = refl; name = refl; state = refl })
 
-equal_of : (o : Ordering) → is_eq o ≡ true → o ≡ Equal
-equal_of Less h = (cc)
-equal_of Equal h = refl
-equal_of Greater h = (cc)
-
 -- a dot of a member is visible, with that member
-of-dot : (k : Knowledge) (member : Member) (d : Tag) → Contains (dots_of (dot_view k) member) d → HasVisibleDot k member
+of-dot : (k : Knowledge) (member : Member) (d : Dot) → Contains (dots_of (dot_view k) member) d → HasVisibleDot k member
 of-dot k member d h = record { dot = d; visible = visible; of_member = with (member_of k d) refl (passes (is_of (dot_view k) member) (in_order (visible_dots k)) d h) }
   where
     visible : set.contains (visible_dots k) d ≡ true
@@ -241,6 +229,6 @@ row-is k member = (of (dots_of (dot_view k) member) refl, λ v. has-row k member
     shown : MemberRow
     shown = row_of_fields (member_field (field_of penalty_field k) (dot_view k) member) (member_field (field_of pause_field k) (dot_view k) member) (member_field (field_of label_field k) (dot_view k) member)
 
-    of : (ds : List Tag) → dots_of (dot_view k) member ≡ ds → is_some (row_if (dots_of (dot_view k) member) shown) ≡ true → HasVisibleDot k member
+    of : (ds : List Dot) → dots_of (dot_view k) member ≡ ds → is_some (row_if (dots_of (dot_view k) member) shown) ≡ true → HasVisibleDot k member
     of [] e h = absurd (true≢false (sym h ∙ ap (λ ds. is_some (row_if ds shown)) e))
     of (d ∷ ds) e h = of-dot k member d (subst (λ xs. Contains xs d) (sym e) (first-in d ds))

@@ -1,6 +1,8 @@
+pub mod Codes
 pub mod Conditions
 pub mod Counts
 pub mod DotSets
+pub mod Fronts
 pub mod Joins
 pub mod Knowledge
 pub mod Operations
@@ -9,6 +11,8 @@ pub mod Registers
 pub mod Rows
 pub mod SetItems
 pub mod Shown
+pub mod SortedEntries
 pub mod Totals
 pub mod Values
 pub mod Views
+pub mod WithinLimits

@@ -2,9 +2,10 @@
 -- names the dots that its site sees (RR-8083's observed-remove set).
 use Rattle.std.specs.Prelude.{ℕ, List, [], ◌∷◌, Option, Some, None}
 use Rattle.std.specs.FinSet as set
+use Rattle.dots.specs.declared.calls.Calls.{Calls}
 use Rattle.dots.specs.declared.label.Label.{Label}
 use Rattle.dots.specs.declared.member.Member.{Member}
-use Rattle.dots.specs.Values.{Tag, Timestamp, PauseState}
+use Rattle.dots.specs.Values.{Dot, Stamp, PauseState}
 use Rattle.dots.specs.Orders.{dot_cmp}
 use Rattle.dots.specs.Registers.{Entry}
 
@@ -14,33 +15,28 @@ pub data Setting : Type 0 where
   SetPause : PauseState → Setting
   SetLabel : Label → Setting
 
--- the calls that are counted (this project's own)
-pub data Calls : Type 0 where
-  Completed : Calls
-  Abandoned : Calls
-
 -- An Add makes a dot of a member and sets its three fields under one stamp. A Write sets one field on dots that its site
 -- sees. Both also name older dots that are dead at their site. A Remove names the dots that its site sees. A Count says
 -- how many calls a site has counted in a queue so far.
 pub data Operation : Type 0 where
-  Add : (dot : Tag) (member : Member) (stamp : Timestamp) (penalty : ℕ) (pause : PauseState) (label : Label) (older : set.FinSet dot_cmp) → Operation
-  Write : (dots : List (Tag × Member)) (setting : Setting) (stamp : Timestamp) (older : set.FinSet dot_cmp) → Operation
+  Add : (dot : Dot) (member : Member) (stamp : Stamp) (penalty : ℕ) (pause : PauseState) (label : Label) (older : set.FinSet dot_cmp) → Operation
+  Write : (dots : List (Dot × Member)) (setting : Setting) (stamp : Stamp) (older : set.FinSet dot_cmp) → Operation
   Remove : (dots : set.FinSet dot_cmp) → Operation
   Count : (site queue : ℕ) (calls : Calls) (total : ℕ) → Operation
 
 -- the dots that an operation asserts, each with its member
-abbrev pub asserted : Operation → List (Tag × Member)
-asserted (Add dot member stamp penalty pause label older) = (dot, member) ∷ []
-asserted (Write dots setting stamp older) = dots
-asserted (Remove dots) = []
-asserted (Count site queue calls total) = []
+abbrev pub asserted_by : Operation → List (Dot × Member)
+asserted_by (Add dot member stamp penalty pause label older) = (dot, member) ∷ []
+asserted_by (Write dots setting stamp older) = dots
+asserted_by (Remove dots) = []
+asserted_by (Count site queue calls total) = []
 
 -- the dots that it names: they are dead from then on
-abbrev pub named : Operation → set.FinSet dot_cmp
-named (Add dot member stamp penalty pause label older) = older
-named (Write dots setting stamp older) = older
-named (Remove dots) = dots
-named (Count site queue calls total) = set.empty
+abbrev pub named_by : Operation → set.FinSet dot_cmp
+named_by (Add dot member stamp penalty pause label older) = older
+named_by (Write dots setting stamp older) = older
+named_by (Remove dots) = dots
+named_by (Count site queue calls total) = set.empty
 
 -- A field, by what an operation sets of it on the dots that it asserts: a value and its stamp, or nothing.
 abbrev pub Field : Type 0 → Type 0
@@ -62,27 +58,27 @@ set_label (SetPause p) = None
 set_label (SetLabel l) = Some l
 
 -- a value under a stamp, where there is a value
-abbrev pub stamped : {T : Type 0} → Timestamp → Option T → Option (Entry T)
-stamped stamp None = None
-stamped stamp (Some value) = Some (record { stamp = stamp; value = value })
+abbrev pub entry_under : {T : Type 0} → Stamp → Option T → Option (Entry T)
+entry_under stamp None = None
+entry_under stamp (Some value) = Some (record { stamp = stamp; value = value })
 
 -- the penalty that an operation sets
 abbrev pub penalty_field : Field ℕ
-penalty_field (Add dot member stamp penalty pause label older) = stamped stamp (Some penalty)
-penalty_field (Write dots setting stamp older) = stamped stamp (set_penalty setting)
+penalty_field (Add dot member stamp penalty pause label older) = entry_under stamp (Some penalty)
+penalty_field (Write dots setting stamp older) = entry_under stamp (set_penalty setting)
 penalty_field (Remove dots) = None
 penalty_field (Count site queue calls total) = None
 
 -- the pause that it sets
 abbrev pub pause_field : Field PauseState
-pause_field (Add dot member stamp penalty pause label older) = stamped stamp (Some pause)
-pause_field (Write dots setting stamp older) = stamped stamp (set_pause setting)
+pause_field (Add dot member stamp penalty pause label older) = entry_under stamp (Some pause)
+pause_field (Write dots setting stamp older) = entry_under stamp (set_pause setting)
 pause_field (Remove dots) = None
 pause_field (Count site queue calls total) = None
 
 -- the label that it sets
 abbrev pub label_field : Field Label
-label_field (Add dot member stamp penalty pause label older) = stamped stamp (Some label)
-label_field (Write dots setting stamp older) = stamped stamp (set_label setting)
+label_field (Add dot member stamp penalty pause label older) = entry_under stamp (Some label)
+label_field (Write dots setting stamp older) = entry_under stamp (set_label setting)
 label_field (Remove dots) = None
 label_field (Count site queue calls total) = None

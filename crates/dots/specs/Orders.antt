@@ -4,14 +4,14 @@ use Rattle.std.specs.declared.cmp.Ordering.{Ordering}
 use Rattle.std.specs.Ordering.{nat_cmp, on, then_cmp}
 use Rattle.std.specs.Cmp.Lexicographic.{slice_cmp}
 use Rattle.dots.specs.declared.member.Member.{Member}
-use Rattle.dots.specs.Values.{Tag, Timestamp}
+use Rattle.dots.specs.Values.{Dot, Stamp}
 
 -- dots: by site, then by count
-abbrev pub dot_cmp : Tag → Tag → Ordering
+abbrev pub dot_cmp : Dot → Dot → Ordering
 dot_cmp = then_cmp (on (λ d. d.site) nat_cmp) (on (λ d. d.count) nat_cmp)
 
 -- stamps: by time, then by site
-abbrev pub stamp_cmp : Timestamp → Timestamp → Ordering
+abbrev pub stamp_cmp : Stamp → Stamp → Ordering
 stamp_cmp = then_cmp (on (λ s. s.time) nat_cmp) (on (λ s. s.site) nat_cmp)
 
 -- texts: by bytes, a prefix first

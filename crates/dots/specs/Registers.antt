@@ -3,12 +3,12 @@
 use Rattle.std.specs.Prelude.{◌≡◌, ◌≢◌, ◌⊎◌, Option, Some, None, IsSome, if◌then◌else◌}
 use Rattle.std.specs.Ordering.{is_lt}
 use Rattle.std.specs.declared.cmp.Ordering.TheVariants.{Less}
-use Rattle.dots.specs.Values.{Timestamp}
+use Rattle.dots.specs.Values.{Stamp}
 use Rattle.dots.specs.Orders.{stamp_cmp}
 
 -- a value, and the stamp under which it was written
 pub record Entry (T : Type 0) : Type 0 where
-  pub stamp : Timestamp
+  pub stamp : Stamp
   pub value : T
 
 -- one stamp has one value in both
@@ -29,10 +29,10 @@ abbrev pub latest : {T : Type 0} → Entry T → Entry T → Entry T
 latest a b = if is_lt (stamp_cmp a.stamp b.stamp) then b else a
 
 -- two registers joined: the entry of the greatest stamp
-abbrev pub joined : {T : Type 0} → Option (Entry T) → Option (Entry T) → Option (Entry T)
-joined None y = y
-joined (Some a) None = Some a
-joined (Some a) (Some b) = Some (latest a b)
+abbrev pub join_of : {T : Type 0} → Option (Entry T) → Option (Entry T) → Option (Entry T)
+join_of None y = y
+join_of (Some a) None = Some a
+join_of (Some a) (Some b) = Some (latest a b)
 
 -- a register is below another that holds the same entry, or one under a greater stamp; one without an entry is below all
 abbrev pub IsBelow : {T : Type 0} → Option (Entry T) → Option (Entry T) → Type 0

@@ -6,7 +6,7 @@ use Rattle.std.specs.FinSet as set
 use Rattle.std.specs.Ordering.{eq_by_cmp}
 use Rattle.dots.specs.declared.label.Label.{Label}
 use Rattle.dots.specs.declared.member.Member.{Member}
-use Rattle.dots.specs.Values.{Tag, PauseState}
+use Rattle.dots.specs.Values.{Dot, PauseState}
 use Rattle.dots.specs.Orders.{dot_cmp, member_cmp, text_cmp}
 use Rattle.dots.specs.Registers.{Entry}
 use Rattle.dots.specs.Operations.{penalty_field, pause_field, label_field}
@@ -24,10 +24,10 @@ pub record MemberRow : Type 0 where
 -- What is seen of dots, be it of a knowledge or of what stands for one: the visible dots, and of each its member and fields.
 pub record DotView : Type 0 where
   pub visible : set.FinSet dot_cmp
-  pub member : Tag → Option Member
-  pub penalty : Tag → Option (Entry ℕ)
-  pub pause : Tag → Option (Entry PauseState)
-  pub label : Tag → Option (Entry Label)
+  pub member : Dot → Option Member
+  pub penalty : Dot → Option (Entry ℕ)
+  pub pause : Dot → Option (Entry PauseState)
+  pub label : Dot → Option (Entry Label)
 
 -- the dot view of a knowledge
 abbrev pub dot_view : Knowledge → DotView
@@ -43,21 +43,21 @@ dot_view k = record {
 -- nothing that counts.
 pub record ShowAlike (r s : DotView) : Type 0 where
   pub visible : r.visible ≡ s.visible
-  pub member : (dot : Tag) → set.contains r.visible dot ≡ true → r.member dot ≡ s.member dot
-  pub penalty : (dot : Tag) → set.contains r.visible dot ≡ true → r.penalty dot ≡ s.penalty dot
-  pub pause : (dot : Tag) → set.contains r.visible dot ≡ true → r.pause dot ≡ s.pause dot
-  pub label : (dot : Tag) → set.contains r.visible dot ≡ true → r.label dot ≡ s.label dot
+  pub member : (dot : Dot) → set.contains r.visible dot ≡ true → r.member dot ≡ s.member dot
+  pub penalty : (dot : Dot) → set.contains r.visible dot ≡ true → r.penalty dot ≡ s.penalty dot
+  pub pause : (dot : Dot) → set.contains r.visible dot ≡ true → r.pause dot ≡ s.pause dot
+  pub label : (dot : Dot) → set.contains r.visible dot ≡ true → r.label dot ≡ s.label dot
 
 -- whether a dot is one of the member's
-abbrev pub is_of : DotView → Member → Tag → Bool
+abbrev pub is_of : DotView → Member → Dot → Bool
 is_of r member dot = option_map_or (eq_by_cmp member_cmp member) (r.member dot) false
 
 -- the dots of a member that are visible, in their order
-abbrev pub dots_of : DotView → Member → List Tag
+abbrev pub dots_of : DotView → Member → List Dot
 dots_of r member = filter (is_of r member) (in_order r.visible)
 
 -- a field of a member: the entry of the greatest stamp over its visible dots, of equal stamps that of the least dot
-abbrev pub member_field : {T : Type 0} → (Tag → Option (Entry T)) → DotView → Member → Option (Entry T)
+abbrev pub member_field : {T : Type 0} → (Dot → Option (Entry T)) → DotView → Member → Option (Entry T)
 member_field field r member = latest_of (filter_map field (dots_of r member))
 
 -- the value of an entry, or a default where there is none
@@ -78,7 +78,7 @@ row_of_fields penalty pause label =
     record { penalty = value_or 0 penalty; paused = p.paused; reason = p.reason; name = l.name; state = l.state }
 
 -- a row, where there is a dot
-abbrev pub row_if : List Tag → MemberRow → Option MemberRow
+abbrev pub row_if : List Dot → MemberRow → Option MemberRow
 row_if [] row = None
 row_if (dot ∷ dots) row = Some row
 

@@ -7,6 +7,8 @@ use Rattle.std.specs.declared.cmp.Ordering.{Ordering}
 use Rattle.std.specs.Ordering.{nat_cmp, on, then_cmp}
 use Rattle.std.specs.Coded.{Coded, code_by, coded×, coded_ℕ}
 use Rattle.std.specs.FinMap as map
+use Rattle.dots.specs.declared.call_totals.CallTotals.{CallTotals}
+use Rattle.dots.specs.declared.limits.TheConstants.{MOST_CALLS, QUEUES, SITES}
 use Rattle.dots.specs.Values.{IsSite}
 
 -- whose total it is: a site, and a queue
@@ -22,37 +24,46 @@ key_cmp = then_cmp (on (λ k. k.site) nat_cmp) (on (λ k. k.queue) nat_cmp)
 abbrev pub key_code : Coded Key
 key_code = code_by (ℕ × ℕ) (coded× coded_ℕ coded_ℕ) (λ k. (k.site, k.queue)) (λ p. record { site = p.0; queue = p.1 }) (λ _. refl)
 
--- the totals of all sites: how many calls were completed, and how many abandoned
+-- no calls: two zeros
+abbrev pub no_calls : CallTotals
+no_calls = record { completed = 0; abandoned = 0 }
+
+-- totals of calls are stored as the pair of their numbers
+abbrev pub call_totals_code : Coded CallTotals
+call_totals_code =
+    code_by (ℕ × ℕ) (coded× coded_ℕ coded_ℕ) (λ t. (t.completed, t.abandoned)) (λ p. record { completed = p.0; abandoned = p.1 }) (λ _. refl)
+
+-- the totals of all sites, by their keys
 abbrev pub Entries : Type 0
-Entries = map.FinMap key_cmp (ℕ × ℕ)
+Entries = map.FinMap key_cmp CallTotals
 
 -- they are stored as their entries
 abbrev pub entries_code : Coded Entries
-entries_code = map.code key_code (coded× coded_ℕ coded_ℕ)
+entries_code = map.code key_code call_totals_code
 
--- the greater of two pairs, number by number
-abbrev pub greater : ℕ × ℕ → ℕ × ℕ → ℕ × ℕ
-greater p q = (max p.0 q.0, max p.1 q.1)
+-- the greater of both, number by number
+abbrev pub greater : CallTotals → CallTotals → CallTotals
+greater p q = record { completed = max p.completed q.completed; abandoned = max p.abandoned q.abandoned }
 
--- a key's pair, two zeros where it has none
-abbrev pub pair_at : Entries → Key → ℕ × ℕ
-pair_at totals key = unwrap_or (map.get totals key) (0, 0)
+-- a key's totals, no calls where it has none
+abbrev pub totals_at : Entries → Key → CallTotals
+totals_at entries key = unwrap_or (map.get entries key) no_calls
 
--- a site's pair in a queue
-abbrev pub total_of : Entries → ℕ → ℕ → ℕ × ℕ
-total_of totals site queue = pair_at totals (record { site = site; queue = queue })
+-- a site's totals in a queue
+abbrev pub totals_of : Entries → ℕ → ℕ → CallTotals
+totals_of entries site queue = totals_at entries (record { site = site; queue = queue })
 
--- the join of two: each key of either, with the greater of its two pairs
-abbrev pub joined : Entries → Entries → Entries
-joined x y = map.from_entries (each (λ key. (key, greater (pair_at x key) (pair_at y key))) (map.keys x ++ map.keys y))
+-- the join of two: each key of either, with the greater of its totals in both
+abbrev pub join_of : Entries → Entries → Entries
+join_of x y = map.from_entries (each (λ key. (key, greater (totals_at x key) (totals_at y key))) (map.keys x ++ map.keys y))
 
 -- whether both numbers are zero
-abbrev pub is_zero : ℕ × ℕ → Bool
-is_zero pair = pair.0 == 0 && pair.1 == 0
+abbrev pub is_zero : CallTotals → Bool
+is_zero totals = totals.completed == 0 && totals.abandoned == 0
 
 -- one entry alone; nothing where both numbers are zero
-abbrev pub single : Key → ℕ × ℕ → Entries
-single key pair = if is_zero pair then map.empty else map.insert map.empty key pair
+abbrev pub single : Key → CallTotals → Entries
+single key totals = if is_zero totals then map.empty else map.insert map.empty key totals
 
 -- how many keys of the second the first lacks
 abbrev pub count_missing : Entries → Entries → ℕ
@@ -63,18 +74,21 @@ unfoldable pub sum_below : ℕ → (ℕ → ℕ) → ℕ
 sum_below zero f = 0
 sum_below (suc n) f = sum_below n f + f n
 
--- a queue's pair: the sums over all 64 sites
-abbrev pub sum_of : Entries → ℕ → ℕ × ℕ
-sum_of totals queue = (sum_below 64 (λ site. (total_of totals site queue).0), sum_below 64 (λ site. (total_of totals site queue).1))
+-- a queue's totals: the sums over all sites
+abbrev pub sum_of : Entries → ℕ → CallTotals
+sum_of entries queue = record {
+  completed = sum_below SITES (λ site. (totals_of entries site queue).completed);
+  abandoned = sum_below SITES (λ site. (totals_of entries site queue).abandoned);
+}
 
--- a total that may be kept: of a site, in one of 256 queues, two numbers of at most 1,000,000,000 that are not both zero
-pub record IsTotal (key : Key) (pair : ℕ × ℕ) : Type 0 where
+-- an entry that may be kept: of a site, in one of the queues, with two numbers within their limit that are not both zero
+pub record IsTotal (key : Key) (totals : CallTotals) : Type 0 where
   pub site : IsSite key.site
-  pub queue : key.queue ≤ 255
-  pub completed : pair.0 ≤ 1000000000
-  pub abandoned : pair.1 ≤ 1000000000
-  pub counted : 0 < pair.0 + pair.1
+  pub queue : key.queue < QUEUES
+  pub completed : totals.completed ≤ MOST_CALLS
+  pub abandoned : totals.abandoned ≤ MOST_CALLS
+  pub counted : 0 < totals.completed + totals.abandoned
 
 -- every entry may be kept
 abbrev pub InLimits : Entries → Type 0
-InLimits totals = (key : Key) (pair : ℕ × ℕ) → map.get totals key ≡ Some pair → IsTotal key pair
+InLimits entries = (key : Key) (totals : CallTotals) → map.get entries key ≡ Some totals → IsTotal key totals

@@ -1,14 +1,15 @@
 -- What contracts see of the values: plain numbers, lists of bytes and records of these.
-use Rattle.std.specs.Prelude.{ℕ, Bool, false, ◌≡◌, ◌<◌, ◌≤◌, ◌^◌, ◌==◌, ◌||◌, List, length}
+use Rattle.std.specs.Prelude.{ℕ, Bool, false, ◌≡◌, ◌<◌, ◌≤◌, ◌==◌, ◌||◌, List, length}
 use Rattle.std.specs.List.{list_any}
+use Rattle.dots.specs.declared.limits.TheConstants.{MOST_COUNT, MOST_PENALTY, SITES, TEXT_BYTES}
 
 -- a dot: the site that made an add, and which of its adds it is, from 1 (RR-8083's tag: a replica and a counter)
-pub record Tag : Type 0 where
+pub record Dot : Type 0 where
   pub site : ℕ
   pub count : ℕ
 
 -- a stamp: when a value was written, and at which site (RR-7506's timestamp, made unique by its site)
-pub record Timestamp : Type 0 where
+pub record Stamp : Type 0 where
   pub time : ℕ
   pub site : ℕ
 
@@ -19,15 +20,15 @@ pub record PauseState : Type 0 where
 
 -- a site has a number below 64
 abbrev pub IsSite : ℕ → Type 0
-IsSite number = number < 64
+IsSite number = number < SITES
 
 -- a count of adds, and a time of writes, goes from 1 to 2 ^ 40
 abbrev pub IsCount : ℕ → Type 0
-IsCount n = (1 ≤ n) × (n ≤ 2 ^ 40)
+IsCount n = (1 ≤ n) × (n ≤ MOST_COUNT)
 
 -- the greatest penalty
 abbrev pub IsPenalty : ℕ → Type 0
-IsPenalty n = n ≤ 2147483647
+IsPenalty n = n ≤ MOST_PENALTY
 
 -- NUL, LF and CR, which would end or break a line of the Manager's protocol
 abbrev pub is_bad_byte : ℕ → Bool
@@ -35,7 +36,7 @@ is_bad_byte b = b == 0 || (b == 10 || b == 13)
 
 -- a text has at most 80 bytes, and none of the bad ones
 pub record IsText (bytes : List ℕ) : Type 0 where
-  pub short : length bytes ≤ 80
+  pub short : length bytes ≤ TEXT_BYTES
   pub clean : list_any is_bad_byte bytes ≡ false
 
 -- an interface, and the name of a queue, is a text of at least one byte

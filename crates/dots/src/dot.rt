@@ -3,10 +3,11 @@ ghost use Rattle.std.proofs.Common.{rules};
 ghost use Rattle.std.specs.Cmp.{partial_order_from_own_ties};
 ghost use Rattle.std.specs.Cmp.Rules.{comparing};
 ghost use Rattle.std.specs.Ordering.{as_partial_cmp};
-ghost use Rattle.dots.specs.Values.{Tag, IsSite, IsCount};
+ghost use Rattle.dots.specs.Values.{Dot, IsSite, IsCount};
 ghost use Rattle.dots.specs.Orders.{dot_cmp};
 
 use crate::SiteId;
+use crate::limits::MOST_COUNT;
 use std::cmp::Ordering;
 use std::marker::Model;
 
@@ -19,9 +20,9 @@ pub struct Dot {
 }
 
 impl Model for Dot {
-    ghost use Rattle.dots.specs.Values.{Tag, IsSite, IsCount};
+    ghost use Rattle.dots.specs.Values.{Dot, IsSite, IsCount};
 
-    ghost Value = { Tag };
+    ghost Value = { Dot };
 
     ghost view = { λ d. record { site = d.site; count = d.count } };
 
@@ -37,7 +38,7 @@ impl Dot {
         ensures value { IfSome result (λ dot. (dot.site ≡ site) × (dot.count ≡ count)) }
     {
         let _ = site.number();
-        if count >= 1 && count <= 1 << 40 {
+        if count >= 1 && count <= MOST_COUNT {
             Some(Dot { site, count })
         } else {
             None

@@ -7,6 +7,7 @@ ghost use Rattle.std.specs.Ordering.{as_partial_cmp};
 ghost use Rattle.dots.specs.Values.{IsName, is_bad_byte};
 ghost use Rattle.dots.specs.Orders.{text_cmp};
 
+use crate::limits::TEXT_BYTES;
 use crate::{Text80, TextFault};
 use std::cmp::Ordering;
 use std::marker::Model;
@@ -37,9 +38,9 @@ impl Interface {
     pub fn new(bytes: &[u8]) -> Result<Interface, TextFault>
         ensures within { IsOk result ↔ IsName bytes.now }
         ensures value { IfOk result (λ interface. interface ≡ bytes.now) }
-        ensures too_long { IsErrOf result TextFault.TooLong ↔ (80 < length bytes.now) }
+        ensures too_long { IsErrOf result TextFault.TooLong ↔ (TEXT_BYTES < length bytes.now) }
         ensures bad_byte { IsErrOf result TextFault.BadByte
-            ↔ ((length bytes.now ≤ 80) × IsTrue (list_any is_bad_byte bytes.now)) }
+            ↔ ((length bytes.now ≤ TEXT_BYTES) × IsTrue (list_any is_bad_byte bytes.now)) }
         ensures empty { IsErrOf result TextFault.Empty ↔ (bytes.now ≡ []) }
     {
         let text = Text80::of_name(bytes)?;

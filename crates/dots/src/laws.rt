@@ -1,27 +1,30 @@
 //! What the definitions of a knowledge promise. The functions have no body: their contracts are the laws.
 ghost use Rattle.std.specs.Prelude.{◌≡◌, ◌↔◌, ◌≤◌, ◌<◌, ℕ, true, false, Option, Some, None, IsSome, ◌++◌};
 ghost use Rattle.std.specs.FinSet as set;
+ghost use Rattle.dots.specs.declared.calls.Calls.{Calls};
 ghost use Rattle.dots.specs.declared.member.Member.{Member};
-ghost use Rattle.dots.specs.Values.{Tag};
+ghost use Rattle.dots.specs.Values.{Dot};
 ghost use Rattle.dots.specs.Orders.{dot_cmp};
 ghost use Rattle.dots.specs.Totals.{Entries, sum_below};
 ghost use Rattle.dots.specs.Joins.{IsJoin, IsOrder, IsLeastAbove};
 ghost use Rattle.dots.specs.Conditions.{Condition, Dead, ConditionsAgree, IsConditionBelow, Represents, IsOne, condition_joined};
-ghost use Rattle.dots.specs.Operations.{Calls, penalty_field, pause_field, label_field};
+ghost use Rattle.dots.specs.Operations.{penalty_field, pause_field, label_field};
 ghost use Rattle.dots.specs.Knowledge.{Knowledge, SameOperations, IsConsistent, is_named, visible_dots, member_of};
 ghost use Rattle.dots.specs.Rows.{DotView, MemberRow, ShowAlike, dot_view, row_of, rows_of};
 ghost use Rattle.dots.specs.Counts.{site_total, queue_total};
 ghost use Rattle.dots.specs.Shown.{IsVisible, IsComputed, HasVisibleDot, HasValues, ShowsField, ShowsLatest, ShowTheSame, IsGreatestCount};
 
+use crate::limits::SITES;
+
 /// A dot is visible exactly where some operation asserts it and none names it (RR-8083).
 pub fn a_visible_dot_is_asserted_and_not_named()
-    ensures { (k : Knowledge) (dot : Tag)
+    ensures { (k : Knowledge) (dot : Dot)
         → (set.contains (visible_dots k) dot ≡ true) ↔ IsVisible k dot }
 {}
 
 /// A dot that is named is dead for good: no operations before and after make it visible again (RR-8083).
 pub fn a_named_dot_is_dead_for_good()
-    ensures { (before k after : Knowledge) (dot : Tag) → is_named k dot ≡ true
+    ensures { (before k after : Knowledge) (dot : Dot) → is_named k dot ≡ true
         → set.contains (visible_dots (before ++ k ++ after)) dot ≡ false }
 {}
 
@@ -50,9 +53,9 @@ pub fn a_member_with_a_visible_dot_has_a_row()
 /// The field of a dot that is computed is the latest setting, and is there exactly where some operation that asserts the dot
 /// sets it (RR-7506's last-writer register).
 pub fn a_field_is_the_latest_setting()
-    ensures penalty { (k : Knowledge) (dot : Tag) → IsComputed penalty_field k dot }
-    ensures pause { (k : Knowledge) (dot : Tag) → IsComputed pause_field k dot }
-    ensures label { (k : Knowledge) (dot : Tag) → IsComputed label_field k dot }
+    ensures penalty { (k : Knowledge) (dot : Dot) → IsComputed penalty_field k dot }
+    ensures pause { (k : Knowledge) (dot : Dot) → IsComputed pause_field k dot }
+    ensures label { (k : Knowledge) (dot : Dot) → IsComputed label_field k dot }
 {}
 
 /// A site's total is its greatest count, and a queue's the sum over the sites (RR-7506's grow-only counter).
@@ -60,12 +63,12 @@ pub fn totals_are_sums_of_greatest_counts()
     ensures site { (k : Knowledge) (site queue : ℕ) (calls : Calls)
         → IsGreatestCount k site queue calls (site_total k site queue calls) }
     ensures queue { (k : Knowledge) (queue : ℕ) (calls : Calls)
-        → queue_total k queue calls ≡ sum_below 64 (λ site. site_total k site queue calls) }
+        → queue_total k queue calls ≡ sum_below SITES (λ site. site_total k site queue calls) }
 {}
 
 /// A queue's total is at least each site's, and doesn't fall as the knowledge grows (RR-7506's grow-only counter).
 pub fn totals_do_not_fall()
-    ensures each_site { (k : Knowledge) (site queue : ℕ) (calls : Calls) → site < 64
+    ensures each_site { (k : Knowledge) (site queue : ℕ) (calls : Calls) → site < SITES
         → site_total k site queue calls ≤ queue_total k queue calls }
     ensures more_after { (k more : Knowledge) (queue : ℕ) (calls : Calls)
         → queue_total k queue calls ≤ queue_total (k ++ more) queue calls }
@@ -93,7 +96,7 @@ pub fn conditions_are_joined()
 
 /// What stands for one knowledge is one: the same conditions, known dots and totals.
 pub fn what_stands_for_a_knowledge_is_one()
-    ensures { (c d : Tag → Option Condition) (known heard : set.FinSet dot_cmp)
+    ensures { (c d : Dot → Option Condition) (known heard : set.FinSet dot_cmp)
         (counts totals : Entries) (k : Knowledge)
         → Represents c known counts k → Represents d heard totals k
         → IsOne c d known heard counts totals }

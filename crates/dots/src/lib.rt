@@ -5,10 +5,13 @@
 #![tactic(auto)]
 
 mod bytes;
+mod call_totals;
+mod calls;
 mod dot;
 mod interface;
 mod label;
 pub mod laws;
+mod limits;
 mod member;
 mod pause;
 mod penalty;
@@ -20,9 +23,14 @@ mod text80;
 mod text_fault;
 
 pub use bytes::Bytes;
+pub use call_totals::CallTotals;
+pub use calls::Calls;
 pub use dot::Dot;
 pub use interface::Interface;
 pub use label::Label;
+pub use limits::{
+    MOST_CALLS, MOST_COUNT, MOST_LIVE, MOST_PENALTY, MOST_RUNS, QUEUES, SITES, TEXT_BYTES,
+};
 pub use member::Member;
 pub use pause::Pause;
 pub use penalty::Penalty;

@@ -1,6 +1,7 @@
 ghost use Rattle.std.specs.Prelude.{◌≡◌, ◌↔◌, IsSome, IfSome};
 ghost use Rattle.dots.specs.Values.{IsPenalty};
 
+use crate::limits::MOST_PENALTY;
 use std::marker::Model;
 
 /// The penalty of a member in a queue, 0 to 2,147,483,647 (Asterisk's QueuePenalty): calls go to members of
@@ -29,7 +30,7 @@ impl Penalty {
         ensures within { IsSome result ↔ IsPenalty number }
         ensures value { IfSome result (λ penalty. penalty ≡ number) }
     {
-        if number <= 2_147_483_647 {
+        if number <= MOST_PENALTY {
             Some(Penalty { number })
         } else {
             None

@@ -1,6 +1,7 @@
 ghost use Rattle.std.specs.Prelude.{◌≡◌, ◌↔◌, IsSome, IfSome};
 ghost use Rattle.dots.specs.Values.{IsSite};
 
+use crate::limits::SITES;
 use std::marker::Model;
 
 /// The number of a site, 0 to 63 (RR-7506's replica). A site that starts anew takes a new number.
@@ -28,7 +29,7 @@ impl SiteId {
         ensures within { IsSome result ↔ IsSite number }
         ensures value { IfSome result (λ site. site ≡ number) }
     {
-        if number < 64 {
+        if number < SITES {
             Some(SiteId { number })
         } else {
             None

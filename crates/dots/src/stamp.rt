@@ -7,6 +7,7 @@ ghost use Rattle.dots.specs.Values.{IsSite, IsCount};
 ghost use Rattle.dots.specs.Orders.{stamp_cmp};
 
 use crate::SiteId;
+use crate::limits::MOST_COUNT;
 use std::cmp::Ordering;
 use std::marker::Model;
 
@@ -19,9 +20,9 @@ pub struct Stamp {
 }
 
 impl Model for Stamp {
-    ghost use Rattle.dots.specs.Values.{Timestamp, IsSite, IsCount};
+    ghost use Rattle.dots.specs.Values.{Stamp, IsSite, IsCount};
 
-    ghost Value = { Timestamp };
+    ghost Value = { Stamp };
 
     ghost view = { λ s. record { time = s.time; site = s.site } };
 
@@ -37,7 +38,7 @@ impl Stamp {
         ensures value { IfSome result (λ stamp. (stamp.time ≡ time) × (stamp.site ≡ site)) }
     {
         let _ = site.number();
-        if time >= 1 && time <= 1 << 40 {
+        if time >= 1 && time <= MOST_COUNT {
             Some(Stamp { time, site })
         } else {
             None

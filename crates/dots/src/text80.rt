@@ -8,6 +8,7 @@ ghost use Rattle.dots.specs.Values.{IsText, IsName, is_bad_byte};
 ghost use Rattle.dots.specs.Orders.{text_cmp};
 
 use crate::TextFault;
+use crate::limits::TEXT_BYTES;
 use arrayvec::ArrayVec;
 use std::cmp::Ordering;
 use std::marker::Model;
@@ -16,7 +17,7 @@ use std::marker::Model;
 /// Texts are ordered by their bytes, a prefix first.
 #[derive(Debug, Drop, PartialEq, Eq, Hash)]
 pub struct Text80 {
-    bytes: ArrayVec<u8, 80>,
+    bytes: ArrayVec<u8, TEXT_BYTES>,
 }
 
 impl Model for Text80 {
@@ -54,11 +55,11 @@ impl Text80 {
     pub fn new(bytes: &[u8]) -> Result<Text80, TextFault>
         ensures within { IsOk result ↔ IsText bytes.now }
         ensures value { IfOk result (λ text. text ≡ bytes.now) }
-        ensures too_long { IsErrOf result TextFault.TooLong ↔ (80 < length bytes.now) }
+        ensures too_long { IsErrOf result TextFault.TooLong ↔ (TEXT_BYTES < length bytes.now) }
         ensures bad_byte { IsErrOf result TextFault.BadByte
-            ↔ ((length bytes.now ≤ 80) × IsTrue (list_any is_bad_byte bytes.now)) }
+            ↔ ((length bytes.now ≤ TEXT_BYTES) × IsTrue (list_any is_bad_byte bytes.now)) }
     {
-        if bytes.len() > 80 {
+        if bytes.len() > TEXT_BYTES {
             return Err(TextFault::TooLong);
         }
         if has_bad_byte(bytes) {
@@ -75,9 +76,9 @@ impl Text80 {
     pub(crate) fn of_name(bytes: &[u8]) -> Result<Text80, TextFault>
         ensures within { IsOk result ↔ IsName bytes.now }
         ensures value { IfOk result (λ text. text ≡ bytes.now) }
-        ensures too_long { IsErrOf result TextFault.TooLong ↔ (80 < length bytes.now) }
+        ensures too_long { IsErrOf result TextFault.TooLong ↔ (TEXT_BYTES < length bytes.now) }
         ensures bad_byte { IsErrOf result TextFault.BadByte
-            ↔ ((length bytes.now ≤ 80) × IsTrue (list_any is_bad_byte bytes.now)) }
+            ↔ ((length bytes.now ≤ TEXT_BYTES) × IsTrue (list_any is_bad_byte bytes.now)) }
         ensures empty { IsErrOf result TextFault.Empty ↔ (bytes.now ≡ []) }
     {
         let text = Text80::new(bytes)?;

@@ -1,11 +1,7 @@
 -- When two registers are in conflict.
-use Rattle.std.proofs.Common.{◌≡◌, ◌↔◌, IsTrue, IsFalse, Bool, true, false, Option, Some, sym, refl, ap, ◌∙◌}
-use Rattle.std.specs.Option.{unwrap_or}
+use Rattle.std.proofs.Common.{◌≡◌, ◌↔◌, IsTrue, IsFalse, Bool, true, false, Option, Some, refl, ap, ◌∙◌}
 use Rattle.dots.specs.Registers.{Entry, InConflict}
-
--- a register holds one entry
-one_entry : {T : Type 0} (x : Option (Entry T)) (a b : Entry T) → x ≡ Some a → x ≡ Some b → a ≡ b
-one_entry x a b p q = ap (λ o. unwrap_or o a) (sym p ∙ q)
+use Rattle.dots.proofs.RegisterLaws.{one_entry}
 
 -- of two entries under one stamp, a test whether their values are one tells whether the registers are in conflict
 pub conflict_by_test : {T : Type 0} (x y : Option (Entry T)) (a b : Entry T) → x ≡ Some a → y ≡ Some b → a.stamp ≡ b.stamp

@@ -1,8 +1,9 @@
 ghost use Rattle.std.specs.Prelude.{◌≡◌, ◌↔◌, IsTrue, IsFalse};
-ghost use Rattle.lww_registers.specs.Fields.{no_fields, FieldsAgree, FieldsInConflict, fields_joined};
+ghost use Rattle.dots.specs.Conditions.{FieldsAgree, FieldsInConflict, fields_joined, no_fields};
 
 use crate::Register;
 use dots::{Label, Pause, Penalty};
+use std::marker::Model;
 
 /// What is set of a member on one dot: three registers, each joined by its own stamps (this project's own).
 #[derive(Drop)]
@@ -13,6 +14,16 @@ pub struct Fields {
     pub pause: Register<Pause>,
     /// How the member is shown.
     pub label: Register<Label>,
+}
+
+impl Model for Fields {
+    ghost use Rattle.dots.specs.Conditions.{DotFields};
+
+    ghost Value = { DotFields };
+
+    ghost view = { λ f. record { penalty = f.penalty; pause = f.pause; label = f.label } };
+
+    ghost inverse = { λ f. record { penalty = f.penalty; pause = f.pause; label = f.label } };
 }
 
 impl Fields {

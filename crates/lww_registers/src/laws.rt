@@ -1,29 +1,27 @@
 //! What holds of every join, whatever the registers. The functions have no body: their contracts are the laws.
 ghost use Rattle.std.specs.Prelude.{◌≡◌, Option};
 ghost use Rattle.dots.specs.Joins.{IsJoin, IsLeastAbove, IsOrder};
-ghost use Rattle.dots.specs.Registers.{Entry, Agree, IsBelow, KeepsLatest, joined};
-ghost use Rattle.lww_registers.specs.Fields.{FieldsAgree, fields_joined};
-
-use crate::Fields;
+ghost use Rattle.dots.specs.Registers.{Entry, Agree, IsBelow, KeepsLatest, join_of};
+ghost use Rattle.dots.specs.Conditions.{DotFields, FieldsAgree, fields_joined};
 
 /// A join keeps the entry of the greatest stamp: it has an entry where one of both has one, that of one
 /// of both, and none of either is later.
 pub fn join_keeps_latest<T>()
-    ensures { (x y : Option (Entry T)) → KeepsLatest x y (joined x y) }
+    ensures { (x y : Option (Entry T)) → KeepsLatest x y (join_of x y) }
 {}
 
 /// Registers are joined in any order, and the join of two that agree is the least that is above both (RR-7506). What agrees
 /// with two registers agrees with their join, also where these two don't agree.
 pub fn registers_are_joined<T>()
-    ensures join { IsJoin {T = Option (Entry T)} Agree joined }
-    ensures keeps_agreement { (x y z : Option (Entry T)) → Agree x z → Agree y z → Agree (joined x y) z }
+    ensures join { IsJoin {T = Option (Entry T)} Agree join_of }
+    ensures keeps_agreement { (x y z : Option (Entry T)) → Agree x z → Agree y z → Agree (join_of x y) z }
     ensures ordered { IsOrder (IsBelow {T = T}) }
-    ensures least { (x y : Option (Entry T)) → Agree x y → IsLeastAbove IsBelow x y (joined x y) }
+    ensures least { (x y : Option (Entry T)) → Agree x y → IsLeastAbove IsBelow x y (join_of x y) }
 {}
 
 /// The fields of dots are joined in any order. What agrees with two dots' fields agrees with their join, also where these two
 /// don't agree.
 pub fn fields_are_joined()
     ensures join { IsJoin FieldsAgree fields_joined }
-    ensures keeps_agreement { (x y z : Fields) → FieldsAgree x z → FieldsAgree y z → FieldsAgree (fields_joined x y) z }
+    ensures keeps_agreement { (x y z : DotFields) → FieldsAgree x z → FieldsAgree y z → FieldsAgree (fields_joined x y) z }
 {}

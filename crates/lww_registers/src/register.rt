@@ -1,6 +1,6 @@
 ghost use Rattle.std.specs.Prelude.{◌≡◌, ◌↔◌, IsTrue, IsFalse};
 ghost use Rattle.std.specs.Option.{option_copied, option_map};
-ghost use Rattle.dots.specs.Registers.{Agree, InConflict, joined};
+ghost use Rattle.dots.specs.Registers.{Agree, InConflict, join_of};
 
 use crate::FieldValue;
 use dots::Stamp;
@@ -84,7 +84,7 @@ impl<T: FieldValue> Register<T> {
     /// Joins the other into this one: the value of the greatest stamp is kept. The two agree.
     pub fn join(&mut self, other: Register<T>)
         requires { Agree self.old other }
-        ensures { self.new ≡ joined self.old other }
+        ensures { self.new ≡ join_of self.old other }
     {
         let takes_other = match (&self.entry, &other.entry) {
             (Some((stamp, _)), Some((other_stamp, _))) => *stamp < *other_stamp,

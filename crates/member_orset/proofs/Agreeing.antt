@@ -8,13 +8,13 @@ use Rattle.std.specs.FinSet as sets
 use Rattle.std.specs.FinMap.Entries.{find}
 use Rattle.std.proofs.lemmas.Bool.{cases_Bool}
 use Rattle.std.proofs.lemmas.List.Elements.{All-head, All-tail}
-use Rattle.dots.specs.Values.{Tag}
+use Rattle.dots.specs.Values.{Dot}
 use Rattle.dots.specs.Orders.{dot_cmp}
 use Rattle.dots.specs.Registers.{Entry, Agree, InConflict}
-use Rattle.dots.specs.Conditions.{DotFields, Condition, Live, Dead, FieldsAgree, ConditionsAgree}
+use Rattle.dots.specs.Conditions.{DotFields, Condition, Live, Dead, FieldsAgree, ConditionsAgree, FieldsInConflict}
 use Rattle.member_orset.specs.declared.live_dot.LiveDot.{LiveDot}
-use Rattle.member_orset.specs.Members.{Members, Holding, FieldsConflict, ConditionsConflict, Conflicts, condition_at, condition_of}
-use Rattle.member_orset.specs.Cells.{HoldingsAgree, HoldingsConflict, Clash, IsTold, holding, entries_of, live_of}
+use Rattle.member_orset.specs.Members.{Members, Holding, ConditionsConflict, Conflicts, condition_at, condition_of}
+use Rattle.member_orset.specs.LiveLists.{HoldingsAgree, HoldingsConflict, Clash, IsTold, holding, entries_of, live_of}
 use Rattle.member_orset.proofs.DotTests.{one_dot, same_tied}
 use Rattle.member_orset.proofs.DotTests.{apart as apart_dots}
 use Rattle.member_orset.proofs.CellLists.{Rise, rise-tail, rise-head, below_at}
@@ -24,7 +24,7 @@ use Rattle.member_orset.proofs.Views.{get-live_of}
 apart : {T : Type 0} (x y : Option (Entry T)) → Agree x y → InConflict x y → ⊥
 apart x y a c = c.two_values (a c.first c.second c.in_first c.in_second c.one_stamp)
 
-fields_apart : (x y : DotFields) → FieldsAgree x y → FieldsConflict x y → ⊥
+fields_apart : (x y : DotFields) → FieldsAgree x y → FieldsInConflict x y → ⊥
 fields_apart x y a c = elim c [
   | inl p ↦ apart x.penalty y.penalty a.penalty p
   | inr r ↦ elim r [
@@ -41,7 +41,7 @@ conditions_apart (Some Dead) y a c = c
 conditions_apart None y a c = c
 
 -- what is found is in one of the cells
-pub found_in : (P : LiveDot → Type 0) (cs : List LiveDot) (q : Tag) (h : Holding) → All P cs → find dot_cmp q (entries_of cs) ≡ Some h → (c : LiveDot) × P c × (q ≡ c.dot) × (holding c ≡ h)
+pub found_in : (P : LiveDot → Type 0) (cs : List LiveDot) (q : Dot) (h : Holding) → All P cs → find dot_cmp q (entries_of cs) ≡ Some h → (c : LiveDot) × P c × (q ≡ c.dot) × (holding c ≡ h)
 found_in P [] q h a e = absurd (cc)
 found_in P (c ∷ cs) q h a e = elim (cases_Bool (eq_by_cmp dot_cmp q c.dot)) [
   | inl t ↦ (c, All-head P c cs a, one_dot q c.dot t, same_some _ _ (ap (λ b. cond b (Some (holding c)) (find dot_cmp q (entries_of cs))) (sym t) ∙ e))
@@ -70,14 +70,14 @@ conflict_at : (o : Option Holding) (h : Holding) (a b : Bool) → HoldingsConfli
 conflict_at None h a b c = absurd c
 conflict_at (Some g) h a b c = c
 
-told_agree : (live : maps.FinMap dot_cmp Holding) (a b : Tag → Bool) (others : List LiveDot) → Rise others → All (λ c. HoldingsAgree (maps.get live c.dot) (holding c)) others
-    → (q : Tag) → ConditionsAgree (condition_at (maps.get live q) (a q)) (condition_at (maps.get (live_of others) q) (b q))
+told_agree : (live : maps.FinMap dot_cmp Holding) (a b : Dot → Bool) (others : List LiveDot) → Rise others → All (λ c. HoldingsAgree (maps.get live c.dot) (holding c)) others
+    → (q : Dot) → ConditionsAgree (condition_at (maps.get live q) (a q)) (condition_at (maps.get (live_of others) q) (b q))
 told_agree live a b others s all q = agree_at (maps.get live q) (maps.get (live_of others) q) (a q) (b q) (λ h e.
     let f = found_in (λ c. HoldingsAgree (maps.get live c.dot) (holding c)) others q h all (sym (get-live_of others q s) ∙ e) in
-    subst (λ (x : Holding). HoldingsAgree (maps.get live q) x) f.3 (subst (λ (d : Tag). HoldingsAgree (maps.get live d) (holding f.0)) (sym f.2) f.1))
+    subst (λ (x : Holding). HoldingsAgree (maps.get live q) x) f.3 (subst (λ (d : Dot). HoldingsAgree (maps.get live d) (holding f.0)) (sym f.2) f.1))
 
-told_conflict : (live : maps.FinMap dot_cmp Holding) (a b : Tag → Bool) (others : List LiveDot) → Rise others → Clash live others
-    → (q : Tag) × ConditionsConflict (condition_at (maps.get live q) (a q)) (condition_at (maps.get (live_of others) q) (b q))
+told_conflict : (live : maps.FinMap dot_cmp Holding) (a b : Dot → Bool) (others : List LiveDot) → Rise others → Clash live others
+    → (q : Dot) × ConditionsConflict (condition_at (maps.get live q) (a q)) (condition_at (maps.get (live_of others) q) (b q))
 told_conflict live a b others s c = (
   c.cell.dot,
   subst (λ (p : Option Holding). ConditionsConflict (condition_at (maps.get live c.cell.dot) (a c.cell.dot)) (condition_at p (b c.cell.dot)))
@@ -87,9 +87,9 @@ told_conflict live a b others s c = (
 
 -- the answer by the cells is the answer by the conditions
 pub told : (s t : Members) (others : List LiveDot) (r : Bool) → Rise others → live_of others ≡ t.live → IsTold s.live others r
-    → (IsTrue r ↔ ((q : Tag) → ConditionsAgree (condition_of s q) (condition_of t q))) × (IsFalse r ↔ Conflicts s t)
+    → (IsTrue r ↔ ((q : Dot) → ConditionsAgree (condition_of s q) (condition_of t q))) × (IsFalse r ↔ Conflicts s t)
 told s t others true h live is =
-    let agree : (q : Tag) → ConditionsAgree (condition_of s q) (condition_of t q) =
+    let agree : (q : Dot) → ConditionsAgree (condition_of s q) (condition_of t q) =
     λ q. subst (λ m. ConditionsAgree (condition_of s q) (condition_at (maps.get m q) (sets.contains t.known q))) live (told_agree s.live (sets.contains s.known) (sets.contains t.known) others h is q) in
     ((λ x. agree, λ x. refl), (λ x. absurd (cc), λ x. absurd (conditions_apart (condition_of s x.dot) (condition_of t x.dot) (agree x.dot) x.conflict)))
 told s t others false h live is =

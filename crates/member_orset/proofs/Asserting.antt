@@ -5,20 +5,19 @@ use Rattle.std.specs.List.{insert}
 use Rattle.std.specs.Ordering.{eq_by_cmp}
 use Rattle.std.specs.FinMap as maps
 use Rattle.std.specs.FinSet as sets
+use Rattle.dots.specs.declared.limits.TheConstants.{MOST_RUNS}
 use Rattle.dots.specs.declared.member.Member.{Member}
-use Rattle.dots.specs.Values.{Tag}
+use Rattle.dots.specs.Values.{Dot}
 use Rattle.dots.specs.Orders.{dot_cmp}
 use Rattle.dots.specs.DotSets.{run_count}
-use Rattle.dots.specs.Conditions.{DotFields, Condition, Live, Dead, ConditionsAgree, condition_joined}
+use Rattle.dots.specs.Conditions.{DotFields, Condition, Live, Dead, ConditionsAgree, condition_joined, FieldsInConflict}
 use Rattle.dots.proofs.DotOrder.{dots_total}
 use Rattle.dots.proofs.OneMoreDot.{insert_known}
-use Rattle.causal_context.specs.Contexts.{most_runs}
 use Rattle.member_orset.specs.declared.live_dot.LiveDot.{LiveDot}
 use Rattle.member_orset.specs.declared.join_fault.JoinFault.{JoinFault}
 use Rattle.member_orset.specs.declared.join_fault.JoinFault.TheVariants.{Conflict, CellsFull, RunsFull, Memory}
-use Rattle.member_orset.specs.Members.{ConditionsConflict, FieldsConflict, condition_of, joined_at}
-use Rattle.member_orset.specs.Reads.{dot_fields}
-use Rattle.member_orset.specs.Cells.{IsAt, IsGap, AreCells, ConflictsAt, Meets, holding, live_of, seen}
+use Rattle.member_orset.specs.Members.{ConditionsConflict, condition_of, joined_at}
+use Rattle.member_orset.specs.LiveLists.{IsAt, IsGap, AreCells, ConflictsAt, Meets, holding, live_of, members_of}
 use Rattle.member_orset.proofs.DotTests.{one_dot}
 use Rattle.member_orset.proofs.CellLists.{Rise, same_place}
 use Rattle.member_orset.proofs.Changes.{raised, met_live, brought_live, present, present_known, absent}
@@ -52,13 +51,13 @@ never_memory (Ok u) only h = (cc)
 never_memory (Err e) only h = (cc)
 
 -- a known dot is no news
-pub known_already : (known : sets.FinSet dot_cmp) (d : Tag) → sets.contains known d ≡ true → known ≡ sets.insert known d
+pub known_already : (known : sets.FinSet dot_cmp) (d : Dot) → sets.contains known d ≡ true → known ≡ sets.insert known d
 known_already known d h = sym (insert_known known d h)
 
-pub no_more_runs : (known : sets.FinSet dot_cmp) (d : Tag) → sets.contains known d ≡ true → run_count known ≤ most_runs → most_runs < run_count (sets.insert known d) → ⊥
+pub no_more_runs : (known : sets.FinSet dot_cmp) (d : Dot) → sets.contains known d ≡ true → run_count known ≤ MOST_RUNS → MOST_RUNS < run_count (sets.insert known d) → ⊥
 no_more_runs known d h few more = let same = ap run_count (insert_known known d h) in omega arith
 
-known_here : (known : sets.FinSet dot_cmp) (d q : Tag) → sets.contains known d ≡ true → sets.contains known q ≡ (eq_by_cmp dot_cmp q d || sets.contains known q)
+known_here : (known : sets.FinSet dot_cmp) (d q : Dot) → sets.contains known d ≡ true → sets.contains known q ≡ (eq_by_cmp dot_cmp q d || sets.contains known q)
 known_here known d q h = split (eq_by_cmp dot_cmp q d) (one_dot q d)
   where
     split : (b : Bool) → (b ≡ true → q ≡ d) → sets.contains known q ≡ (b || sets.contains known q)
@@ -66,8 +65,8 @@ known_here known d q h = split (eq_by_cmp dot_cmp q d) (one_dot q d)
     split false same = refl
 
 -- it is live already
-pub met_conditions : (cs after : List LiveDot) (i : ℕ) (d : Tag) (member : Member) (fields : DotFields) (known : sets.FinSet dot_cmp) → AreCells cs known → IsAt cs d i → Meets cs i member fields after
-    → (q : Tag) → condition_of (seen after known) q ≡ joined_at (seen cs known) d (Live member fields) q
+pub met_conditions : (cs after : List LiveDot) (i : ℕ) (d : Dot) (member : Member) (fields : DotFields) (known : sets.FinSet dot_cmp) → AreCells cs known → IsAt cs d i → Meets cs i member fields after
+    → (q : Dot) → condition_of (members_of after known) q ≡ joined_at (members_of cs known) d (Live member fields) q
 met_conditions cs after i d member fields known a at m q =
     let same : m.joined.dot ≡ d = m.dot_kept ∙ ap (λ x. x.dot) (sym (m.here m.cell)) ∙ sym (at.here m.cell) in
     let there : IsAt cs m.joined.dot i = subst (λ x. IsAt cs x i) (sym same) at in
@@ -77,28 +76,28 @@ met_conditions cs after i d member fields known a at m q =
     (known_here known d q (present_known cs d i m.cell known a at is))
     ((λ k. Some (Live (m.member_kept k) (m.fields_are k))) ∙ ap (λ x. condition_joined x (Some (Live member fields))) (sym (present cs d i m.cell known a.sorted at is)))
 
-pub met_agree : (cs after : List LiveDot) (i : ℕ) (d : Tag) (member : Member) (fields : DotFields) (known : sets.FinSet dot_cmp) → Rise cs → IsAt cs d i → Meets cs i member fields after
-    → ConditionsAgree (condition_of (seen cs known) d) (Some (Live member fields))
+pub met_agree : (cs after : List LiveDot) (i : ℕ) (d : Dot) (member : Member) (fields : DotFields) (known : sets.FinSet dot_cmp) → Rise cs → IsAt cs d i → Meets cs i member fields after
+    → ConditionsAgree (condition_of (members_of cs known) d) (Some (Live member fields))
 met_agree cs after i d member fields known s at m =
     subst (λ x. ConditionsAgree x (Some (Live member fields))) (sym (present cs d i m.cell known s at (sym (m.here m.cell)))) (m.one_member, m.agree)
 
-pub met_conflict : (cs : List LiveDot) (i : ℕ) (d : Tag) (e : LiveDot) (member : Member) (fields : DotFields) (known : sets.FinSet dot_cmp) → Rise cs → IsAt cs d i
-    → ConflictsAt cs i member fields ↔ ConditionsConflict (condition_of (seen cs known) d) (Some (Live member fields))
+pub met_conflict : (cs : List LiveDot) (i : ℕ) (d : Dot) (e : LiveDot) (member : Member) (fields : DotFields) (known : sets.FinSet dot_cmp) → Rise cs → IsAt cs d i
+    → ConflictsAt cs i member fields ↔ ConditionsConflict (condition_of (members_of cs known) d) (Some (Live member fields))
 met_conflict cs i d e member fields known s at =
     let x = get_or cs i e in
     let is : x ≡ get_or cs i x = same_place cs i e x at.within in
     let there = present cs d i x known s at is in (
       λ f. subst (λ c. ConditionsConflict c (Some (Live member fields))) (sym there) (f e),
       λ h y. let g = subst (λ c. ConditionsConflict c (Some (Live member fields))) there h in
-          subst (λ (z : LiveDot). (z.member ≢ member) ⊎ FieldsConflict (dot_fields z.fields) fields) (same_place cs i e y at.within) g,
+          subst (λ (z : LiveDot). (z.member ≢ member) ⊎ FieldsInConflict z.fields fields) (same_place cs i e y at.within) g,
     )
 
 -- it is dead
-pub dead_conditions : (cs : List LiveDot) (d : Tag) (known : sets.FinSet dot_cmp) (c : Condition) → condition_of (seen cs known) d ≡ Some Dead → (q : Tag) → condition_of (seen cs known) q ≡ joined_at (seen cs known) d c q
+pub dead_conditions : (cs : List LiveDot) (d : Dot) (known : sets.FinSet dot_cmp) (c : Condition) → condition_of (members_of cs known) d ≡ Some Dead → (q : Dot) → condition_of (members_of cs known) q ≡ joined_at (members_of cs known) d c q
 dead_conditions cs d known c dead q = split (eq_by_cmp dot_cmp q d) (one_dot q d)
   where
-    split : (b : Bool) → (b ≡ true → q ≡ d) → condition_of (seen cs known) q ≡ (if b then condition_joined (condition_of (seen cs known) q) (Some c) else condition_of (seen cs known) q)
-    split true same = let here = ap (condition_of (seen cs known)) (same refl) ∙ dead in here ∙ ap (λ x. condition_joined x (Some c)) (sym here)
+    split : (b : Bool) → (b ≡ true → q ≡ d) → condition_of (members_of cs known) q ≡ (if b then condition_joined (condition_of (members_of cs known) q) (Some c) else condition_of (members_of cs known) q)
+    split true same = let here = ap (condition_of (members_of cs known)) (same refl) ∙ dead in here ∙ ap (λ x. condition_joined x (Some c)) (sym here)
     split false same = refl
 
 pub dead_agree : (x : Option Condition) (y : Option Condition) → x ≡ Some Dead → ConditionsAgree x y
@@ -109,8 +108,8 @@ dead_no_conflict x y dead h = subst (λ c. ConditionsConflict c y) dead h
 
 -- it is unknown
 pub brought_conditions : (cs after : List LiveDot) (i : ℕ) (x : LiveDot) (known more : sets.FinSet dot_cmp) (member : Member) (fields : DotFields) → Rise cs → IsGap cs x.dot i → false ≡ sets.contains known x.dot
-    → x.member ≡ member → dot_fields x.fields ≡ fields → after ≡ insert cs i x → more ≡ sets.insert known x.dot
-    → (q : Tag) → condition_of (seen after more) q ≡ joined_at (seen cs known) x.dot (Live member fields) q
+    → x.member ≡ member → x.fields ≡ fields → after ≡ insert cs i x → more ≡ sets.insert known x.dot
+    → (q : Dot) → condition_of (members_of after more) q ≡ joined_at (members_of cs known) x.dot (Live member fields) q
 brought_conditions cs after i x known more member fields s gap new m f a k q =
     raised (live_of cs) (live_of after) known more x.dot q (holding x) (Live member fields)
     (ap (λ xs. maps.get (live_of xs) q) a ∙ brought_live cs i x q s gap) (ap (λ ds. sets.contains ds q) k ∙ sets.contains-insert dots_total known x.dot q)

@@ -12,48 +12,50 @@ use Rattle.std.specs.FinMap.Entries.{find, find-where_key, find-put, is_sorted-w
 use Rattle.std.proofs.lemmas.Bool.{cases_Bool}
 use Rattle.std.proofs.lemmas.List.Elements.{All-weaker, All-append, All-take, All-drop, All-cons, All-set, All-get_or}
 use Rattle.std.proofs.lemmas.List.Edits.{length-insert, length-remove}
-use Rattle.dots.specs.Values.{Tag}
+use Rattle.dots.specs.declared.limits.TheConstants.{MOST_LIVE}
+use Rattle.dots.specs.Values.{Dot}
 use Rattle.dots.specs.Orders.{dot_cmp}
 use Rattle.dots.specs.DotSets.{run_count}
 use Rattle.dots.specs.Conditions.{DotFields, Condition, Live, Dead, condition_joined, fields_joined}
 use Rattle.dots.proofs.DotOrder.{dots_total, dots_exact}
+use Rattle.dots.proofs.TruthTables.{truth, fact}
 use Rattle.member_orset.specs.declared.live_dot.LiveDot.{LiveDot}
-use Rattle.member_orset.specs.Members.{Holding, HasField, condition_at, condition_of, most_cells}
-use Rattle.member_orset.specs.Reads.{dot_fields}
-use Rattle.member_orset.specs.Cells.{IsAt, IsGap, AreCells, holding, entries_of, live_of, seen}
-use Rattle.member_orset.proofs.DotTests.{as_T, from_T, one_dot, same_itself}
+use Rattle.member_orset.specs.Members.{Holding, HasField, condition_at, condition_of}
+use Rattle.member_orset.specs.LiveLists.{IsAt, IsGap, AreCells, holding, entries_of, live_of, members_of}
+use Rattle.member_orset.proofs.DotTests.{one_dot, same_itself}
 use Rattle.member_orset.proofs.CellLists.{Rise, missed_at, found_at, removed_at, put_at, set_at}
 use Rattle.member_orset.proofs.Views.{get-live_of}
 use Rattle.member_orset.proofs.FieldReadings.{joined_field}
 use Rattle.std.proofs.Math.ListN.{length-set}
+use Rattle.std.proofs.Math.Bool.{or-true, or_self}
 
 -- a cell that is taken out
-pub taken_sorted : (cs : List LiveDot) (d : Tag) (i : ℕ) (e : LiveDot) → Rise cs → IsAt cs d i → Rise (remove cs i)
-taken_sorted cs d i e s at = from_T _ (subst (λ es. T (maps.is_sorted dot_cmp es)) (sym (removed_at d cs i e s at.within at.before (at.here e))) (is_sorted-where_key dot_cmp (λ x. not (eq_by_cmp dot_cmp d x)) (entries_of cs) (as_T _ s)))
+pub taken_sorted : (cs : List LiveDot) (d : Dot) (i : ℕ) (e : LiveDot) → Rise cs → IsAt cs d i → Rise (remove cs i)
+taken_sorted cs d i e s at = fact _ (subst (λ es. T (maps.is_sorted dot_cmp es)) (sym (removed_at d cs i e s at.within at.before (at.here e))) (is_sorted-where_key dot_cmp (λ x. not (eq_by_cmp dot_cmp d x)) (entries_of cs) (truth _ s)))
 
 -- without one cell fewer things hold of all
 All-remove : (P : LiveDot → Type 0) (cs : List LiveDot) (i : ℕ) → All P cs → All P (remove cs i)
 All-remove P cs i a = All-append P (take i cs) (drop (suc i) cs) (All-take P i cs a) (All-drop P (suc i) cs a)
 
-pub taken_cells : (cs : List LiveDot) (d : Tag) (i : ℕ) (e : LiveDot) (known : sets.FinSet dot_cmp) → IsAt cs d i → AreCells cs known → AreCells (remove cs i) known
+pub taken_cells : (cs : List LiveDot) (d : Dot) (i : ℕ) (e : LiveDot) (known : sets.FinSet dot_cmp) → IsAt cs d i → AreCells cs known → AreCells (remove cs i) known
 taken_cells cs d i e known at a = record {
   sorted = taken_sorted cs d i e a.sorted at;
   few = let most = a.few in let less = length-remove cs i at.within in omega arith;
   in_context = All-remove (λ c. sets.contains known c.dot ≡ true) cs i a.in_context;
-  have_field = All-remove (λ c. HasField (dot_fields c.fields)) cs i a.have_field;
+  have_field = All-remove (λ c. HasField c.fields) cs i a.have_field;
 }
 
-eq_back : (d q : Tag) → eq_by_cmp dot_cmp d q ≡ eq_by_cmp dot_cmp q d
+eq_back : (d q : Dot) → eq_by_cmp dot_cmp d q ≡ eq_by_cmp dot_cmp q d
 eq_back d q = (eq_by_cmp_equiv dots_total).symm d q
 
-alike : (d q x : Tag) → dot_cmp q x ≡ Equal → not (eq_by_cmp dot_cmp d x) ≡ not (eq_by_cmp dot_cmp d q)
+alike : (d q x : Dot) → dot_cmp q x ≡ Equal → not (eq_by_cmp dot_cmp d x) ≡ not (eq_by_cmp dot_cmp d q)
 alike d q x h = ap (λ y. not (eq_by_cmp dot_cmp d y)) (sym (dots_exact q x h))
 
 turned : {A : Type 0} (b : Bool) (x y : A) → cond (not b) x y ≡ cond b y x
 turned true x y = refl
 turned false x y = refl
 
-pub taken_live : (cs : List LiveDot) (d : Tag) (i : ℕ) (e : LiveDot) → Rise cs → IsAt cs d i → live_of (remove cs i) ≡ maps.remove (live_of cs) d
+pub taken_live : (cs : List LiveDot) (d : Dot) (i : ℕ) (e : LiveDot) → Rise cs → IsAt cs d i → live_of (remove cs i) ≡ maps.remove (live_of cs) d
 taken_live cs d i e s at = maps.same_map dots_total dots_exact _ _ (λ q.
     get-live_of (remove cs i) q (taken_sorted cs d i e s at)
     ∙ ap (find dot_cmp q) (removed_at d cs i e s at.within at.before (at.here e))
@@ -64,7 +66,7 @@ taken_live cs d i e s at = maps.same_map dots_total dots_exact _ _ (λ q.
     ∙ sym (maps.get-remove dots_total (live_of cs) d q))
 
 -- nothing is taken out where there is no cell
-pub missed_live : (cs : List LiveDot) (d : Tag) (i : ℕ) → Rise cs → IsGap cs d i → live_of cs ≡ maps.remove (live_of cs) d
+pub missed_live : (cs : List LiveDot) (d : Dot) (i : ℕ) → Rise cs → IsGap cs d i → live_of cs ≡ maps.remove (live_of cs) d
 missed_live cs d i s gap = maps.same_map dots_total dots_exact _ _ (λ q. elim (cases_Bool (eq_by_cmp dot_cmp q d)) [
   | inl t ↦ get-live_of cs q s ∙ ap (λ x. find dot_cmp x (entries_of cs)) (one_dot q d t) ∙ missed_at d cs i s gap.before gap.within gap.after
       ∙ ap (λ b. cond b None (maps.get (live_of cs) q)) (sym t) ∙ sym (maps.get-remove dots_total (live_of cs) d q)
@@ -72,17 +74,13 @@ missed_live cs d i s gap = maps.same_map dots_total dots_exact _ _ (λ q. elim (
 ])
 
 -- more dots are known
-pub known_more : (cs : List LiveDot) (known : sets.FinSet dot_cmp) (d : Tag) → AreCells cs known → AreCells cs (sets.insert known d)
+pub known_more : (cs : List LiveDot) (known : sets.FinSet dot_cmp) (d : Dot) → AreCells cs known → AreCells cs (sets.insert known d)
 known_more cs known d a = record {
   sorted = a.sorted;
   few = a.few;
-  in_context = All-weaker (λ c. sets.contains known c.dot ≡ true) (λ c. sets.contains (sets.insert known d) c.dot ≡ true) (λ c h. sets.contains-insert dots_total known d c.dot ∙ ap (λ b. eq_by_cmp dot_cmp c.dot d || b) h ∙ or_true (eq_by_cmp dot_cmp c.dot d)) cs a.in_context;
+  in_context = All-weaker (λ c. sets.contains known c.dot ≡ true) (λ c. sets.contains (sets.insert known d) c.dot ≡ true) (λ c h. sets.contains-insert dots_total known d c.dot ∙ ap (λ b. eq_by_cmp dot_cmp c.dot d || b) h ∙ or-true (eq_by_cmp dot_cmp c.dot d)) cs a.in_context;
   have_field = a.have_field;
 }
-  where
-    or_true : (b : Bool) → (b || true) ≡ true
-    or_true true = refl
-    or_true false = refl
 
 dead_second : (x : Option Condition) → Some Dead ≡ condition_joined x (Some Dead)
 dead_second None = refl
@@ -90,7 +88,7 @@ dead_second (Some Dead) = refl
 dead_second (Some (Live m f)) = refl
 
 -- the conditions after one dot is dead
-pub killed : (live : maps.FinMap dot_cmp Holding) (known : sets.FinSet dot_cmp) (d q : Tag)
+pub killed : (live : maps.FinMap dot_cmp Holding) (known : sets.FinSet dot_cmp) (d q : Dot)
     → condition_at (maps.get (maps.remove live d) q) (sets.contains (sets.insert known d) q) ≡ (if eq_by_cmp dot_cmp q d then condition_joined (condition_at (maps.get live q) (sets.contains known q)) (Some Dead) else condition_at (maps.get live q) (sets.contains known q))
 killed live known d q = (λ i. condition_at (maps.get-remove dots_total live d q i) (sets.contains-insert dots_total known d q i)) ∙ split (eq_by_cmp dot_cmp q d)
   where
@@ -100,17 +98,13 @@ killed live known d q = (λ i. condition_at (maps.get-remove dots_total live d q
 
 -- a dot that a set and itself have with one more
 pub union-self : (known : sets.FinSet dot_cmp) → sets.union known known ≡ known
-union-self known = sets.same_set dots_total dots_exact _ _ (λ q. sets.contains-union dots_total known known q ∙ twice (sets.contains known q))
-  where
-    twice : (b : Bool) → (b || b) ≡ b
-    twice true = refl
-    twice false = refl
+union-self known = sets.same_set dots_total dots_exact _ _ (λ q. sets.contains-union dots_total known known q ∙ or_self (sets.contains known q))
 
-pub runs_with-self : (known : sets.FinSet dot_cmp) (d : Tag) (site count : ℕ) → site ≡ d.site → count ≡ d.count → run_count (sets.insert (sets.union known known) (record { site = site; count = count })) ≡ run_count (sets.insert known d)
+pub runs_with-self : (known : sets.FinSet dot_cmp) (d : Dot) (site count : ℕ) → site ≡ d.site → count ≡ d.count → run_count (sets.insert (sets.union known known) (record { site = site; count = count })) ≡ run_count (sets.insert known d)
 runs_with-self known d site count s n = λ i. run_count (sets.insert (union-self known i) (record { site = s i; count = n i }))
 
 -- a cell whose dot stays leaves the order
-below-set : (d : Tag) (cs : List LiveDot) (i : ℕ) (x j : LiveDot) → i < length cs → x ≡ get_or cs i x → j.dot ≡ x.dot → below_all dot_cmp d (entries_of (set cs i j)) ≡ below_all dot_cmp d (entries_of cs)
+below-set : (d : Dot) (cs : List LiveDot) (i : ℕ) (x j : LiveDot) → i < length cs → x ≡ get_or cs i x → j.dot ≡ x.dot → below_all dot_cmp d (entries_of (set cs i j)) ≡ below_all dot_cmp d (entries_of cs)
 below-set d [] i x j l at e = refl
 below-set d (c ∷ cs) zero x j l at e = ap (λ y. is_lt (dot_cmp d y) && below_all dot_cmp d (entries_of cs)) (e ∙ ap (λ y. y.dot) at)
 below-set d (c ∷ cs) (suc i) x j l at e = ap (λ b. is_lt (dot_cmp d c.dot) && b) (below-set d cs i x j (omega arith) at e)
@@ -121,7 +115,7 @@ sorted-set (c ∷ cs) zero x j l at e = ap (λ y. below_all dot_cmp y (entries_o
 sorted-set (c ∷ cs) (suc i) x j l at e = λ k. below-set c.dot cs i x j (omega arith) at e k && sorted-set cs i x j (omega arith) at e k
 
 -- a cell that takes the place of another of its dot and member leaves all members
-members-set : (cs : List LiveDot) (i : ℕ) (x j : LiveDot) (q : Tag) → i < length cs → x ≡ get_or cs i x → j.dot ≡ x.dot → j.member ≡ x.member
+members-set : (cs : List LiveDot) (i : ℕ) (x j : LiveDot) (q : Dot) → i < length cs → x ≡ get_or cs i x → j.dot ≡ x.dot → j.member ≡ x.member
     → option_map (λ h. h.0) (find dot_cmp q (entries_of (set cs i j))) ≡ option_map (λ h. h.0) (find dot_cmp q (entries_of cs))
 members-set [] i x j q l at e m = refl
 members-set (c ∷ cs) zero x j q l at e m =
@@ -136,49 +130,49 @@ members-set (c ∷ cs) (suc i) x j q l at e m = rest (eq_by_cmp dot_cmp q c.dot)
     rest true o h = refl
     rest false o h = h
 
-pub met_members : (cs : List LiveDot) (i : ℕ) (x j : LiveDot) (q : Tag) → Rise cs → i < length cs → x ≡ get_or cs i x → j.dot ≡ x.dot → j.member ≡ x.member
+pub met_members : (cs : List LiveDot) (i : ℕ) (x j : LiveDot) (q : Dot) → Rise cs → i < length cs → x ≡ get_or cs i x → j.dot ≡ x.dot → j.member ≡ x.member
     → option_map (λ h. h.0) (maps.get (live_of (set cs i j)) q) ≡ option_map (λ h. h.0) (maps.get (live_of cs) q)
 met_members cs i x j q s l at e m =
     ap (option_map (λ h. h.0)) (get-live_of (set cs i j) q (sorted-set cs i x j l at e ∙ s)) ∙ members-set cs i x j q l at e m ∙ ap (option_map (λ h. h.0)) (sym (get-live_of cs q s))
 
 -- a cell that is joined with fields
-pub met_cells : (cs : List LiveDot) (i : ℕ) (x j : LiveDot) (fields : DotFields) (known : sets.FinSet dot_cmp) → i < length cs → x ≡ get_or cs i x → j.dot ≡ x.dot → dot_fields j.fields ≡ fields_joined (dot_fields x.fields) fields
+pub met_cells : (cs : List LiveDot) (i : ℕ) (x j : LiveDot) (fields : DotFields) (known : sets.FinSet dot_cmp) → i < length cs → x ≡ get_or cs i x → j.dot ≡ x.dot → j.fields ≡ fields_joined x.fields fields
     → AreCells cs known → AreCells (set cs i j) known
 met_cells cs i x j fields known l at e f a = record {
   sorted = sorted-set cs i x j l at e ∙ a.sorted;
-  few = subst (λ n. n ≤ most_cells) (sym (length-set cs i j)) a.few;
+  few = subst (λ n. n ≤ MOST_LIVE) (sym (length-set cs i j)) a.few;
   in_context = All-set (λ c. sets.contains known c.dot ≡ true) cs i j (ap (sets.contains known) (e ∙ ap (λ y. y.dot) at) ∙ All-get_or (λ c. sets.contains known c.dot ≡ true) cs i x l a.in_context) a.in_context;
-  have_field = All-set (λ c. HasField (dot_fields c.fields)) cs i j (subst HasField (sym f) (joined_field (dot_fields x.fields) fields (subst (λ y. HasField (dot_fields y.fields)) (sym at) (All-get_or (λ c. HasField (dot_fields c.fields)) cs i x l a.have_field)))) a.have_field;
+  have_field = All-set (λ c. HasField c.fields) cs i j (subst HasField (sym f) (joined_field x.fields fields (subst (λ y. HasField y.fields) (sym at) (All-get_or (λ c. HasField c.fields) cs i x l a.have_field)))) a.have_field;
 }
 
 All-insert : (P : LiveDot → Type 0) (cs : List LiveDot) (i : ℕ) (c : LiveDot) → P c → All P cs → All P (insert cs i c)
 All-insert P cs i c p a = All-append P (take i cs) (c ∷ drop i cs) (All-take P i cs a) (All-cons P c (drop i cs) p (All-drop P i cs a))
 
 brought_sorted : (cs : List LiveDot) (i : ℕ) (c : LiveDot) → Rise cs → IsGap cs c.dot i → Rise (insert cs i c)
-brought_sorted cs i c s gap = from_T _ (subst (λ es. T (maps.is_sorted dot_cmp es)) (sym (put_at cs i c gap.within gap.before gap.after)) (is_sorted-put dot_cmp dots_total c.dot (holding c) (entries_of cs) (as_T _ s)))
+brought_sorted cs i c s gap = fact _ (subst (λ es. T (maps.is_sorted dot_cmp es)) (sym (put_at cs i c gap.within gap.before gap.after)) (is_sorted-put dot_cmp dots_total c.dot (holding c) (entries_of cs) (truth _ s)))
 
 -- a cell that is put in
-pub brought_cells : (cs : List LiveDot) (i : ℕ) (c : LiveDot) (known : sets.FinSet dot_cmp) → IsGap cs c.dot i → HasField (dot_fields c.fields) → length cs < most_cells → AreCells cs known → AreCells (insert cs i c) (sets.insert known c.dot)
+pub brought_cells : (cs : List LiveDot) (i : ℕ) (c : LiveDot) (known : sets.FinSet dot_cmp) → IsGap cs c.dot i → HasField c.fields → length cs < MOST_LIVE → AreCells cs known → AreCells (insert cs i c) (sets.insert known c.dot)
 brought_cells cs i c known gap field room a = record {
   sorted = brought_sorted cs i c a.sorted gap;
   few = let more = length-insert cs i c gap.within in omega arith;
   in_context = All-insert (λ x. sets.contains (sets.insert known c.dot) x.dot ≡ true) cs i c (sets.contains-insert dots_total known c.dot c.dot ∙ ap (λ b. b || sets.contains known c.dot) (same_itself c.dot)) (known_more cs known c.dot a).in_context;
-  have_field = All-insert (λ x. HasField (dot_fields x.fields)) cs i c field a.have_field;
+  have_field = All-insert (λ x. HasField x.fields) cs i c field a.have_field;
 }
 
-pub brought_live : (cs : List LiveDot) (i : ℕ) (c : LiveDot) (q : Tag) → Rise cs → IsGap cs c.dot i → maps.get (live_of (insert cs i c)) q ≡ cond (eq_by_cmp dot_cmp q c.dot) (Some (holding c)) (maps.get (live_of cs) q)
+pub brought_live : (cs : List LiveDot) (i : ℕ) (c : LiveDot) (q : Dot) → Rise cs → IsGap cs c.dot i → maps.get (live_of (insert cs i c)) q ≡ cond (eq_by_cmp dot_cmp q c.dot) (Some (holding c)) (maps.get (live_of cs) q)
 brought_live cs i c q s gap =
     get-live_of (insert cs i c) q (brought_sorted cs i c s gap) ∙ ap (find dot_cmp q) (put_at cs i c gap.within gap.before gap.after)
     ∙ find-put dot_cmp dots_total q c.dot (holding c) (entries_of cs) ∙ ap (cond (eq_by_cmp dot_cmp q c.dot) (Some (holding c))) (sym (get-live_of cs q s))
 
 -- a cell that takes the place of another of its dot
-pub met_live : (cs : List LiveDot) (i : ℕ) (x j : LiveDot) (q : Tag) → Rise cs → IsAt cs j.dot i → x ≡ get_or cs i x → maps.get (live_of (set cs i j)) q ≡ cond (eq_by_cmp dot_cmp q j.dot) (Some (holding j)) (maps.get (live_of cs) q)
+pub met_live : (cs : List LiveDot) (i : ℕ) (x j : LiveDot) (q : Dot) → Rise cs → IsAt cs j.dot i → x ≡ get_or cs i x → maps.get (live_of (set cs i j)) q ≡ cond (eq_by_cmp dot_cmp q j.dot) (Some (holding j)) (maps.get (live_of cs) q)
 met_live cs i x j q s at is =
     get-live_of (set cs i j) q (sorted-set cs i x j at.within is (at.here x ∙ ap (λ y. y.dot) (sym is)) ∙ s) ∙ ap (find dot_cmp q) (set_at cs i j x at.within at.before (at.here x))
     ∙ find-put dot_cmp dots_total q j.dot (holding j) (entries_of cs) ∙ ap (cond (eq_by_cmp dot_cmp q j.dot) (Some (holding j))) (sym (get-live_of cs q s))
 
 -- the conditions where one dot is live with what it and one more condition make
-pub raised : (before after : maps.FinMap dot_cmp Holding) (known more : sets.FinSet dot_cmp) (d q : Tag) (h : Holding) (c : Condition)
+pub raised : (before after : maps.FinMap dot_cmp Holding) (known more : sets.FinSet dot_cmp) (d q : Dot) (h : Holding) (c : Condition)
     → maps.get after q ≡ cond (eq_by_cmp dot_cmp q d) (Some h) (maps.get before q) → sets.contains more q ≡ (eq_by_cmp dot_cmp q d || sets.contains known q)
     → Some (Live h.0 h.1) ≡ condition_joined (condition_at (maps.get before d) (sets.contains known d)) (Some c)
     → condition_at (maps.get after q) (sets.contains more q) ≡ (if eq_by_cmp dot_cmp q d then condition_joined (condition_at (maps.get before q) (sets.contains known q)) (Some c) else condition_at (maps.get before q) (sets.contains known q))
@@ -190,16 +184,16 @@ raised before after known more d q h c g k j = (λ i. condition_at (g i) (k i)) 
 
 -- what is known of an absent dot
 -- a dot that has a gap isn't live
-pub gap_live : (cs : List LiveDot) (d : Tag) (i : ℕ) → Rise cs → IsGap cs d i → maps.get (live_of cs) d ≡ None
+pub gap_live : (cs : List LiveDot) (d : Dot) (i : ℕ) → Rise cs → IsGap cs d i → maps.get (live_of cs) d ≡ None
 gap_live cs d i s gap = get-live_of cs d s ∙ missed_at d cs i s gap.before gap.within gap.after
 
-pub absent : (cs : List LiveDot) (d : Tag) (i : ℕ) (known : sets.FinSet dot_cmp) (b : Bool) → Rise cs → IsGap cs d i → b ≡ sets.contains known d → condition_of (seen cs known) d ≡ condition_at None b
+pub absent : (cs : List LiveDot) (d : Dot) (i : ℕ) (known : sets.FinSet dot_cmp) (b : Bool) → Rise cs → IsGap cs d i → b ≡ sets.contains known d → condition_of (members_of cs known) d ≡ condition_at None b
 absent cs d i known b s gap e = λ k. condition_at (gap_live cs d i s gap k) (sym e k)
 
 -- what is known of a present dot
-pub present : (cs : List LiveDot) (d : Tag) (i : ℕ) (x : LiveDot) (known : sets.FinSet dot_cmp) → Rise cs → IsAt cs d i → x ≡ get_or cs i x → condition_of (seen cs known) d ≡ Some (Live x.member (dot_fields x.fields))
+pub present : (cs : List LiveDot) (d : Dot) (i : ℕ) (x : LiveDot) (known : sets.FinSet dot_cmp) → Rise cs → IsAt cs d i → x ≡ get_or cs i x → condition_of (members_of cs known) d ≡ Some (Live x.member x.fields)
 present cs d i x known s at is =
     ap (λ o. condition_at o (sets.contains known d)) (get-live_of cs d s ∙ found_at d cs i x at.within at.before (at.here x) ∙ ap (λ y. Some (holding y)) (sym is))
 
-pub present_known : (cs : List LiveDot) (d : Tag) (i : ℕ) (x : LiveDot) (known : sets.FinSet dot_cmp) → AreCells cs known → IsAt cs d i → x ≡ get_or cs i x → sets.contains known d ≡ true
+pub present_known : (cs : List LiveDot) (d : Dot) (i : ℕ) (x : LiveDot) (known : sets.FinSet dot_cmp) → AreCells cs known → IsAt cs d i → x ≡ get_or cs i x → sets.contains known d ≡ true
 present_known cs d i x known a at is = ap (sets.contains known) (at.here x) ∙ All-get_or (λ c. sets.contains known c.dot ≡ true) cs i x at.within a.in_context

@@ -8,18 +8,19 @@ use Rattle.std.proofs.lemmas.Bool.{and_parts}
 use Rattle.std.proofs.lemmas.Bool.Decides.{nat_tests}
 use Rattle.std.proofs.lemmas.List.Elements.{All-weaker}
 use Rattle.std.proofs.lemmas.List.Folds.{list_any_none}
-use Rattle.dots.specs.Values.{Tag}
+use Rattle.std.proofs.Math.Bool.{and-false, and-true}
+use Rattle.dots.specs.Values.{Dot}
 use Rattle.dots.specs.Orders.{dot_cmp}
-use Rattle.dots.specs.DotSets.{IsRunsOf, Stretch, in_stretch, in_stretches}
+use Rattle.dots.specs.DotSets.{IsRunsOf, Run, in_run, in_runs}
 use Rattle.dots.proofs.DotOrder.{dots_total, dots_exact}
 use Rattle.causal_context.specs.Contexts.{IsRun}
 use Rattle.member_orset.specs.declared.piece.Piece.{Piece}
 use Rattle.member_orset.specs.Members.{Holding}
 use Rattle.member_orset.specs.LiveDots.{dead_dots}
-use Rattle.member_orset.specs.Seen.{IsPiece, part_before}
-use Rattle.member_orset.proofs.SeenDots.{and_false, and_true, contains-part, under}
+use Rattle.member_orset.specs.Gathering.{IsPiece, part_before}
+use Rattle.member_orset.proofs.SeenDots.{contains-part, under}
 
-abbrev at : ℕ → ℕ → Tag
+abbrev at : ℕ → ℕ → Dot
 at site count = record { site = site; count = count }
 
 own_site : (s : ℕ) → nat_eq s s ≡ true
@@ -35,45 +36,45 @@ past_end : (s t f l n : ℕ) → l < n → (nat_eq s t && (nat_le f n && nat_le 
 past_end s t f l n h = grind (arith, nat_tests)
 
 -- no known dot has a count past the greatest
-known_past : (runs : List Stretch) (known : sets.FinSet dot_cmp) (site n : ℕ) → IsRunsOf runs known → All IsRun runs → 2 ^ 40 < n → sets.contains known (at site n) ≡ false
+known_past : (runs : List Run) (known : sets.FinSet dot_cmp) (site n : ℕ) → IsRunsOf runs known → All IsRun runs → 2 ^ 40 < n → sets.contains known (at site n) ≡ false
 known_past runs known site n is limits h =
-    is.same (at site n) ∙ list_any_none (in_stretch (at site n)) runs (All-weaker IsRun (λ r. in_stretch (at site n) r ≡ false) (λ r l. past_end r.site site r.first r.last n (let most = l.most in omega arith)) runs limits)
+    is.same (at site n) ∙ list_any_none (in_run (at site n)) runs (All-weaker IsRun (λ r. in_run (at site n) r ≡ false) (λ r l. past_end r.site site r.first r.last n (let most = l.most in omega arith)) runs limits)
 
 module _ (known : sets.FinSet dot_cmp) (live : maps.FinMap dot_cmp Holding) (site : ℕ) where
   abbrev dead : sets.FinSet dot_cmp
   dead = dead_dots known live site
 
-  abbrev is_dead : Tag → Bool
+  abbrev is_dead : Dot → Bool
   is_dead q = nat_eq q.site site && not (maps.contains_key live q)
 
-  contains-dead : (q : Tag) → sets.contains dead q ≡ (sets.contains known q && is_dead q)
+  contains-dead : (q : Dot) → sets.contains dead q ≡ (sets.contains known q && is_dead q)
   unfolding dead_dots
   contains-dead q = sets.contains-retain known is_dead q (λ x h. ap is_dead (sym (dots_exact q x h)))
 
   dead_at : (n : ℕ) → sets.contains dead (at site n) ≡ (sets.contains known (at site n) && not (maps.contains_key live (at site n)))
   dead_at n = contains-dead (at site n) ∙ ap (λ b. sets.contains known (at site n) && (b && not (maps.contains_key live (at site n)))) (own_site site)
 
-  dead_site : (q : Tag) → sets.contains dead q ≡ true → nat_eq q.site site ≡ true
+  dead_site : (q : Dot) → sets.contains dead q ≡ true → nat_eq q.site site ≡ true
   dead_site q h = (and_parts (nat_eq q.site site) (not (maps.contains_key live q)) (and_parts (sets.contains known q) (is_dead q) (sym (contains-dead q) ∙ h)).1).0
 
   pub dead_unknown : (n : ℕ) → sets.contains known (at site n) ≡ false → sets.contains dead (at site n) ≡ false
   dead_unknown n h = dead_at n ∙ ap (λ b. b && not (maps.contains_key live (at site n))) h
 
-  pub dead_past : (runs : List Stretch) (n : ℕ) → IsRunsOf runs known → All IsRun runs → 2 ^ 40 < n → sets.contains dead (at site n) ≡ false
+  pub dead_past : (runs : List Run) (n : ℕ) → IsRunsOf runs known → All IsRun runs → 2 ^ 40 < n → sets.contains dead (at site n) ≡ false
   dead_past runs n is limits h = dead_unknown n (known_past runs known site n is limits h)
 
   -- all of them are of the site
   pub none_earlier : part_before dead site 0 ≡ sets.empty
   none_earlier = sets.same_set dots_total dots_exact _ _ (λ q.
-      contains-part dead site 0 q ∙ under (sets.contains dead q) _ false (λ t. not_earlier q.site q.count site (dead_site q t)) ∙ and_false (sets.contains dead q)
+      contains-part dead site 0 q ∙ under (sets.contains dead q) _ false (λ t. not_earlier q.site q.count site (dead_site q t)) ∙ and-false (sets.contains dead q)
       ∙ sym (sets.contains-empty dot_cmp q))
 
   pub all_before_next : part_before dead (site + 1) 0 ≡ dead
   all_before_next = sets.same_set dots_total dots_exact _ _ (λ q.
-      contains-part dead (site + 1) 0 q ∙ under (sets.contains dead q) _ true (λ t. before_next q.site q.count site (dead_site q t)) ∙ and_true (sets.contains dead q))
+      contains-part dead (site + 1) 0 q ∙ under (sets.contains dead q) _ true (λ t. before_next q.site q.count site (dead_site q t)) ∙ and-true (sets.contains dead q))
 
   -- a piece where none is known, or where all are
-  module _ (runs : List Stretch) (are : IsRunsOf runs known) (first last : ℕ) (k : Piece) (known_is : IsPiece (λ n. in_stretches runs (at site n)) first last k) where
+  module _ (runs : List Run) (are : IsRunsOf runs known) (first last : ℕ) (k : Piece) (known_is : IsPiece (λ n. in_runs runs (at site n)) first last k) where
     pub unknown_piece : k.inside ≡ false → IsPiece (λ n. sets.contains dead (at site n)) first last k
     unknown_piece y = record {
       some = known_is.some;

@@ -1,19 +1,10 @@
--- What holds of the fields that are read of registers.
+-- What holds of fields that are joined.
 use Rattle.std.proofs.Common.{◌≡◌, Option, Some, None, refl, ap}
-use Rattle.dots.specs.Registers.{Entry, joined}
-use Rattle.dots.specs.Conditions.{DotFields, FieldsAgree, fields_joined}
-use Rattle.lww_registers.specs.declared.fields.Fields.{Fields}
-use Rattle.lww_registers.specs.Fields as registers
+use Rattle.dots.specs.Registers.{Entry, join_of}
+use Rattle.dots.specs.Conditions.{DotFields, fields_joined}
 use Rattle.member_orset.specs.Members.{HasField}
-use Rattle.member_orset.specs.Reads.{dot_fields}
 
-pub agree_as_read : (x y : Fields) → registers.FieldsAgree x y → FieldsAgree (dot_fields x) (dot_fields y)
-agree_as_read x y a = record { penalty = a.penalty; pause = a.pause; label = a.label }
-
-pub agree_as_kept : (x y : Fields) → FieldsAgree (dot_fields x) (dot_fields y) → registers.FieldsAgree x y
-agree_as_kept x y a = record { penalty = a.penalty; pause = a.pause; label = a.label }
-
-first_none : {T : Type 0} (a b : Option (Entry T)) → joined a b ≡ None → a ≡ None
+first_none : {T : Type 0} (a b : Option (Entry T)) → join_of a b ≡ None → a ≡ None
 first_none None b h = refl
 first_none (Some a) None h = absurd (cc)
 first_none (Some a) (Some b) h = absurd (cc)

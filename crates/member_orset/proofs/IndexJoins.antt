@@ -9,33 +9,22 @@ use Rattle.std.proofs.lemmas.Bool.{and_from, cases_Bool}
 use Rattle.std.proofs.lemmas.List.{drop_more}
 use Rattle.std.proofs.lemmas.List.Elements.{All-head, All-push, All-tail, All-weaker}
 use Rattle.std.proofs.lemmas.List.Folds.{list_any-append}
-use Rattle.dots.specs.Values.{Tag}
+use Rattle.std.proofs.Math.Bool.{or-true, or_assoc}
+use Rattle.dots.specs.Values.{Dot}
 use Rattle.dots.specs.Orders.{dot_cmp}
 use Rattle.dots.specs.declared.member.Member.{Member}
 use Rattle.member_orset.specs.declared.listed.Listed.{Listed}
 use Rattle.member_orset.specs.Members.{Holding}
-use Rattle.member_orset.specs.Fronts.{next_by}
+use Rattle.dots.specs.Fronts.{next_by}
 use Rattle.member_orset.specs.Index.{IsBelow, IsLeastOf, Rises, is_held, is_listed, is_listed_in_either, listed_cmp, listings}
-use Rattle.member_orset.proofs.Fronts.{open_at}
+use Rattle.dots.proofs.Fronts.{open_at}
+use Rattle.dots.proofs.TruthTables.{or_swap}
 use Rattle.member_orset.proofs.Indexes.{below_from, entry, later, listed_exact, listed_total, rises-head, rises-tail}
 use Rattle.member_orset.proofs.Rising as rising
-
-or_assoc : (a b c : Bool) → ((a || b) || c) ≡ (a || (b || c))
-or_assoc true b c = refl
-or_assoc false b c = refl
-
-or_swap : (a b c : Bool) → (b || (a || c)) ≡ (a || (b || c))
-or_swap true true c = refl
-or_swap true false c = refl
-or_swap false b c = refl
 
 or_both : (a b c : Bool) → ((a || b) || (a || c)) ≡ (a || (b || c))
 or_both true b c = refl
 or_both false b c = refl
-
-or_true : (b : Bool) → (b || true) ≡ true
-or_true true = refl
-or_true false = refl
 
 -- the least entry is the first of one side, of the other, or of both
 less_below : (x : Listed) (xs ys : List Listed) → Rises ys → Less ≡ next_by listed_cmp (x ∷ xs) ys → IsBelow x ys
@@ -61,7 +50,7 @@ greater_below y (x ∷ xs) ys r h =
 
 greater_front : (y : Listed) (xs ys : List Listed) → Rises xs → Rises (y ∷ ys) → Greater ≡ next_by listed_cmp xs (y ∷ ys) → IsLeastOf y xs (y ∷ ys) xs ys
 greater_front y xs ys r s h = record {
-  lists = λ m d. or_swap (eq_by_cmp listed_cmp (entry m d) y) (is_listed xs m d) (is_listed ys m d);
+  lists = λ m d. or_swap (is_listed xs m d) (eq_by_cmp listed_cmp (entry m d) y) (is_listed ys m d);
   rises = r;
   rises_there = rises-tail y ys s;
   least = greater_below y xs ys r h;
@@ -106,7 +95,7 @@ below_each c [] f = refl
 below_each c (x ∷ xs) f =
     and_from (is_lt (listed_cmp c x)) (below_all listed_cmp c (listings xs))
     (f x (ap (λ b. b || list_any (eq_by_cmp listed_cmp x) xs) (rising.same_itself listed_cmp listed_total listed_exact x)))
-    (below_each c xs (λ q h. f q (ap (λ b. eq_by_cmp listed_cmp q x || b) h ∙ or_true (eq_by_cmp listed_cmp q x))))
+    (below_each c xs (λ q h. f q (ap (λ b. eq_by_cmp listed_cmp q x || b) h ∙ or-true (eq_by_cmp listed_cmp q x))))
 
 -- entries that rise, with one more behind them
 below_push : (c l : Listed) (ws : List Listed) → IsBelow c ws → is_lt (listed_cmp c l) ≡ true → IsBelow c (ws ++ l ∷ [])
@@ -142,9 +131,9 @@ module _ (ws xs ys left left_there : List Listed) (l : Listed) (is : IsLeastOf l
   -- and all of them lie before what is left then
   pub still_below : AreBelow ws left left_there
   still_below = All-weaker (λ e. IsBelow e xs × IsBelow e ys) (λ e. IsBelow e left × IsBelow e left_there) (λ e h. (
-    below_each e left (λ q m. before e q h (is.lists q.member q.dot ∙ ap (λ b. eq_by_cmp listed_cmp q l || (b || is_listed left_there q.member q.dot)) m ∙ or_true (eq_by_cmp listed_cmp q l))),
+    below_each e left (λ q m. before e q h (is.lists q.member q.dot ∙ ap (λ b. eq_by_cmp listed_cmp q l || (b || is_listed left_there q.member q.dot)) m ∙ or-true (eq_by_cmp listed_cmp q l))),
     below_each e left_there (λ q m. before e q h (is.lists q.member q.dot ∙ ap (λ b. eq_by_cmp listed_cmp q l || (is_listed left q.member q.dot || b)) m
-        ∙ ap (λ b. eq_by_cmp listed_cmp q l || b) (or_true (is_listed left q.member q.dot)) ∙ or_true (eq_by_cmp listed_cmp q l))),
+        ∙ ap (λ b. eq_by_cmp listed_cmp q l || b) (or-true (is_listed left q.member q.dot)) ∙ or-true (eq_by_cmp listed_cmp q l))),
   )) ws below
 
   pub taken_below : AreBelow (ws ++ l ∷ []) left left_there
@@ -152,10 +141,10 @@ module _ (ws xs ys left left_there : List Listed) (l : Listed) (is : IsLeastOf l
 
   -- what is taken and what of the rest is live stays the same
   module _ (live : maps.FinMap dot_cmp Holding) where
-    held : (m : Member) (d : Tag) → eq_by_cmp listed_cmp (entry m d) l ≡ true → is_held live m d ≡ is_held live l.member l.dot
+    held : (m : Member) (d : Dot) → eq_by_cmp listed_cmp (entry m d) l ≡ true → is_held live m d ≡ is_held live l.member l.dot
     held m d t = ap (λ e. is_held live e.member e.dot) (rising.one_key listed_cmp listed_total listed_exact (entry m d) l t)
 
-    pub taken_lists : is_held live l.member l.dot ≡ true → (m : Member) (d : Tag)
+    pub taken_lists : is_held live l.member l.dot ≡ true → (m : Member) (d : Dot)
         → (is_listed (ws ++ l ∷ []) m d || (is_listed_in_either left left_there m d && is_held live m d)) ≡ (is_listed ws m d || (is_listed_in_either xs ys m d && is_held live m d))
     taken_lists h m d =
         (λ i. list_any-append (eq_by_cmp listed_cmp (entry m d)) ws (l ∷ []) i || (is_listed_in_either left left_there m d && is_held live m d))
@@ -167,7 +156,7 @@ module _ (ws xs ys left left_there : List Listed) (l : Listed) (is : IsLeastOf l
         one false true e h f = sym (f refl)
         one false false e h f = refl
 
-    pub passed_lists : is_held live l.member l.dot ≡ false → (m : Member) (d : Tag)
+    pub passed_lists : is_held live l.member l.dot ≡ false → (m : Member) (d : Dot)
         → (is_listed ws m d || (is_listed_in_either left left_there m d && is_held live m d)) ≡ (is_listed ws m d || (is_listed_in_either xs ys m d && is_held live m d))
     passed_lists h m d =
         one (is_listed ws m d) (eq_by_cmp listed_cmp (entry m d) l) (is_listed_in_either left left_there m d) (is_held live m d) (λ t. held m d t ∙ h)

@@ -12,17 +12,17 @@ use Rattle.std.proofs.lemmas.Cmp.{tied_itself}
 use Rattle.dots.specs.declared.member.Member.{Member}
 use Rattle.dots.specs.Orders.{member_cmp}
 use Rattle.dots.proofs.MemberOrder.{members_total}
+use Rattle.dots.proofs.TruthTables.{less_of}
 use Rattle.member_orset.specs.declared.listed.Listed.{Listed}
 use Rattle.member_orset.specs.Index.{Rises}
-use Rattle.member_orset.specs.Shown.{group, is_own}
-use Rattle.member_orset.proofs.Rising.{less}
+use Rattle.member_orset.specs.ShownRows.{group, is_own}
 use Rattle.member_orset.proofs.Indexes.{partitioned_by}
 use Rattle.member_orset.proofs.MemberOrder.{by_members, less_upto, own_before, own_between, own_past}
 
 -- those of lesser members come first, and so do those of members that aren't greater
 pub lesser_first : (m : Member) (ls : List Listed) → Rises ls → IsPartitionedBy (λ l. is_lt (member_cmp l.member m)) ls
 lesser_first m = partitioned_by (λ l. is_lt (member_cmp l.member m)) (λ a b h k. elim (by_members a b h) [
-  | inl l ↦ ap is_lt (members_total.trans a.member b.member m l (less _ k))
+  | inl l ↦ ap is_lt (members_total.trans a.member b.member m l (less_of _ k))
   | inr e ↦ ap (λ x. is_lt (member_cmp x m)) e ∙ k
 ])
 

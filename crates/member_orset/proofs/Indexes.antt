@@ -12,15 +12,16 @@ use Rattle.std.proofs.lemmas.Bool.{and_parts, cases_Bool, true≢false}
 use Rattle.std.proofs.lemmas.Cmp.{eq_by_cmp_equiv, on_total, then_total}
 use Rattle.std.proofs.lemmas.List.Folds.{list_any_at}
 use Rattle.std.proofs.lemmas.Map.Lookups.{exact_pairs}
-use Rattle.dots.specs.Values.{Tag}
+use Rattle.dots.specs.Values.{Dot}
 use Rattle.dots.specs.Orders.{dot_cmp, member_cmp}
 use Rattle.dots.specs.declared.member.Member.{Member}
 use Rattle.dots.proofs.DotOrder.{dots_total, dots_exact}
 use Rattle.dots.proofs.MemberOrder.{members_total, exact_members}
+use Rattle.dots.proofs.TruthTables.{truth, fact}
 use Rattle.member_orset.specs.declared.listed.Listed.{Listed}
 use Rattle.member_orset.specs.Members.{Holding}
 use Rattle.member_orset.specs.Index.{IsBelow, IsIndex, IsPlaceFor, Rises, is_held, is_listed, listed_cmp, listings}
-use Rattle.member_orset.proofs.DotTests.{as_T, from_T, one_dot}
+use Rattle.member_orset.proofs.DotTests.{one_dot}
 use Rattle.member_orset.proofs.Rising as rising
 
 -- entries are in a total order, in which only equal ones tie
@@ -29,7 +30,7 @@ listed_total = then_total (on_total (λ (l : Listed). l.member) members_total) (
 
 pub listed_exact : maps.IsAntisymmetric listed_cmp
 listed_exact a b h =
-    ap (λ (p : Member × Tag). let l : Listed = record { member = p.0; dot = p.1 } in l)
+    ap (λ (p : Member × Dot). let l : Listed = record { member = p.0; dot = p.1 } in l)
     (exact_pairs member_cmp dot_cmp exact_members dots_exact (a.member, a.dot) (b.member, b.dot) h)
 
 -- entries that rise
@@ -47,11 +48,11 @@ pub partitioned_by : (p : Listed → Bool) → ((a b : Listed) → is_lt (listed
 partitioned_by = rising.partitioned_by listed_cmp listed_total listed_exact (λ x. x) (λ x. tt)
 
 -- an entry of a member and a dot
-abbrev pub entry : Member → Tag → Listed
+abbrev pub entry : Member → Dot → Listed
 entry member dot = record { member = member; dot = dot }
 
 -- two entries are one where members and dots are
-pub same_parts : (m n : Member) (d e : Tag) → eq_by_cmp listed_cmp (entry m d) (entry n e) ≡ (eq_by_cmp member_cmp m n && eq_by_cmp dot_cmp d e)
+pub same_parts : (m n : Member) (d e : Dot) → eq_by_cmp listed_cmp (entry m d) (entry n e) ≡ (eq_by_cmp member_cmp m n && eq_by_cmp dot_cmp d e)
 same_parts m n d e = sym (tied_then (member_cmp m n) (dot_cmp d e))
 
 -- what the index has is what is found in it
@@ -74,9 +75,9 @@ module _ (index : List Listed) (i : ℕ) (l : Listed) (at : IsPlaceFor index l i
       (λ e k. rising.after listed_cmp listed_total listed_exact (get_or index i e) l (λ same. other l index i e k none (sym same)) (at.past i e (omega arith) k))
 
   pub more_rises : Rises index → Rises (insert index i l)
-  more_rises s = from_T _ (subst (λ es. T (is_sorted listed_cmp es)) (sym put) (is_sorted-put listed_cmp listed_total l tt (listings index) (as_T _ s)))
+  more_rises s = fact _ (subst (λ es. T (is_sorted listed_cmp es)) (sym put) (is_sorted-put listed_cmp listed_total l tt (listings index) (truth _ s)))
 
-  pub more_lists : (m : Member) (dot : Tag) → is_listed (insert index i l) m dot ≡ (eq_by_cmp listed_cmp (entry m dot) l || is_listed index m dot)
+  pub more_lists : (m : Member) (dot : Dot) → is_listed (insert index i l) m dot ≡ (eq_by_cmp listed_cmp (entry m dot) l || is_listed index m dot)
   more_lists m dot =
       any_find (entry m dot) (insert index i l) ∙ ap (λ es. is_some (find listed_cmp (entry m dot) es)) put
       ∙ ap is_some (find-put listed_cmp listed_total (entry m dot) l tt (listings index))
@@ -120,9 +121,9 @@ module _ (index : List Listed) (i : ℕ) (l : Listed) (rise : Rises index) (at :
   taken = rising.removed_at listed_cmp listed_total listed_exact (λ x. x) (λ x. tt) l index i l rise stands_within at.before ((stands l index i rise at.within at.before at.past there).1 l)
 
   pub less_rises : Rises (remove index i)
-  less_rises = from_T _ (subst (λ es. T (is_sorted listed_cmp es)) (sym taken) (is_sorted-where_key listed_cmp (λ x. not (eq_by_cmp listed_cmp l x)) (listings index) (as_T _ rise)))
+  less_rises = fact _ (subst (λ es. T (is_sorted listed_cmp es)) (sym taken) (is_sorted-where_key listed_cmp (λ x. not (eq_by_cmp listed_cmp l x)) (listings index) (truth _ rise)))
 
-  pub less_lists : (m : Member) (dot : Tag) → is_listed (remove index i) m dot ≡ (not (eq_by_cmp listed_cmp (entry m dot) l) && is_listed index m dot)
+  pub less_lists : (m : Member) (dot : Dot) → is_listed (remove index i) m dot ≡ (not (eq_by_cmp listed_cmp (entry m dot) l) && is_listed index m dot)
   less_lists m dot =
       any_find (entry m dot) (remove index i) ∙ ap (λ es. is_some (find listed_cmp (entry m dot) es)) taken
       ∙ ap is_some (find-where_key listed_cmp (λ x. not (eq_by_cmp listed_cmp l x)) (entry m dot) (λ x h. ap (λ y. not (eq_by_cmp listed_cmp l y)) (sym (listed_exact (entry m dot) x h))) (listings index))
@@ -134,10 +135,10 @@ module _ (index : List Listed) (i : ℕ) (l : Listed) (rise : Rises index) (at :
       one false o = refl
 
 -- what is live is listed, after one dot more, one less, or one whose fields changed
-module _ (index new : List Listed) (live after : maps.FinMap dot_cmp Holding) (member : Member) (dot : Tag) where
+module _ (index new : List Listed) (live after : maps.FinMap dot_cmp Holding) (member : Member) (dot : Dot) where
   pub listed_more : (h : Holding) → h.0 ≡ member → IsIndex index live → maps.get live dot ≡ None
-      → ((q : Tag) → maps.get after q ≡ cond (eq_by_cmp dot_cmp q dot) (Some h) (maps.get live q))
-      → Rises new → ((m : Member) (q : Tag) → is_listed new m q ≡ (eq_by_cmp listed_cmp (entry m q) (entry member dot) || is_listed index m q)) → IsIndex new after
+      → ((q : Dot) → maps.get after q ≡ cond (eq_by_cmp dot_cmp q dot) (Some h) (maps.get live q))
+      → Rises new → ((m : Member) (q : Dot) → is_listed new m q ≡ (eq_by_cmp listed_cmp (entry m q) (entry member dot) || is_listed index m q)) → IsIndex new after
   listed_more h one is gone got rises lists = record {
     rises = rises;
     lists = λ m q. lists m q ∙ (λ i. same_parts m member q dot i || is.lists m q i) ∙ elim (cases_Bool (eq_by_cmp dot_cmp q dot)) [
@@ -163,9 +164,9 @@ module _ (index new : List Listed) (live after : maps.FinMap dot_cmp Holding) (m
       second false c = refl
 
   pub listed_less : (h : Holding) → h.0 ≡ member → IsIndex index live → maps.get live dot ≡ Some h → after ≡ maps.remove live dot
-      → Rises new → ((m : Member) (q : Tag) → is_listed new m q ≡ (not (eq_by_cmp listed_cmp (entry m q) (entry member dot)) && is_listed index m q)) → IsIndex new after
+      → Rises new → ((m : Member) (q : Dot) → is_listed new m q ≡ (not (eq_by_cmp listed_cmp (entry m q) (entry member dot)) && is_listed index m q)) → IsIndex new after
   listed_less h one is held gone rises lists =
-      let got : (q : Tag) → maps.get after q ≡ cond (eq_by_cmp dot_cmp q dot) None (maps.get live q) = λ q. ap (λ m. maps.get m q) gone ∙ maps.get-remove dots_total live dot q in record {
+      let got : (q : Dot) → maps.get after q ≡ cond (eq_by_cmp dot_cmp q dot) None (maps.get live q) = λ q. ap (λ m. maps.get m q) gone ∙ maps.get-remove dots_total live dot q in record {
         rises = rises;
         lists = λ m q. lists m q ∙ (λ i. not (same_parts m member q dot i) && is.lists m q i) ∙ elim (cases_Bool (eq_by_cmp dot_cmp q dot)) [
           | inl t ↦
@@ -191,7 +192,7 @@ module _ (index new : List Listed) (live after : maps.FinMap dot_cmp Holding) (m
       still false c = refl
 
 -- the index stays where members do
-pub listed_still : (index : List Listed) (live after : maps.FinMap dot_cmp Holding) → ((q : Tag) → option_map (λ h. h.0) (maps.get after q) ≡ option_map (λ h. h.0) (maps.get live q)) → IsIndex index live → IsIndex index after
+pub listed_still : (index : List Listed) (live after : maps.FinMap dot_cmp Holding) → ((q : Dot) → option_map (λ h. h.0) (maps.get after q) ≡ option_map (λ h. h.0) (maps.get live q)) → IsIndex index live → IsIndex index after
 listed_still index live after same is = record {
   rises = is.rises;
   lists = λ m q. is.lists m q ∙ ap (λ o. option_map_or (eq_by_cmp member_cmp m) o false) (sym (same q));

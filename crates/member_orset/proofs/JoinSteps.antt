@@ -8,46 +8,45 @@ use Rattle.std.specs.declared.cmp.Ordering.TheVariants.{Less, Equal, Greater}
 use Rattle.std.proofs.lemmas.List.{append_assoc, map-append, drop-drop, drop-set-lt, take_more_set}
 use Rattle.std.proofs.lemmas.List.Elements.{All-head, All-drop, All-weaker}
 use Rattle.dots.specs.Orders.{dot_cmp}
-use Rattle.dots.specs.Values.{Tag}
+use Rattle.dots.specs.Values.{Dot}
 use Rattle.dots.specs.Conditions.{FieldsAgree}
 use Rattle.dots.proofs.DotOrder.{dots_exact}
 use Rattle.member_orset.specs.declared.live_dot.LiveDot.{LiveDot}
 use Rattle.member_orset.specs.Members.{Holding}
-use Rattle.member_orset.specs.Reads.{dot_fields}
-use Rattle.member_orset.specs.Cells.{entry_of, entries_of}
+use Rattle.member_orset.specs.LiveLists.{entry_of, entries_of}
 use Rattle.member_orset.specs.Joining.{AgreeInPairs, CellsAgree, entry_joined, in_front, joined_entries, joined_from, next_order}
-use Rattle.member_orset.proofs.Fronts as fronts
-use Rattle.member_orset.proofs.Fronts.{open_at}
+use Rattle.dots.proofs.Fronts as fronts
+use Rattle.dots.proofs.Fronts.{open_at}
 
 -- one step, by which side has the least dot
-step_less : (a b : Tag → Bool) (x : LiveDot) (xs ys : List LiveDot) → Less ≡ next_order (x ∷ xs) ys → joined_entries a b (x ∷ xs) ys ≡ in_front (b x.dot) x (joined_entries a b xs ys)
+step_less : (a b : Dot → Bool) (x : LiveDot) (xs ys : List LiveDot) → Less ≡ next_order (x ∷ xs) ys → joined_entries a b (x ∷ xs) ys ≡ in_front (b x.dot) x (joined_entries a b xs ys)
 step_less a b x xs [] h = refl
 step_less a b x xs (y ∷ ys) h =
     ap (λ o. by_order o (in_front (b x.dot) x (joined_entries a b xs (y ∷ ys))) (entry_joined x y ∷ joined_entries a b xs ys) (in_front (a y.dot) y (joined_from a b x (joined_entries a b xs) ys))) (sym h)
 
-step_greater : (a b : Tag → Bool) (y : LiveDot) (xs ys : List LiveDot) → Greater ≡ next_order xs (y ∷ ys) → joined_entries a b xs (y ∷ ys) ≡ in_front (a y.dot) y (joined_entries a b xs ys)
+step_greater : (a b : Dot → Bool) (y : LiveDot) (xs ys : List LiveDot) → Greater ≡ next_order xs (y ∷ ys) → joined_entries a b xs (y ∷ ys) ≡ in_front (a y.dot) y (joined_entries a b xs ys)
 step_greater a b y [] ys h = refl
 step_greater a b y (x ∷ xs) ys h =
     ap (λ o. by_order o (in_front (b x.dot) x (joined_entries a b xs (y ∷ ys))) (entry_joined x y ∷ joined_entries a b xs ys) (in_front (a y.dot) y (joined_from a b x (joined_entries a b xs) ys))) (sym h)
 
-step_equal : (a b : Tag → Bool) (x y : LiveDot) (xs ys : List LiveDot) → Equal ≡ next_order (x ∷ xs) (y ∷ ys) → joined_entries a b (x ∷ xs) (y ∷ ys) ≡ entry_joined x y ∷ joined_entries a b xs ys
+step_equal : (a b : Dot → Bool) (x y : LiveDot) (xs ys : List LiveDot) → Equal ≡ next_order (x ∷ xs) (y ∷ ys) → joined_entries a b (x ∷ xs) (y ∷ ys) ≡ entry_joined x y ∷ joined_entries a b xs ys
 step_equal a b x y xs ys h =
     ap (λ o. by_order o (in_front (b x.dot) x (joined_entries a b xs (y ∷ ys))) (entry_joined x y ∷ joined_entries a b xs ys) (in_front (a y.dot) y (joined_from a b x (joined_entries a b xs) ys))) (sym h)
 
 -- the same by places
-pub less_at : (a b : Tag → Bool) (xs ys : List LiveDot) (i : ℕ) (x : LiveDot) → i < length xs → x ≡ get_or xs i x → Less ≡ next_order (drop i xs) ys
+pub less_at : (a b : Dot → Bool) (xs ys : List LiveDot) (i : ℕ) (x : LiveDot) → i < length xs → x ≡ get_or xs i x → Less ≡ next_order (drop i xs) ys
     → joined_entries a b (drop i xs) ys ≡ in_front (b x.dot) x (joined_entries a b (drop (i + 1) xs) ys)
 less_at a b xs ys i x l e h =
     let o = open_at xs i x l e in
     ap (λ zs. joined_entries a b zs ys) o ∙ step_less a b x (drop (i + 1) xs) ys (h ∙ ap (λ zs. next_order zs ys) o)
 
-pub greater_at : (a b : Tag → Bool) (xs ys : List LiveDot) (j : ℕ) (y : LiveDot) → j < length ys → y ≡ get_or ys j y → Greater ≡ next_order xs (drop j ys)
+pub greater_at : (a b : Dot → Bool) (xs ys : List LiveDot) (j : ℕ) (y : LiveDot) → j < length ys → y ≡ get_or ys j y → Greater ≡ next_order xs (drop j ys)
     → joined_entries a b xs (drop j ys) ≡ in_front (a y.dot) y (joined_entries a b xs (drop (j + 1) ys))
 greater_at a b xs ys j y l e h =
     let o = open_at ys j y l e in
     ap (joined_entries a b xs) o ∙ step_greater a b y xs (drop (j + 1) ys) (h ∙ ap (next_order xs) o)
 
-pub equal_at : (a b : Tag → Bool) (xs ys : List LiveDot) (i j : ℕ) (x y : LiveDot) → i < length xs → x ≡ get_or xs i x → j < length ys → y ≡ get_or ys j y → Equal ≡ next_order (drop i xs) (drop j ys)
+pub equal_at : (a b : Dot → Bool) (xs ys : List LiveDot) (i j : ℕ) (x y : LiveDot) → i < length xs → x ≡ get_or xs i x → j < length ys → y ≡ get_or ys j y → Equal ≡ next_order (drop i xs) (drop j ys)
     → joined_entries a b (drop i xs) (drop j ys) ≡ entry_joined x y ∷ joined_entries a b (drop (i + 1) xs) (drop (j + 1) ys)
 equal_at a b xs ys i j x y l e m f h =
     let o = open_at xs i x l e in
@@ -77,7 +76,7 @@ pairs_past_theirs xs ys j a =
 
 -- the cells of one dot agree
 pub pair_agrees : (xs ys : List LiveDot) (i j : ℕ) (x y : LiveDot) → i < length xs → x ≡ get_or xs i x → j < length ys → y ≡ get_or ys j y → Equal ≡ next_order (drop i xs) (drop j ys)
-    → AgreeInPairs (drop i xs) (drop j ys) → FieldsAgree (dot_fields x.fields) (dot_fields y.fields)
+    → AgreeInPairs (drop i xs) (drop j ys) → FieldsAgree x.fields y.fields
 pair_agrees xs ys i j x y l e m f h a =
     let o = open_at xs i x l e in
     let p = open_at ys j y m f in
@@ -86,7 +85,7 @@ pair_agrees xs ys i j x y l e m f h a =
     (pair (dots_exact x.dot y.dot (sym (h ∙ (λ k. next_order (o k) (p k)))))).1
 
 -- the cell of one dot is written in front of what is left
-pub written_more : (a b : Tag → Bool) (cells others : List LiveDot) (w i j : ℕ) (x : LiveDot) (e : Tag × Holding) (left whole : List (Tag × Holding))
+pub written_more : (a b : Dot → Bool) (cells others : List LiveDot) (w i j : ℕ) (x : LiveDot) (e : Dot × Holding) (left whole : List (Dot × Holding))
     → w < length cells → w < i → entry_of x ≡ e → left ≡ e ∷ joined_entries a b (drop i cells) (drop j others) → entries_of (take w cells) ++ left ≡ whole
     → entries_of (take (w + 1) (set cells w x)) ++ joined_entries a b (drop i (set cells w x)) (drop j others) ≡ whole
 written_more a b cells others w i j x e left whole l m f g h =

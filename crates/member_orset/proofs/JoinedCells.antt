@@ -4,26 +4,27 @@ use Rattle.std.specs.Ordering.{eq_by_cmp, is_lt, ordering_reverse}
 use Rattle.std.specs.declared.cmp.Ordering.TheVariants.{Less, Equal, Greater}
 use Rattle.std.specs.FinMap.Entries.{find, find-where_key, is_sorted, is_sorted-where_key, below_all, by_order}
 use Rattle.std.proofs.lemmas.Bool.{and_parts, and_from}
-use Rattle.dots.specs.Values.{Tag}
+use Rattle.dots.specs.Values.{Dot}
 use Rattle.dots.specs.Orders.{dot_cmp}
 use Rattle.dots.specs.Conditions.{fields_joined}
 use Rattle.dots.proofs.DotOrder.{dots_total, dots_exact}
+use Rattle.dots.proofs.TruthTables.{truth, fact}
 use Rattle.member_orset.specs.declared.live_dot.LiveDot.{LiveDot}
 use Rattle.member_orset.specs.Members.{Holding}
-use Rattle.member_orset.specs.Cells.{entries_of, holding}
+use Rattle.member_orset.specs.LiveLists.{entries_of, holding}
 use Rattle.member_orset.specs.Joining.{entry_joined, holding_joined, in_front, joined_entries, joined_from, unknown_to}
-use Rattle.member_orset.proofs.DotTests.{as_T, from_T, one_dot}
+use Rattle.member_orset.proofs.DotTests.{one_dot}
 use Rattle.member_orset.proofs.CellLists.{Rise, rise-tail, rise-head, below_from, none_below}
 
 abbrev Knows : Type 0
-Knows = Tag → Bool
+Knows = Dot → Bool
 
 abbrev Joins : Type 0
-Joins = List LiveDot → List (Tag × Holding)
+Joins = List LiveDot → List (Dot × Holding)
 
 -- what is found in the entries of a join is what is left of what is found on both sides
 abbrev pub Finds : Knows → Knows → List LiveDot → Joins → Type 0
-Finds a b xs f = (ys : List LiveDot) → Rise ys → (q : Tag) → find dot_cmp q (f ys) ≡ holding_joined (find dot_cmp q (entries_of xs)) (a q) (find dot_cmp q (entries_of ys)) (b q)
+Finds a b xs f = (ys : List LiveDot) → Rise ys → (q : Dot) → find dot_cmp q (f ys) ≡ holding_joined (find dot_cmp q (entries_of xs)) (a q) (find dot_cmp q (entries_of ys)) (b q)
 
 turned : {A : Type 0} (b : Bool) (x y : A) → cond (not b) x y ≡ cond b y x
 turned true x y = refl
@@ -32,7 +33,7 @@ turned false x y = refl
 finds_none : (a b : Knows) → Finds a b [] (unknown_to a)
 finds_none a b ys s q = find-where_key dot_cmp (λ d. not (a d)) q (λ x h. ap (λ y. not (a y)) (sym (dots_exact q x h))) (entries_of ys) ∙ turned (a q) _ _
 
-find_front : (k : Bool) (c : LiveDot) (q : Tag) (es : List (Tag × Holding))
+find_front : (k : Bool) (c : LiveDot) (q : Dot) (es : List (Dot × Holding))
     → find dot_cmp q (in_front k c es) ≡ cond (eq_by_cmp dot_cmp q c.dot) (cond k (find dot_cmp q es) (Some (holding c))) (find dot_cmp q es)
 find_front true c q es = same (eq_by_cmp dot_cmp q c.dot) (find dot_cmp q es)
   where
@@ -80,17 +81,17 @@ both_step true a b x y f g h e = refl
 both_step false a b x y f g h e = e
 
 -- what lies after a dot isn't found there
-miss : (d : Tag) (cs : List LiveDot) (q : Tag) → below_all dot_cmp d (entries_of cs) ≡ true → eq_by_cmp dot_cmp q d ≡ true → find dot_cmp q (entries_of cs) ≡ None
+miss : (d : Dot) (cs : List LiveDot) (q : Dot) → below_all dot_cmp d (entries_of cs) ≡ true → eq_by_cmp dot_cmp q d ≡ true → find dot_cmp q (entries_of cs) ≡ None
 miss d cs q h t = ap (λ x. find dot_cmp x (entries_of cs)) (one_dot q d t) ∙ none_below d cs h
 
-ahead : (x y : Tag) → dot_cmp x y ≡ Less → is_lt (dot_cmp x y) ≡ true
+ahead : (x y : Dot) → dot_cmp x y ≡ Less → is_lt (dot_cmp x y) ≡ true
 ahead x y p = ap is_lt p
 
-behind : (x y : Tag) → dot_cmp x y ≡ Greater → is_lt (dot_cmp y x) ≡ true
+behind : (x y : Dot) → dot_cmp x y ≡ Greater → is_lt (dot_cmp y x) ≡ true
 behind x y p = ap is_lt (dots_total.antisymm y x ∙ ap ordering_reverse p)
 
 -- what lies before the first of cells that rise lies before all
-below_both : (d : Tag) (c : LiveDot) (cs : List LiveDot) → is_lt (dot_cmp d c.dot) ≡ true → Rise (c ∷ cs) → below_all dot_cmp d (entries_of (c ∷ cs)) ≡ true
+below_both : (d : Dot) (c : LiveDot) (cs : List LiveDot) → is_lt (dot_cmp d c.dot) ≡ true → Rise (c ∷ cs) → below_all dot_cmp d (entries_of (c ∷ cs)) ≡ true
 below_both d c cs l s = and_from (is_lt (dot_cmp d c.dot)) (below_all dot_cmp d (entries_of cs)) l (below_from d c.dot cs l (rise-head c cs s))
 
 finds_first : (a b : Knows) (x : LiveDot) (xs : List LiveDot) (f : Joins) → Rise (x ∷ xs) → Finds a b xs f → Finds a b (x ∷ xs) (joined_from a b x f)
@@ -117,24 +118,24 @@ joined_finds a b (x ∷ xs) s = finds_first a b x xs (joined_entries a b xs) s (
 
 -- a join rises, and lies after whatever lies before both sides
 abbrev pub Rises : List LiveDot → Joins → Type 0
-Rises xs f = (ys : List LiveDot) → Rise ys → (is_sorted dot_cmp (f ys) ≡ true) × ((d : Tag) → below_all dot_cmp d (entries_of xs) ≡ true → below_all dot_cmp d (entries_of ys) ≡ true → below_all dot_cmp d (f ys) ≡ true)
+Rises xs f = (ys : List LiveDot) → Rise ys → (is_sorted dot_cmp (f ys) ≡ true) × ((d : Dot) → below_all dot_cmp d (entries_of xs) ≡ true → below_all dot_cmp d (entries_of ys) ≡ true → below_all dot_cmp d (f ys) ≡ true)
 
-front_below : (d : Tag) (k : Bool) (c : LiveDot) (es : List (Tag × Holding)) → is_lt (dot_cmp d c.dot) ≡ true → below_all dot_cmp d es ≡ true → below_all dot_cmp d (in_front k c es) ≡ true
+front_below : (d : Dot) (k : Bool) (c : LiveDot) (es : List (Dot × Holding)) → is_lt (dot_cmp d c.dot) ≡ true → below_all dot_cmp d es ≡ true → below_all dot_cmp d (in_front k c es) ≡ true
 front_below d true c es l h = h
 front_below d false c es l h = and_from (is_lt (dot_cmp d c.dot)) (below_all dot_cmp d es) l h
 
-front_rises : (k : Bool) (c : LiveDot) (es : List (Tag × Holding)) → below_all dot_cmp c.dot es ≡ true → is_sorted dot_cmp es ≡ true → is_sorted dot_cmp (in_front k c es) ≡ true
+front_rises : (k : Bool) (c : LiveDot) (es : List (Dot × Holding)) → below_all dot_cmp c.dot es ≡ true → is_sorted dot_cmp es ≡ true → is_sorted dot_cmp (in_front k c es) ≡ true
 front_rises true c es l h = h
 front_rises false c es l h = and_from (below_all dot_cmp c.dot es) (is_sorted dot_cmp es) l h
 
-unknown_below : (a : Knows) (d : Tag) (ys : List LiveDot) → below_all dot_cmp d (entries_of ys) ≡ true → below_all dot_cmp d (unknown_to a ys) ≡ true
+unknown_below : (a : Knows) (d : Dot) (ys : List LiveDot) → below_all dot_cmp d (entries_of ys) ≡ true → below_all dot_cmp d (unknown_to a ys) ≡ true
 unknown_below a d [] h = refl
 unknown_below a d (y ∷ ys) h =
     let p = and_parts (is_lt (dot_cmp d y.dot)) (below_all dot_cmp d (entries_of ys)) h in
     front_below d (a y.dot) y (unknown_to a ys) p.0 (unknown_below a d ys p.1)
 
 rises_none : (a : Knows) → Rises [] (unknown_to a)
-rises_none a ys s = (from_T _ (is_sorted-where_key dot_cmp (λ d. not (a d)) (entries_of ys) (as_T _ s)), λ d h g. unknown_below a d ys g)
+rises_none a ys s = (fact _ (is_sorted-where_key dot_cmp (λ d. not (a d)) (entries_of ys) (truth _ s)), λ d h g. unknown_below a d ys g)
 
 rises_first : (a b : Knows) (x : LiveDot) (xs : List LiveDot) (f : Joins) → Rise (x ∷ xs) → Rises xs f → Rises (x ∷ xs) (joined_from a b x f)
 rises_first a b x xs f s h [] r =
@@ -145,7 +146,7 @@ rises_first a b x xs f s h [] r =
 rises_first a b x xs f s h (y ∷ ys) r =
     let past_y = rises_first a b x xs f s h ys (rise-tail y ys r) in
     elim (dot_cmp x.dot y.dot) as (λ o. dot_cmp x.dot y.dot ≡ o → (is_sorted dot_cmp (by_order o (in_front (b x.dot) x (f (y ∷ ys))) (entry_joined x y ∷ f ys) (in_front (a y.dot) y (joined_from a b x f ys))) ≡ true)
-    × ((d : Tag) → below_all dot_cmp d (entries_of (x ∷ xs)) ≡ true → below_all dot_cmp d (entries_of (y ∷ ys)) ≡ true → below_all dot_cmp d (by_order o (in_front (b x.dot) x (f (y ∷ ys))) (entry_joined x y ∷ f ys) (in_front (a y.dot) y (joined_from a b x f ys))) ≡ true)) [
+    × ((d : Dot) → below_all dot_cmp d (entries_of (x ∷ xs)) ≡ true → below_all dot_cmp d (entries_of (y ∷ ys)) ≡ true → below_all dot_cmp d (by_order o (in_front (b x.dot) x (f (y ∷ ys))) (entry_joined x y ∷ f ys) (in_front (a y.dot) y (joined_from a b x f ys))) ≡ true)) [
       | Less ↦ λ p. let rest = h (y ∷ ys) r in (
         front_rises (b x.dot) x (f (y ∷ ys)) (rest.1 x.dot (rise-head x xs s) (below_both x.dot y ys (ahead x.dot y.dot p) r)) rest.0,
         λ d u v. let g = and_parts (is_lt (dot_cmp d x.dot)) (below_all dot_cmp d (entries_of xs)) u in front_below d (b x.dot) x (f (y ∷ ys)) g.0 (rest.1 d g.1 v),

@@ -9,13 +9,14 @@ use Rattle.std.proofs.lemmas.Bool.{and_parts}
 use Rattle.std.proofs.lemmas.Cmp.{eq_by_cmp_equiv}
 use Rattle.std.proofs.lemmas.List.{length-map}
 use Rattle.std.proofs.lemmas.Map.Made.{length-from_same_keys}
-use Rattle.dots.specs.Values.{Tag}
+use Rattle.std.proofs.Math.Bool.{or-true}
+use Rattle.dots.specs.Values.{Dot}
 use Rattle.dots.specs.Orders.{dot_cmp, member_cmp}
 use Rattle.dots.specs.declared.member.Member.{Member}
 use Rattle.member_orset.specs.declared.listed.Listed.{Listed}
 use Rattle.member_orset.specs.declared.live_dot.LiveDot.{LiveDot}
 use Rattle.member_orset.specs.Members.{Holding}
-use Rattle.member_orset.specs.Cells.{entries_of, live_of}
+use Rattle.member_orset.specs.LiveLists.{entries_of, live_of}
 use Rattle.member_orset.specs.Index.{IsBelow, IsIndex, Rises, is_held, is_listed_in_either, listed_cmp, listings}
 use Rattle.member_orset.specs.Joining.{joined_entries}
 use Rattle.member_orset.proofs.CellLists.{Rise}
@@ -49,13 +50,9 @@ as_many cs index s is =
 abbrev is_of : Option Holding → Member → Bool
 is_of o m = option_map_or (eq_by_cmp member_cmp m) (option_map (λ h. h.0) o) false
 
-or_true : (b : Bool) → (b || true) ≡ true
-or_true true = refl
-or_true false = refl
-
 -- what is live in the join of cells is listed on one side
 pub joined_listed : (cs ds new : List LiveDot) (known more : sets.FinSet dot_cmp) (index others : List Listed) → Rise cs → Rise ds → IsIndex index (live_of cs) → IsIndex others (live_of ds)
-    → entries_of new ≡ joined_entries (sets.contains known) (sets.contains more) cs ds → (m : Member) (d : Tag) → is_held (live_of new) m d ≡ true → is_listed_in_either index others m d ≡ true
+    → entries_of new ≡ joined_entries (sets.contains known) (sets.contains more) cs ds → (m : Member) (d : Dot) → is_held (live_of new) m d ≡ true → is_listed_in_either index others m d ≡ true
 joined_listed cs ds new known more index others s r is there e m d held =
     (λ i. (is.lists m d ∙ ap (λ o. is_of o m) (get-live_of cs d s)) i || (there.lists m d ∙ ap (λ o. is_of o m) (get-live_of ds d r)) i) ∙ listed (find dot_cmp d (entries_of new)) refl
     (ap (λ o. is_of o m) (sym (get-live_of new d (new_rise cs ds known more new e s r))) ∙ held)
@@ -72,5 +69,5 @@ joined_listed cs ds new known more index others s r is there e m d held =
         of_either (λ z. eq_by_cmp member_cmp m z.0 ≡ true → (is_of own m || is_of theirs m) ≡ true) own theirs (sets.contains known d) (sets.contains more d) x
         (sym (joined_finds (sets.contains known) (sets.contains more) cs s ds r d) ∙ ap (find dot_cmp d) (sym e) ∙ sym f)
         (λ z g t. ap (λ o. is_of o m || is_of theirs m) g ∙ ap (λ b. b || is_of theirs m) t)
-        (λ z g t. ap (λ o. is_of own m || is_of o m) g ∙ ap (λ b. is_of own m || b) t ∙ or_true (is_of own m))
+        (λ z g t. ap (λ o. is_of own m || is_of o m) g ∙ ap (λ b. is_of own m || b) t ∙ or-true (is_of own m))
         (λ y z g t. ap (λ o. is_of o m || is_of theirs m) g ∙ ap (λ b. b || is_of theirs m) t) h

@@ -8,16 +8,18 @@ use Rattle.std.specs.FinMap.Entries.{find, is_some-find, below_all}
 use Rattle.std.proofs.lemmas.Bool.{and_parts}
 use Rattle.std.proofs.lemmas.Option.{same_Some}
 use Rattle.std.proofs.lemmas.List.{length-map}
-use Rattle.dots.specs.Values.{Tag}
+use Rattle.dots.specs.declared.limits.TheConstants.{MOST_LIVE, MOST_RUNS}
+use Rattle.std.proofs.Math.Bool.{or-true}
+use Rattle.dots.specs.Values.{Dot}
 use Rattle.dots.specs.Orders.{dot_cmp}
 use Rattle.dots.specs.DotSets.{run_count}
 use Rattle.dots.specs.Conditions.{ConditionsAgree, condition_joined, fields_joined}
 use Rattle.dots.proofs.DotOrder.{dots_total, dots_exact}
 use Rattle.causal_context.specs.Contexts as contexts
-use Rattle.causal_context.specs.Contexts.{Known, most_runs}
+use Rattle.causal_context.specs.Contexts.{Known}
 use Rattle.member_orset.specs.declared.live_dot.LiveDot.{LiveDot}
-use Rattle.member_orset.specs.Members.{CanBeJoined, Members, Holding, HasField, HasPlaces, IsPrepared, LacksPlaces, both_joined, cells_joined, condition_at, condition_of, is_live, joined_dots, most_cells, runs_joined}
-use Rattle.member_orset.specs.Cells.{AreCells, entries_of, entry_of, holding, live_of, seen}
+use Rattle.member_orset.specs.Members.{CanBeJoined, Members, Holding, HasField, HasPlaces, IsPrepared, LacksPlaces, both_joined, cells_joined, condition_at, condition_of, is_live, joined_dots, runs_joined}
+use Rattle.member_orset.specs.LiveLists.{AreCells, entries_of, entry_of, holding, live_of, members_of}
 use Rattle.member_orset.specs.Joining.{AgreeInPairs, holding_joined, joined_entries}
 use Rattle.member_orset.proofs.DotTests.{apart_after}
 use Rattle.member_orset.proofs.CellLists.{Rise}
@@ -59,13 +61,13 @@ of_either P None p true b h e f g k = absurd (cc)
 of_either P None p false b h e f g k = g h e
 
 -- the keys of entries that rise make a set of as many
-none_tied : (d : Tag) (es : List (Tag × Holding)) → below_all dot_cmp d es ≡ true → list_any (eq_by_cmp dot_cmp d) (each (λ e. e.0) es) ≡ false
+none_tied : (d : Dot) (es : List (Dot × Holding)) → below_all dot_cmp d es ≡ true → list_any (eq_by_cmp dot_cmp d) (each (λ e. e.0) es) ≡ false
 none_tied d [] h = refl
 none_tied d (e ∷ es) h =
     let p = and_parts (is_lt (dot_cmp d e.0)) (below_all dot_cmp d es) h in
     ap (λ b. b || list_any (eq_by_cmp dot_cmp d) (each (λ e. e.0) es)) (apart_after d e.0 p.0) ∙ none_tied d es p.1
 
-pub len_keys : (es : List (Tag × Holding)) → maps.is_sorted dot_cmp es ≡ true → sets.len (sets.from_list {R = dot_cmp} (each (λ e. e.0) es)) ≡ length es
+pub len_keys : (es : List (Dot × Holding)) → maps.is_sorted dot_cmp es ≡ true → sets.len (sets.from_list {R = dot_cmp} (each (λ e. e.0) es)) ≡ length es
 len_keys [] h = sets.len-empty dot_cmp
 len_keys (e ∷ es) h =
     let p = and_parts (below_all dot_cmp e.0 es) (maps.is_sorted dot_cmp es) h in
@@ -74,16 +76,12 @@ len_keys (e ∷ es) h =
     ∙ ap (λ b. cond b (sets.len rest) (sets.len rest + 1)) (sets.contains-from_list dots_total (each (λ e. e.0) es) e.0 ∙ none_tied e.0 es p.0)
     ∙ ap (λ n. n + 1) (len_keys es p.1) ∙ omega arith
 
-or_true : (b : Bool) → (b || true) ≡ true
-or_true true = refl
-or_true false = refl
-
 module _ (cs ds : List LiveDot) (known more : sets.FinSet dot_cmp) where
-  abbrev joined : List (Tag × Holding)
+  abbrev joined : List (Dot × Holding)
   joined = joined_entries (sets.contains known) (sets.contains more) cs ds
 
   -- what is live of a dot in the join
-  find-joined : Rise cs → Rise ds → (q : Tag) → find dot_cmp q joined ≡ holding_joined (find dot_cmp q (entries_of cs)) (sets.contains known q) (find dot_cmp q (entries_of ds)) (sets.contains more q)
+  find-joined : Rise cs → Rise ds → (q : Dot) → find dot_cmp q joined ≡ holding_joined (find dot_cmp q (entries_of cs)) (sets.contains known q) (find dot_cmp q (entries_of ds)) (sets.contains more q)
   find-joined s r q = joined_finds (sets.contains known) (sets.contains more) cs s ds r q
 
   sorted-joined : Rise cs → Rise ds → maps.is_sorted dot_cmp joined ≡ true
@@ -111,14 +109,14 @@ module _ (cs ds : List LiveDot) (known more : sets.FinSet dot_cmp) where
     found s r k d l = sym (find-joined s r (get_or new k d).dot) ∙ ap (find dot_cmp (get_or new k d).dot) (sym e) ∙ finds new k d (new_rise s r) l
 
     -- the cells of a join are cells of what both know
-    pub joined_cells : AreCells cs known → AreCells ds more → length joined ≤ most_cells → AreCells new (sets.union known more)
+    pub joined_cells : AreCells cs known → AreCells ds more → length joined ≤ MOST_LIVE → AreCells new (sets.union known more)
     joined_cells a b few = record {
       sorted = new_rise a.sorted b.sorted;
-      few = subst (λ n. n ≤ most_cells) (sym (ap length e) ∙ length-map new entry_of) few;
+      few = subst (λ n. n ≤ MOST_LIVE) (sym (ap length e) ∙ length-map new entry_of) few;
       in_context = λ k d l. let q = (get_or new k d).dot in
           of_either (λ h. sets.contains (sets.union known more) q ≡ true) (find dot_cmp q (entries_of cs)) (find dot_cmp q (entries_of ds)) (sets.contains known q) (sets.contains more q) (holding (get_or new k d)) (found a.sorted b.sorted k d l)
           (λ x h. sets.contains-union dots_total known more q ∙ ap (λ z. z || sets.contains more q) (found_known cs known q x a.in_context h))
-          (λ y h. sets.contains-union dots_total known more q ∙ ap (λ z. sets.contains known q || z) (found_known ds more q y b.in_context h) ∙ or_true (sets.contains known q))
+          (λ y h. sets.contains-union dots_total known more q ∙ ap (λ z. sets.contains known q || z) (found_known ds more q y b.in_context h) ∙ or-true (sets.contains known q))
           (λ x y h. sets.contains-union dots_total known more q ∙ ap (λ z. z || sets.contains more q) (found_known cs known q x a.in_context h));
       have_field = λ k d l. let q = (get_or new k d).dot in
           of_either (λ h. HasField h.1) (find dot_cmp q (entries_of cs)) (find dot_cmp q (entries_of ds)) (sets.contains known q) (sets.contains more q) (holding (get_or new k d)) (found a.sorted b.sorted k d l)
@@ -126,14 +124,14 @@ module _ (cs ds : List LiveDot) (known more : sets.FinSet dot_cmp) where
     }
 
     -- each dot has the join of its conditions
-    pub joined_conditions : Rise cs → Rise ds → (q : Tag) → condition_of (seen new (sets.union known more)) q ≡ condition_joined (condition_of (seen cs known) q) (condition_of (seen ds more) q)
+    pub joined_conditions : Rise cs → Rise ds → (q : Dot) → condition_of (members_of new (sets.union known more)) q ≡ condition_joined (condition_of (members_of cs known) q) (condition_of (members_of ds more) q)
     joined_conditions s r q =
         (λ i. condition_at ((get-live_of new q (new_rise s r) ∙ ap (find dot_cmp q) e ∙ find-joined s r q) i) (sets.contains-union dots_total known more q i))
         ∙ conditions_at (find dot_cmp q (entries_of cs)) (find dot_cmp q (entries_of ds)) (sets.contains known q) (sets.contains more q)
         ∙ (λ i. condition_joined (condition_at (sym (get-live_of cs q s) i) (sets.contains known q)) (condition_at (sym (get-live_of ds q r) i) (sets.contains more q)))
 
   -- cells of sets that can be joined agree in pairs
-  pub pairs : Rise cs → Rise ds → CanBeJoined (seen cs known) (seen ds more) → AgreeInPairs cs ds
+  pub pairs : Rise cs → Rise ds → CanBeJoined (members_of cs known) (members_of ds more) → AgreeInPairs cs ds
   pairs s r agree k e l j d m same =
       let q = (get_or cs k e).dot in
       let first : maps.get (live_of cs) q ≡ Some (holding (get_or cs k e)) = get-live_of cs q s ∙ finds cs k e s l in
@@ -153,8 +151,8 @@ same_agree : (s r t : Members) → r.known ≡ s.known → r.live ≡ s.live →
 same_agree s r t k l h q = subst (λ (X : Type 0). X) (λ i. ConditionsAgree (condition_at (maps.get (sym l i) q) (sets.contains (sym k i) q)) (condition_of t q)) (h q)
 
 -- nothing is left that could refuse the join
-pub is_prepared : (s r t : Members) → r.known ≡ s.known → r.live ≡ s.live → r.retired ≡ 0 → CanBeJoined s t → cells_joined s t ≤ most_cells → maps.len s.live ≤ most_cells → maps.len t.live ≤ most_cells
-    → runs_joined r t ≤ most_runs → run_count r.known + run_count t.known ≤ r.run_room → maps.len s.live + maps.len t.live ≤ r.cell_room → IsPrepared r t
+pub is_prepared : (s r t : Members) → r.known ≡ s.known → r.live ≡ s.live → r.retired ≡ 0 → CanBeJoined s t → cells_joined s t ≤ MOST_LIVE → maps.len s.live ≤ MOST_LIVE → maps.len t.live ≤ MOST_LIVE
+    → runs_joined r t ≤ MOST_RUNS → run_count r.known + run_count t.known ≤ r.run_room → maps.len s.live + maps.len t.live ≤ r.cell_room → IsPrepared r t
 is_prepared s r t k l none agree few ours theirs runs run_room cell_room =
     let same = ap maps.len l in
     let joined = same_joined s r t k l in
@@ -175,8 +173,8 @@ context_prepared s t k more d r m h =
     record { few = omega (arith, runs, h.runs); room = omega (arith, r, ours, theirs, h.run_room) }
 
 -- there is a place for each
-pub has_places : (s t : Members) → s.retired ≡ 0 → cells_joined s t ≤ most_cells → maps.len s.live ≤ most_cells → maps.len t.live ≤ most_cells → HasPlaces s (cells_joined s t) (maps.len t.live)
+pub has_places : (s t : Members) → s.retired ≡ 0 → cells_joined s t ≤ MOST_LIVE → maps.len s.live ≤ MOST_LIVE → maps.len t.live ≤ MOST_LIVE → HasPlaces s (cells_joined s t) (maps.len t.live)
 has_places s t none few ours theirs = record { few = few; places = omega arith }
 
-pub lacks_none : (s t : Members) → s.retired ≡ 0 → cells_joined s t ≤ most_cells → maps.len s.live ≤ most_cells → maps.len t.live ≤ most_cells → LacksPlaces s (cells_joined s t) (maps.len t.live) → ⊥
+pub lacks_none : (s t : Members) → s.retired ≡ 0 → cells_joined s t ≤ MOST_LIVE → maps.len s.live ≤ MOST_LIVE → maps.len t.live ≤ MOST_LIVE → LacksPlaces s (cells_joined s t) (maps.len t.live) → ⊥
 lacks_none s t none few ours theirs h = elim h [ inl m ↦ omega arith | inr m ↦ omega arith ]

@@ -8,7 +8,6 @@ pub mod Asserting
 pub mod Places
 pub mod Agreeing
 pub mod Building
-pub mod Fronts
 pub mod JoinSteps
 pub mod JoinedCells
 pub mod Joins

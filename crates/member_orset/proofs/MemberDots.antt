@@ -9,34 +9,36 @@ use Rattle.std.specs.Ordering.{eq_by_cmp, is_lt}
 use Rattle.std.specs.Cmp.{tied_then}
 use Rattle.std.proofs.lemmas.Bool.{and_from, and_parts, cases_Bool}
 use Rattle.std.proofs.lemmas.Map.Views.{any-filter_same}
+use Rattle.std.proofs.Math.Bool.{and-true}
 use Rattle.dots.specs.declared.member.Member.{Member}
-use Rattle.dots.specs.Values.{Tag}
+use Rattle.dots.specs.Values.{Dot}
 use Rattle.dots.specs.Orders.{dot_cmp, member_cmp}
 use Rattle.dots.specs.Rows.{dots_of, is_of}
 use Rattle.dots.specs.SetItems.{in_order}
 use Rattle.dots.proofs.DotOrder.{dots_total, dots_exact}
 use Rattle.dots.proofs.ItemOrder.{in_order-keys, in_order-list, units}
+use Rattle.dots.proofs.TruthTables.{truth, fact}
 use Rattle.member_orset.specs.declared.listed.Listed.{Listed}
 use Rattle.member_orset.specs.declared.live_dot.LiveDot.{LiveDot}
 use Rattle.member_orset.specs.Members.{Holding}
-use Rattle.member_orset.specs.Cells.{entries_of, live_of}
+use Rattle.member_orset.specs.LiveLists.{entries_of, live_of}
 use Rattle.member_orset.specs.Index.{IsIndex, Rises, is_held, is_listed, listed_cmp, listings}
-use Rattle.member_orset.specs.Shown.{cells_view, dots_listed, group, is_own}
+use Rattle.member_orset.specs.ShownRows.{cells_view, dots_listed, group, is_own}
 use Rattle.member_orset.proofs.CellLists.{Rise, rise-head, rise-tail}
-use Rattle.member_orset.proofs.DotTests.{as_T, from_T, one_dot}
+use Rattle.member_orset.proofs.DotTests.{one_dot}
 use Rattle.member_orset.proofs.Indexes.{rises-head, rises-tail}
 use Rattle.member_orset.proofs.MemberOrder.{by_dots, one_member}
 use Rattle.member_orset.proofs.Views.{entries-live_of}
 
 -- dots rise
-abbrev Ascend : List Tag → Type 0
+abbrev Ascend : List Dot → Type 0
 Ascend ds = is_sorted dot_cmp (units ds) ≡ true
 
 -- dots that rise in two lists, and are the same in both, are one list
-same_dots : (ds es : List Tag) → Ascend ds → Ascend es → ((q : Tag) → list_any (eq_by_cmp dot_cmp q) ds ≡ list_any (eq_by_cmp dot_cmp q) es) → ds ≡ es
+same_dots : (ds es : List Dot) → Ascend ds → Ascend es → ((q : Dot) → list_any (eq_by_cmp dot_cmp q) ds ≡ list_any (eq_by_cmp dot_cmp q) es) → ds ≡ es
 same_dots ds es a b same =
-    sym (in_order-list dots_total dots_exact (sets.from_list ds) ds (as_T _ a) (λ q. sets.contains-from_list dots_total ds q))
-    ∙ in_order-list dots_total dots_exact (sets.from_list ds) es (as_T _ b) (λ q. sets.contains-from_list dots_total ds q ∙ same q)
+    sym (in_order-list dots_total dots_exact (sets.from_list ds) ds (truth _ a) (λ q. sets.contains-from_list dots_total ds q))
+    ∙ in_order-list dots_total dots_exact (sets.from_list ds) es (truth _ b) (λ q. sets.contains-from_list dots_total ds q ∙ same q)
 
 -- the dots of a member's entries rise
 below_own : (m : Member) (l : Listed) (ls : List Listed) → is_own m l ≡ true → below_all listed_cmp l (listings ls) ≡ true → below_all dot_cmp l.dot (units (dots_listed (group m ls))) ≡ true
@@ -58,7 +60,7 @@ own_ascend m (l ∷ ls) r = elim (cases_Bool (is_own m l)) [
 ]
 
 -- they are those that are listed under the member
-own_listed : (m : Member) (q : Tag) (ls : List Listed) → list_any (eq_by_cmp dot_cmp q) (dots_listed (group m ls)) ≡ is_listed ls m q
+own_listed : (m : Member) (q : Dot) (ls : List Listed) → list_any (eq_by_cmp dot_cmp q) (dots_listed (group m ls)) ≡ is_listed ls m q
 own_listed m q [] = refl
 own_listed m q (l ∷ ls) = elim (cases_Bool (is_own m l)) [
   | inl t ↦ ap (λ b. list_any (eq_by_cmp dot_cmp q) (dots_listed (cond b (l ∷ group m ls) (group m ls)))) t
@@ -68,7 +70,7 @@ own_listed m q (l ∷ ls) = elim (cases_Bool (is_own m l)) [
 ]
 
 -- the dots of cells rise, and so do those that a test keeps
-below_cells : (d : Tag) (cs : List LiveDot) → below_all dot_cmp d (units (each (λ c. c.dot) cs)) ≡ below_all dot_cmp d (entries_of cs)
+below_cells : (d : Dot) (cs : List LiveDot) → below_all dot_cmp d (units (each (λ c. c.dot) cs)) ≡ below_all dot_cmp d (entries_of cs)
 below_cells d [] = refl
 below_cells d (c ∷ cs) = ap (λ b. is_lt (dot_cmp d c.dot) && b) (below_cells d cs)
 
@@ -77,16 +79,16 @@ cells_ascend [] s = refl
 cells_ascend (c ∷ cs) s =
     and_from (below_all dot_cmp c.dot (units (each (λ x. x.dot) cs))) (is_sorted dot_cmp (units (each (λ x. x.dot) cs))) (below_cells c.dot cs ∙ rise-head c cs s) (cells_ascend cs (rise-tail c cs s))
 
-units_kept : (p : Tag → Bool) (ds : List Tag) → where_key dot_cmp p (units ds) ≡ units (filter p ds)
+units_kept : (p : Dot → Bool) (ds : List Dot) → where_key dot_cmp p (units ds) ≡ units (filter p ds)
 units_kept p [] = refl
 units_kept p (d ∷ ds) = ap (λ es. cond (p d) ((d, tt) ∷ es) es) (units_kept p ds) ∙ pushed (p d) (filter p ds)
   where
-    pushed : (b : Bool) (xs : List Tag) → cond b ((d, tt {0}) ∷ units xs) (units xs) ≡ units (cond b (d ∷ xs) xs)
+    pushed : (b : Bool) (xs : List Dot) → cond b ((d, tt {0}) ∷ units xs) (units xs) ≡ units (cond b (d ∷ xs) xs)
     pushed true xs = refl
     pushed false xs = refl
 
-kept_ascend : (p : Tag → Bool) (ds : List Tag) → Ascend ds → Ascend (filter p ds)
-kept_ascend p ds a = ap (is_sorted dot_cmp) (sym (units_kept p ds)) ∙ from_T _ (is_sorted-where_key dot_cmp p (units ds) (as_T _ a))
+kept_ascend : (p : Dot → Bool) (ds : List Dot) → Ascend ds → Ascend (filter p ds)
+kept_ascend p ds a = ap (is_sorted dot_cmp) (sym (units_kept p ds)) ∙ fact _ (is_sorted-where_key dot_cmp p (units ds) (truth _ a))
 
 -- the live dots in their order are those of the cells
 keys-entries : (cs : List LiveDot) → each (λ e. e.0) (entries_of cs) ≡ each (λ c. c.dot) cs
@@ -98,21 +100,17 @@ visible cs s =
     in_order-keys dots_total dots_exact (sets.from_list (maps.keys (live_of cs))) (live_of cs) (λ q. sets.contains-from_list dots_total (maps.keys (live_of cs)) q ∙ sym (maps.contains_key-keys (live_of cs) q))
     ∙ ap (each (λ e. e.0)) (entries-live_of cs s) ∙ keys-entries cs
 
-live_any : (cs : List LiveDot) (q : Tag) → Rise cs → list_any (eq_by_cmp dot_cmp q) (each (λ c. c.dot) cs) ≡ maps.contains_key (live_of cs) q
+live_any : (cs : List LiveDot) (q : Dot) → Rise cs → list_any (eq_by_cmp dot_cmp q) (each (λ c. c.dot) cs) ≡ maps.contains_key (live_of cs) q
 live_any cs q s =
     sym (maps.contains_key-keys (live_of cs) q ∙ ap (λ es. list_any (eq_by_cmp dot_cmp q) (each (λ e. e.0) es)) (entries-live_of cs s) ∙ ap (list_any (eq_by_cmp dot_cmp q)) (keys-entries cs))
 
 -- a dot that is held is live
 held_live : (m : Member) (o : Option Holding) → (option_map_or (eq_by_cmp member_cmp m) (option_map (λ h. h.0) o) false && is_some o) ≡ option_map_or (eq_by_cmp member_cmp m) (option_map (λ h. h.0) o) false
 held_live m None = refl
-held_live m (Some h) = same (eq_by_cmp member_cmp m h.0)
-  where
-    same : (b : Bool) → (b && true) ≡ b
-    same true = refl
-    same false = refl
+held_live m (Some h) = and-true (eq_by_cmp member_cmp m h.0)
 
 -- the dots of the cells that a member has are those that are held under it
-kept_held : (cs : List LiveDot) (m : Member) (q : Tag) → Rise cs → list_any (eq_by_cmp dot_cmp q) (filter (is_held (live_of cs) m) (each (λ c. c.dot) cs)) ≡ is_held (live_of cs) m q
+kept_held : (cs : List LiveDot) (m : Member) (q : Dot) → Rise cs → list_any (eq_by_cmp dot_cmp q) (filter (is_held (live_of cs) m) (each (λ c. c.dot) cs)) ≡ is_held (live_of cs) m q
 kept_held cs m q s =
     any-filter_same (eq_by_cmp dot_cmp q) (is_held (live_of cs) m) (is_held (live_of cs) m q) (λ k t. ap (is_held (live_of cs) m) (sym (one_dot q k t))) (each (λ c. c.dot) cs)
     ∙ ap (λ b. is_held (live_of cs) m q && b) (live_any cs q s) ∙ held_live m (maps.get (live_of cs) q)

@@ -1,5 +1,5 @@
 -- The order of members, and of listed dots by their members.
-use Rattle.std.proofs.Common.{◌≡◌, ◌↔◌, ◌⊎◌, inl, inr, ℕ, ◌<◌, ◌≤◌, Bool, true, false, cond, nat_eq, List, refl, sym, ap, ◌∙◌, arith}
+use Rattle.std.proofs.Common.{◌≡◌, ◌↔◌, ◌⊎◌, inl, inr, ◌<◌, ◌≤◌, Bool, true, false, cond, nat_eq, refl, sym, ap, ◌∙◌, arith}
 use Rattle.std.specs.Prelude.{nat_lt}
 use Rattle.std.specs.Ordering.{eq_by_cmp, is_eq, is_le, is_lt, nat_cmp, ordering_reverse, ordering_then}
 use Rattle.std.specs.declared.cmp.Ordering.{Ordering}
@@ -10,13 +10,13 @@ use Rattle.std.proofs.lemmas.Cmp.{nat_cmp_total, tied_itself}
 use Rattle.dots.specs.declared.member.Member.{Member}
 use Rattle.dots.specs.Orders.{dot_cmp, member_cmp, text_cmp}
 use Rattle.dots.proofs.MemberOrder.{members_total, exact_members}
+use Rattle.dots.proofs.TruthTables.{less_of, equal_of}
 use Rattle.member_orset.specs.declared.listed.Listed.{Listed}
 use Rattle.member_orset.specs.Index.{listed_cmp}
-use Rattle.member_orset.specs.Shown.{is_own}
-use Rattle.member_orset.proofs.Rising.{equal, less}
+use Rattle.member_orset.specs.ShownRows.{is_own}
 
 pub one_member : (m n : Member) → eq_by_cmp member_cmp m n ≡ true → m ≡ n
-one_member m n h = exact_members m n (equal _ h)
+one_member m n h = exact_members m n (equal_of _ h)
 
 pub member_itself : (m : Member) → eq_by_cmp member_cmp m m ≡ true
 member_itself m = ap is_eq (tied_itself members_total m)
@@ -77,7 +77,7 @@ own_turned : (m : Member) (l : Listed) → is_own m l ≡ is_eq (ordering_revers
 own_turned m l = ap is_eq (members_total.antisymm m l.member)
 
 pub own_before : (m : Member) (l : Listed) → is_lt (member_cmp l.member m) ≡ true → is_own m l ≡ false
-own_before m l h = own_turned m l ∙ ap (λ o. is_eq (ordering_reverse o)) (less _ h)
+own_before m l h = own_turned m l ∙ ap (λ o. is_eq (ordering_reverse o)) (less_of _ h)
 
 pub own_between : (m : Member) (l : Listed) → is_lt (member_cmp l.member m) ≡ false → is_le (member_cmp l.member m) ≡ true → is_own m l ≡ true
 own_between m l h k = own_turned m l ∙ split (member_cmp l.member m) h k

@@ -15,7 +15,7 @@ use Rattle.dots.proofs.Membership.{any-in, in-any}
 use Rattle.member_orset.specs.declared.listed.Listed.{Listed}
 use Rattle.member_orset.specs.Members.{Members, Holding, IsPresent}
 use Rattle.member_orset.specs.Index.{IsIndex, listed_cmp}
-use Rattle.member_orset.specs.Shown.{group, is_own}
+use Rattle.member_orset.specs.ShownRows.{group, is_own}
 use Rattle.member_orset.proofs.DotTests.{same_itself}
 use Rattle.member_orset.proofs.MemberOrder.{member_itself, one_member}
 

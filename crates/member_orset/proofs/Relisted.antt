@@ -11,13 +11,13 @@ use Rattle.std.proofs.lemmas.Cmp.{eq_by_cmp_equiv}
 use Rattle.std.proofs.lemmas.List.Elements.{All-nil}
 use Rattle.std.proofs.lemmas.List.Sorted.{list_any-IsPermutation, ranks_by, sorted_far}
 use Rattle.std.proofs.lemmas.Map.Keys.{IsDistinct-IsPermutation}
-use Rattle.dots.specs.Values.{Tag}
+use Rattle.std.proofs.Math.Bool.{and-false}
+use Rattle.dots.specs.Values.{Dot}
 use Rattle.dots.specs.Orders.{dot_cmp, member_cmp}
 use Rattle.dots.specs.declared.member.Member.{Member}
 use Rattle.member_orset.specs.declared.listed.Listed.{Listed}
 use Rattle.member_orset.specs.declared.live_dot.LiveDot.{LiveDot}
-use Rattle.member_orset.specs.Reads.{dot_fields}
-use Rattle.member_orset.specs.Cells.{entries_of, holding, live_of}
+use Rattle.member_orset.specs.LiveLists.{entries_of, holding, live_of}
 use Rattle.member_orset.specs.Members.{HasField}
 use Rattle.member_orset.specs.Index.{AreListed, IsIndex, Rises, listed_cmp, listings}
 use Rattle.member_orset.proofs.CellLists.{Rise, rise-head, rise-tail}
@@ -30,22 +30,18 @@ use Rattle.member_orset.proofs.Views.{get-live_of}
 abbrev pub listing : LiveDot → Listed
 listing c = record { member = c.member; dot = c.dot }
 
-and_false : (b : Bool) → (b && false) ≡ false
-and_false true = refl
-and_false false = refl
-
 -- a dot before those of all cells is none of theirs
-apart_from : (m : Member) (d : Tag) (c : LiveDot) → is_lt (dot_cmp d c.dot) ≡ true → eq_by_cmp listed_cmp (entry m d) (listing c) ≡ false
-apart_from m d c l = same_parts m c.member d c.dot ∙ ap (λ b. eq_by_cmp member_cmp m c.member && b) (apart_after d c.dot l) ∙ and_false (eq_by_cmp member_cmp m c.member)
+apart_from : (m : Member) (d : Dot) (c : LiveDot) → is_lt (dot_cmp d c.dot) ≡ true → eq_by_cmp listed_cmp (entry m d) (listing c) ≡ false
+apart_from m d c l = same_parts m c.member d c.dot ∙ ap (λ b. eq_by_cmp member_cmp m c.member && b) (apart_after d c.dot l) ∙ and-false (eq_by_cmp member_cmp m c.member)
 
-none_listed : (m : Member) (d : Tag) (cs : List LiveDot) → below_all dot_cmp d (entries_of cs) ≡ true → list_any (eq_by_cmp listed_cmp (entry m d)) (each listing cs) ≡ false
+none_listed : (m : Member) (d : Dot) (cs : List LiveDot) → below_all dot_cmp d (entries_of cs) ≡ true → list_any (eq_by_cmp listed_cmp (entry m d)) (each listing cs) ≡ false
 none_listed m d [] h = refl
 none_listed m d (c ∷ cs) h =
     let p = and_parts (is_lt (dot_cmp d c.dot)) (below_all dot_cmp d (entries_of cs)) h in
     λ i. apart_from m d c p.0 i || none_listed m d cs p.1 i
 
 -- what is found of a dot is what the entries of cells have of it
-pub held_by : (cs : List LiveDot) (m : Member) (d : Tag) → Rise cs → list_any (eq_by_cmp listed_cmp (entry m d)) (each listing cs) ≡ option_map_or (eq_by_cmp member_cmp m) (option_map (λ h. h.0) (find dot_cmp d (entries_of cs))) false
+pub held_by : (cs : List LiveDot) (m : Member) (d : Dot) → Rise cs → list_any (eq_by_cmp listed_cmp (entry m d)) (each listing cs) ≡ option_map_or (eq_by_cmp member_cmp m) (option_map (λ h. h.0) (find dot_cmp d (entries_of cs))) false
 held_by [] m d s = refl
 held_by (c ∷ cs) m d s =
     ap (λ b. b || list_any (eq_by_cmp listed_cmp (entry m d)) (each listing cs)) (same_parts m c.member d c.dot) ∙ elim (cases_Bool (eq_by_cmp dot_cmp d c.dot)) [
@@ -67,7 +63,7 @@ held_by (c ∷ cs) m d s =
     second false x = refl
 
 -- the entries of cells that rise differ
-apart_all : (m : Member) (d : Tag) (cs : List LiveDot) → below_all dot_cmp d (entries_of cs) ≡ true → AllByRecursion (λ y. eq_by_cmp listed_cmp (entry m d) y ≡ false) (each listing cs)
+apart_all : (m : Member) (d : Dot) (cs : List LiveDot) → below_all dot_cmp d (entries_of cs) ≡ true → AllByRecursion (λ y. eq_by_cmp listed_cmp (entry m d) y ≡ false) (each listing cs)
 apart_all m d [] h = tt
 apart_all m d (c ∷ cs) h =
     let p = and_parts (is_lt (dot_cmp d c.dot)) (below_all dot_cmp d (entries_of cs)) h in
@@ -111,6 +107,6 @@ sorted_index cs index s same sorted = record {
 -- where there is no cell, the index is empty
 pub nothing_listed : (cs : List LiveDot) (index : List Listed) (known : sets.FinSet dot_cmp) → cs ≡ [] → index ≡ [] → AreListed cs index known
 nothing_listed cs index known none empty = subst (λ xs. AreListed xs index known) (sym none) (subst (λ ys. AreListed [] ys known) (sym empty) (record {
-  are_cells = record { sorted = refl; few = omega arith; in_context = All-nil (λ c. sets.contains known c.dot ≡ true); have_field = All-nil (λ c. HasField (dot_fields c.fields)) };
+  are_cells = record { sorted = refl; few = omega arith; in_context = All-nil (λ c. sets.contains known c.dot ≡ true); have_field = All-nil (λ c. HasField c.fields) };
   is_index = record { rises = refl; lists = λ m d. sym (ap (λ o. option_map_or (eq_by_cmp member_cmp m) (option_map (λ h. h.0) o) false) (get-live_of [] d refl)) };
 }))

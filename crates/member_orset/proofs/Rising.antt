@@ -10,16 +10,7 @@ use Rattle.std.specs.declared.cmp.Ordering.{Ordering}
 use Rattle.std.specs.declared.cmp.Ordering.TheVariants.{Less, Equal, Greater}
 use Rattle.std.proofs.lemmas.Bool.{and_parts, and_from}
 use Rattle.std.proofs.lemmas.Cmp.{tied_itself}
-
-pub less : (o : Ordering) → is_lt o ≡ true → o ≡ Less
-less Less h = refl
-less Equal h = absurd (cc)
-less Greater h = absurd (cc)
-
-pub equal : (o : Ordering) → is_eq o ≡ true → o ≡ Equal
-equal Less h = absurd (cc)
-equal Equal h = refl
-equal Greater h = absurd (cc)
+use Rattle.dots.proofs.TruthTables.{equal_of, less_of}
 
 greater : (o : Ordering) → is_lt o ≡ false → is_eq o ≡ false → o ≡ Greater
 greater Less h k = absurd (cc)
@@ -30,17 +21,17 @@ greater Greater h k = refl
 module _ {K : Type 0} (R : K → K → Ordering) (o : IsTotalOrder R) (exact : IsAntisymmetric R) where
   -- a key that lies before another: the other lies after it
   pub turned : (a b : K) → is_lt (R a b) ≡ true → R b a ≡ Greater
-  turned a b h = o.antisymm b a ∙ ap ordering_reverse (less _ h)
+  turned a b h = o.antisymm b a ∙ ap ordering_reverse (less_of _ h)
 
   -- so the two aren't one
   pub apart : (a b : K) → is_lt (R a b) ≡ true → eq_by_cmp R b a ≡ false
   apart a b h = ap is_eq (turned a b h)
 
   pub apart_after : (a b : K) → is_lt (R a b) ≡ true → eq_by_cmp R a b ≡ false
-  apart_after a b h = ap is_eq (less _ h)
+  apart_after a b h = ap is_eq (less_of _ h)
 
   pub before_trans : (a b c : K) → is_lt (R a b) ≡ true → is_lt (R b c) ≡ true → is_lt (R a c) ≡ true
-  before_trans a b c h k = ap is_lt (o.trans a b c (less _ h) (less _ k))
+  before_trans a b c h k = ap is_lt (o.trans a b c (less_of _ h) (less_of _ k))
 
   -- a key is itself
   pub same_itself : (a : K) → eq_by_cmp R a a ≡ true
@@ -50,7 +41,7 @@ module _ {K : Type 0} (R : K → K → Ordering) (o : IsTotalOrder R) (exact : I
   same_tied a b e = ap (λ x. eq_by_cmp R a x) (sym e) ∙ same_itself a
 
   pub one_key : (a b : K) → eq_by_cmp R a b ≡ true → a ≡ b
-  one_key a b h = exact a b (equal _ h)
+  one_key a b h = exact a b (equal_of _ h)
 
   -- one that is another and doesn't lie before it lies after it
   pub after : (a b : K) → a ≢ b → is_lt (R a b) ≡ false → is_lt (R b a) ≡ true
@@ -136,7 +127,7 @@ module _ {X K V : Type 0} (R : K → K → Ordering) (o : IsTotalOrder R) (exact
   put_at [] zero c w a h = refl
   put_at [] (suc i) c w a h = absurd (omega arith)
   put_at (x ∷ cs) zero c w a h =
-      ap (λ o. by_order o ((key c, value c) ∷ entries (x ∷ cs)) ((key x, value c) ∷ entries cs) ((key x, value x) ∷ put R (key c) (value c) (entries cs))) (sym (less _ (h x (omega arith))))
+      ap (λ o. by_order o ((key c, value c) ∷ entries (x ∷ cs)) ((key x, value c) ∷ entries cs) ((key x, value x) ∷ put R (key c) (value c) (entries cs))) (sym (less_of _ (h x (omega arith))))
   put_at (x ∷ cs) (suc i) c w a h =
       ap (λ es. (key x, value x) ∷ es) (put_at cs i c (omega arith) (ahead-tail (key c) x cs i a) (λ e l. h e (omega arith)))
       ∙ ap (λ o. by_order o ((key c, value c) ∷ entries (x ∷ cs)) ((key x, value c) ∷ entries cs) ((key x, value x) ∷ put R (key c) (value c) (entries cs))) (sym (turned R o exact (key x) (key c) (ahead-head (key c) x cs i a)))
@@ -146,12 +137,7 @@ module _ {X K V : Type 0} (R : K → K → Ordering) (o : IsTotalOrder R) (exact
   set_at [] i c e l a h = absurd (omega arith)
   set_at (x ∷ cs) zero c e l a h =
       ap (λ d. (d, value c) ∷ entries cs) h
-      ∙ ap (λ o. by_order o ((key c, value c) ∷ entries (x ∷ cs)) ((key x, value c) ∷ entries cs) ((key x, value x) ∷ put R (key c) (value c) (entries cs))) (sym (tied (R (key c) (key x)) (same_tied R o exact (key c) (key x) h)))
-    where
-      tied : (o : Ordering) → is_eq o ≡ true → o ≡ Equal
-      tied Less h = absurd (cc)
-      tied Equal h = refl
-      tied Greater h = absurd (cc)
+      ∙ ap (λ o. by_order o ((key c, value c) ∷ entries (x ∷ cs)) ((key x, value c) ∷ entries cs) ((key x, value x) ∷ put R (key c) (value c) (entries cs))) (sym (equal_of (R (key c) (key x)) (same_tied R o exact (key c) (key x) h)))
   set_at (x ∷ cs) (suc i) c e l a h =
       ap (λ es. (key x, value x) ∷ es) (set_at cs i c e (omega arith) (ahead-tail (key c) x cs i a) h)
       ∙ ap (λ o. by_order o ((key c, value c) ∷ entries (x ∷ cs)) ((key x, value c) ∷ entries cs) ((key x, value x) ∷ put R (key c) (value c) (entries cs))) (sym (turned R o exact (key x) (key c) (ahead-head (key c) x cs i a)))

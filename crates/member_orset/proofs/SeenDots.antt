@@ -5,46 +5,38 @@ use Rattle.std.specs.List.{All, list_any}
 use Rattle.std.specs.FinMap as maps
 use Rattle.std.specs.FinSet as sets
 use Rattle.std.specs.Ordering.{eq_by_cmp}
-use Rattle.std.proofs.lemmas.Bool.{and_parts, cases_Bool, cases_eq, cases_lt}
+use Rattle.std.proofs.lemmas.Bool.{and_parts, cases_Bool, cases_eq, cases_lt, false_from_ne_true, or_from, or_right}
 use Rattle.std.proofs.lemmas.Bool.Decides.{nat_tests}
 use Rattle.std.proofs.lemmas.List.Elements.{All-head, All-tail, All-weaker}
 use Rattle.std.proofs.lemmas.List.Folds.{list_any_none}
-use Rattle.dots.specs.Values.{Tag, IsSite}
+use Rattle.std.proofs.Math.Bool.{and-false, and-true, or-false, or_comm}
+use Rattle.dots.specs.Values.{Dot, IsSite}
 use Rattle.dots.specs.Orders.{dot_cmp}
-use Rattle.dots.specs.DotSets.{IsRunsOf, Stretch, dots_between, in_stretch, in_stretches, next_dot, run_count}
+use Rattle.dots.specs.DotSets.{IsRunsOf, Run, dots_between, in_run, in_runs, next_dot, run_count, is_older}
 use Rattle.dots.proofs.DotOrder.{dots_total, dots_exact, same_dot}
 use Rattle.dots.proofs.OneMoreDot.{dot_before, run_count-insert}
-use Rattle.dots.proofs.Stretches.{contains-set_of}
+use Rattle.dots.proofs.Runs.{contains-set_of}
+use Rattle.dots.proofs.TruthTables.{or_swap}
 use Rattle.causal_context.specs.Contexts.{IsRun}
 use Rattle.member_orset.specs.declared.piece.Piece.{Piece}
 use Rattle.member_orset.specs.Members.{Holding}
 use Rattle.member_orset.proofs.DotTests.{one_dot}
-use Rattle.member_orset.specs.Reads.{is_older, seen_dots}
-use Rattle.member_orset.specs.Seen.{IsGreatest, IsPiece, is_given, part_before, runs_after}
+use Rattle.member_orset.specs.Reads.{seen_dots}
+use Rattle.member_orset.specs.Gathering.{IsGreatest, IsPiece, is_given, part_before, runs_after}
 
 abbrev Dots : Type 0
 Dots = sets.FinSet dot_cmp
 
-abbrev at : ℕ → ℕ → Tag
+abbrev at : ℕ → ℕ → Dot
 at site count = record { site = site; count = count }
 
--- a run that grows at its end
-or_false : (b : Bool) → (b || false) ≡ b
-or_false true = refl
-or_false false = refl
+abbrev run : ℕ → ℕ → ℕ → Run
+run site first last = record { site = site; first = first; last = last }
 
-or_swap : (a b c : Bool) → (a || (b || c)) ≡ (b || (a || c))
-or_swap true true c = refl
-or_swap true false c = refl
-or_swap false b c = refl
-
-abbrev stretch : ℕ → ℕ → ℕ → Stretch
-stretch site first last = record { site = site; first = first; last = last }
-
-contains-between : (dots : Dots) (site first last : ℕ) (q : Tag) → sets.contains (sets.union dots (dots_between site first last)) q ≡ (sets.contains dots q || in_stretch q (stretch site first last))
+contains-between : (dots : Dots) (site first last : ℕ) (q : Dot) → sets.contains (sets.union dots (dots_between site first last)) q ≡ (sets.contains dots q || in_run q (run site first last))
 contains-between dots site first last q =
     sets.contains-union dots_total dots (dots_between site first last) q
-    ∙ ap (λ b. sets.contains dots q || b) (contains-set_of (stretch site first last ∷ []) q ∙ or_false (in_stretch q (stretch site first last)))
+    ∙ ap (λ b. sets.contains dots q || b) (contains-set_of (run site first last ∷ []) q ∙ or-false (in_run q (run site first last)))
 
 one_count : (s t c f : ℕ) → (nat_eq s t && (nat_le f c && nat_le c f)) ≡ (nat_eq s t && nat_eq f c)
 one_count s t c f = grind (arith, nat_tests)
@@ -56,19 +48,13 @@ first_only : (dots : Dots) (site first : ℕ) → sets.union dots (dots_between 
 first_only dots site first = sets.same_set dots_total dots_exact _ _ (λ q.
     contains-between dots site first first q
     ∙ ap (λ b. sets.contains dots q || b) (one_count site q.site q.count first ∙ sym (same_dot q (at site first)))
-    ∙ swap (sets.contains dots q) (eq_by_cmp dot_cmp q (at site first)) ∙ sym (sets.contains-insert dots_total dots (at site first) q))
-  where
-    swap : (a b : Bool) → (a || b) ≡ (b || a)
-    swap true true = refl
-    swap true false = refl
-    swap false true = refl
-    swap false false = refl
+    ∙ or_comm (sets.contains dots q) (eq_by_cmp dot_cmp q (at site first)) ∙ sym (sets.contains-insert dots_total dots (at site first) q))
 
 longer : (dots : Dots) (site first last more : ℕ) → first ≤ last → more ≡ last + 1 → sets.union dots (dots_between site first more) ≡ sets.insert (sets.union dots (dots_between site first last)) (at site more)
 longer dots site first last more h e = sets.same_set dots_total dots_exact _ _ (λ q.
     contains-between dots site first more q
-    ∙ ap (λ b. sets.contains dots q || b) (one_longer site q.site q.count first last more h e ∙ ap (λ b. b || in_stretch q (stretch site first last)) (sym (same_dot q (at site more))))
-    ∙ or_swap (sets.contains dots q) (eq_by_cmp dot_cmp q (at site more)) (in_stretch q (stretch site first last))
+    ∙ ap (λ b. sets.contains dots q || b) (one_longer site q.site q.count first last more h e ∙ ap (λ b. b || in_run q (run site first last)) (sym (same_dot q (at site more))))
+    ∙ or_swap (sets.contains dots q) (eq_by_cmp dot_cmp q (at site more)) (in_run q (run site first last))
     ∙ ap (λ b. eq_by_cmp dot_cmp q (at site more) || b) (sym (contains-between dots site first last q))
     ∙ sym (sets.contains-insert dots_total (sets.union dots (dots_between site first last)) (at site more) q))
 
@@ -82,14 +68,7 @@ out_of s f l c h = grind (arith, nat_tests)
 last_in : (s f l c : ℕ) → f ≤ l → c ≡ l → (nat_eq s s && (nat_le f c && nat_le c l)) ≡ true
 last_in s f l c h e = grind (arith, nat_tests)
 
-or_both : (a b : Bool) → a ≡ false → b ≡ false → (a || b) ≡ false
-or_both a b h k = λ i. h i || k i
-
-or_right : (a b : Bool) → b ≡ true → (a || b) ≡ true
-or_right true b h = refl
-or_right false b h = h
-
--- the runs with one more stretch behind all others of its site
+-- the runs with one more run behind all others of its site
 module _ (dots : Dots) (site first : ℕ) (least : 1 ≤ first) (none : (n : ℕ) → first ≤ n → sets.contains dots (at site n) ≡ false) where
   grown : (k : ℕ) (last : ℕ) → last ≡ first + k → run_count (sets.union dots (dots_between site first last)) ≡ runs_after (run_count dots) (not (sets.contains dots (at site (first - 1))))
   grown zero last e =
@@ -101,8 +80,8 @@ module _ (dots : Dots) (site first : ℕ) (least : 1 ≤ first) (none : (n : ℕ
       let order : first ≤ before = omega arith in
       let next : last ≡ before + 1 = omega arith in
       let old = sets.union dots (dots_between site first before) in
-      let new : sets.contains old (at site last) ≡ false = contains-between dots site first before (at site last) ∙ or_both _ _ (none last (omega arith)) (out_of site first before last (omega arith)) in
-      let past : sets.contains old (next_dot (at site last)) ≡ false = contains-between dots site first before (at site (suc last)) ∙ or_both _ _ (none (suc last) (omega arith)) (out_of site first before (suc last) (omega arith)) in
+      let new : sets.contains old (at site last) ≡ false = contains-between dots site first before (at site last) ∙ or_from _ _ (none last (omega arith)) (out_of site first before last (omega arith)) in
+      let past : sets.contains old (next_dot (at site last)) ≡ false = contains-between dots site first before (at site (suc last)) ∙ or_from _ _ (none (suc last) (omega arith)) (out_of site first before (suc last) (omega arith)) in
       let there : sets.contains old (dot_before (at site last)) ≡ true = contains-between dots site first before (at site (last - 1)) ∙ or_right (sets.contains dots (at site (last - 1))) _ (last_in site first before (last - 1) order (omega arith)) in
       ap run_count (longer dots site first before last order next)
       ∙ counted_from _ _ _ _ past (run_count-insert old (at site last) (omega arith) new)
@@ -113,20 +92,12 @@ module _ (dots : Dots) (site first : ℕ) (least : 1 ≤ first) (none : (n : ℕ
   runs_grown last h = grown (last - first) last (omega arith)
 
 -- what is in a part of a set
-abbrev pub lies_before : ℕ → ℕ → Tag → Bool
+abbrev pub lies_before : ℕ → ℕ → Dot → Bool
 lies_before site count d = nat_lt d.site site || (nat_eq d.site site && nat_lt d.count count)
 
-pub contains-part : (dots : Dots) (site count : ℕ) (q : Tag) → sets.contains (part_before dots site count) q ≡ (sets.contains dots q && lies_before site count q)
+pub contains-part : (dots : Dots) (site count : ℕ) (q : Dot) → sets.contains (part_before dots site count) q ≡ (sets.contains dots q && lies_before site count q)
 unfolding part_before
 contains-part dots site count q = sets.contains-retain dots (lies_before site count) q (λ x h. ap (lies_before site count) (sym (dots_exact q x h)))
-
-pub and_false : (b : Bool) → (b && false) ≡ false
-and_false true = refl
-and_false false = refl
-
-pub and_true : (b : Bool) → (b && true) ≡ b
-and_true true = refl
-and_true false = refl
 
 not_past : (s n c : ℕ) → c ≤ n → (nat_lt s s || (nat_eq s s && nat_lt n c)) ≡ false
 not_past s n c h = grind (arith, nat_tests)
@@ -135,10 +106,10 @@ just_before : (s n c : ℕ) → n < c → (nat_lt s s || (nat_eq s s && nat_lt n
 just_before s n c h = grind (arith, nat_tests)
 
 pub none_past : (dots : Dots) (site count n : ℕ) → count ≤ n → sets.contains (part_before dots site count) (at site n) ≡ false
-none_past dots site count n h = contains-part dots site count (at site n) ∙ ap (λ b. sets.contains dots (at site n) && b) (not_past site n count h) ∙ and_false (sets.contains dots (at site n))
+none_past dots site count n h = contains-part dots site count (at site n) ∙ ap (λ b. sets.contains dots (at site n) && b) (not_past site n count h) ∙ and-false (sets.contains dots (at site n))
 
 pub before_it : (dots : Dots) (site count : ℕ) → 1 ≤ count → sets.contains (part_before dots site count) (at site (count - 1)) ≡ sets.contains dots (at site (count - 1))
-before_it dots site count h = contains-part dots site count (at site (count - 1)) ∙ ap (λ b. sets.contains dots (at site (count - 1)) && b) (just_before site (count - 1) count (omega arith)) ∙ and_true (sets.contains dots (at site (count - 1)))
+before_it dots site count h = contains-part dots site count (at site (count - 1)) ∙ ap (λ b. sets.contains dots (at site (count - 1)) && b) (just_before site (count - 1) count (omega arith)) ∙ and-true (sets.contains dots (at site (count - 1)))
 
 further : (t c s f l : ℕ) → f ≤ l → (nat_lt t s || (nat_eq t s && nat_lt c (l + 1))) ≡ ((nat_lt t s || (nat_eq t s && nat_lt c f)) || (nat_eq s t && (nat_le f c && nat_le c l)))
 further t c s f l h = grind (arith, nat_tests)
@@ -146,13 +117,13 @@ further t c s f l h = grind (arith, nat_tests)
 in_it : (t c s f l : ℕ) → (nat_eq s t && (nat_le f c && nat_le c l)) ≡ true → (s ≡ t) × (f ≤ c) × (c ≤ l)
 in_it t c s f l h = (grind (arith, nat_tests, h), grind (arith, nat_tests, h), grind (arith, nat_tests, h))
 
--- the part up to past a stretch of which all dots are in the set, or none
+-- the part up to past a run of which all dots are in the set, or none
 pub part_inside : (dots : Dots) (site first last : ℕ) → first ≤ last → ((n : ℕ) → first ≤ n → n ≤ last → sets.contains dots (at site n) ≡ true)
     → part_before dots site (last + 1) ≡ sets.union (part_before dots site first) (dots_between site first last)
 part_inside dots site first last h all = sets.same_set dots_total dots_exact _ _ (λ q.
     contains-part dots site (last + 1) q ∙ ap (λ b. sets.contains dots q && b) (further q.site q.count site first last h)
-    ∙ spread (sets.contains dots q) (lies_before site first q) (in_stretch q (stretch site first last)) (λ t. let i = in_it q.site q.count site first last t in ap (λ s. sets.contains dots (at s q.count)) (sym i.0) ∙ all q.count i.1 i.2)
-    ∙ ap (λ b. b || in_stretch q (stretch site first last)) (sym (contains-part dots site first q)) ∙ sym (contains-between (part_before dots site first) site first last q))
+    ∙ spread (sets.contains dots q) (lies_before site first q) (in_run q (run site first last)) (λ t. let i = in_it q.site q.count site first last t in ap (λ s. sets.contains dots (at s q.count)) (sym i.0) ∙ all q.count i.1 i.2)
+    ∙ ap (λ b. b || in_run q (run site first last)) (sym (contains-part dots site first q)) ∙ sym (contains-between (part_before dots site first) site first last q))
   where
     spread : (s b t : Bool) → (t ≡ true → s ≡ true) → (s && (b || t)) ≡ ((s && b) || t)
     spread true b t f = refl
@@ -163,7 +134,7 @@ pub part_outside : (dots : Dots) (site first last : ℕ) → first ≤ last → 
     → part_before dots site (last + 1) ≡ part_before dots site first
 part_outside dots site first last h none = sets.same_set dots_total dots_exact _ _ (λ q.
     contains-part dots site (last + 1) q ∙ ap (λ b. sets.contains dots q && b) (further q.site q.count site first last h)
-    ∙ spread (sets.contains dots q) (lies_before site first q) (in_stretch q (stretch site first last)) (λ t. let i = in_it q.site q.count site first last t in ap (λ s. sets.contains dots (at s q.count)) (sym i.0) ∙ none q.count i.1 i.2)
+    ∙ spread (sets.contains dots q) (lies_before site first q) (in_run q (run site first last)) (λ t. let i = in_it q.site q.count site first last t in ap (λ s. sets.contains dots (at s q.count)) (sym i.0) ∙ none q.count i.1 i.2)
     ∙ sym (contains-part dots site first q))
   where
     spread : (s b t : Bool) → (t ≡ true → s ≡ false) → (s && (b || t)) ≡ (s && b)
@@ -212,38 +183,34 @@ nothing_first t c = grind (arith, nat_tests)
 
 pub no_part : (dots : Dots) → sets.empty ≡ part_before dots 0 0
 no_part dots = sets.same_set dots_total dots_exact _ _ (λ q.
-    sets.contains-empty dot_cmp q ∙ sym (contains-part dots 0 0 q ∙ ap (λ b. sets.contains dots q && b) (nothing_first q.site q.count) ∙ and_false (sets.contains dots q)))
+    sets.contains-empty dot_cmp q ∙ sym (contains-part dots 0 0 q ∙ ap (λ b. sets.contains dots q && b) (nothing_first q.site q.count) ∙ and-false (sets.contains dots q)))
 
 all_sites : (t c : ℕ) → t < 64 → (nat_lt t 64 || (nat_eq t 64 && nat_lt c 0)) ≡ true
 all_sites t c h = grind (arith, nat_tests)
 
-pub whole_part : (dots : Dots) → ((q : Tag) → sets.contains dots q ≡ true → q.site < 64) → part_before dots 64 0 ≡ dots
+pub whole_part : (dots : Dots) → ((q : Dot) → sets.contains dots q ≡ true → q.site < 64) → part_before dots 64 0 ≡ dots
 whole_part dots few = sets.same_set dots_total dots_exact _ _ (λ q.
-    contains-part dots 64 0 q ∙ under (sets.contains dots q) _ true (λ t. all_sites q.site q.count (few q t)) ∙ and_true (sets.contains dots q))
+    contains-part dots 64 0 q ∙ under (sets.contains dots q) _ true (λ t. all_sites q.site q.count (few q t)) ∙ and-true (sets.contains dots q))
 
 -- whether a dot was seen
-contains-seen : (known : Dots) (live : maps.FinMap dot_cmp Holding) (given : List Tag) (q : Tag)
+contains-seen : (known : Dots) (live : maps.FinMap dot_cmp Holding) (given : List Dot) (q : Dot)
     → sets.contains (seen_dots known live given) q ≡ (is_given given q || (sets.contains known q && (not (maps.contains_key live q) && is_older given q)))
 unfolding seen_dots
 contains-seen known live given q =
     sets.contains-union dots_total (sets.from_list given) (sets.retain known (λ d. not (maps.contains_key live d) && is_older given d)) q
     ∙ (λ i. sets.contains-from_list dots_total given q i || sets.contains-retain known (λ d. not (maps.contains_key live d) && is_older given d) q (λ x h. ap (λ d. not (maps.contains_key live d) && is_older given d) (sym (dots_exact q x h))) i)
 
-pub not_this : (site n : ℕ) (d : Tag) → (d.site ≡ site → d.count ≡ n → ⊥) → eq_by_cmp dot_cmp (at site n) d ≡ false
-not_this site n d h = split (eq_by_cmp dot_cmp (at site n) d) (λ t. let e = one_dot (at site n) d t in h (sym (ap (λ x. x.site) e)) (sym (ap (λ x. x.count) e)))
-  where
-    split : (b : Bool) → (b ≡ true → ⊥) → b ≡ false
-    split true k = absurd (k refl)
-    split false k = refl
+pub not_this : (site n : ℕ) (d : Dot) → (d.site ≡ site → d.count ≡ n → ⊥) → eq_by_cmp dot_cmp (at site n) d ≡ false
+not_this site n d h = false_from_ne_true (eq_by_cmp dot_cmp (at site n) d) (λ t. let e = one_dot (at site n) d t in h (sym (ap (λ x. x.site) e)) (sym (ap (λ x. x.count) e)))
 
-any_weaker : (p q : Tag → Bool) (xs : List Tag) → ((x : Tag) → p x ≡ true → q x ≡ true) → list_any p xs ≡ true → list_any q xs ≡ true
+any_weaker : (p q : Dot → Bool) (xs : List Dot) → ((x : Dot) → p x ≡ true → q x ≡ true) → list_any p xs ≡ true → list_any q xs ≡ true
 any_weaker p q [] f h = h
 any_weaker p q (x ∷ xs) f h = elim (cases_Bool (p x)) [
   | inl t ↦ ap (λ b. b || list_any q xs) (f x t)
   | inr n ↦ or_right (q x) (list_any q xs) (any_weaker p q xs f (ap (λ b. b || list_any p xs) (sym n) ∙ h))
 ]
 
-any_has : (P : Tag → Type 0) (p : Tag → Bool) (xs : List Tag) → All P xs → list_any p xs ≡ true → (x : Tag) × P x × (p x ≡ true)
+any_has : (P : Dot → Type 0) (p : Dot → Bool) (xs : List Dot) → All P xs → list_any p xs ≡ true → (x : Dot) × P x × (p x ≡ true)
 any_has P p [] a h = absurd (cc)
 any_has P p (x ∷ xs) a h = elim (cases_Bool (p x)) [
   | inl t ↦ (x, All-head P x xs a, t)
@@ -263,14 +230,14 @@ no_zero : (s t f l : ℕ) → 1 ≤ f → (nat_eq s t && (nat_le f 0 && nat_le 0
 no_zero s t f l h = grind (arith, nat_tests)
 
 -- no known dot has the count 0
-pub known_zero : (runs : List Stretch) (known : Dots) (site : ℕ) → IsRunsOf runs known → All IsRun runs → sets.contains known (at site 0) ≡ false
-known_zero runs known site is limits = is.same (at site 0) ∙ list_any_none (in_stretch (at site 0)) runs (All-weaker IsRun (λ r. in_stretch (at site 0) r ≡ false) (λ r l. no_zero r.site site r.first r.last l.least) runs limits)
+pub known_zero : (runs : List Run) (known : Dots) (site : ℕ) → IsRunsOf runs known → All IsRun runs → sets.contains known (at site 0) ≡ false
+known_zero runs known site is limits = is.same (at site 0) ∙ list_any_none (in_run (at site 0)) runs (All-weaker IsRun (λ r. in_run (at site 0) r ≡ false) (λ r l. no_zero r.site site r.first r.last l.least) runs limits)
 
-module _ (known : Dots) (live : maps.FinMap dot_cmp Holding) (given : List Tag) (site last : ℕ) (g : IsGreatest given site last) where
+module _ (known : Dots) (live : maps.FinMap dot_cmp Holding) (given : List Dot) (site last : ℕ) (g : IsGreatest given site last) where
   abbrev seen : Dots
   seen = seen_dots known live given
 
-  abbrev dead_below : Tag → Bool
+  abbrev dead_below : Dot → Bool
   dead_below q = sets.contains known q && (not (maps.contains_key live q) && is_older given q)
 
   older_past : (n : ℕ) → last ≤ n → is_older given (at site n) ≡ false
@@ -284,7 +251,7 @@ module _ (known : Dots) (live : maps.FinMap dot_cmp Holding) (given : List Tag) 
   pub seen_past : (n : ℕ) → last < n → sets.contains seen (at site n) ≡ false
   seen_past n h =
       contains-seen known live given (at site n)
-      ∙ or_both _ _ (list_any_none (eq_by_cmp dot_cmp (at site n)) given (All-weaker (λ d. d.site ≡ site → d.count ≤ last) (λ d. eq_by_cmp dot_cmp (at site n) d ≡ false) (λ d m. not_this site n d (λ s c. let k = m s in omega arith)) given g.most))
+      ∙ or_from _ _ (list_any_none (eq_by_cmp dot_cmp (at site n)) given (All-weaker (λ d. d.site ≡ site → d.count ≤ last) (λ d. eq_by_cmp dot_cmp (at site n) d ≡ false) (λ d m. not_this site n d (λ s c. let k = m s in omega arith)) given g.most))
       (ap (λ b. sets.contains known (at site n) && (not (maps.contains_key live (at site n)) && b)) (older_past n (omega arith)) ∙ none (sets.contains known (at site n)) (not (maps.contains_key live (at site n))))
     where
       none : (a b : Bool) → (a && (b && false)) ≡ false
@@ -295,7 +262,7 @@ module _ (known : Dots) (live : maps.FinMap dot_cmp Holding) (given : List Tag) 
   pub seen_zero : sets.contains known (at site 0) ≡ false → sets.contains seen (at site 0) ≡ false
   seen_zero k =
       contains-seen known live given (at site 0)
-      ∙ or_both _ _ (list_any_none (eq_by_cmp dot_cmp (at site 0)) given (All-weaker (λ d. d.site ≡ site → 1 ≤ d.count) (λ d. eq_by_cmp dot_cmp (at site 0) d ≡ false) (λ d m. not_this site 0 d (λ s c. let k = m s in omega arith)) given g.least))
+      ∙ or_from _ _ (list_any_none (eq_by_cmp dot_cmp (at site 0)) given (All-weaker (λ d. d.site ≡ site → 1 ≤ d.count) (λ d. eq_by_cmp dot_cmp (at site 0) d ≡ false) (λ d m. not_this site 0 d (λ s c. let k = m s in omega arith)) given g.least))
       (ap (λ b. b && (not (maps.contains_key live (at site 0)) && is_older given (at site 0))) k)
 
   -- a piece where all are given, where none is given or known, or where none is given and all are known
@@ -306,8 +273,8 @@ module _ (known : Dots) (live : maps.FinMap dot_cmp Holding) (given : List Tag) 
     same = λ n lo hi. contains-seen known live given (at site n) ∙ ap (λ b. b || dead_below (at site n)) (is.same n lo hi ∙ y) ∙ sym y;
   }
 
-  module _ (runs : List Stretch) (are : IsRunsOf runs known) (first : ℕ) (p k : Piece) (given_is : IsPiece (λ n. is_given given (at site n)) first last p) (ungiven : p.inside ≡ false)
-      (known_is : IsPiece (λ n. in_stretches runs (at site n)) first p.last k) where
+  module _ (runs : List Run) (are : IsRunsOf runs known) (first : ℕ) (p k : Piece) (given_is : IsPiece (λ n. is_given given (at site n)) first last p) (ungiven : p.inside ≡ false)
+      (known_is : IsPiece (λ n. in_runs runs (at site n)) first p.last k) where
     pub seen_unknown : k.inside ≡ false → IsPiece (λ n. sets.contains seen (at site n)) first last k
     seen_unknown y = record {
       some = known_is.some;
@@ -329,7 +296,7 @@ module _ (known : Dots) (live : maps.FinMap dot_cmp Holding) (given : List Tag) 
           let fresh = given_is.same n lo in_given ∙ ungiven in
           contains-seen known live given (at site n)
           ∙ (λ i. fresh i || ((are.same (at site n) ∙ known_is.same n lo in_known ∙ y) i && (not (live_is.same n lo in_live i) && older_below n (below n lo fresh (let b = given_is.within in omega arith)) i)))
-          ∙ and_true (not l.inside) ∙ sym inside;
+          ∙ and-true (not l.inside) ∙ sym inside;
     }
       where
         below : (n : ℕ) → first ≤ n → is_given given (at site n) ≡ false → n ≤ last → n < last
@@ -339,9 +306,9 @@ module _ (known : Dots) (live : maps.FinMap dot_cmp Holding) (given : List Tag) 
         ]
 
 -- what was seen is of sites of given dots
-pub seen_sites : (known : Dots) (live : maps.FinMap dot_cmp Holding) (given : List Tag) → All (λ d. IsSite d.site) given → (q : Tag) → sets.contains (seen_dots known live given) q ≡ true → q.site < 64
+pub seen_sites : (known : Dots) (live : maps.FinMap dot_cmp Holding) (given : List Dot) → All (λ d. IsSite d.site) given → (q : Dot) → sets.contains (seen_dots known live given) q ≡ true → q.site < 64
 seen_sites known live given sites q h = elim (cases_Bool (is_given given q)) [
-  | inl t ↦ let f = any_has (λ d. IsSite d.site) (eq_by_cmp dot_cmp q) given sites t in subst (λ (d : Tag). d.site < 64) (sym (one_dot q f.0 f.2)) f.1
+  | inl t ↦ let f = any_has (λ d. IsSite d.site) (eq_by_cmp dot_cmp q) given sites t in subst (λ (d : Dot). d.site < 64) (sym (one_dot q f.0 f.2)) f.1
   | inr n ↦
       let all = ap (λ b. b || (sets.contains known q && (not (maps.contains_key live q) && is_older given q))) (sym n) ∙ sym (contains-seen known live given q) ∙ h in
       let older = (and_parts (not (maps.contains_key live q)) (is_older given q) (and_parts (sets.contains known q) (not (maps.contains_key live q) && is_older given q) all).1).1 in

@@ -7,9 +7,9 @@ use Rattle.std.specs.Ordering.{eq_by_cmp}
 use Rattle.std.proofs.lemmas.List.{append-nil, take_more}
 use Rattle.std.proofs.lemmas.List.Elements.{All-head, All-weaker, filter_passes}
 use Rattle.dots.specs.declared.member.Member.{Member}
-use Rattle.dots.specs.Values.{Tag}
+use Rattle.dots.specs.Values.{Dot}
 use Rattle.dots.specs.Orders.{dot_cmp, member_cmp}
-use Rattle.dots.specs.Registers.{Entry, joined}
+use Rattle.dots.specs.Registers.{Entry, join_of}
 use Rattle.dots.specs.Conditions.{DotFields}
 use Rattle.dots.specs.Knowledge.{latest_of}
 use Rattle.dots.specs.Rows.{is_of, dots_of, row_if, row_of, row_of_fields}
@@ -18,9 +18,9 @@ use Rattle.dots.proofs.RegisterLaws.{joined_assoc}
 use Rattle.member_orset.specs.declared.listed.Listed.{Listed}
 use Rattle.member_orset.specs.declared.live_dot.LiveDot.{LiveDot}
 use Rattle.member_orset.specs.Members.{Holding}
-use Rattle.member_orset.specs.Cells.{live_of}
+use Rattle.member_orset.specs.LiveLists.{live_of}
 use Rattle.member_orset.specs.Index.{IsIndex}
-use Rattle.member_orset.specs.Shown.{cells_view, dots_listed, fields_after, fields_held, fields_shown, group}
+use Rattle.member_orset.specs.ShownRows.{cells_view, dots_listed, fields_after, fields_held, fields_shown, group}
 use Rattle.member_orset.proofs.CellLists.{Rise}
 use Rattle.member_orset.proofs.MemberDots.{dots_are}
 
@@ -29,14 +29,14 @@ one_latest : {T : Type 0} (x : Option (Entry T)) → latest_of (cons_option x []
 one_latest None = refl
 one_latest (Some e) = refl
 
-latest-push : {T : Type 0} (f : DotFields → Option (Entry T)) (xs : List DotFields) (x : DotFields) → latest_of (filter_map f (xs ++ x ∷ [])) ≡ joined (latest_of (filter_map f xs)) (f x)
+latest-push : {T : Type 0} (f : DotFields → Option (Entry T)) (xs : List DotFields) (x : DotFields) → latest_of (filter_map f (xs ++ x ∷ [])) ≡ join_of (latest_of (filter_map f xs)) (f x)
 latest-push f [] x = one_latest (f x)
 latest-push {T} f (y ∷ xs) x = front (f y) (latest-push f xs x)
   where
-    front : (e : Option (Entry T)) → latest_of (filter_map f (xs ++ x ∷ [])) ≡ joined (latest_of (filter_map f xs)) (f x)
-        → latest_of (cons_option e (filter_map f (xs ++ x ∷ []))) ≡ joined (latest_of (cons_option e (filter_map f xs))) (f x)
+    front : (e : Option (Entry T)) → latest_of (filter_map f (xs ++ x ∷ [])) ≡ join_of (latest_of (filter_map f xs)) (f x)
+        → latest_of (cons_option e (filter_map f (xs ++ x ∷ []))) ≡ join_of (latest_of (cons_option e (filter_map f xs))) (f x)
     front None h = h
-    front (Some e) h = ap (joined (Some e)) h ∙ sym (joined_assoc (Some e) (latest_of (filter_map f xs)) (f x))
+    front (Some e) h = ap (join_of (Some e)) h ∙ sym (joined_assoc (Some e) (latest_of (filter_map f xs)) (f x))
 
 shown-push : (xs : List DotFields) (x : DotFields) → fields_shown (xs ++ x ∷ []) ≡ Some (fields_after (fields_shown xs) x)
 shown-push [] x = λ i. Some (record { penalty = one_latest x.penalty i; pause = one_latest x.pause i; label = one_latest x.label i })
@@ -74,7 +74,7 @@ pub shown_missed : (live : maps.FinMap dot_cmp Holding) (ls : List Listed) (i : 
 shown_missed live ls i x o w e is so = so ∙ ap fields_shown (sym (append-nil (fields_held live (dots_listed (take i ls)))) ∙ sym (held_more live ls i x None w e is))
 
 -- a field of dots, by what is held of them
-fields_are : {X : Type 0} (g : DotFields → Option X) (live : maps.FinMap dot_cmp Holding) (ds : List Tag) → filter_map (λ dot. option_and_then (λ h. g h.1) (maps.get live dot)) ds ≡ filter_map g (fields_held live ds)
+fields_are : {X : Type 0} (g : DotFields → Option X) (live : maps.FinMap dot_cmp Holding) (ds : List Dot) → filter_map (λ dot. option_and_then (λ h. g h.1) (maps.get live dot)) ds ≡ filter_map g (fields_held live ds)
 fields_are g live [] = refl
 fields_are g live (d ∷ ds) = ap (cons_option (option_and_then (λ h. g h.1) (maps.get live d))) (fields_are g live ds) ∙ one (maps.get live d)
   where
@@ -83,7 +83,7 @@ fields_are g live (d ∷ ds) = ap (cons_option (option_and_then (λ h. g h.1) (m
     one (Some h) = refl
 
 -- the row of dots that are live
-row_held : (live : maps.FinMap dot_cmp Holding) (ds : List Tag) → All (λ d. is_some (maps.get live d) ≡ true) ds
+row_held : (live : maps.FinMap dot_cmp Holding) (ds : List Dot) → All (λ d. is_some (maps.get live d) ≡ true) ds
     → row_if ds (row_of_fields (latest_of (filter_map (λ f. f.penalty) (fields_held live ds))) (latest_of (filter_map (λ f. f.pause) (fields_held live ds))) (latest_of (filter_map (λ f. f.label) (fields_held live ds))))
     ≡ option_map (λ f. row_of_fields f.penalty f.pause f.label) (fields_shown (fields_held live ds))
 row_held live [] a = refl

@@ -1,5 +1,5 @@
 -- The rows of a queue one by one: the next is that of the entry of the least interface that is left.
-use Rattle.std.proofs.Common.{◌≡◌, ◌≢◌, ◌⊎◌, inl, inr, ℕ, ◌<◌, ◌≤◌, Bool, true, false, not, cond, ◌&&◌, ◌||◌, nat_eq, List, [], ◌∷◌, length, get_or, map as each, Contains, Option, Some, None, filter, T, refl, sym, ap, subst, ◌∙◌, suc, zero, arith, if◌then◌else◌}
+use Rattle.std.proofs.Common.{◌≡◌, ◌≢◌, ◌⊎◌, inl, inr, ℕ, ◌<◌, ◌≤◌, Bool, true, false, not, cond, ◌&&◌, ◌||◌, nat_eq, List, [], ◌∷◌, length, get_or, map as each, Contains, Option, Some, None, filter, refl, sym, ap, subst, ◌∙◌, suc, zero, arith, if◌then◌else◌}
 use Rattle.std.specs.Prelude.{nat_lt}
 use Rattle.std.specs.List.{All, AllWithin, filter_map, cons_option, list_any}
 use Rattle.std.specs.List.Sorted.{IsPartitionedBy}
@@ -10,11 +10,12 @@ use Rattle.std.specs.FinMap.Entries.{below_all}
 use Rattle.std.specs.FinSet as sets
 use Rattle.std.specs.Ordering.{eq_by_cmp, is_eq, is_lt, nat_cmp, ordering_reverse}
 use Rattle.std.specs.declared.cmp.Ordering.TheVariants.{Less}
-use Rattle.std.proofs.lemmas.Bool.{and_from, and_parts, cases_Bool}
+use Rattle.std.proofs.lemmas.Bool.{and_from, and_parts, cases_Bool, or_right}
 use Rattle.std.proofs.lemmas.Bool.Decides.{nat_tests}
 use Rattle.std.proofs.lemmas.Cmp.{tied_itself, nat_list_cmp_total}
+use Rattle.std.proofs.Math.Bool.{and-false, or-true}
 use Rattle.dots.specs.declared.member.Member.{Member}
-use Rattle.dots.specs.Values.{Tag}
+use Rattle.dots.specs.Values.{Dot}
 use Rattle.dots.specs.Orders.{member_cmp, text_cmp}
 use Rattle.dots.specs.SetItems.{in_order}
 use Rattle.dots.specs.Rows.{MemberRow, interface_in, interfaces_of, is_of, dots_of, row_if, row_of, rows_of}
@@ -22,15 +23,15 @@ use Rattle.dots.proofs.ItemOrder.{in_order-has}
 use Rattle.dots.proofs.Membership.{any-in, in-any}
 use Rattle.member_orset.specs.declared.listed.Listed.{Listed}
 use Rattle.member_orset.specs.declared.live_dot.LiveDot.{LiveDot}
-use Rattle.member_orset.specs.Cells.{live_of}
+use Rattle.member_orset.specs.LiveLists.{live_of}
 use Rattle.member_orset.specs.Index.{IsIndex, Rises}
-use Rattle.member_orset.specs.Shown.{IsLeastAfter, IsLeastEntry, cells_view, dots_listed, group, is_after, is_left, is_own, is_passed, rows_after}
+use Rattle.member_orset.specs.ShownRows.{IsLeastAfter, IsLeastEntry, cells_view, dots_listed, group, is_after, is_left, is_own, is_passed, rows_after}
 use Rattle.member_orset.proofs.CellLists.{Rise}
-use Rattle.member_orset.proofs.Rising.{equal, less}
 use Rattle.member_orset.proofs.IndexPlaces.{not_lesser}
 use Rattle.member_orset.proofs.Indexes.{partitioned_by}
 use Rattle.member_orset.proofs.MemberDots.{dots_are}
 use Rattle.dots.proofs.MemberOrder.{exact_texts}
+use Rattle.dots.proofs.TruthTables.{fact, less_of, equal_of}
 use Rattle.member_orset.proofs.MemberOrder.{by_members, interface_not_less, less_parts, member_itself, one_member, queue_not_less}
 
 -- texts in their order
@@ -38,16 +39,16 @@ abbrev Text : Type 0
 Text = List ℕ
 
 text_trans : (a b c : Text) → is_lt (text_cmp a b) ≡ true → is_lt (text_cmp b c) ≡ true → is_lt (text_cmp a c) ≡ true
-text_trans a b c h k = ap is_lt (nat_list_cmp_total.trans a b c (less _ h) (less _ k))
+text_trans a b c h k = ap is_lt (nat_list_cmp_total.trans a b c (less_of _ h) (less_of _ k))
 
 not_self : (a : Text) → is_lt (text_cmp a a) ≡ false
 not_self a = ap is_lt (tied_itself nat_list_cmp_total a)
 
 not_back : (a b : Text) → is_lt (text_cmp a b) ≡ true → is_lt (text_cmp b a) ≡ false
-not_back a b h = ap is_lt (nat_list_cmp_total.antisymm b a ∙ ap ordering_reverse (less _ h))
+not_back a b h = ap is_lt (nat_list_cmp_total.antisymm b a ∙ ap ordering_reverse (less_of _ h))
 
 one_text : (a b : Text) → eq_by_cmp text_cmp a b ≡ true → a ≡ b
-one_text a b h = exact_texts a b (equal _ h)
+one_text a b h = exact_texts a b (equal_of _ h)
 
 -- what lies after one that is left is left
 after_trans : (last : Option Text) (i k : Text) → is_after last i ≡ true → is_lt (text_cmp i k) ≡ true → is_after last k ≡ true
@@ -110,7 +111,7 @@ module _ (f : Text → Option MemberRow) where
             let later = ap (λ b. b || list_any (eq_by_cmp text_cmp i) (each (λ x. x.0) es)) (sym n) ∙ h in
             let before = below_in e.0 i es q.0 later in
             dropped (is_after last) e.0 (f e.0) (rows es) (early e.0 before (least e.0 (ap (λ b. b || list_any (eq_by_cmp text_cmp e.0) (each (λ x. x.0) es)) (ap is_eq (tied_itself nat_list_cmp_total e.0)))))
-            ∙ first_row last i row es q.1 fi a later (λ j k. least j (or_second (eq_by_cmp text_cmp j e.0) _ k))
+            ∙ first_row last i row es q.1 fi a later (λ j k. least j (or_right (eq_by_cmp text_cmp j e.0) _ k))
             ∙ ap (λ xs. (i, row) ∷ xs) (sym (dropped (is_after (Some i)) e.0 (f e.0) (rows es) (not_back e.0 i before)))
       ]
     where
@@ -121,20 +122,12 @@ module _ (f : Text → Option MemberRow) where
           split true g = absurd (let x = g refl in cc)
           split false g = refl
 
-      or_second : (p q : Bool) → q ≡ true → (p || q) ≡ true
-      or_second true q h = refl
-      or_second false q h = h
-
   -- no row where none is left
   pub no_row : (p : Text → Bool) (es : Keys) → ((j : Text) → list_any (eq_by_cmp text_cmp j) (each (λ e. e.0) es) ≡ true → p j ≡ false) → rest p es ≡ []
   no_row p [] h = refl
   no_row p (e ∷ es) h =
       dropped p e.0 (f e.0) (rows es) (h e.0 (ap (λ b. b || list_any (eq_by_cmp text_cmp e.0) (each (λ x. x.0) es)) (ap is_eq (tied_itself nat_list_cmp_total e.0))))
-      ∙ no_row p es (λ j k. h j (or_second (eq_by_cmp text_cmp j e.0) _ k))
-    where
-      or_second : (p q : Bool) → q ≡ true → (p || q) ≡ true
-      or_second true q h = refl
-      or_second false q h = h
+      ∙ no_row p es (λ j k. h j (or_right (eq_by_cmp text_cmp j e.0) _ k))
 
 -- whether a list has an element
 abbrev has_any : {X : Type 0} → List X → Bool
@@ -162,7 +155,7 @@ abbrev in_queue : ℕ → Text → Member
 in_queue queue i = record { queue = queue; interface = i }
 
 -- the interfaces of a queue are those of its members
-interfaces_kept : (queue : ℕ) (i : Text) (member : Tag → Option Member) (ds : List Tag)
+interfaces_kept : (queue : ℕ) (i : Text) (member : Dot → Option Member) (ds : List Dot)
     → list_any (eq_by_cmp text_cmp i) (filter_map (λ dot. option_and_then (interface_in queue) (member dot)) ds) ≡ list_any (λ dot. option_map_or (eq_by_cmp member_cmp (in_queue queue i)) (member dot) false) ds
 interfaces_kept queue i member [] = refl
 interfaces_kept queue i member (d ∷ ds) =
@@ -196,10 +189,6 @@ on_own P X m ls a h g =
     let own = in-any (is_own m) ls h in
     g own.0 (subst P own.1.2 (a own.1.0 own.0 own.1.1)) (one_member m own.0.member own.2)
 
-is_true : (b : Bool) → T b → b ≡ true
-is_true true h = refl
-is_true false h = absurd h
-
 -- a queue is itself
 same_queue : (q r : ℕ) → q ≡ r → nat_eq q r ≡ true
 same_queue q r e = grind (arith, nat_tests, e)
@@ -212,7 +201,7 @@ module _ (cs : List LiveDot) (index : List Listed) (queue : ℕ) (s : Rise cs) (
   names = maps.entries (maps.from_entries {R = text_cmp} (each (λ k. (k, tt {0})) (sets.items (interfaces_of (cells_view cs) queue))))
 
   names_rise : maps.is_sorted text_cmp names ≡ true
-  names_rise = is_true _ (maps.entries_sorted (maps.from_entries {R = text_cmp} (each (λ k. (k, tt {0})) (sets.items (interfaces_of (cells_view cs) queue)))))
+  names_rise = fact _ (maps.entries_sorted (maps.from_entries {R = text_cmp} (each (λ k. (k, tt {0})) (sets.items (interfaces_of (cells_view cs) queue)))))
 
   -- an interface that is left is that of an entry that is left
   name_left : (last : Option Text) (j : Text) (l : Listed) → in_queue queue j ≡ l.member → is_left queue last l ≡ is_after last j
@@ -248,7 +237,7 @@ module _ (cs : List LiveDot) (index : List Listed) (queue : ℕ) (s : Rise cs) (
 pub has_row : (cs : List LiveDot) (index : List Listed) (l : Listed) → Rise cs → IsIndex index (live_of cs) → Contains index l → row_of (cells_view cs) l.member ≢ None
 has_row cs index l s is here = some (dots_of (cells_view cs) l.member) _ (dots_there cs index l.member s is ∙ any-in (is_own l.member) index l here (member_itself l.member))
   where
-    some : (ds : List Tag) (row : MemberRow) → has_any ds ≡ true → row_if ds row ≢ None
+    some : (ds : List Dot) (row : MemberRow) → has_any ds ≡ true → row_if ds row ≢ None
     some [] row h none = (cc)
     some (d ∷ ds) row h none = (cc)
 
@@ -263,15 +252,11 @@ module _ (queue : ℕ) (last : Option Text) where
   passed : (m : Member) → Passed m → is_passed queue last m ≡ true
   passed m p = elim p [
     | inl l ↦ ap (λ b. b || (nat_eq m.queue queue && not (is_after last m.interface))) (below l)
-    | inr e ↦ (λ i. nat_lt m.queue queue || (same_queue m.queue queue e.0 i && not (e.1 i))) ∙ or_true (nat_lt m.queue queue)
+    | inr e ↦ (λ i. nat_lt m.queue queue || (same_queue m.queue queue e.0 i && not (e.1 i))) ∙ or-true (nat_lt m.queue queue)
   ]
     where
       below : m.queue < queue → nat_lt m.queue queue ≡ true
       below l = grind (arith, nat_tests, l)
-
-      or_true : (b : Bool) → (b || true) ≡ true
-      or_true true = refl
-      or_true false = refl
 
   by_test : (m : Member) → ((is_passed queue last m ≡ true) × Passed m) ⊎ ((is_passed queue last m ≡ false) × Stopped m)
   by_test m = split (nat_lt m.queue queue) (nat_eq m.queue queue) (is_after last m.interface) refl refl refl
@@ -310,15 +295,11 @@ module _ (queue : ℕ) (last : Option Text) where
   not_left : (l : Listed) → is_passed queue last l.member ≡ true → is_left queue last l ≡ false
   not_left l h = elim (is_so l.member h) [
     | inl q ↦ other_queue l (grind (arith, nat_tests, q))
-    | inr e ↦ ap (λ b. nat_eq queue l.member.queue && b) e.1 ∙ and_false (nat_eq queue l.member.queue)
+    | inr e ↦ ap (λ b. nat_eq queue l.member.queue && b) e.1 ∙ and-false (nat_eq queue l.member.queue)
   ]
     where
       other_queue : (l : Listed) → nat_eq queue l.member.queue ≡ false → is_left queue last l ≡ false
       other_queue l n = ap (λ b. b && is_after last l.member.interface) n
-
-      and_false : (b : Bool) → (b && false) ≡ false
-      and_false true = refl
-      and_false false = refl
 
   beyond : (l : Listed) → queue < l.member.queue → is_left queue last l ≡ false
   beyond l h = ap (λ b. b && is_after last l.member.interface) (apart h)

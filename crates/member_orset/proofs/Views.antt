@@ -7,25 +7,25 @@ use Rattle.std.specs.FinSet as sets
 use Rattle.std.specs.FinMap.Entries.{find}
 use Rattle.std.proofs.lemmas.Bool.{cases_Bool}
 use Rattle.std.proofs.lemmas.List.Elements.{All-head, All-tail}
-use Rattle.dots.specs.Values.{Tag}
+use Rattle.dots.specs.declared.limits.TheConstants.{MOST_LIVE, MOST_RUNS}
+use Rattle.dots.specs.Values.{Dot}
 use Rattle.dots.specs.Orders.{dot_cmp}
 use Rattle.dots.specs.DotSets.{run_count}
-use Rattle.causal_context.specs.Contexts.{most_runs}
 use Rattle.member_orset.specs.declared.live_dot.LiveDot.{LiveDot}
-use Rattle.member_orset.specs.Members.{Members, Holding, HasField, IsWithinLimits, most_cells}
-use Rattle.member_orset.specs.Reads.{dot_fields}
-use Rattle.member_orset.specs.Cells.{holding, entries_of, live_of, AreCells}
-use Rattle.member_orset.proofs.DotTests.{as_T, one_dot}
+use Rattle.member_orset.specs.Members.{Members, Holding, HasField, IsWithinLimits}
+use Rattle.member_orset.specs.LiveLists.{holding, entries_of, live_of, AreCells}
+use Rattle.member_orset.proofs.DotTests.{one_dot}
+use Rattle.dots.proofs.TruthTables.{truth}
 use Rattle.member_orset.proofs.CellLists.{Rise}
 
 -- the map of cells that rise has the cells as its entries
 pub entries-live_of : (cs : List LiveDot) → Rise cs → maps.entries (live_of cs) ≡ entries_of cs
 unfolding live_of
-entries-live_of cs h = maps.entries-from_sorted dot_cmp (entries_of cs) (as_T _ h)
+entries-live_of cs h = maps.entries-from_sorted dot_cmp (entries_of cs) (truth _ h)
 
-pub get-live_of : (cs : List LiveDot) (q : Tag) → Rise cs → maps.get (live_of cs) q ≡ find dot_cmp q (entries_of cs)
+pub get-live_of : (cs : List LiveDot) (q : Dot) → Rise cs → maps.get (live_of cs) q ≡ find dot_cmp q (entries_of cs)
 unfolding live_of
-get-live_of cs q h = maps.get-from_sorted dot_cmp (entries_of cs) q (as_T _ h)
+get-live_of cs q h = maps.get-from_sorted dot_cmp (entries_of cs) q (truth _ h)
 
 length-entries_of : (cs : List LiveDot) → length (entries_of cs) ≡ length cs
 length-entries_of [] = refl
@@ -38,29 +38,29 @@ pub live_of-nil : live_of [] ≡ maps.empty
 live_of-nil = maps.empty_of_len (live_of []) (len-live_of [] refl)
 
 -- what is found of a dot is known and has a field
-pub found_known : (cs : List LiveDot) (known : sets.FinSet dot_cmp) (q : Tag) (h : Holding) → All (λ c. sets.contains known c.dot ≡ true) cs → find dot_cmp q (entries_of cs) ≡ Some h → sets.contains known q ≡ true
+pub found_known : (cs : List LiveDot) (known : sets.FinSet dot_cmp) (q : Dot) (h : Holding) → All (λ c. sets.contains known c.dot ≡ true) cs → find dot_cmp q (entries_of cs) ≡ Some h → sets.contains known q ≡ true
 found_known [] known q h a e = absurd (cc)
 found_known (c ∷ cs) known q h a e = elim (cases_Bool (eq_by_cmp dot_cmp q c.dot)) [
   | inl t ↦ ap (λ d. sets.contains known d) (one_dot q c.dot t) ∙ All-head (λ c. sets.contains known c.dot ≡ true) c cs a
   | inr f ↦ found_known cs known q h (All-tail (λ c. sets.contains known c.dot ≡ true) c cs a) (ap (λ b. cond b (Some (holding c)) (find dot_cmp q (entries_of cs))) (sym f) ∙ e)
 ]
 
-pub found_field : (cs : List LiveDot) (q : Tag) (h : Holding) → All (λ c. HasField (dot_fields c.fields)) cs → find dot_cmp q (entries_of cs) ≡ Some h → HasField h.1
+pub found_field : (cs : List LiveDot) (q : Dot) (h : Holding) → All (λ c. HasField c.fields) cs → find dot_cmp q (entries_of cs) ≡ Some h → HasField h.1
 found_field [] q h a e = absurd (cc)
 found_field (c ∷ cs) q h a e = elim (cases_Bool (eq_by_cmp dot_cmp q c.dot)) [
   | inl t ↦ let same : holding c ≡ h = same_some _ _ (ap (λ b. cond b (Some (holding c)) (find dot_cmp q (entries_of cs))) (sym t) ∙ e) in
-      subst (λ (x : Holding). HasField x.1) same (All-head (λ c. HasField (dot_fields c.fields)) c cs a)
-  | inr f ↦ found_field cs q h (All-tail (λ c. HasField (dot_fields c.fields)) c cs a) (ap (λ b. cond b (Some (holding c)) (find dot_cmp q (entries_of cs))) (sym f) ∙ e)
+      subst (λ (x : Holding). HasField x.1) same (All-head (λ c. HasField c.fields) c cs a)
+  | inr f ↦ found_field cs q h (All-tail (λ c. HasField c.fields) c cs a) (ap (λ b. cond b (Some (holding c)) (find dot_cmp q (entries_of cs))) (sym f) ∙ e)
 ]
   where
     same_some : (x y : Holding) → Some x ≡ Some y → x ≡ y
     same_some x y e = cc
 
 -- what holds of every set
-pub within_limits : (s : Members) (cs : List LiveDot) (known : sets.FinSet dot_cmp) → AreCells cs known → live_of cs ≡ s.live → known ≡ s.known → run_count known ≤ most_runs → IsWithinLimits s
+pub within_limits : (s : Members) (cs : List LiveDot) (known : sets.FinSet dot_cmp) → AreCells cs known → live_of cs ≡ s.live → known ≡ s.known → run_count known ≤ MOST_RUNS → IsWithinLimits s
 within_limits s cs known a live same runs = record {
-  cells = subst (λ n. n ≤ most_cells) (sym (len-live_of cs a.sorted) ∙ ap maps.len live) a.few;
-  runs = subst (λ k. run_count k ≤ most_runs) same runs;
+  cells = subst (λ n. n ≤ MOST_LIVE) (sym (len-live_of cs a.sorted) ∙ ap maps.len live) a.few;
+  runs = subst (λ k. run_count k ≤ MOST_RUNS) same runs;
   held = λ q h e. let f = sym (get-live_of cs q a.sorted) ∙ ap (λ m. maps.get m q) live ∙ e in
       record {
         known = ap (λ k. sets.contains k q) (sym same) ∙ found_known cs known q h a.in_context f;

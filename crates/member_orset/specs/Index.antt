@@ -6,13 +6,13 @@ use Rattle.std.specs.FinMap as maps
 use Rattle.std.specs.FinSet as sets
 use Rattle.std.specs.Ordering.{eq_by_cmp, is_lt, on, then_cmp}
 use Rattle.std.specs.declared.cmp.Ordering.{Ordering}
-use Rattle.dots.specs.Values.{Tag}
+use Rattle.dots.specs.Values.{Dot}
 use Rattle.dots.specs.Orders.{dot_cmp, member_cmp}
 use Rattle.dots.specs.declared.member.Member.{Member}
 use Rattle.member_orset.specs.declared.listed.Listed.{Listed}
 use Rattle.member_orset.specs.declared.live_dot.LiveDot.{LiveDot}
 use Rattle.member_orset.specs.Members.{Holding}
-use Rattle.member_orset.specs.Cells.{AreCells, live_of}
+use Rattle.member_orset.specs.LiveLists.{AreCells, live_of}
 
 -- what the index has is ordered by member, then by dot
 abbrev pub listed_cmp : Listed → Listed → Ordering
@@ -27,11 +27,11 @@ abbrev pub Rises : List Listed → Type 0
 Rises index = IsTrue (maps.is_sorted listed_cmp (listings index))
 
 -- whether the index has a dot under a member
-abbrev pub is_listed : List Listed → Member → Tag → Bool
+abbrev pub is_listed : List Listed → Member → Dot → Bool
 is_listed index member dot = list_any (eq_by_cmp listed_cmp (record { member = member; dot = dot })) index
 
 -- whether one of two indexes has it
-abbrev pub is_listed_in_either : List Listed → List Listed → Member → Tag → Bool
+abbrev pub is_listed_in_either : List Listed → List Listed → Member → Dot → Bool
 is_listed_in_either index others member dot = is_listed index member dot || is_listed others member dot
 
 -- an entry lies before all of an index
@@ -40,7 +40,7 @@ IsBelow l index = IsTrue (maps.Entries.below_all listed_cmp l (listings index))
 
 -- the least entry of two indexes that rise, and what is left of them past it
 pub record IsLeastOf (l : Listed) (index others left left_there : List Listed) : Type 0 where
-  pub lists : (member : Member) (dot : Tag) → is_listed_in_either index others member dot ≡ (eq_by_cmp listed_cmp (record { member = member; dot = dot }) l || is_listed_in_either left left_there member dot)
+  pub lists : (member : Member) (dot : Dot) → is_listed_in_either index others member dot ≡ (eq_by_cmp listed_cmp (record { member = member; dot = dot }) l || is_listed_in_either left left_there member dot)
   pub rises : Rises left
   pub rises_there : Rises left_there
   pub least : IsBelow l left
@@ -53,13 +53,13 @@ pub record IsPlaceFor (index : List Listed) (l : Listed) (place : ℕ) : Type 0 
   pub past : AllWithin (λ x. is_lt (listed_cmp x l) ≡ false) index place (length index)
 
 -- whether a dot is live with a member
-abbrev pub is_held : maps.FinMap dot_cmp Holding → Member → Tag → Bool
+abbrev pub is_held : maps.FinMap dot_cmp Holding → Member → Dot → Bool
 is_held live member dot = option_map_or (eq_by_cmp member_cmp member) (option_map (λ h. h.0) (maps.get live dot)) false
 
 -- the index rises, and has exactly the live dots, each under its member
 pub record IsIndex (index : List Listed) (live : maps.FinMap dot_cmp Holding) : Type 0 where
   pub rises : Rises index
-  pub lists : (member : Member) (dot : Tag) → is_listed index member dot ≡ is_held live member dot
+  pub lists : (member : Member) (dot : Dot) → is_listed index member dot ≡ is_held live member dot
 
 -- what a set keeps: its cells, and their index
 pub record AreListed (cells : List LiveDot) (index : List Listed) (known : sets.FinSet dot_cmp) : Type 0 where

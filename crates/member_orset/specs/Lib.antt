@@ -4,14 +4,12 @@ pub use Rattle.dots.specs.DotSets
 pub use Rattle.dots.specs.Registers
 pub use Rattle.dots.specs.Conditions
 pub use Rattle.dots.specs.Rows
-pub mod Codes
 pub mod Members
 pub mod Reads
 pub mod Refusals
 pub mod LiveDots
-pub mod Cells
-pub mod Fronts
+pub mod LiveLists
 pub mod Index
 pub mod Joining
-pub mod Shown
-pub mod Seen
+pub mod ShownRows
+pub mod Gathering

@@ -6,16 +6,15 @@ use Rattle.std.specs.FinMap as map
 use Rattle.std.specs.FinSet as set
 use Rattle.std.specs.Ordering.{eq_by_cmp}
 use Rattle.std.specs.Coded.{Coded, code_by, coded×, coded_ℕ}
+use Rattle.dots.specs.declared.limits.TheConstants.{MOST_LIVE, MOST_RUNS}
 use Rattle.dots.specs.declared.member.Member.{Member}
-use Rattle.dots.specs.Values.{Tag}
+use Rattle.dots.specs.Values.{Dot}
 use Rattle.dots.specs.Orders.{dot_cmp}
-use Rattle.dots.specs.DotSets.{tag_code, run_count}
-use Rattle.dots.specs.Registers.{InConflict}
-use Rattle.dots.specs.Conditions.{DotFields, Condition, Live, Dead, ConditionsAgree, condition_joined}
+use Rattle.dots.specs.DotSets.{dot_code, run_count}
+use Rattle.dots.specs.Conditions.{DotFields, Condition, Live, Dead, ConditionsAgree, FieldsInConflict, condition_joined, no_fields}
 use Rattle.dots.specs.Rows.{DotView}
-use Rattle.causal_context.specs.Contexts.{most_runs}
 use Rattle.member_orset.specs.declared.join_fault.JoinFault.{JoinFault}
-use Rattle.member_orset.specs.Codes.{member_code, fields_code}
+use Rattle.dots.specs.Codes.{member_code, fields_code}
 
 -- the member and the fields of a live dot
 abbrev pub Holding : Type 0
@@ -34,13 +33,9 @@ pub record Members : Type 0 where
 abbrev pub members_code : Coded Members
 members_code =
     code_by (set.FinSet dot_cmp × (map.FinMap dot_cmp Holding × (ℕ × (ℕ × ℕ))))
-    (coded× (set.code tag_code) (coded× (map.code tag_code (coded× member_code fields_code)) (coded× coded_ℕ (coded× coded_ℕ coded_ℕ))))
+    (coded× (set.code dot_code) (coded× (map.code dot_code (coded× member_code fields_code)) (coded× coded_ℕ (coded× coded_ℕ coded_ℕ))))
     (λ s. (s.known, (s.live, (s.retired, (s.cell_room, s.run_room)))))
     (λ p. record { known = p.0; live = p.1.0; retired = p.1.1.0; cell_room = p.1.1.1.0; run_room = p.1.1.1.1 }) (λ _. refl)
-
--- the greatest number of live dots
-abbrev pub most_cells : ℕ
-most_cells = 16384
 
 -- what is said of a dot by what is live and by whether it is known
 abbrev pub condition_at : Option Holding → Bool → Option Condition
@@ -49,7 +44,7 @@ condition_at None true = Some Dead
 condition_at None false = None
 
 -- the condition of a dot
-abbrev pub condition_of : Members → Tag → Option Condition
+abbrev pub condition_of : Members → Dot → Option Condition
 condition_of s dot = condition_at (map.get s.live dot) (set.contains s.known dot)
 
 -- the same dots are known to both, and the same are live with the same members and fields
@@ -63,24 +58,20 @@ pub record IsUnchanged (old new : Members) : Type 0 where
   pub live : new.live ≡ old.live
   pub retired : new.retired ≡ old.retired
 
--- the fields of which none is set
-abbrev pub unset : DotFields
-unset = record { penalty = None; pause = None; label = None }
-
 -- some field is set
 abbrev pub HasField : DotFields → Type 0
-HasField fields = fields ≢ unset
+HasField fields = fields ≢ no_fields
 
 -- a live dot is known, and has a field
-pub record IsLiveIn (s : Members) (dot : Tag) (h : Holding) : Type 0 where
+pub record IsLiveIn (s : Members) (dot : Dot) (h : Holding) : Type 0 where
   pub known : set.contains s.known dot ≡ true
   pub set : HasField h.1
 
 -- what holds of every set: few enough live dots and runs, and of each live dot
 pub record IsWithinLimits (s : Members) : Type 0 where
-  pub cells : map.len s.live ≤ most_cells
-  pub runs : run_count s.known ≤ most_runs
-  pub held : (dot : Tag) (h : Holding) → map.get s.live dot ≡ Some h → IsLiveIn s dot h
+  pub cells : map.len s.live ≤ MOST_LIVE
+  pub runs : run_count s.known ≤ MOST_RUNS
+  pub held : (dot : Dot) (h : Holding) → map.get s.live dot ≡ Some h → IsLiveIn s dot h
 
 -- what is read of a set: its live dots are the visible ones
 abbrev pub dot_view_of : Members → DotView
@@ -93,17 +84,13 @@ dot_view_of s = record {
 }
 
 -- the conditions that are left where one dot is joined with one more condition
-abbrev pub joined_at : Members → Tag → Condition → Tag → Option Condition
+abbrev pub joined_at : Members → Dot → Condition → Dot → Option Condition
 joined_at s dot condition q =
     if eq_by_cmp dot_cmp q dot then condition_joined (condition_of s q) (Some condition) else condition_of s q
 
--- some field has one stamp and two values
-abbrev pub FieldsConflict : DotFields → DotFields → Type 0
-FieldsConflict x y = InConflict x.penalty y.penalty ⊎ InConflict x.pause y.pause ⊎ InConflict x.label y.label
-
 -- both are live, with two members or with fields in conflict
 abbrev pub ConditionsConflict : Option Condition → Option Condition → Type 0
-ConditionsConflict (Some (Live m f)) (Some (Live n g)) = (m ≢ n) ⊎ FieldsConflict f g
+ConditionsConflict (Some (Live m f)) (Some (Live n g)) = (m ≢ n) ⊎ FieldsInConflict f g
 ConditionsConflict (Some (Live m f)) (Some Dead) = ⊥
 ConditionsConflict (Some (Live m f)) None = ⊥
 ConditionsConflict (Some Dead) y = ⊥
@@ -114,36 +101,36 @@ abbrev pub most_places : ℕ
 most_places = 1048576
 
 -- how many live dots there are once a dot is live that may be known already
-abbrev pub cells_with : Members → Tag → ℕ
+abbrev pub cells_with : Members → Dot → ℕ
 cells_with s dot = if set.contains s.known dot then map.len s.live else map.len s.live + 1
 
 -- a set can take what leaves so many live dots, of which the other side has so many: they are few enough, and so are
 -- the places that aren't used again with the live dots of both sides
 pub record HasPlaces (s : Members) (after other : ℕ) : Type 0 where
-  pub few : after ≤ most_cells
+  pub few : after ≤ MOST_LIVE
   pub places : s.retired + map.len s.live + other ≤ most_places
 
 -- or it can't
 abbrev pub LacksPlaces : Members → ℕ → ℕ → Type 0
-LacksPlaces s after other = (most_cells < after) ⊎ (most_places < s.retired + map.len s.live + other)
+LacksPlaces s after other = (MOST_LIVE < after) ⊎ (most_places < s.retired + map.len s.live + other)
 
 -- a dot whose conditions in two sets are in conflict
 pub record Conflicts (s t : Members) : Type 0 where
-  pub dot : Tag
+  pub dot : Dot
   pub conflict : ConditionsConflict (condition_of s dot) (condition_of t dot)
 
 -- a dot that is live with a member
 pub record IsPresent (s : Members) (member : Member) : Type 0 where
-  pub dot : Tag
+  pub dot : Dot
   pub fields : DotFields
   pub live : map.get s.live dot ≡ Some (member, fields)
 
 -- both can be joined: each dot's conditions agree
 abbrev pub CanBeJoined : Members → Members → Type 0
-CanBeJoined s t = (dot : Tag) → ConditionsAgree (condition_of s dot) (condition_of t dot)
+CanBeJoined s t = (dot : Dot) → ConditionsAgree (condition_of s dot) (condition_of t dot)
 
 -- the condition of a dot that two sets leave together
-abbrev pub both_joined : Members → Members → Tag → Option Condition
+abbrev pub both_joined : Members → Members → Dot → Option Condition
 both_joined s t dot = condition_joined (condition_of s dot) (condition_of t dot)
 
 -- whether a condition is that a dot is live
@@ -169,14 +156,14 @@ runs_joined s t = run_count (set.union s.known t.known)
 pub record IsPrepared (s t : Members) : Type 0 where
   pub agree : CanBeJoined s t
   pub places : HasPlaces s (cells_joined s t) (map.len t.live)
-  pub runs : runs_joined s t ≤ most_runs
+  pub runs : runs_joined s t ≤ MOST_RUNS
   pub cell_room : map.len s.live + map.len t.live ≤ s.cell_room
   pub run_room : run_count s.known + run_count t.known ≤ s.run_room
 
 -- a set is the join of two: it knows the dots of both, and each dot has the join of its conditions
 pub record IsJoinOf (s t joined : Members) : Type 0 where
   pub known : joined.known ≡ set.union s.known t.known
-  pub conditions : (dot : Tag) → condition_of joined dot ≡ both_joined s t dot
+  pub conditions : (dot : Dot) → condition_of joined dot ≡ both_joined s t dot
 
 -- a set that came back was refused for this cause
 abbrev pub IsRefusedFor : Result (Unit {0}) (JoinFault × Members) → JoinFault → Type 0

@@ -3,38 +3,38 @@
 use Rattle.std.specs.Prelude.{◌<◌, ◌↔◌, Option, Some}
 use Rattle.std.specs.FinMap as map
 use Rattle.std.specs.FinSet as set
+use Rattle.dots.specs.declared.limits.TheConstants.{MOST_RUNS}
 use Rattle.dots.specs.declared.member.Member.{Member}
-use Rattle.dots.specs.Values.{Tag}
+use Rattle.dots.specs.Values.{Dot}
 use Rattle.dots.specs.DotSets.{run_count}
 use Rattle.dots.specs.Conditions.{DotFields, Condition, Live, ConditionsAgree}
-use Rattle.causal_context.specs.Contexts.{most_runs}
 use Rattle.member_orset.specs.declared.join_fault.JoinFault.{JoinFault}
 use Rattle.member_orset.specs.declared.join_fault.JoinFault.TheVariants.{Conflict, CellsFull, RunsFull}
 use Rattle.member_orset.specs.Members.{Members, CanBeJoined, Conflicts, ConditionsConflict}
 use Rattle.member_orset.specs.Members.{HasPlaces, LacksPlaces, cells_joined, cells_with, condition_of, runs_joined}
 
 -- the kill of a dot is refused for too many runs alone
-pub record IsRefusedKill (s : Members) (dot : Tag) (IsRefused : JoinFault → Type 0) : Type 0 where
+pub record IsRefusedKill (s : Members) (dot : Dot) (IsRefused : JoinFault → Type 0) : Type 0 where
   pub agrees : IsRefused Conflict → ⊥
   pub has_place : IsRefused CellsFull → ⊥
-  pub runs_full : IsRefused RunsFull ↔ (most_runs < run_count (set.insert s.known dot))
+  pub runs_full : IsRefused RunsFull ↔ (MOST_RUNS < run_count (set.insert s.known dot))
 
 -- the condition that a dot is asserted with
-abbrev pub asserted : Member → DotFields → Option Condition
-asserted member fields = Some (Live member fields)
+abbrev pub live_condition : Member → DotFields → Option Condition
+live_condition member fields = Some (Live member fields)
 
 -- the assert of a dot, with a member and fields, is refused for these causes; without a conflict the conditions agree
-pub record IsRefusedAssert (s : Members) (dot : Tag) (member : Member) (fields : DotFields)
+pub record IsRefusedAssert (s : Members) (dot : Dot) (member : Member) (fields : DotFields)
     (IsRefused : JoinFault → Type 0) : Type 0 where
   pub agree : (IsRefused Conflict → ⊥)
-      → ConditionsAgree (condition_of s dot) (asserted member fields)
+      → ConditionsAgree (condition_of s dot) (live_condition member fields)
   pub conflict : IsRefused Conflict
-      ↔ ConditionsConflict (condition_of s dot) (asserted member fields)
+      ↔ ConditionsConflict (condition_of s dot) (live_condition member fields)
   pub cells_full : IsRefused CellsFull
-      ↔ (ConditionsAgree (condition_of s dot) (asserted member fields)
+      ↔ (ConditionsAgree (condition_of s dot) (live_condition member fields)
       × LacksPlaces s (cells_with s dot) 1)
   pub runs_full : IsRefused RunsFull
-      ↔ (HasPlaces s (cells_with s dot) 1 × (most_runs < run_count (set.insert s.known dot)))
+      ↔ (HasPlaces s (cells_with s dot) 1 × (MOST_RUNS < run_count (set.insert s.known dot)))
 
 -- the join with another set is refused for these causes
 pub record IsRefusedJoin (s t : Members) (IsRefused : JoinFault → Type 0) : Type 0 where
@@ -44,4 +44,4 @@ pub record IsRefusedJoin (s t : Members) (IsRefused : JoinFault → Type 0) : Ty
   pub runs_full : IsRefused RunsFull
       ↔ (CanBeJoined s t
       × HasPlaces s (cells_joined s t) (map.len t.live)
-      × (most_runs < runs_joined s t))
+      × (MOST_RUNS < runs_joined s t))

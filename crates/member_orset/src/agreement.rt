@@ -1,7 +1,7 @@
 ghost use Rattle.std.specs.Prelude.{◌≡◌, ◌↔◌, IsTrue, IsFalse};
 ghost use Rattle.std.specs.FinMap as map;
 ghost use Rattle.dots.specs.Orders.{dot_cmp};
-ghost use Rattle.member_orset.specs.Cells.{HoldingsAgree, HoldingsConflict, IsTold, entries_of, holding, live_of};
+ghost use Rattle.member_orset.specs.LiveLists.{HoldingsAgree, HoldingsConflict, IsTold, entries_of, holding, live_of};
 
 use crate::live_dot::LiveDot;
 use crate::search::cell_at;

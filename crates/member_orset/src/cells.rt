@@ -1,7 +1,7 @@
 ghost use Rattle.std.specs.Prelude.{◌≡◌};
 ghost use Rattle.std.specs.Iterator.{YieldsFirstBy, item_count};
 ghost use Rattle.member_orset.specs.Reads.{cell_read};
-ghost use Rattle.member_orset.specs.Cells.{entries_of};
+ghost use Rattle.member_orset.specs.LiveLists.{entries_of};
 
 use crate::Cell;
 use crate::live_dot::LiveDot;
@@ -17,16 +17,16 @@ pub struct Cells<'a> {
 impl<'a> Model for Cells<'a> {
     ghost use Rattle.std.specs.Prelude.{List};
     ghost use Rattle.std.specs.Coded.{coded×, coded_list};
-    ghost use Rattle.dots.specs.Values.{Tag};
-    ghost use Rattle.dots.specs.DotSets.{tag_code};
-    ghost use Rattle.member_orset.specs.Codes.{member_code, fields_code};
+    ghost use Rattle.dots.specs.Values.{Dot};
+    ghost use Rattle.dots.specs.DotSets.{dot_code};
+    ghost use Rattle.dots.specs.Codes.{member_code, fields_code};
     ghost use Rattle.member_orset.specs.Members.{Holding};
 
-    ghost Value = { List (Tag × Holding) };
+    ghost Value = { List (Dot × Holding) };
 
-    ghost coded = { coded_list (coded× tag_code (coded× member_code fields_code)) };
+    ghost coded = { coded_list (coded× dot_code (coded× member_code fields_code)) };
 
-    ghost use Rattle.member_orset.specs.Cells.{entries_of};
+    ghost use Rattle.member_orset.specs.LiveLists.{entries_of};
 
     ghost view = { λ c. entries_of c.left.now };
 }

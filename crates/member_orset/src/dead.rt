@@ -1,25 +1,22 @@
 //! The dead dots of a site.
-ghost use Rattle.std.specs.Prelude.{◌≡◌, ◌+◌, ◌<◌, ◌≤◌, ◌^◌, ◌↔◌, IfOk, IsTrue};
+ghost use Rattle.std.specs.Prelude.{◌≡◌, ◌+◌, ◌<◌, ◌≤◌, ◌↔◌, IfOk, IsTrue};
 ghost use Rattle.std.specs.List.{All};
 ghost use Rattle.std.specs.FinMap as map;
 ghost use Rattle.std.specs.FinSet as set;
 ghost use Rattle.dots.specs.Orders.{dot_cmp};
 ghost use Rattle.dots.specs.DotSets.{AreApart, IsRunsOf, run_count};
-ghost use Rattle.causal_context.specs.Contexts.{IsRun, most_runs};
+ghost use Rattle.causal_context.specs.Contexts.{IsRun};
 ghost use Rattle.member_orset.specs.LiveDots.{dead_dots};
-ghost use Rattle.member_orset.specs.Cells.{entries_of, live_of};
-ghost use Rattle.member_orset.specs.Seen.{IsGathered, IsPiece};
+ghost use Rattle.member_orset.specs.LiveLists.{entries_of, live_of};
+ghost use Rattle.member_orset.specs.Gathering.{IsGathered, IsPiece};
 
 use crate::gathered::Gathered;
 use crate::live_dot::LiveDot;
 use crate::piece::Piece;
 use crate::seen::{gather_piece, known_piece, live_piece};
 use causal_context::{Context, ContextFault, Run};
-use dots::{Dot, SiteId};
+use dots::{Dot, MOST_COUNT, MOST_RUNS, SiteId};
 use std::alloc::Global;
-
-// The greatest count of a dot.
-const MOST_COUNT: u64 = 1 << 40;
 
 // Whether a dot is dead, and how far this is so of the counts from its own on.
 fn dead_piece(runs: &[Run], cells: &[LiveDot], from: Dot, last: u64) -> Piece
@@ -47,7 +44,7 @@ fn gather_dead_at(gathered: &mut Gathered, runs: &[Run], cells: &[LiveDot], site
     requires apart { AreApart runs.now }
     requires counts { All IsRun runs.now }
     requires rise { IsTrue (map.is_sorted dot_cmp (entries_of cells.now)) }
-    requires limit { last ≡ 2 ^ 40 }
+    requires limit { last ≡ MOST_COUNT }
     requires few { gathered.old.runs ≡ 0 }
     ensures { (known : set.FinSet dot_cmp)
         → IsRunsOf runs.now known
@@ -78,7 +75,7 @@ pub(crate) fn gather_dead(
     ensures ok { IfOk result
         (λ dead. dead.dots ≡ dead_dots context.now.dots (live_of cells.now) site) }
     ensures full { (result ≡ Err ContextFault.RunsFull)
-        ↔ (most_runs < run_count (dead_dots context.now.dots (live_of cells.now) site)) }
+        ↔ (MOST_RUNS < run_count (dead_dots context.now.dots (live_of cells.now) site)) }
 {
     let runs = context.as_slice();
     let mut gathered = Gathered::none(alloc);

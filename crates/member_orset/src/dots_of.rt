@@ -1,7 +1,7 @@
 ghost use Rattle.std.specs.Prelude.{◌≡◌};
 ghost use Rattle.std.specs.Iterator.{YieldsFirst, item_count};
 ghost use Rattle.member_orset.specs.Index.{Rises};
-ghost use Rattle.member_orset.specs.Shown.{dots_listed, group};
+ghost use Rattle.member_orset.specs.ShownRows.{dots_listed, group};
 
 use crate::groups::group_of;
 use crate::listed::Listed;
@@ -17,14 +17,14 @@ pub struct Dots<'a> {
 impl<'a> Model for Dots<'a> {
     ghost use Rattle.std.specs.Prelude.{List};
     ghost use Rattle.std.specs.Coded.{coded_list};
-    ghost use Rattle.dots.specs.Values.{Tag};
-    ghost use Rattle.dots.specs.DotSets.{tag_code};
+    ghost use Rattle.dots.specs.Values.{Dot};
+    ghost use Rattle.dots.specs.DotSets.{dot_code};
 
-    ghost Value = { List Tag };
+    ghost Value = { List Dot };
 
-    ghost coded = { coded_list tag_code };
+    ghost coded = { coded_list dot_code };
 
-    ghost use Rattle.member_orset.specs.Shown.{dots_listed};
+    ghost use Rattle.member_orset.specs.ShownRows.{dots_listed};
 
     ghost view = { λ d. dots_listed d.left.now };
 }

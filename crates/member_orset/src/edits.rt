@@ -3,14 +3,12 @@ ghost use Rattle.std.specs.FinMap as map;
 ghost use Rattle.std.specs.List.{insert};
 ghost use Rattle.std.specs.FinSet as set;
 ghost use Rattle.std.specs.Vec.{vec_capacity};
-ghost use Rattle.dots.specs.Values.{Tag};
+ghost use Rattle.dots.specs.Values.{Dot};
 ghost use Rattle.dots.specs.Orders.{dot_cmp};
 ghost use Rattle.dots.specs.DotSets.{run_count};
 ghost use Rattle.dots.specs.Conditions.{Live, Dead, ConditionsAgree};
-ghost use Rattle.causal_context.specs.Contexts.{most_runs};
-ghost use Rattle.member_orset.specs.Members.{ConditionsConflict, HasField, condition_of, joined_at, most_cells};
-ghost use Rattle.member_orset.specs.Reads.{dot_fields};
-ghost use Rattle.member_orset.specs.Cells.{AreCells, ConflictsAt, IsGap, Meets, entries_of, live_of, seen};
+ghost use Rattle.member_orset.specs.Members.{ConditionsConflict, HasField, condition_of, joined_at};
+ghost use Rattle.member_orset.specs.LiveLists.{AreCells, ConflictsAt, IsGap, Meets, entries_of, live_of, members_of};
 ghost use Rattle.member_orset.specs.Index.{AreListed, IsIndex};
 ghost use Rattle.member_orset.specs.declared.listed.Listed.{Listed as listed};
 
@@ -22,14 +20,8 @@ use crate::listed::Listed;
 use crate::live_dot::LiveDot;
 use crate::search::find;
 use causal_context::{Context, ContextFault};
-use dots::{Dot, Member, Memory};
+use dots::{Dot, MOST_LIVE, MOST_RUNS, Member, Memory};
 use lww_registers::Fields;
-
-// The greatest number of live dots.
-pub(crate) const MOST_CELLS: usize = 16_384;
-
-// The greatest number of runs of known dots.
-const MOST_RUNS: u64 = 65_536;
 
 // Takes out the cell of a dot, where it has one.
 fn take_out(cells: &mut Vec<LiveDot>, index: &mut Vec<Listed>, dot: Dot)
@@ -54,7 +46,7 @@ fn take_out(cells: &mut Vec<LiveDot>, index: &mut Vec<Listed>, dot: Dot)
 fn learn(context: &mut Context, dot: Dot) -> Result<(), JoinFault>
     ensures ok { OnOk result (context.new.dots ≡ set.insert context.old.dots dot) }
     ensures full { (result ≡ Err JoinFault.RunsFull)
-        ↔ (most_runs < run_count (set.insert context.old.dots dot)) }
+        ↔ (MOST_RUNS < run_count (set.insert context.old.dots dot)) }
     ensures agrees { result ≢ Err JoinFault.Conflict }
     ensures has_place { result ≢ Err JoinFault.CellsFull }
     ensures known_dot { set.contains context.old.dots dot ≡ true → IsOk result }
@@ -79,11 +71,11 @@ pub(crate) fn kill_dot(
     requires { AreListed cells.old.items index.old.items context.old.dots }
     ensures valid { AreListed cells.new.items index.new.items context.new.dots }
     ensures known { OnOk result (context.new.dots ≡ set.insert context.old.dots dot) }
-    ensures conditions { OnOk result ((q : Tag)
-        → condition_of (seen cells.new.items context.new.dots) q
-        ≡ joined_at (seen cells.old.items context.old.dots) dot Dead q) }
+    ensures conditions { OnOk result ((q : Dot)
+        → condition_of (members_of cells.new.items context.new.dots) q
+        ≡ joined_at (members_of cells.old.items context.old.dots) dot Dead q) }
     ensures full { (result ≡ Err JoinFault.RunsFull)
-        ↔ (most_runs < run_count (set.insert context.old.dots dot)) }
+        ↔ (MOST_RUNS < run_count (set.insert context.old.dots dot)) }
     ensures agrees { result ≢ Err JoinFault.Conflict }
     ensures has_place { result ≢ Err JoinFault.CellsFull }
     ensures known_dot { set.contains context.old.dots dot ≡ true → IsOk result }
@@ -100,11 +92,11 @@ pub(crate) fn kill_dot(
 // Why one more dot can't be known and have a cell, where there is no room for the cell.
 fn fault_without_room(context: &Context, dot: Dot) -> JoinFault
     ensures full { (result ≡ JoinFault.RunsFull)
-        ↔ (most_runs < run_count (set.insert context.now.dots dot)) }
+        ↔ (MOST_RUNS < run_count (set.insert context.now.dots dot)) }
     ensures agrees { result ≢ JoinFault.Conflict }
     ensures has_place { result ≢ JoinFault.CellsFull }
 {
-    if context.runs_with(context, dot.site(), dot.count()) > MOST_RUNS {
+    if context.runs_with(context, dot.site(), dot.count()) > MOST_RUNS as u64 {
         return JoinFault::RunsFull;
     }
     JoinFault::Memory
@@ -135,15 +127,15 @@ fn bring(
 ) -> Result<(), JoinFault>
     requires gap { IsGap cells.old.items cell.dot place }
     requires valid { AreListed cells.old.items index.old.items context.old.dots }
-    requires field { HasField (dot_fields cell.fields) }
+    requires field { HasField cell.fields }
     ensures valid { AreListed cells.new.items index.new.items context.new.dots }
     ensures ok { OnOk result (context.new.dots ≡ set.insert context.old.dots cell.dot) }
     ensures cells { OnOk result (cells.new.items ≡ insert cells.old.items place cell) }
     ensures cells_full { (result ≡ Err JoinFault.CellsFull)
-        ↔ (most_cells ≤ length cells.old.items) }
+        ↔ (MOST_LIVE ≤ length cells.old.items) }
     ensures runs_full { (result ≡ Err JoinFault.RunsFull)
-        ↔ ((length cells.old.items < most_cells)
-        × (most_runs < run_count (set.insert context.old.dots cell.dot))) }
+        ↔ ((length cells.old.items < MOST_LIVE)
+        × (MOST_RUNS < run_count (set.insert context.old.dots cell.dot))) }
     ensures agrees { result ≢ Err JoinFault.Conflict }
     ensures with_room { vec_len cells.old < vec_capacity cells.old
         → vec_len index.old < vec_capacity index.old
@@ -152,7 +144,7 @@ fn bring(
     ensures err_known { OnErr result (context.new.dots ≡ context.old.dots) }
     ensures err_live { OnErr result (cells.new.items ≡ cells.old.items) }
 {
-    if cells.len() >= MOST_CELLS {
+    if cells.len() >= MOST_LIVE {
         return Err(JoinFault::CellsFull);
     }
     if make_place(cells, index).is_err() {
@@ -176,9 +168,9 @@ fn meet(
         → AreListed cells.old.items index known
         → AreListed cells.new.items index known }
     ensures ok { OnOk result
-        (Meets cells.old.items place member.now (dot_fields fields.now) cells.new.items) }
+        (Meets cells.old.items place member.now fields.now cells.new.items) }
     ensures conflict { (result ≡ Err JoinFault.Conflict)
-        ↔ ConflictsAt cells.old.items place member.now (dot_fields fields.now) }
+        ↔ ConflictsAt cells.old.items place member.now fields.now }
     ensures only { IfErr result (λ fault. fault ≡ JoinFault.Conflict) }
     ensures err { OnErr result (cells.new.items ≡ cells.old.items) }
 {
@@ -200,27 +192,27 @@ pub(crate) fn assert_dot(
     fields: &Fields,
 ) -> Result<(), JoinFault>
     requires valid { AreListed cells.old.items index.old.items context.old.dots }
-    requires runs { run_count context.old.dots ≤ most_runs }
-    requires field { HasField (dot_fields fields.now) }
+    requires runs { run_count context.old.dots ≤ MOST_RUNS }
+    requires field { HasField fields.now }
     ensures valid { AreListed cells.new.items index.new.items context.new.dots }
     ensures known { OnOk result (context.new.dots ≡ set.insert context.old.dots dot) }
-    ensures conditions { OnOk result ((q : Tag)
-        → condition_of (seen cells.new.items context.new.dots) q
-        ≡ joined_at (seen cells.old.items context.old.dots) dot
-        (Live member.now (dot_fields fields.now)) q) }
+    ensures conditions { OnOk result ((q : Dot)
+        → condition_of (members_of cells.new.items context.new.dots) q
+        ≡ joined_at (members_of cells.old.items context.old.dots) dot
+        (Live member.now fields.now) q) }
     ensures agree { result ≢ Err JoinFault.Conflict
-        → ConditionsAgree (condition_of (seen cells.old.items context.old.dots) dot)
-        (Some (Live member.now (dot_fields fields.now))) }
+        → ConditionsAgree (condition_of (members_of cells.old.items context.old.dots) dot)
+        (Some (Live member.now fields.now)) }
     ensures conflict { (result ≡ Err JoinFault.Conflict)
         ↔ ConditionsConflict
-        (condition_of (seen cells.old.items context.old.dots) dot)
-        (Some (Live member.now (dot_fields fields.now))) }
+        (condition_of (members_of cells.old.items context.old.dots) dot)
+        (Some (Live member.now fields.now)) }
     ensures cells_full { (result ≡ Err JoinFault.CellsFull)
         ↔ ((set.contains context.old.dots dot ≡ false)
-        × (most_cells ≤ length cells.old.items)) }
+        × (MOST_LIVE ≤ length cells.old.items)) }
     ensures runs_full { (result ≡ Err JoinFault.RunsFull)
-        ↔ ((length cells.old.items < most_cells)
-        × (most_runs < run_count (set.insert context.old.dots dot))) }
+        ↔ ((length cells.old.items < MOST_LIVE)
+        × (MOST_RUNS < run_count (set.insert context.old.dots dot))) }
     ensures known_dot { set.contains context.old.dots dot ≡ true → result ≢ Err JoinFault.Memory }
     ensures with_room { vec_len cells.old < vec_capacity cells.old
         → vec_len index.old < vec_capacity index.old

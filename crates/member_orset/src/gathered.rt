@@ -2,15 +2,11 @@ ghost use Rattle.std.specs.Prelude.{◌≡◌, ◌+◌, ◌<◌, ◌≤◌, ◌^
 ghost use Rattle.std.specs.FinSet as set;
 ghost use Rattle.dots.specs.Orders.{dot_cmp};
 ghost use Rattle.dots.specs.DotSets.{dots_between, run_count};
-ghost use Rattle.causal_context.specs.Contexts.{most_runs};
-ghost use Rattle.member_orset.specs.Seen.{IsGathered, runs_after};
+ghost use Rattle.member_orset.specs.Gathering.{IsGathered, runs_after};
 
 use causal_context::{Context, ContextFault};
-use dots::SiteId;
+use dots::{MOST_COUNT, MOST_RUNS, SiteId};
 use std::alloc::Global;
-
-// The greatest number of runs of a context.
-const MOST_RUNS: u64 = 65_536;
 
 // Dots that are gathered run by run in their order, and how many runs they make. Where the context can't take more,
 // the runs are counted all the same.
@@ -38,7 +34,7 @@ impl Gathered {
     pub(crate) fn add(&mut self, site: SiteId, first: u64, last: u64, begins: bool)
         requires least { 1 ≤ first }
         requires ordered { first ≤ last }
-        requires most { last ≤ 2 ^ 40 }
+        requires most { last ≤ MOST_COUNT }
         requires few { self.old.runs < 2 ^ 60 }
         ensures gathered { (dots : set.FinSet dot_cmp)
             → IsGathered self.old dots
@@ -62,14 +58,14 @@ impl Gathered {
             → IfOk result (λ context. context.dots ≡ dots) }
         ensures full { (dots : set.FinSet dot_cmp)
             → IsGathered self dots
-            → (result ≡ Err ContextFault.RunsFull) ↔ (most_runs < run_count dots) }
+            → (result ≡ Err ContextFault.RunsFull) ↔ (MOST_RUNS < run_count dots) }
     {
         let Gathered {
             context,
             runs,
             fault,
         } = self;
-        if runs > MOST_RUNS {
+        if runs > MOST_RUNS as u64 {
             return Err(ContextFault::RunsFull);
         }
         if fault.is_some() {

@@ -2,7 +2,7 @@
 ghost use Rattle.std.specs.Prelude.{◌≡◌};
 ghost use Rattle.std.specs.List.{list_any};
 ghost use Rattle.member_orset.specs.Index.{Rises};
-ghost use Rattle.member_orset.specs.Shown.{group, is_own};
+ghost use Rattle.member_orset.specs.ShownRows.{group, is_own};
 
 use crate::listed::Listed;
 use dots::Member;

@@ -3,10 +3,10 @@ ghost use Rattle.std.specs.Prelude.{◌≡◌, ◌<◌, ◌≤◌, ◌||◌, ◌
 ghost use Rattle.std.specs.FinMap as map;
 ghost use Rattle.std.specs.Ordering.{eq_by_cmp};
 ghost use Rattle.std.specs.Vec.{vec_capacity};
-ghost use Rattle.dots.specs.Values.{Tag};
+ghost use Rattle.dots.specs.Values.{Dot};
 ghost use Rattle.dots.specs.Orders.{dot_cmp};
 ghost use Rattle.dots.specs.declared.member.Member.{Member as member};
-ghost use Rattle.member_orset.specs.Cells.{entries_of, live_of};
+ghost use Rattle.member_orset.specs.LiveLists.{entries_of, live_of};
 ghost use Rattle.member_orset.specs.Index.{IsIndex, IsPlaceFor, Rises, is_listed, listed_cmp};
 
 use crate::insertion::put_in;
@@ -27,7 +27,7 @@ pub(crate) fn list_dot(index: &mut Vec<Listed>, listed: Listed)
     requires new { is_listed index.old.items listed.member listed.dot ≡ false }
     requires room { vec_len index.old < vec_capacity index.old }
     ensures rises { Rises index.new.items }
-    ensures lists { (m : member) (dot : Tag)
+    ensures lists { (m : member) (dot : Dot)
         → is_listed index.new.items m dot
         ≡ (eq_by_cmp listed_cmp (record { member = m; dot = dot }) listed
         || is_listed index.old.items m dot) }
@@ -42,7 +42,7 @@ pub(crate) fn unlist_dot(index: &mut Vec<Listed>, listed: &Listed)
     requires rises { Rises index.old.items }
     requires there { is_listed index.old.items listed.now.member listed.now.dot ≡ true }
     ensures rises { Rises index.new.items }
-    ensures lists { (m : member) (dot : Tag)
+    ensures lists { (m : member) (dot : Dot)
         → is_listed index.new.items m dot
         ≡ (not (eq_by_cmp listed_cmp (record { member = m; dot = dot }) listed.now)
         && is_listed index.old.items m dot) }

@@ -2,11 +2,11 @@
 ghost use Rattle.std.specs.Prelude.{◌≡◌, ◌+◌, ◌<◌, ◌≤◌, ◌&&◌, IsTrue, true, length, take, drop};
 ghost use Rattle.std.specs.FinMap as map;
 ghost use Rattle.std.specs.Vec.{vec_capacity, vec_len};
-ghost use Rattle.dots.specs.Values.{Tag};
+ghost use Rattle.dots.specs.Values.{Dot};
 ghost use Rattle.dots.specs.Orders.{dot_cmp};
 ghost use Rattle.dots.specs.declared.member.Member.{Member as member};
-ghost use Rattle.member_orset.specs.Cells.{entries_of, live_of};
-ghost use Rattle.member_orset.specs.Fronts.{next_by};
+ghost use Rattle.dots.specs.Fronts.{next_by};
+ghost use Rattle.member_orset.specs.LiveLists.{entries_of, live_of};
 ghost use Rattle.member_orset.specs.Index.{IsIndex, IsLeastOf, Rises, is_held, is_listed, is_listed_in_either, listed_cmp};
 
 use crate::agreement::is_same_member;
@@ -91,7 +91,7 @@ fn merge(index: &mut [Listed], others: &[Listed], cells: &[LiveDot]) -> usize
     requires rise { IsTrue (map.is_sorted dot_cmp (entries_of cells.now)) }
     ensures within { result ≤ length index.new }
     ensures rises { Rises (take result index.new) }
-    ensures lists { (m : member) (dot : Tag)
+    ensures lists { (m : member) (dot : Dot)
         → is_listed (take result index.new) m dot
         ≡ (is_listed_in_either (drop (length others.now) index.old) others.now m
         dot
@@ -116,7 +116,7 @@ pub(crate) fn absorb_index(index: &mut Vec<Listed>, others: &[Listed], cells: &[
     requires rises { Rises index.old.items }
     requires rises_there { Rises others.now }
     requires rise { IsTrue (map.is_sorted dot_cmp (entries_of cells.now)) }
-    requires listed { (m : member) (dot : Tag)
+    requires listed { (m : member) (dot : Dot)
         → is_held (live_of cells.now) m dot ≡ true
         → is_listed_in_either index.old.items others.now m dot ≡ true }
     requires room { vec_len index.old + length others.now ≤ vec_capacity index.old }

@@ -1,16 +1,19 @@
+use thiserror::Error;
+
 /// Why a set can't take what it is joined with. Where several causes stand, the first in this order is told.
-#[derive(Clone, Copy, Debug, PartialEq, Eq)]
+#[derive(Clone, Copy, Debug, PartialEq, Eq, Error)]
 pub enum JoinFault {
     /// A dot is live on both sides with two members, or with a field of one stamp and two values.
+    #[error("conflict")]
     Conflict,
-
     /// There would be more than 16,384 live dots, or the places of dead dots that aren't used again and the live dots
     /// of both sides would be more than 1,048,576.
+    #[error("too many live dots")]
     CellsFull,
-
     /// There would be more than 65,536 runs of known dots.
+    #[error("too many runs")]
     RunsFull,
-
-    /// Memory ran out.
+    /// An allocation was refused.
+    #[error("out of memory")]
     Memory,
 }

@@ -2,10 +2,8 @@ ghost use Rattle.std.specs.Prelude.{◌≡◌, ◌≢◌, ◌+◌, ◌*◌, ◌<
 ghost use Rattle.std.specs.FinSet as set;
 ghost use Rattle.std.specs.Vec.{vec_capacity, vec_len};
 ghost use Rattle.dots.specs.DotSets.{run_count};
-ghost use Rattle.causal_context.specs.Contexts.{IsPrepared, most_runs};
-ghost use Rattle.member_orset.specs.Reads.{dot_fields};
-ghost use Rattle.member_orset.specs.Cells.{entries_of};
-ghost use Rattle.member_orset.specs.Members.{most_cells};
+ghost use Rattle.causal_context.specs.Contexts.{IsPrepared};
+ghost use Rattle.member_orset.specs.LiveLists.{entries_of};
 ghost use Rattle.member_orset.specs.Joining.{AgreeInPairs, FieldsAgreeWith, joined_entries, kept_entries, next_order};
 
 use crate::JoinFault;
@@ -14,6 +12,7 @@ use crate::kept::Kept;
 use crate::listed::Listed;
 use crate::live_dot::LiveDot;
 use causal_context::{Context, ContextFault};
+use dots::{MOST_LIVE, MOST_RUNS};
 use std::alloc::AllocError;
 use std::cmp::Ordering;
 
@@ -52,7 +51,7 @@ fn next_kept<'a>(
         (drop own.new cells.now) (drop theirs.new others.now) }
     ensures agree { AgreeInPairs (drop own.old cells.now) (drop theirs.old others.now)
         → IfSome result
-        (λ kept. FieldsAgreeWith (dot_fields kept.cell.now.fields) kept.other) }
+        (λ kept. FieldsAgreeWith kept.cell.now.fields kept.other) }
     ensures agree_after { AgreeInPairs (drop own.old cells.now) (drop theirs.old others.now)
         → AgreeInPairs (drop own.new cells.now) (drop theirs.new others.now) }
     ensures own_left { own.new ≤ length cells.now }
@@ -176,12 +175,12 @@ pub(crate) fn make_room(
     other: &Context,
     more: usize,
 ) -> Result<(), JoinFault>
-    requires few { vec_len cells.old + more ≤ 2 * most_cells }
+    requires few { vec_len cells.old + more ≤ 2 * MOST_LIVE }
     ensures room { OnOk result (vec_len cells.new + more
         ≤ min (vec_capacity cells.new) (vec_capacity index.new)) }
     ensures runs { OnOk result (IsPrepared context.new other.now.dots) }
     ensures full { (result ≡ Err JoinFault.RunsFull)
-        ↔ (most_runs < run_count (set.union context.old.dots other.now.dots)) }
+        ↔ (MOST_RUNS < run_count (set.union context.old.dots other.now.dots)) }
     ensures agrees { result ≢ Err JoinFault.Conflict }
     ensures has_place { result ≢ Err JoinFault.CellsFull }
     ensures again { IsPrepared context.old other.now.dots

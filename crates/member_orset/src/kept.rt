@@ -1,6 +1,5 @@
 ghost use Rattle.std.specs.Prelude.{◌≡◌};
-ghost use Rattle.member_orset.specs.Reads.{dot_fields};
-ghost use Rattle.member_orset.specs.Cells.{entry_of};
+ghost use Rattle.member_orset.specs.LiveLists.{entry_of};
 ghost use Rattle.member_orset.specs.Joining.{FieldsAgreeWith, kept_entry};
 
 use crate::copies::Copies;
@@ -17,7 +16,7 @@ pub(crate) struct Kept<'a> {
 impl Kept<'_> {
     // The cell that it makes.
     pub(crate) fn joined(self) -> LiveDot
-        requires { FieldsAgreeWith (dot_fields self.cell.now.fields) self.other }
+        requires { FieldsAgreeWith self.cell.now.fields self.other }
         ensures { entry_of result ≡ kept_entry self.entry }
     {
         let mut cell = self.cell.copy();

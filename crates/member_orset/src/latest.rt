@@ -1,15 +1,14 @@
 ghost use Rattle.std.specs.Prelude.{◌≡◌, IsTrue};
 ghost use Rattle.std.specs.FinMap as map;
 ghost use Rattle.std.specs.Option.{option_map};
-ghost use Rattle.dots.specs.Registers.{joined};
+ghost use Rattle.dots.specs.Registers.{join_of};
 ghost use Rattle.dots.specs.Conditions.{fields_joined};
 ghost use Rattle.dots.specs.Orders.{dot_cmp};
 ghost use Rattle.dots.specs.Rows.{row_of, row_of_fields};
 ghost use Rattle.dots.specs.Views.{row_view};
-ghost use Rattle.member_orset.specs.Reads.{dot_fields};
-ghost use Rattle.member_orset.specs.Cells.{entries_of, live_of};
+ghost use Rattle.member_orset.specs.LiveLists.{entries_of, live_of};
 ghost use Rattle.member_orset.specs.Index.{IsIndex};
-ghost use Rattle.member_orset.specs.Shown.{cells_view, dots_listed, fields_after, fields_held, fields_shown, latest_fields};
+ghost use Rattle.member_orset.specs.ShownRows.{cells_view, dots_listed, fields_after, fields_held, fields_shown, latest_fields};
 
 use crate::Row;
 use crate::groups::group_of;
@@ -29,7 +28,7 @@ pub(crate) struct Latest<'a> {
 
 // The register of the later stamp; of equal stamps the first.
 fn later<'a, T>(first: &'a Register<T>, second: &'a Register<T>) -> &'a Register<T>
-    ensures { result.now ≡ joined first.now second.now }
+    ensures { result.now ≡ join_of first.now second.now }
 {
     let Some(stamp) = first.stamp() else {
         return second;
@@ -46,7 +45,7 @@ const EMPTY: &[u8] = &[];
 impl<'a> Latest<'a> {
     // Those of one cell.
     fn of(fields: &'a Fields) -> Latest<'a>
-        ensures { latest_fields result ≡ dot_fields fields.now }
+        ensures { latest_fields result ≡ fields.now }
     {
         Latest {
             penalty: &fields.penalty,
@@ -58,7 +57,7 @@ impl<'a> Latest<'a> {
     // These, with those of a cell that follows.
     fn and(self, fields: &'a Fields) -> Latest<'a>
         ensures { latest_fields result
-            ≡ fields_joined (latest_fields self.entry) (dot_fields fields.now) }
+            ≡ fields_joined (latest_fields self.entry) fields.now }
     {
         Latest {
             penalty: later(self.penalty, &fields.penalty),
@@ -98,7 +97,7 @@ impl<'a> Latest<'a> {
 // Those of the cells before, if any, with those of a cell that follows.
 fn after<'a>(latest: Option<Latest<'a>>, fields: &'a Fields) -> Latest<'a>
     ensures { latest_fields result
-        ≡ fields_after (option_map latest_fields latest.entry) (dot_fields fields.now) }
+        ≡ fields_after (option_map latest_fields latest.entry) fields.now }
 {
     match latest {
         Some(latest) => latest.and(fields),

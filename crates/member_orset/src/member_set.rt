@@ -2,11 +2,10 @@ ghost use Rattle.std.specs.Prelude.{◌≡◌, ◌≢◌, ◌↔◌, ◌<◌, �
 ghost use Rattle.std.specs.Option.{option_map};
 ghost use Rattle.std.specs.FinMap as map;
 ghost use Rattle.std.specs.FinSet as set;
-ghost use Rattle.dots.specs.Values.{Tag};
+ghost use Rattle.dots.specs.Values.{Dot};
 ghost use Rattle.dots.specs.DotSets.{run_count};
 ghost use Rattle.dots.specs.Rows.{dots_of, row_of, rows_of};
 ghost use Rattle.dots.specs.Conditions.{Live, Dead};
-ghost use Rattle.causal_context.specs.Contexts.{most_runs};
 ghost use Rattle.member_orset.specs.Members.{CanBeJoined, Conflicts, HasField};
 ghost use Rattle.member_orset.specs.Members.{IsJoinOf, IsPrepared, IsPresent, IsRefusedFor};
 ghost use Rattle.member_orset.specs.Members.{IsUnchanged, IsWithinLimits, SaysTheSame};
@@ -14,15 +13,15 @@ ghost use Rattle.member_orset.specs.Members.{cells_joined, condition_of, joined_
 ghost use Rattle.member_orset.specs.LiveDots.{dead_dots_of, live_dots_without};
 ghost use Rattle.member_orset.specs.Refusals.{IsRefusedAssert, IsRefusedJoin, IsRefusedKill};
 ghost use Rattle.dots.specs.Views.{row_view};
-ghost use Rattle.member_orset.specs.Reads.{cell_read, dot_fields, dots_seen_below};
-ghost use Rattle.member_orset.specs.Cells.{live_of};
+ghost use Rattle.member_orset.specs.Reads.{cell_read, dots_seen_below};
+ghost use Rattle.member_orset.specs.LiveLists.{live_of};
 ghost use Rattle.member_orset.specs.Index.{AreListed};
 
 use crate::agreement::cells_agree;
 use crate::copies::copy_all;
 use crate::counting::count_without;
 use crate::dead::gather_dead;
-use crate::edits::{MOST_CELLS, assert_dot, kill_dot};
+use crate::edits::{assert_dot, kill_dot};
 use crate::groups::has_member;
 use crate::index_joining::absorb_index;
 use crate::joining::{absorb_cells, joined_count, make_room};
@@ -33,7 +32,7 @@ use crate::search::cell_at;
 use crate::seen::gather;
 use crate::{Cell, Cells, Dots, JoinFault, Row, Rows};
 use causal_context::{Context, ContextFault};
-use dots::{Dot, Member, Memory, SiteId};
+use dots::{Dot, MOST_LIVE, MOST_RUNS, Member, Memory, SiteId};
 use lww_registers::Fields;
 use std::alloc::Global;
 use std::marker::Model;
@@ -61,7 +60,7 @@ impl Model for MemberSet {
     ghost coded = { members_code };
 
     ghost use Rattle.std.specs.Prelude.{min};
-    ghost use Rattle.member_orset.specs.Cells.{live_of};
+    ghost use Rattle.member_orset.specs.LiveLists.{live_of};
     ghost use Rattle.member_orset.specs.Index.{AreListed};
 
     ghost view = { λ s. record {
@@ -185,7 +184,7 @@ impl MemberSet {
     /// never wants, nor an unknown one where there is room for one more run.
     pub fn kill(&mut self, dot: Dot) -> Result<(), JoinFault>
         ensures known { OnOk result (self.new.known ≡ set.insert self.old.known dot) }
-        ensures conditions { OnOk result ((q : Tag)
+        ensures conditions { OnOk result ((q : Dot)
             → condition_of self.new q ≡ joined_at self.old dot Dead q) }
         ensures refusals { IsRefusedKill self.old dot (λ fault. result ≡ Err fault) }
         ensures known_dot { set.contains self.old.known dot ≡ true → IsOk result }
@@ -205,13 +204,13 @@ impl MemberSet {
     /// would make more than 65,536 runs; 4 `Memory`, which a known dot never wants, nor an unknown one where there is room
     /// for one more live dot and one more run.
     pub fn assert(&mut self, dot: Dot, member: &Member, fields: &Fields) -> Result<(), JoinFault>
-        requires { HasField (dot_fields fields.now) }
+        requires { HasField fields.now }
         ensures known { OnOk result (self.new.known ≡ set.insert self.old.known dot) }
         ensures conditions { OnOk result (
-            (q : Tag) → condition_of self.new q
-            ≡ joined_at self.old dot (Live member.now (dot_fields fields.now)) q
+            (q : Dot) → condition_of self.new q
+            ≡ joined_at self.old dot (Live member.now fields.now) q
             ) }
-        ensures refusals { IsRefusedAssert self.old dot member.now (dot_fields fields.now)
+        ensures refusals { IsRefusedAssert self.old dot member.now fields.now
             (λ fault. result ≡ Err fault) }
         ensures known_dot { set.contains self.old.known dot ≡ true → result ≢ Err JoinFault.Memory }
         ensures with_room { map.len self.old.live < self.old.cell_room
@@ -254,7 +253,7 @@ impl MemberSet {
         if !self.agrees(other) {
             return Err(JoinFault::Conflict);
         }
-        if self.joined_cells(other) > MOST_CELLS {
+        if self.joined_cells(other) > MOST_LIVE {
             return Err(JoinFault::CellsFull);
         }
         make_room(
@@ -273,7 +272,7 @@ impl MemberSet {
         if !self.agrees(other) {
             return false;
         }
-        if self.joined_cells(other) > MOST_CELLS {
+        if self.joined_cells(other) > MOST_LIVE {
             return false;
         }
         if !self.context.prepared(&other.context) {
@@ -319,7 +318,7 @@ impl MemberSet {
     pub fn seen_below(&self, given: &[Dot]) -> Result<Context, ContextFault>
         ensures ok { IfOk result (λ seen. seen.dots ≡ dots_seen_below self.now given.now) }
         ensures full { (result ≡ Err ContextFault.RunsFull)
-            ↔ (most_runs < run_count (dots_seen_below self.now given.now)) }
+            ↔ (MOST_RUNS < run_count (dots_seen_below self.now given.now)) }
     {
         gather(*self.cells.allocator(), &self.context, &self.cells, given)
     }
@@ -329,7 +328,7 @@ impl MemberSet {
     pub fn dead_of(&self, site: SiteId) -> Result<Context, ContextFault>
         ensures ok { IfOk result (λ dead. dead.dots ≡ dead_dots_of self.now site) }
         ensures full { (result ≡ Err ContextFault.RunsFull)
-            ↔ (most_runs < run_count (dead_dots_of self.now site)) }
+            ↔ (MOST_RUNS < run_count (dead_dots_of self.now site)) }
     {
         gather_dead(*self.cells.allocator(), &self.context, &self.cells, site)
     }

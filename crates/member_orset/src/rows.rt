@@ -2,7 +2,8 @@ ghost use Rattle.std.specs.Prelude.{◌≡◌};
 ghost use Rattle.std.specs.Iterator.{YieldsFirstBy, item_count};
 ghost use Rattle.std.specs.Option.{option_map};
 ghost use Rattle.member_orset.specs.Index.{Rises};
-ghost use Rattle.member_orset.specs.Shown.{IsLeastAfter, is_after, is_passed, listed_row};
+ghost use Rattle.dots.specs.Views.{listed_row_view};
+ghost use Rattle.member_orset.specs.ShownRows.{IsLeastAfter, is_after, is_passed};
 
 use crate::Row;
 use crate::latest::row_in;
@@ -30,9 +31,9 @@ impl<'a> Model for Rows<'a> {
 
     ghost Value = { List (List ℕ × MemberRow) };
 
-    ghost use Rattle.member_orset.specs.Cells.{entries_of, live_of};
+    ghost use Rattle.member_orset.specs.LiveLists.{entries_of, live_of};
     ghost use Rattle.member_orset.specs.Index.{IsIndex};
-    ghost use Rattle.member_orset.specs.Shown.{cells_view, rows_after};
+    ghost use Rattle.member_orset.specs.ShownRows.{cells_view, rows_after};
 
     ghost view = { λ r. rows_after (cells_view r.cells.now) r.queue
         (option_map (λ i. i.now) r.last) };
@@ -80,9 +81,9 @@ impl<'a> Rows<'a> {
     ghost use Rattle.std.specs.Prelude.{None, IsTrue};
     ghost use Rattle.std.specs.FinMap as map;
     ghost use Rattle.dots.specs.Orders.{dot_cmp};
-    ghost use Rattle.member_orset.specs.Cells.{entries_of, live_of};
+    ghost use Rattle.member_orset.specs.LiveLists.{entries_of, live_of};
     ghost use Rattle.member_orset.specs.Index.{IsIndex};
-    ghost use Rattle.member_orset.specs.Shown.{cells_view, rows_after};
+    ghost use Rattle.member_orset.specs.ShownRows.{cells_view, rows_after};
 
     // Those of a queue in a list of cells, of which this is the index.
     pub(crate) fn of(cells: &'a [LiveDot], index: &'a [Listed], queue: u16) -> Rows<'a>
@@ -102,7 +103,7 @@ impl<'a> Rows<'a> {
 impl<'a> Iterator for Rows<'a> {
     type Item = (&'a Interface, Row<'a>);
 
-    ghost next_gives = { YieldsFirstBy listed_row (λ s. s) };
+    ghost next_gives = { YieldsFirstBy listed_row_view (λ s. s) };
 
     ghost remaining = { item_count (λ s. s) };
 

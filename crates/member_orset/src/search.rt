@@ -5,7 +5,7 @@ ghost use Rattle.std.specs.Ordering.{is_lt};
 ghost use Rattle.std.specs.FinMap as map;
 ghost use Rattle.dots.specs.Orders.{dot_cmp};
 ghost use Rattle.member_orset.specs.Reads.{cell_read};
-ghost use Rattle.member_orset.specs.Cells.{IsAt, IsGap, entries_of, live_of};
+ghost use Rattle.member_orset.specs.LiveLists.{IsAt, IsGap, entries_of, live_of};
 
 use crate::Cell;
 use crate::live_dot::LiveDot;

@@ -4,28 +4,25 @@ ghost use Rattle.std.specs.FinMap as map;
 ghost use Rattle.std.specs.FinSet as set;
 ghost use Rattle.dots.specs.Values.{IsSite};
 ghost use Rattle.dots.specs.Orders.{dot_cmp};
-ghost use Rattle.dots.specs.DotSets.{AreApart, IsRunsOf, in_stretches, run_count};
-ghost use Rattle.causal_context.specs.Contexts.{IsRun, most_runs};
+ghost use Rattle.dots.specs.DotSets.{AreApart, IsRunsOf, in_runs, run_count};
+ghost use Rattle.causal_context.specs.Contexts.{IsRun};
 ghost use Rattle.causal_context.specs.RunLists.{is_below};
-ghost use Rattle.member_orset.specs.Cells.{entries_of, live_of};
+ghost use Rattle.member_orset.specs.LiveLists.{entries_of, live_of};
 ghost use Rattle.member_orset.specs.Reads.{seen_dots};
-ghost use Rattle.member_orset.specs.Seen.{IsGathered, IsGreatest, IsPiece, is_given, part_before};
+ghost use Rattle.member_orset.specs.Gathering.{IsGathered, IsGreatest, IsPiece, is_given, part_before};
 
 use crate::gathered::Gathered;
 use crate::live_dot::LiveDot;
 use crate::piece::Piece;
 use crate::search::find;
 use causal_context::{Context, ContextFault, Run};
-use dots::{Dot, SiteId};
+use dots::{Dot, MOST_COUNT, MOST_RUNS, SITES, SiteId};
 use std::alloc::Global;
-
-// How many sites there are.
-const SITES: u16 = 64;
 
 // The greatest count of the given dots of a site: 0 where none is of it.
 fn greatest_of(given: &[Dot], site: SiteId) -> u64
     ensures greatest { IsGreatest given.now site result }
-    ensures limit { result ≤ 2 ^ 40 }
+    ensures limit { result ≤ MOST_COUNT }
     ensures sites { All (λ d. IsSite d.site) given.now }
 {
     let mut greatest: u64 = 0;
@@ -82,7 +79,7 @@ fn runs_below(runs: &[Run], dot: Dot) -> usize
 pub(crate) fn known_piece(runs: &[Run], from: Dot, last: u64) -> Piece
     requires apart { AreApart runs.now }
     requires order { from.count ≤ last }
-    ensures { IsPiece (λ n. in_stretches runs.now (record { site = from.site; count = n }))
+    ensures { IsPiece (λ n. in_runs runs.now (record { site = from.site; count = n }))
         from.count last result }
 {
     let place = runs_below(runs, from);
@@ -178,7 +175,7 @@ fn seen_piece(runs: &[Run], cells: &[LiveDot], given: &[Dot], from: Dot, last: u
 // Gathers the dots of a piece, where they are in: they go on with a run, or begin one.
 pub(crate) fn gather_piece(gathered: &mut Gathered, from: Dot, piece: Piece, goes_on: bool)
     requires order { from.count ≤ piece.last }
-    requires limit { piece.last ≤ 2 ^ 40 }
+    requires limit { piece.last ≤ MOST_COUNT }
     requires few { gathered.old.runs < 2 ^ 60 }
     ensures gathered { (dots : set.FinSet dot_cmp) (last : ℕ)
         → IsGathered gathered.old (part_before dots from.site from.count)
@@ -208,7 +205,7 @@ fn gather_site(
     requires counts { All IsRun runs.now }
     requires rise { IsTrue (map.is_sorted dot_cmp (entries_of cells.now)) }
     requires greatest { IsGreatest given.now site last }
-    requires limit { last ≤ 2 ^ 40 }
+    requires limit { last ≤ MOST_COUNT }
     requires few { gathered.old.runs ≤ site * 2 ^ 41 }
     ensures gathered { (known : set.FinSet dot_cmp)
         → IsRunsOf runs.now known
@@ -243,7 +240,7 @@ pub(crate) fn gather(
     ensures ok { IfOk result
         (λ seen. seen.dots ≡ seen_dots context.now.dots (live_of cells.now) given.now) }
     ensures full { (result ≡ Err ContextFault.RunsFull)
-        ↔ (most_runs
+        ↔ (MOST_RUNS
         < run_count (seen_dots context.now.dots (live_of cells.now) given.now)) }
 {
     let runs = context.as_slice();

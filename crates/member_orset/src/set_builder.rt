@@ -2,17 +2,16 @@ ghost use Rattle.std.specs.Prelude.{◌≡◌, ◌<◌, IsOk, IsSome, OnErr, OnO
 ghost use Rattle.std.specs.FinMap as map;
 ghost use Rattle.std.specs.FinSet as set;
 ghost use Rattle.std.specs.declared.cmp.Ordering.TheVariants.{Less};
-ghost use Rattle.dots.specs.Values.{Tag};
+ghost use Rattle.dots.specs.Values.{Dot};
 ghost use Rattle.dots.specs.Orders.{dot_cmp};
-ghost use Rattle.member_orset.specs.Members.{HasField, SaysTheSame, most_cells};
-ghost use Rattle.member_orset.specs.Reads.{dot_fields};
+ghost use Rattle.member_orset.specs.Members.{HasField, SaysTheSame};
 
 use crate::MemberSet;
 use crate::index::list_cells;
 use crate::listed::Listed;
 use crate::live_dot::LiveDot;
 use causal_context::Context;
-use dots::{Dot, Member, Memory};
+use dots::{Dot, MOST_LIVE, Member, Memory};
 use lww_registers::Fields;
 use std::alloc::Global;
 use std::marker::Model;
@@ -35,7 +34,7 @@ impl Model for SetBuilder {
     ghost coded = { members_code };
 
     ghost use Rattle.std.specs.Prelude.{min};
-    ghost use Rattle.member_orset.specs.Cells.{live_of, AreCells};
+    ghost use Rattle.member_orset.specs.LiveLists.{live_of, AreCells};
 
     ghost view = { λ b. record {
       known = b.context.dots;
@@ -79,11 +78,11 @@ impl SetBuilder {
     /// only where there is no room for one more live dot.
     pub fn cell(&mut self, dot: Dot, member: &Member, fields: &Fields) -> Result<(), Memory>
         requires in_context { set.contains self.old.known dot ≡ true }
-        requires greater { (q : Tag) → IsSome (map.get self.old.live q) → dot_cmp q dot ≡ Less }
-        requires field { HasField (dot_fields fields.now) }
-        requires room { map.len self.old.live < most_cells }
+        requires greater { (q : Dot) → IsSome (map.get self.old.live q) → dot_cmp q dot ≡ Less }
+        requires field { HasField fields.now }
+        requires room { map.len self.old.live < MOST_LIVE }
         ensures ok { OnOk result (
-            self.new.live ≡ map.insert self.old.live dot (member.now, dot_fields fields.now)
+            self.new.live ≡ map.insert self.old.live dot (member.now, fields.now)
             ) }
         ensures with_room { map.len self.old.live < self.old.cell_room → IsOk result }
         ensures known { self.new.known ≡ self.old.known }

@@ -2,8 +2,8 @@
 use Rattle.std.proofs.Common.{◌≡◌, ℕ, true, subst, inl, inr, List, [], refl, ap, append-nil}
 use Rattle.ami_session.specs.Checks.{Reaction, Replies, Asks, Ends, reaction}
 use Rattle.ami_session.specs.FieldValues.{Fields}
-use Rattle.ami_session.specs.Replies.{answer_reply}
-use Rattle.ami_session.specs.Text.{asked, asks, written}
+use Rattle.ami_session.specs.Checks.{answer_reply}
+use Rattle.ami_session.specs.Text.{asks_upon, asks, text_upon}
 use Rattle.replica.specs.Steps.{SiteKnowledge}
 use Rattle.status_report.specs.Knowing.{answer_in}
 use Rattle.status_report.specs.declared.asks.Answer.{Answer}
@@ -11,8 +11,8 @@ use Rattle.replica.specs.Site.{SiteState}
 use Rattle.replica.specs.Standing.{StandsFor}
 use Rattle.queue_sites.specs.declared.script.Output.{Output}
 use Rattle.queue_sites.specs.ScriptLines.{IsMessage, Message, Nothing, Sense, Unknown}
-use Rattle.queue_sites.specs.Script.{Place, answers_in, given_by, not_understood, nothing_given, trusted}
-use Rattle.queue_sites.specs.LineSteps.{IsOutput, IsReplied, IsUnknown, acted}
+use Rattle.queue_sites.specs.Script.{Place, answers_in, given_by, not_understood, nothing_given, trusted_session}
+use Rattle.queue_sites.specs.LineSteps.{IsOutput, IsReplied, IsUnknown, given_by_reaction}
 
 -- no more messages, no more replies
 abbrev no_replies : List Answer → List ℕ
@@ -20,15 +20,15 @@ no_replies answers = []
 
 -- a reaction alone
 reacted : (place : Place) (s : SiteKnowledge) (r : Reaction)
-    → (let answered = answers_in place s (asked r []) in record { after = answered.0; text = written r no_replies answered.1; understood = true }) ≡ acted place s r
+    → (let answered = answers_in place s (asks_upon r []) in record { after = answered.0; text = text_upon r no_replies answered.1; understood = true }) ≡ given_by_reaction place s r
 reacted place s (Replies bytes) = ap (λ text. record { after = s; text = text; understood = true }) (append-nil bytes)
 reacted place s (Ends bytes) = refl
 reacted place s (Asks ask waiting) =
     let answered = answer_in place.site place.names s ask in
     ap (λ text. record { after = answered.0; text = text; understood = true }) (append-nil (answer_reply waiting answered.1))
 
-pub given-is : (place : Place) (s : SiteKnowledge) (message : Fields) → given_by place s message ≡ acted place s (reaction trusted message)
-given-is place s message = reacted place s (reaction trusted message)
+pub given-is : (place : Place) (s : SiteKnowledge) (message : Fields) → given_by place s message ≡ given_by_reaction place s (reaction trusted_session message)
+given-is place s message = reacted place s (reaction trusted_session message)
 
 -- the output of a line that asks nothing
 pub output-nothing : (place : Place) (s : SiteKnowledge) (number : ℕ) (sense : Sense) (new : SiteState) (output : Output) → Nothing ≡ sense → StandsFor new s

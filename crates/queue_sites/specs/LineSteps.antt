@@ -3,7 +3,7 @@ use Rattle.std.specs.Prelude.{ℕ, ◌≡◌, Bool, true, false, List, ◌++◌,
 use Rattle.std.specs.Io.KnownBytes.{append_known}
 use Rattle.ami_session.specs.Checks.{Reaction, Replies, Asks, Ends}
 use Rattle.ami_session.specs.FieldValues.{Fields}
-use Rattle.ami_session.specs.Replies.{answer_reply}
+use Rattle.ami_session.specs.Checks.{answer_reply}
 use Rattle.replica.specs.Site.{SiteState}
 use Rattle.replica.specs.Standing.{StandsFor}
 use Rattle.replica.specs.Steps.{SiteKnowledge}
@@ -24,10 +24,10 @@ pub record IsAnswer (place : Place) (s : SiteKnowledge) (ask : Ask) (new : SiteS
   pub is : answer ≡ (answer_in place.site place.names s ask).1
 
 -- what is written of a reaction
-abbrev pub acted : Place → SiteKnowledge → Reaction → Given
-acted place s (Replies bytes) = record { after = s; text = bytes; understood = true }
-acted place s (Ends bytes) = record { after = s; text = bytes; understood = true }
-acted place s (Asks ask waiting) =
+abbrev pub given_by_reaction : Place → SiteKnowledge → Reaction → Given
+given_by_reaction place s (Replies bytes) = record { after = s; text = bytes; understood = true }
+given_by_reaction place s (Ends bytes) = record { after = s; text = bytes; understood = true }
+given_by_reaction place s (Asks ask waiting) =
     let answered = answer_in place.site place.names s ask in record { after = answered.0; text = answer_reply waiting answered.1; understood = true }
 
 -- a replica stands for what the site knows after something was given, and this is its text
@@ -36,7 +36,7 @@ pub record Holds (given : Given) (new : SiteState) (text : List ℕ) : Type 0 wh
   pub is : text ≡ given.text
 
 abbrev pub IsActed : Place → SiteKnowledge → Reaction → SiteState → List ℕ → Type 0
-IsActed place s reaction new text = Holds (acted place s reaction) new text
+IsActed place s reaction new text = Holds (given_by_reaction place s reaction) new text
 
 abbrev pub IsReplied : Place → SiteKnowledge → Fields → SiteState → List ℕ → Type 0
 IsReplied place s message new text = Holds (given_by place s message) new text

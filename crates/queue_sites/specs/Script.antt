@@ -30,14 +30,14 @@ answers_in place s (ask ∷ more) =
     (rest.0, first.1 ∷ rest.1)
 
 -- a session that needs no Login
-abbrev pub trusted : SessionState
-trusted = record { login = None; logged_in = true }
+abbrev pub trusted_session : SessionState
+trusted_session = record { login = None; logged_in = true }
 
 -- a message gives the replies of a trusted session of this one message, in which the site answers what is asked
 abbrev pub given_by : Place → SiteKnowledge → Fields → Given
 given_by place s message =
-    let answered = answers_in place s (asks trusted (message ∷ [])) in
-    record { after = answered.0; text = replies trusted (message ∷ []) answered.1; understood = true }
+    let answered = answers_in place s (asks trusted_session (message ∷ [])) in
+    record { after = answered.0; text = replies trusted_session (message ∷ []) answered.1; understood = true }
 
 -- a line that asks nothing gives nothing
 abbrev pub nothing_given : SiteKnowledge → Given

@@ -1,7 +1,7 @@
 ghost use Rattle.std.specs.Prelude.{◌≡◌, ◌≢◌, ◌≤◌, ◌++◌, ◌+◌, ◌⊎◌, true, false, codes, decimal, length, vec_len, IfOk, IfErr, OnOk, IsErrOf};
 ghost use Rattle.replica.specs.Standing.{StandsFor};
 ghost use Rattle.replica.specs.Steps.{SiteKnowledge};
-ghost use Rattle.ami_session.specs.Views.{seen};
+ghost use Rattle.ami_session.specs.Views.{reaction_of};
 ghost use Rattle.queue_sites.specs.ScriptLines.{Message as asks_message, sense_of};
 ghost use Rattle.queue_sites.specs.Script.{HasBegun, HasGiven, HasWritten, IsRun, IsRunInPart};
 ghost use Rattle.queue_sites.specs.LineSteps.{BeganLine, GaveLine, IsActed, IsAnswer, IsOutput, IsReplied, IsUnknown, place_of};
@@ -202,7 +202,7 @@ fn run_message(
 // What is written of what a session does. The one fault is `Memory`.
 fn run_act(alloc: Global, replica: &mut Replica, act: Act) -> Result<Vec<u8>, ScriptFault>
     ensures ok { IfOk result (λ text. (s : SiteKnowledge) → StandsFor replica.old s
-        → IsActed (place_of replica.old) s (seen act) replica.new text.items) }
+        → IsActed (place_of replica.old) s (reaction_of act) replica.new text.items) }
     ensures place { place_of replica.new ≡ place_of replica.old }
     ensures fault { IfErr result (λ fault. fault ≡ ScriptFault.Memory) }
 {

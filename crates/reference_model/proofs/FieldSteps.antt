@@ -2,9 +2,9 @@
 use Rattle.std.proofs.Common.{◌≡◌, Bool, true, false, List, ◌∷◌, Option, Some, None, if◌then◌else◌, refl, sym, ap, ◌∙◌}
 use Rattle.std.specs.List.{filter_map, cons_option}
 use Rattle.std.specs.Ordering.{is_lt}
-use Rattle.dots.specs.Values.{Tag}
+use Rattle.dots.specs.Values.{Dot}
 use Rattle.dots.specs.Orders.{stamp_cmp}
-use Rattle.dots.specs.Registers.{Entry, joined}
+use Rattle.dots.specs.Registers.{Entry, join_of}
 use Rattle.dots.specs.Operations.{Operation, Field, penalty_field, pause_field, label_field}
 use Rattle.dots.specs.Conditions.{DotFields, fields_in, fields_joined}
 use Rattle.dots.specs.Knowledge.{Knowledge, asserts, field_of, latest_of, settings_of}
@@ -22,7 +22,7 @@ unfolding through
 entry_through see None = refl
 entry_through see (Some e) = refl
 
-joined_through : {A B : Type 0} (see : A → B) (x y : Option (Entry A)) → through see (joined x y) ≡ joined (through see x) (through see y)
+joined_through : {A B : Type 0} (see : A → B) (x y : Option (Entry A)) → through see (join_of x y) ≡ join_of (through see x) (through see y)
 unfolding through
 joined_through see None y = refl
 joined_through see (Some a) None = refl
@@ -31,12 +31,12 @@ joined_through {A} {B} see (Some a) (Some b) =
     elim (is_lt (stamp_cmp a.stamp b.stamp)) as (λ t. through see (Some (if t then b else a)) ≡ Some (if t then seen b else seen a)) [ true ↦ refl | false ↦ refl ]
 
 -- the later entry is seen as the later of both that are seen
-pub later_is : {A B : Type 0} (see : A → B) (x y r : Option (Held A)) → entry_of (λ v. v) r ≡ joined (entry_of (λ v. v) x) (entry_of (λ v. v) y) → entry_of see r ≡ joined (entry_of see x) (entry_of see y)
+pub later_is : {A B : Type 0} (see : A → B) (x y r : Option (Held A)) → entry_of (λ v. v) r ≡ join_of (entry_of (λ v. v) x) (entry_of (λ v. v) y) → entry_of see r ≡ join_of (entry_of see x) (entry_of see y)
 later_is see x y r h =
     entry_through see r
     ∙ ap (through see) h
     ∙ joined_through see (entry_of (λ v. v) x) (entry_of (λ v. v) y)
-    ∙ (λ i. joined (sym (entry_through see x) i) (sym (entry_through see y) i))
+    ∙ (λ i. join_of (sym (entry_through see x) i) (sym (entry_through see y) i))
 
 -- ---- joins of all three fields
 pub fields_assoc : (x y z : DotFields) → fields_joined (fields_joined x y) z ≡ fields_joined x (fields_joined y z)
@@ -47,23 +47,23 @@ fields_assoc x y z = λ i. record {
 }
 
 -- ---- one operation more
-latest_first : {T : Type 0} (x : Option (Entry T)) (es : List (Entry T)) → latest_of (cons_option x es) ≡ joined x (latest_of es)
+latest_first : {T : Type 0} (x : Option (Entry T)) (es : List (Entry T)) → latest_of (cons_option x es) ≡ join_of x (latest_of es)
 latest_first None es = refl
 latest_first (Some e) es = refl
 
 set_if : {T : Type 0} → Bool → Option (Entry T) → List (Entry T) → Option (Entry T)
 set_if b x es = latest_of (cons_option (if b then x else None) es)
 
-field_asserted : {T : Type 0} (field : Field T) (o : Operation) (k : Knowledge) (dot : Tag) → asserts dot o ≡ true → field_of field (o ∷ k) dot ≡ joined (field o) (field_of field k dot)
+field_asserted : {T : Type 0} (field : Field T) (o : Operation) (k : Knowledge) (dot : Dot) → asserts dot o ≡ true → field_of field (o ∷ k) dot ≡ join_of (field o) (field_of field k dot)
 unfolding set_if
 field_asserted field o k dot there = ap (λ b. set_if b (field o) (settings_of field k dot)) there ∙ latest_first (field o) (settings_of field k dot)
 
-field_passed : {T : Type 0} (field : Field T) (o : Operation) (k : Knowledge) (dot : Tag) → asserts dot o ≡ false → field_of field (o ∷ k) dot ≡ field_of field k dot
+field_passed : {T : Type 0} (field : Field T) (o : Operation) (k : Knowledge) (dot : Dot) → asserts dot o ≡ false → field_of field (o ∷ k) dot ≡ field_of field k dot
 unfolding set_if
 field_passed field o k dot absent = ap (λ b. set_if b (field o) (settings_of field k dot)) absent
 
 -- an operation that asserts the dot has its settings joined
-pub fields_asserted : (o : Operation) (k : Knowledge) (dot : Tag) → asserts dot o ≡ true → fields_in (o ∷ k) dot ≡ fields_joined (fields_set o) (fields_in k dot)
+pub fields_asserted : (o : Operation) (k : Knowledge) (dot : Dot) → asserts dot o ≡ true → fields_in (o ∷ k) dot ≡ fields_joined (fields_set o) (fields_in k dot)
 fields_asserted o k dot there = λ i. record {
   penalty = field_asserted penalty_field o k dot there i;
   pause = field_asserted pause_field o k dot there i;
@@ -71,7 +71,7 @@ fields_asserted o k dot there = λ i. record {
 }
 
 -- one that doesn't changes nothing
-pub fields_passed : (o : Operation) (k : Knowledge) (dot : Tag) → asserts dot o ≡ false → fields_in (o ∷ k) dot ≡ fields_in k dot
+pub fields_passed : (o : Operation) (k : Knowledge) (dot : Dot) → asserts dot o ≡ false → fields_in (o ∷ k) dot ≡ fields_in k dot
 fields_passed o k dot absent = λ i. record {
   penalty = field_passed penalty_field o k dot absent i;
   pause = field_passed pause_field o k dot absent i;
@@ -79,7 +79,7 @@ fields_passed o k dot absent = λ i. record {
 }
 
 -- one dot more
-pub fields_over_more : (k : Knowledge) (dot : Tag) (dots : List Tag) → fields_over k (dot ∷ dots) ≡ fields_joined (fields_in k dot) (fields_over k dots)
+pub fields_over_more : (k : Knowledge) (dot : Dot) (dots : List Dot) → fields_over k (dot ∷ dots) ≡ fields_joined (fields_in k dot) (fields_over k dots)
 fields_over_more k dot dots = λ i. record {
   penalty = latest_first (field_of penalty_field k dot) (filter_map (field_of penalty_field k) dots) i;
   pause = latest_first (field_of pause_field k dot) (filter_map (field_of pause_field k) dots) i;

@@ -8,20 +8,21 @@ use Rattle.std.specs.FinMap as map
 use Rattle.std.specs.FinSet as set
 use Rattle.std.specs.Ordering.{eq_by_cmp}
 use Rattle.std.proofs.lemmas.Cmp.{nat_list_cmp_total}
-use Rattle.dots.specs.Values.{Tag}
+use Rattle.dots.specs.Values.{Dot}
 use Rattle.dots.specs.Orders.{text_cmp}
 use Rattle.dots.specs.Knowledge.{Knowledge, member_of}
 use Rattle.dots.specs.Rows.{DotView, MemberRow, dot_view, interface_in, interfaces_of, row_of}
 use Rattle.dots.specs.SetItems.{in_order}
 use Rattle.dots.proofs.ItemOrder.{units, in_order-list}
-use Rattle.reference_model.proofs.SetSteps.{any_insert, each_insert, rises, true_test}
+use Rattle.dots.proofs.TruthTables.{truth}
+use Rattle.reference_model.proofs.SetSteps.{any_insert, each_insert, rises}
 
 -- the row of an interface in a queue, with the interface
 abbrev pub row_at : Knowledge → ℕ → List ℕ → Option (List ℕ × MemberRow)
 row_at k queue interface = option_map (λ row. (interface, row)) (row_of (dot_view k) (record { queue = queue; interface = interface }))
 
 -- the interface of a dot's member, where that is in the queue
-abbrev pub interface_at : Knowledge → ℕ → Tag → Option (List ℕ)
+abbrev pub interface_at : Knowledge → ℕ → Dot → Option (List ℕ)
 interface_at k queue dot = option_and_then (interface_in queue) (member_of k dot)
 
 -- ---- the interfaces
@@ -33,7 +34,7 @@ pub interface_list : (r : DotView) (queue : ℕ) (found : List (Bor (List ℕ)))
 unfolding interfaces_of
 interface_list r queue found has sorted =
     let texts = each (λ (i : Bor (List ℕ)). i.now) found in
-    let rising : T (map.is_sorted text_cmp (units texts)) = true_test (map.is_sorted text_cmp (units texts)) (rises text_cmp (λ (i : Bor (List ℕ)). i.now) found sorted) in
+    let rising : T (map.is_sorted text_cmp (units texts)) = truth (map.is_sorted text_cmp (units texts)) (rises text_cmp (λ (i : Bor (List ℕ)). i.now) found sorted) in
     sym (in_order-list nat_list_cmp_total (set.slice_cmp-IsAntisymmetric set.nat_cmp-IsAntisymmetric) (interfaces_of r queue) texts rising (λ q.
     set.contains-from_list nat_list_cmp_total (filter_map (λ dot. option_and_then (interface_in queue) (r.member dot)) (in_order r.visible)) q ∙ sym (has q)))
 
@@ -46,7 +47,7 @@ one_interface_more q key old new is =
     ∙ ap (list_any (eq_by_cmp text_cmp q)) (each_insert text_cmp now key old)
     ∙ any_insert text_cmp nat_list_cmp_total q key.now (each now old)
 
-module _ (k : Knowledge) (queue : ℕ) (q : List ℕ) (dot : Tag) (left rest : List Tag) (is : left ≡ dot ∷ rest) where
+module _ (k : Knowledge) (queue : ℕ) (q : List ℕ) (dot : Dot) (left rest : List Dot) (is : left ≡ dot ∷ rest) where
   any_at : Option (List ℕ) → Bool
   any_at o = list_any (eq_by_cmp text_cmp q) (cons_option o (filter_map (interface_at k queue) rest))
 

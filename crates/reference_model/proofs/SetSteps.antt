@@ -1,5 +1,5 @@
 -- Sets that are kept in order.
-use Rattle.std.proofs.Common.{◌≡◌, Bool, true, false, ◌&&◌, ◌||◌, List, [], ◌∷◌, T, map as each, refl, sym, ap, subst, ◌∙◌}
+use Rattle.std.proofs.Common.{◌≡◌, Bool, true, false, ◌&&◌, ◌||◌, List, [], ◌∷◌, map as each, refl, sym, ap, ◌∙◌}
 use Rattle.std.specs.List.{list_any, AllByRecursion}
 use Rattle.std.specs.List.Sorted.{IsStrictlySortedBy}
 use Rattle.std.specs.BTreeSet.{insert_key}
@@ -11,35 +11,24 @@ use Rattle.std.specs.declared.cmp.Ordering.{Ordering}
 use Rattle.std.specs.declared.cmp.Ordering.TheVariants.{Less, Equal, Greater}
 use Rattle.std.proofs.lemmas.Cmp.{alike_right}
 use Rattle.std.proofs.lemmas.Map.Keys.{sorted_head, sorted_tail}
+use Rattle.std.proofs.Math.Bool.{or-false, or_assoc, or_comm}
 use Rattle.dots.proofs.ItemOrder.{units}
 
 -- ---- tests
-pub or_nothing : (b : Bool) → (b || false) ≡ b
-or_nothing true = refl
-or_nothing false = refl
-
-pub or_later : (a b c : Bool) → ((a || b) || c) ≡ (a || (b || c))
-or_later true b c = refl
-or_later false b c = refl
-
-or_turned : (a b : Bool) → (a || b) ≡ (b || a)
-or_turned true true = refl
-or_turned true false = refl
-or_turned false b = sym (or_nothing b)
 
 or_twice : (a b : Bool) → (a || b) ≡ ((a || b) || a)
 or_twice true b = refl
-or_twice false b = sym (or_nothing b)
+or_twice false b = sym (or-false b)
 
 -- a loop's turn: a is what was there so far, and what is left is added to it
 pub adds_first : (a first rest left new all : Bool) → left ≡ (first || rest) → new ≡ (a || first) → (a || left) ≡ all → (new || rest) ≡ all
-adds_first a first rest left new all is made h = ap (λ b. b || rest) made ∙ or_later a first rest ∙ ap (λ b. a || b) (sym is) ∙ h
+adds_first a first rest left new all is made h = ap (λ b. b || rest) made ∙ or_assoc a first rest ∙ ap (λ b. a || b) (sym is) ∙ h
 
 -- ---- one key more
 module _ {K : Type 0} (R : K → K → Ordering) where
   -- a set with one key more has what it had, and the key
   pub any_insert : IsTotalOrder R → (q k : K) (ks : List K) → list_any (eq_by_cmp R q) (insert_key R ks k) ≡ (list_any (eq_by_cmp R q) ks || eq_by_cmp R q k)
-  any_insert o q k [] = or_nothing (eq_by_cmp R q k)
+  any_insert o q k [] = or-false (eq_by_cmp R q k)
   any_insert o q k (x ∷ xs) = by (R k x) refl (any_insert o q k xs)
     where
       has : K → Bool
@@ -47,11 +36,11 @@ module _ {K : Type 0} (R : K → K → Ordering) where
 
       by : (r : Ordering) → R k x ≡ r → list_any (eq_by_cmp R q) (insert_key R xs k) ≡ (list_any (eq_by_cmp R q) xs || eq_by_cmp R q k)
           → list_any (eq_by_cmp R q) (match_ordering r (k ∷ x ∷ xs) (x ∷ xs) (x ∷ insert_key R xs k)) ≡ ((eq_by_cmp R q x || list_any (eq_by_cmp R q) xs) || eq_by_cmp R q k)
-      by Less e rest = or_turned (eq_by_cmp R q k) (eq_by_cmp R q x || list_any (eq_by_cmp R q) xs)
+      by Less e rest = or_comm (eq_by_cmp R q k) (eq_by_cmp R q x || list_any (eq_by_cmp R q) xs)
       by Equal e rest =
           or_twice (eq_by_cmp R q x) (list_any (eq_by_cmp R q) xs)
           ∙ ap (λ b. (eq_by_cmp R q x || list_any (eq_by_cmp R q) xs) || b) (sym (ap is_eq (alike_right o k x q e)))
-      by Greater e rest = ap (λ b. eq_by_cmp R q x || b) rest ∙ sym (or_later (eq_by_cmp R q x) (list_any (eq_by_cmp R q) xs) (eq_by_cmp R q k))
+      by Greater e rest = ap (λ b. eq_by_cmp R q x || b) rest ∙ sym (or_assoc (eq_by_cmp R q x) (list_any (eq_by_cmp R q) xs) (eq_by_cmp R q k))
 
   module _ {A : Type 0} (see : A → K) where
     -- keys that are inserted by what is seen of them
@@ -79,6 +68,3 @@ module _ {K : Type 0} (R : K → K → Ordering) where
 pub each_itself : {K : Type 0} (ks : List K) → each (λ k. k) ks ≡ ks
 each_itself [] = refl
 each_itself (k ∷ ks) = ap (λ rest. k ∷ rest) (each_itself ks)
-
-pub true_test : (b : Bool) → b ≡ true → T b
-true_test b h = subst T (sym h) tt

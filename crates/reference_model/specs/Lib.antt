@@ -1,2 +1,4 @@
+pub mod NextDots
 pub mod Plain
+pub mod Sites
 pub mod Views

@@ -3,17 +3,10 @@ use Rattle.std.specs.Prelude.{List, map as each}
 use Rattle.std.specs.FinSet as set
 use Rattle.dots.specs.Knowledge.{Knowledge}
 use Rattle.dots.specs.Operations as defined
-use Rattle.reference_model.specs.declared.calls.Calls.{Calls}
-use Rattle.reference_model.specs.declared.calls.Calls.TheVariants.{Completed, Abandoned}
 use Rattle.reference_model.specs.declared.setting.Setting.{Setting}
 use Rattle.reference_model.specs.declared.setting.Setting.TheVariants.{Penalty, Pause, Label}
 use Rattle.reference_model.specs.declared.operation.Operation.{Operation}
 use Rattle.reference_model.specs.declared.operation.Operation.TheVariants.{Add, Write, Remove, Count}
-
--- the calls that are counted
-abbrev pub calls_of : Calls → defined.Calls
-calls_of Completed = defined.Completed
-calls_of Abandoned = defined.Abandoned
 
 -- a field with its value
 abbrev pub setting_of : Setting → defined.Setting
@@ -26,7 +19,7 @@ abbrev pub operation_of : Operation → defined.Operation
 operation_of (Add dot member stamp penalty pause label older) = defined.Add dot member stamp penalty pause label (set.from_list older.items)
 operation_of (Write dots setting stamp older) = defined.Write dots.items (setting_of setting) stamp (set.from_list older.items)
 operation_of (Remove dots) = defined.Remove (set.from_list dots.items)
-operation_of (Count site queue calls total) = defined.Count site queue (calls_of calls) total
+operation_of (Count site queue calls total) = defined.Count site queue calls total
 
 -- the knowledge of these operations
 abbrev pub knowledge_of : List Operation → Knowledge

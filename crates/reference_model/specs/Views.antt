@@ -1,7 +1,7 @@
 -- What is seen of entries and fields, without where they lie in memory.
 use Rattle.std.specs.Prelude.{List, Option, Some, None}
 use Rattle.std.specs.List.{filter_map}
-use Rattle.dots.specs.Values.{Tag}
+use Rattle.dots.specs.Values.{Dot}
 use Rattle.dots.specs.Conditions.{DotFields}
 use Rattle.dots.specs.Knowledge.{Knowledge, field_of, latest_of}
 use Rattle.dots.specs.Operations.{Operation, penalty_field, pause_field, label_field}
@@ -27,7 +27,7 @@ abbrev pub fields_set : Operation → DotFields
 fields_set o = record { penalty = penalty_field o; pause = pause_field o; label = label_field o }
 
 -- the fields of dots together: of each the entry of the greatest stamp, of equal stamps that of the first dot
-abbrev pub fields_over : Knowledge → List Tag → DotFields
+abbrev pub fields_over : Knowledge → List Dot → DotFields
 fields_over k dots = record {
   penalty = latest_of (filter_map (field_of penalty_field k) dots);
   pause = latest_of (filter_map (field_of pause_field k) dots);

@@ -2,7 +2,7 @@
 ghost use Rattle.std.specs.Prelude.{◌≡◌, ◌||◌, not, filter, option_map, IfOk, OnOk};
 ghost use Rattle.std.specs.List.{list_any};
 ghost use Rattle.std.specs.List.Sorted.{IsStrictlySortedBy};
-ghost use Rattle.dots.specs.Values.{Tag};
+ghost use Rattle.dots.specs.Values.{Dot};
 ghost use Rattle.dots.specs.Knowledge.{is_dot, asserts, is_asserted, is_named, member_of, visible_dots};
 ghost use Rattle.dots.specs.Orders.{dot_cmp};
 ghost use Rattle.dots.specs.Rows.{dot_view, dots_of, is_of};
@@ -23,7 +23,7 @@ fn is_named(operations: &[Operation], dot: Dot) -> bool
 
 // Adds the dots that an operation asserts.
 fn add_asserted(found: &mut BTreeSet<Dot>, operation: &Operation) -> Result<(), Memory>
-    ensures { OnOk result ((dot : Tag) → list_any (is_dot dot) found.new.keys
+    ensures { OnOk result ((dot : Dot) → list_any (is_dot dot) found.new.keys
         ≡ (list_any (is_dot dot) found.old.keys || asserts dot (operation_of operation.now))) }
 {
     match operation {
@@ -37,7 +37,7 @@ fn add_asserted(found: &mut BTreeSet<Dot>, operation: &Operation) -> Result<(), 
 }
 
 fn add_dots(found: &mut BTreeSet<Dot>, dots: &[(Dot, Member)]) -> Result<(), Memory>
-    ensures { OnOk result ((dot : Tag) → list_any (is_dot dot) found.new.keys
+    ensures { OnOk result ((dot : Dot) → list_any (is_dot dot) found.new.keys
         ≡ (list_any (is_dot dot) found.old.keys || list_any (λ p. is_dot dot p.0) dots.now)) }
 {
     for (dot, _) in dots {
@@ -47,12 +47,37 @@ fn add_dots(found: &mut BTreeSet<Dot>, dots: &[(Dot, Member)]) -> Result<(), Mem
 }
 
 // The dots that some operation asserts.
-fn asserted_dots(alloc: Global, operations: &[Operation]) -> Result<BTreeSet<Dot>, Memory>
-    ensures { IfOk result (λ found. (dot : Tag) → list_any (is_dot dot) found.keys ≡ is_asserted (knowledge_of operations.now) dot) }
+pub(crate) fn asserted_dots(
+    alloc: Global,
+    operations: &[Operation],
+) -> Result<BTreeSet<Dot>, Memory>
+    ensures { IfOk result (λ found. (dot : Dot) → list_any (is_dot dot) found.keys ≡ is_asserted (knowledge_of operations.now) dot) }
 {
     let mut found = BTreeSet::new(alloc);
     for operation in operations {
         add_asserted(&mut found, operation)?;
+    }
+    Ok(found)
+}
+
+// Adds these dots.
+pub(crate) fn insert_each(found: &mut BTreeSet<Dot>, dots: &[Dot]) -> Result<(), Memory>
+    ensures { OnOk result ((dot : Dot) → list_any (is_dot dot) found.new.keys
+        ≡ (list_any (is_dot dot) found.old.keys || list_any (is_dot dot) dots.now)) }
+{
+    for dot in dots {
+        found.insert(*dot)?;
+    }
+    Ok(())
+}
+
+// The dots that some operation names.
+pub(crate) fn named_dots(alloc: Global, operations: &[Operation]) -> Result<BTreeSet<Dot>, Memory>
+    ensures { IfOk result (λ found. (dot : Dot) → list_any (is_dot dot) found.keys ≡ is_named (knowledge_of operations.now) dot) }
+{
+    let mut found = BTreeSet::new(alloc);
+    for operation in operations {
+        insert_each(&mut found, operation.named())?;
     }
     Ok(found)
 }
@@ -103,8 +128,8 @@ fn is_of(operations: &[Operation], member: &Member, dot: Dot) -> bool
     }
 }
 
-// The visible dots of a member, in their order.
-pub(crate) fn dots_of(
+/// The visible dots of a member, in their order. The one fault is want of memory.
+pub fn dots_of_member(
     alloc: Global,
     operations: &[Operation],
     member: &Member,

@@ -1,5 +1,5 @@
 ghost use Rattle.std.specs.Prelude.{◌≡◌};
-ghost use Rattle.dots.specs.Registers.{joined};
+ghost use Rattle.dots.specs.Registers.{join_of};
 ghost use Rattle.reference_model.specs.Views.{entry_of};
 
 use dots::Stamp;
@@ -16,7 +16,7 @@ pub(crate) fn later<T: Copy>(
     first: &Option<Entry<T>>,
     second: &Option<Entry<T>>,
 ) -> Option<Entry<T>>
-    ensures { entry_of (λ v. v) result ≡ joined (entry_of (λ v. v) first.now) (entry_of (λ v. v) second.now) }
+    ensures { entry_of (λ v. v) result ≡ join_of (entry_of (λ v. v) first.now) (entry_of (λ v. v) second.now) }
 {
     match first {
         None => *second,

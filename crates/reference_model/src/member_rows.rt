@@ -11,7 +11,7 @@ ghost use Rattle.dots.specs.Views.{row_view, listed_row_view};
 ghost use Rattle.reference_model.specs.Plain.{knowledge_of};
 
 use crate::Operation;
-use crate::dots_seen::{dots_of, member_of, visible_dots};
+use crate::dots_seen::{dots_of_member, member_of, visible_dots};
 use crate::fields_seen::fields_over;
 use dots::{Dot, Interface, Member, Memory};
 use replica::Row;
@@ -27,7 +27,7 @@ pub fn row<'a>(
 ) -> Result<Option<Row<'a>>, Memory>
     ensures { IfOk result (λ row. option_map row_view row ≡ row_of (dot_view (knowledge_of operations.now)) member.now) }
 {
-    let dots = dots_of(alloc, operations, member)?;
+    let dots = dots_of_member(alloc, operations, member)?;
     if dots.is_empty() {
         return Ok(None);
     }

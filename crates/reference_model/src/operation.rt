@@ -1,17 +1,18 @@
-ghost use Rattle.std.specs.Prelude.{◌≡◌, ◌≤◌, option_map};
+ghost use Rattle.std.specs.Prelude.{◌≡◌, ◌≤◌, option_map, IfOk};
 ghost use Rattle.std.specs.FinSet as set;
 ghost use Rattle.std.specs.List.{list_any, find};
-ghost use Rattle.dots.specs.Operations.{named, asserted};
+ghost use Rattle.dots.specs.Operations.{named_by, asserted_by};
 ghost use Rattle.dots.specs.Knowledge.{is_dot, asserts, names};
-ghost use Rattle.dots.specs.Counts.{counted};
-ghost use Rattle.reference_model.specs.Plain.{calls_of, operation_of};
+ghost use Rattle.dots.specs.Counts.{count_in};
+ghost use Rattle.replica.specs.SiteViews.{count_used, own_time, time_used};
+ghost use Rattle.reference_model.specs.Plain.{operation_of};
 ghost use Rattle.reference_model.specs.Views.{fields_of, fields_set};
 
-use crate::calls::are_same;
 use crate::entry::Entry;
 use crate::fields::Fields;
 use crate::{Calls, Setting, Total};
-use dots::{Dot, Label, Member, Pause, Penalty, SiteId, Stamp};
+use dots::{Dot, Label, MOST_CALLS, MOST_COUNT, Member, Memory, Pause, Penalty, SiteId, Stamp};
+use std::alloc::Global;
 
 /// A change that a site made, which is made once (RR-7506). Lists of dots stand for sets: neither their order nor
 /// repetition counts, but where a Write gives one dot two members, the first counts.
@@ -89,10 +90,31 @@ fn find_member(dots: &[(Dot, Member)], dot: Dot) -> Option<&Member>
     None
 }
 
+// The time of a stamp of a site; 0 where it is another's.
+fn own_time(site: SiteId, stamp: Stamp) -> u64
+    ensures value { result ≡ own_time site stamp }
+    ensures limit { result ≤ MOST_COUNT }
+{
+    if stamp.site().number() == site.number() {
+        stamp.time()
+    } else {
+        0
+    }
+}
+
+// The same dots with their members once more.
+fn members_copied(alloc: Global, dots: &[(Dot, Member)]) -> Result<Vec<(Dot, Member)>, Memory>
+    ensures { IfOk result (λ copy. copy.items ≡ dots.now) }
+{
+    dots.iter()
+        .map(|(dot, member)| (*dot, member.copy()))
+        .collect(alloc)
+}
+
 impl Operation {
     // The member of a dot that it asserts.
     pub(crate) fn member_of(&self, dot: Dot) -> Option<&Member>
-        ensures { option_map (λ m. m.now) result ≡ option_map (λ p. p.1) (find (λ p. is_dot dot p.0) (asserted (operation_of self.now))) }
+        ensures { option_map (λ m. m.now) result ≡ option_map (λ p. p.1) (find (λ p. is_dot dot p.0) (asserted_by (operation_of self.now))) }
     {
         match self {
             Operation::Add {
@@ -120,7 +142,7 @@ impl Operation {
 
     // The dots that it names.
     pub(crate) fn named(&self) -> &[Dot]
-        ensures { set.from_list result.now ≡ named (operation_of self.now) }
+        ensures { set.from_list result.now ≡ named_by (operation_of self.now) }
     {
         match self {
             Operation::Add { older, .. } | Operation::Write { older, .. } => older,
@@ -166,10 +188,82 @@ impl Operation {
         }
     }
 
+    // The count that a site has used for it; 0 where it has used none.
+    pub(crate) fn count_used(&self, site: SiteId) -> u64
+        ensures value { result ≡ count_used site (operation_of self.now) }
+        ensures limit { result ≤ MOST_COUNT }
+    {
+        match self {
+            Operation::Add { dot, .. } if dot.site().number() == site.number() => dot.count(),
+            _ => 0,
+        }
+    }
+
+    // The time that a site has used for it; 0 where it has used none.
+    pub(crate) fn time_used(&self, site: SiteId) -> u64
+        ensures value { result ≡ time_used site (operation_of self.now) }
+        ensures limit { result ≤ MOST_COUNT }
+    {
+        match self {
+            Operation::Add { stamp, .. } | Operation::Write { stamp, .. } => own_time(site, *stamp),
+            Operation::Remove { .. } | Operation::Count { .. } => 0,
+        }
+    }
+
+    /// The same operation once more. The one fault is want of memory.
+    pub fn copy(&self, alloc: Global) -> Result<Operation, Memory>
+        ensures { IfOk result (λ copy. operation_of copy ≡ operation_of self.now) }
+    {
+        match self {
+            Operation::Add {
+                dot,
+                member,
+                stamp,
+                penalty,
+                pause,
+                label,
+                older,
+            } => Ok(Operation::Add {
+                dot: *dot,
+                member: member.copy(),
+                stamp: *stamp,
+                penalty: *penalty,
+                pause: pause.copy(),
+                label: label.copy(),
+                older: Vec::from_slice(alloc, older)?,
+            }),
+            Operation::Write {
+                dots,
+                setting,
+                stamp,
+                older,
+            } => Ok(Operation::Write {
+                dots: members_copied(alloc, dots)?,
+                setting: setting.copy(),
+                stamp: *stamp,
+                older: Vec::from_slice(alloc, older)?,
+            }),
+            Operation::Remove { dots } => Ok(Operation::Remove {
+                dots: Vec::from_slice(alloc, dots)?,
+            }),
+            Operation::Count {
+                site,
+                queue,
+                calls,
+                total,
+            } => Ok(Operation::Count {
+                site: *site,
+                queue: *queue,
+                calls: *calls,
+                total: *total,
+            }),
+        }
+    }
+
     // What it says that a site has counted of a queue's calls; 0 where it says nothing of them.
     pub(crate) fn counted(&self, site: u16, queue: u16, calls: Calls) -> u64
-        ensures value { result ≡ counted site queue (calls_of calls) (operation_of self.now) }
-        ensures limit { result ≤ 1000000000 }
+        ensures value { result ≡ count_in site queue calls (operation_of self.now) }
+        ensures limit { result ≤ MOST_CALLS }
     {
         match self {
             Operation::Count {
@@ -177,7 +271,7 @@ impl Operation {
                 queue: counted,
                 calls: kind,
                 total,
-            } if counting.number() == site && *counted == queue && are_same(*kind, calls) => {
+            } if counting.number() == site && *counted == queue && kind.same(calls) => {
                 u64::from(total.get())
             }
             _ => 0,

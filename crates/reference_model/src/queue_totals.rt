@@ -1,26 +1,24 @@
 ghost use Rattle.std.specs.Prelude.{◌≡◌, ◌≤◌};
 ghost use Rattle.dots.specs.Counts.{site_total, queue_total};
 ghost use Rattle.status_report.specs.Knowing.{totals_in};
-ghost use Rattle.reference_model.specs.Plain.{calls_of, knowledge_of};
+ghost use Rattle.reference_model.specs.Plain.{knowledge_of};
 
-use crate::{Calls, Operation};
-
-// How many sites there may be.
-const SITES: u16 = 64;
+use crate::{CallTotals, Calls, Operation};
+use dots::{MOST_CALLS, SITES};
 
 /// How many calls of the queue of this number were completed, and how many abandoned: of each the sum over all sites of the
 /// greatest that is said (RR-7506's grow-only counter).
-pub fn totals(operations: &[Operation], queue: u16) -> (u64, u64)
+pub fn totals(operations: &[Operation], queue: u16) -> CallTotals
     ensures { result ≡ totals_in (knowledge_of operations.now) queue }
 {
-    (
-        queue_total(operations, queue, Calls::Completed),
-        queue_total(operations, queue, Calls::Abandoned),
-    )
+    CallTotals {
+        completed: queue_total(operations, queue, Calls::Completed),
+        abandoned: queue_total(operations, queue, Calls::Abandoned),
+    }
 }
 
 fn queue_total(operations: &[Operation], queue: u16, calls: Calls) -> u64
-    ensures { result ≡ queue_total (knowledge_of operations.now) queue (calls_of calls) }
+    ensures { result ≡ queue_total (knowledge_of operations.now) queue calls }
 {
     let mut sum = 0;
     for site in 0..SITES {
@@ -30,9 +28,9 @@ fn queue_total(operations: &[Operation], queue: u16, calls: Calls) -> u64
 }
 
 // The greatest that is said of a site's calls; 0 where nothing is.
-fn site_total(operations: &[Operation], site: u16, queue: u16, calls: Calls) -> u64
-    ensures value { result ≡ site_total (knowledge_of operations.now) site queue (calls_of calls) }
-    ensures limit { result ≤ 1000000000 }
+pub(crate) fn site_total(operations: &[Operation], site: u16, queue: u16, calls: Calls) -> u64
+    ensures value { result ≡ site_total (knowledge_of operations.now) site queue calls }
+    ensures limit { result ≤ MOST_CALLS }
 {
     let mut total = 0;
     for operation in operations {

@@ -1,5 +1,5 @@
 ghost use Rattle.std.specs.Prelude.{◌≡◌};
-ghost use Rattle.dots.specs.Operations.{stamped, set_penalty, set_pause, set_label};
+ghost use Rattle.dots.specs.Operations.{entry_under, set_penalty, set_pause, set_label};
 ghost use Rattle.reference_model.specs.Plain.{setting_of};
 ghost use Rattle.reference_model.specs.Views.{fields_of};
 
@@ -22,9 +22,9 @@ impl Setting {
     // The one field that it sets, under this stamp.
     pub(crate) fn fields(&self, stamp: Stamp) -> Fields<'_>
         ensures { fields_of result ≡ record {
-          penalty = stamped stamp (set_penalty (setting_of self.now));
-          pause = stamped stamp (set_pause (setting_of self.now));
-          label = stamped stamp (set_label (setting_of self.now));
+          penalty = entry_under stamp (set_penalty (setting_of self.now));
+          pause = entry_under stamp (set_pause (setting_of self.now));
+          label = entry_under stamp (set_label (setting_of self.now));
         } }
     {
         let mut fields = Fields::none();
@@ -49,5 +49,16 @@ impl Setting {
             }
         }
         fields
+    }
+
+    /// The same setting once more. It takes no memory.
+    pub fn copy(&self) -> Setting
+        ensures { setting_of result ≡ setting_of self.now }
+    {
+        match self {
+            Setting::Penalty(penalty) => Setting::Penalty(*penalty),
+            Setting::Pause(pause) => Setting::Pause(pause.copy()),
+            Setting::Label(label) => Setting::Label(label.copy()),
+        }
     }
 }

@@ -4,7 +4,7 @@ ghost use Rattle.status_report.specs.Knowing.{status_in, totals_in};
 ghost use Rattle.reference_model.specs.Plain.{knowledge_of};
 
 use crate::Operation;
-use dots::{Interface, Memory};
+use dots::{CallTotals, Interface, Memory};
 use replica::{QueueList, Row};
 use status_report::{Queues, StatusRequest, write_report};
 use std::alloc::Global;
@@ -27,7 +27,7 @@ impl Queues for Known<'_> {
         self.list
     }
 
-    fn totals(&self, number: u16) -> (u64, u64) {
+    fn totals(&self, number: u16) -> CallTotals {
         crate::totals(self.operations, number)
     }
 

@@ -6,16 +6,19 @@ use Rattle.std.specs.FinMap as map
 use Rattle.std.proofs.lemmas.Bool.{cases_lt}
 use Rattle.std.proofs.lemmas.Option.{slice_get_within, get_or_from_slice_get}
 use Rattle.dots.specs.declared.member.Member.{Member}
+use Rattle.dots.specs.Orders.{member_cmp}
 use Rattle.dots.specs.Rows.{MemberRow}
+use Rattle.dots.specs.SortedEntries.{IsAt, IsGapFor}
 use Rattle.dots.specs.Values.{IsCount}
+use Rattle.dots.proofs.MemberOrder.{members_total}
+use Rattle.dots.proofs.SortedEntries.{find_at, find_in_gap}
 use Rattle.replica.specs.declared.command.Command.{Command}
 use Rattle.replica.specs.declared.entry.Entry.{Entry}
 use Rattle.replica.specs.declared.refusal.Refusal.TheVariants.{AlreadyThere, MembersFull, Exhausted, Memory}
 use Rattle.replica.specs.Commands.{HasMember, IsFull, IsNewMember, CanAdd, IsAnswer, member_made, queue_named, row_made}
-use Rattle.replica.specs.Held.{IsKept, IsAt, IsGapFor, held, members_of}
+use Rattle.replica.specs.Held.{IsKept, held_of_each, members_of}
 use Rattle.replica.specs.Listed.{entry_row}
 use Rattle.replica.specs.Site.{SiteState}
-use Rattle.replica.proofs.HeldLemmas.{find_at, find_in_gap}
 use Rattle.replica.proofs.EntryLemmas.{get_is, len_is, members_insert}
 
 -- what is kept, as it is seen
@@ -37,10 +40,10 @@ no_reason false reason none e one other = other refl
 
 module _ (site : ℕ) (names : List (List ℕ)) (es : List Entry) (last : ℕ) (kept : IsKept names es last) (command : Command) (named : Contains names (queue_named command)) (member : Member) (made : member ≡ member_made names command) where
   -- the member is there
-  pub is_there : (i : ℕ) → IsAt (held es) member i → IsAnswer (state_of site names es last) command (state_of site names es last) (Err AlreadyThere)
+  pub is_there : (i : ℕ) → IsAt (held_of_each es) member i → IsAnswer (state_of site names es last) command (state_of site names es last) (Err AlreadyThere)
   is_there i at =
       let there : HasMember (state_of site names es last) command =
-      ap is_some (ap (map.get (members_of es)) (sym made) ∙ get_is es kept.rising member ∙ find_at (held es) kept.rising member i (member, row_made command) at) in
+      ap is_some (ap (map.get (members_of es)) (sym made) ∙ get_is es kept.rising member ∙ find_at member_cmp members_total (held_of_each es) kept.rising member i (member, row_made command) at) in
       record {
         done = tt;
         possible = tt;
@@ -53,7 +56,7 @@ module _ (site : ℕ) (names : List (List ℕ)) (es : List Entry) (last : ℕ) (
         unchanged = refl;
       }
 
-  module _ (i : ℕ) (gap : IsGapFor (held es) member i) where
+  module _ (i : ℕ) (gap : IsGapFor member_cmp (held_of_each es) member i) where
     some_none : (o : Option MemberRow) → o ≡ None → is_some o ≡ true → ⊥
     some_none o none some = (cc)
 
@@ -61,7 +64,7 @@ module _ (site : ℕ) (names : List (List ℕ)) (es : List Entry) (last : ℕ) (
     new_member : IsNewMember (state_of site names es last) command
     new_member = record {
       queue = named;
-      member = λ there. some_none (map.get (members_of es) (member_made names command)) (ap (map.get (members_of es)) (sym made) ∙ get_is es kept.rising member ∙ find_in_gap (held es) member i gap) there;
+      member = λ there. some_none (map.get (members_of es) (member_made names command)) (ap (map.get (members_of es)) (sym made) ∙ get_is es kept.rising member ∙ find_in_gap member_cmp members_total (held_of_each es) member i gap) there;
     }
 
     -- there are too many
@@ -124,7 +127,7 @@ module _ (site : ℕ) (names : List (List ℕ)) (es : List Entry) (last : ℕ) (
         pub is_done : (e : Entry) (now : List Entry) → now ≡ insert es i e → e.member ≡ member → entry_row e ≡ row_made command
             → IsAnswer (state_of site names es last) command (state_of site names now (last + 1)) (Ok tt)
         is_done e now items is row =
-            let gap_of_e = subst (λ m. IsGapFor (held es) m i) (sym is) gap in
+            let gap_of_e = subst (λ m. IsGapFor member_cmp (held_of_each es) m i) (sym is) gap in
             let members : members_of now ≡ map.insert (members_of es) (member_made names command) (row_made command) =
             ap members_of items ∙ members_insert es kept.rising i e gap_of_e ∙ (λ k. map.insert (members_of es) ((is ∙ made) k) (row k)) in
             record {

@@ -1,23 +1,24 @@
 -- A command means the same where what is read is alike.
-use Rattle.std.proofs.Common.{◌≡◌, ℕ, suc, max, Bool, true, false, not, ◌&&◌, ◌||◌, if◌then◌else◌, inl, inr, List, [], ◌∷◌, Contains, Option, Some, None, map as each, refl, sym, ap, subst, ◌∙◌, arith}
+use Rattle.std.proofs.Common.{◌≡◌, ℕ, suc, max, Bool, true, false, not, ◌&&◌, ◌||◌, if◌then◌else◌, inl, inr, List, [], ◌∷◌, Contains, Option, Some, None, map as each, refl, ap, subst, ◌∙◌, arith}
 use Rattle.std.specs.Prelude.{bytes_eq}
 use Rattle.std.specs.List.{filter_map}
 use Rattle.std.specs.Option.{option_and_then}
 use Rattle.std.specs.FinSet as set
+use Rattle.dots.specs.DotSets.{is_older}
 use Rattle.dots.specs.declared.label.Label.{Label}
 use Rattle.dots.specs.declared.member.Member.{Member}
-use Rattle.dots.specs.Values.{Tag}
-use Rattle.dots.specs.Operations.{Operation, Calls, Setting, SetPenalty, SetPause, SetLabel, Add, Write, Count}
+use Rattle.dots.specs.Values.{Dot}
+use Rattle.dots.specs.Operations.{Operation, Setting, SetPenalty, SetPause, SetLabel, Add, Write, Count}
 use Rattle.dots.specs.Knowledge.{asserted_dots, known_dots, names}
 use Rattle.dots.specs.Rows.{DotView, ShowAlike, dots_of}
 use Rattle.dots.specs.SetItems.{in_order}
 use Rattle.dots.proofs.AlikeViews.{filter_map-same, listed-in, own-visible, same-dots}
 use Rattle.dots.proofs.Membership.{first-in, later-in, cases-in, in-some}
 use Rattle.replica.specs.declared.refusal.Refusal.TheVariants.{MembersFull, Exhausted, TotalFull}
-use Rattle.replica.specs.Changes.{Change, Meaning, AddMember, RemoveMember, SetField, CountCall, Refused, Makes, time_of, time_replaced, add_at, write_at, remove_of, count_at, is_full, is_too_long, is_exhausted, is_past_total, within_limits, in_queue, where_absent, where_present, meaning_of_setting, meaning}
+use Rattle.replica.specs.Changes.{Change, Meaning, AddMember, RemoveMember, SetField, CountCall, Refused, Makes, time_of, time_replaced, add_at, write_at, remove_of, is_full, is_too_long, is_exhausted, is_past_total, within_limits, in_queue, where_absent, where_present, meaning_of_setting, meaning}
 use Rattle.replica.specs.Promises.{AreAlike, MeansTheSameAlike}
 use Rattle.replica.specs.Queues.{number_of}
-use Rattle.replica.specs.SiteViews.{SiteView, greatest, is_dead, is_older, older_dots, with_interface, dots_seen, visible_with, known_with, is_past_limits}
+use Rattle.replica.specs.SiteViews.{SiteView, greatest, is_dead, older_dots, with_interface, dots_seen, visible_with, known_with, is_past_limits}
 
 -- the dots that a command goes over
 same-seen : (r s : DotView) → ShowAlike r s → (queue : Option ℕ) (interface : List ℕ) → dots_seen r queue interface ≡ dots_seen s queue interface
@@ -25,16 +26,16 @@ same-seen r s alike None interface =
     filter_map-same (with_interface r interface) (with_interface s interface) (in_order r.visible) (λ dot here.
     ap (option_and_then (λ member. if bytes_eq member.interface interface then Some (dot, member) else None)) (alike.member dot (listed-in r.visible dot here)))
     ∙ ap (λ v. filter_map (with_interface s interface) (in_order v)) alike.visible
-same-seen r s alike (Some queue) interface = ap (each (λ dot. let d : Tag × Member = (dot, record { queue = queue; interface = interface }) in d)) (same-dots r s alike (record { queue = queue; interface = interface }))
+same-seen r s alike (Some queue) interface = ap (each (λ dot. let d : Dot × Member = (dot, record { queue = queue; interface = interface }) in d)) (same-dots r s alike (record { queue = queue; interface = interface }))
 
-in-each : (member : Member) (dots : List Tag) (d : Tag × Member) → Contains (each (λ dot. let p : Tag × Member = (dot, member) in p) dots) d → Contains dots d.0
+in-each : (member : Member) (dots : List Dot) (d : Dot × Member) → Contains (each (λ dot. let p : Dot × Member = (dot, member) in p) dots) d → Contains dots d.0
 in-each member [] d h = absurd (omega (arith, h.1))
-in-each member (x ∷ xs) d h = elim (cases-in (x, member) (each (λ dot. let p : Tag × Member = (dot, member) in p) xs) d h) [
-  | inl e ↦ subst (Contains (x ∷ xs)) (ap (λ (p : Tag × Member). p.0) e) (first-in x xs)
+in-each member (x ∷ xs) d h = elim (cases-in (x, member) (each (λ dot. let p : Dot × Member = (dot, member) in p) xs) d h) [
+  | inl e ↦ subst (Contains (x ∷ xs)) (ap (λ (p : Dot × Member). p.0) e) (first-in x xs)
   | inr r ↦ later-in x xs d.0 (in-each member xs d r)
 ]
 
-with-own : (r : DotView) (interface : List ℕ) (dot : Tag) (d : Tag × Member) → with_interface r interface dot ≡ Some d → dot ≡ d.0
+with-own : (r : DotView) (interface : List ℕ) (dot : Dot) (d : Dot × Member) → with_interface r interface dot ≡ Some d → dot ≡ d.0
 with-own r interface dot d h = by (r.member dot) h
   where
     no : None ≡ Some d → dot ≡ d.0
@@ -44,7 +45,7 @@ with-own r interface dot d h = by (r.member dot) h
     one member e = cc
 
     found : (member : Member) (b : Bool) → (if b then Some (dot, member) else None) ≡ Some d → dot ≡ d.0
-    found member true e = ap (λ (p : Tag × Member). p.0) (one member e)
+    found member true e = ap (λ (p : Dot × Member). p.0) (one member e)
     found member false e = no e
 
     by : (o : Option Member) → option_and_then (λ member. if bytes_eq member.interface interface then Some (dot, member) else None) o ≡ Some d → dot ≡ d.0
@@ -52,7 +53,7 @@ with-own r interface dot d h = by (r.member dot) h
     by (Some member) e = found member (bytes_eq member.interface interface) e
 
 -- they are visible
-seen-visible : (r : DotView) (queue : Option ℕ) (interface : List ℕ) (d : Tag × Member) → Contains (dots_seen r queue interface) d → set.contains r.visible d.0 ≡ true
+seen-visible : (r : DotView) (queue : Option ℕ) (interface : List ℕ) (d : Dot × Member) → Contains (dots_seen r queue interface) d → set.contains r.visible d.0 ≡ true
 seen-visible r None interface d h =
     let found = in-some (with_interface r interface) (in_order r.visible) d h in
     listed-in r.visible d.0 (subst (Contains (in_order r.visible)) (with-own r interface found.0 d found.2) found.1)
@@ -63,15 +64,15 @@ greatest-same : {X : Type 0} (f g : X → ℕ) (xs : List X) → ((x : X) → Co
 greatest-same f g [] same = refl
 greatest-same f g (x ∷ xs) same = λ i. max (same x (first-in x xs) i) (greatest-same f g xs (λ y here. same y (later-in x xs y here)) i)
 
-replaced-same : (r s : DotView) → ShowAlike r s → (setting : Setting) (dot : Tag) → set.contains r.visible dot ≡ true → time_replaced r setting dot ≡ time_replaced s setting dot
+replaced-same : (r s : DotView) → ShowAlike r s → (setting : Setting) (dot : Dot) → set.contains r.visible dot ≡ true → time_replaced r setting dot ≡ time_replaced s setting dot
 replaced-same r s alike (SetPenalty penalty) dot h = ap time_of (alike.penalty dot h)
 replaced-same r s alike (SetPause pause) dot h = ap time_of (alike.pause dot h)
 replaced-same r s alike (SetLabel label) dot h = ap time_of (alike.label dot h)
 
-dead-same : (r s : SiteView) → AreAlike r s → (dot : Tag) → is_dead r dot ≡ is_dead s dot
+dead-same : (r s : SiteView) → AreAlike r s → (dot : Dot) → is_dead r dot ≡ is_dead s dot
 dead-same r s alike dot = λ i. set.contains (alike.known i) dot && not (set.contains (alike.dots.visible i) dot)
 
-older-same : (r s : SiteView) → AreAlike r s → (dots : List Tag) → older_dots r dots ≡ older_dots s dots
+older-same : (r s : SiteView) → AreAlike r s → (dots : List Dot) → older_dots r dots ≡ older_dots s dots
 unfolding older_dots
 older-same r s alike dots = λ i. set.retain (alike.known i) (λ dot. dead-same r s alike dot i && is_older dots dot)
 
@@ -95,10 +96,10 @@ module _ (r s b c : SiteView) (alike : AreAlike r s) (buffers : AreAlike b c) wh
 
   adds-same : (site : ℕ) (member : Member) (penalty : ℕ) (paused : Bool) (label : Label) → add_at site r member penalty paused label ≡ add_at site s member penalty paused label
   adds-same site member penalty paused label = λ i.
-      let dot : Tag = record { site = site; count = suc (alike.last_count i) } in
+      let dot : Dot = record { site = site; count = suc (alike.last_count i) } in
       Add dot member (record { time = suc (alike.last_time i); site = site }) penalty (record { paused = paused; reason = [] }) label (older-same r s alike (dot ∷ []) i)
 
-  writes-same : (site : ℕ) (setting : Setting) (dots : List (Tag × Member)) → ((d : Tag × Member) → Contains dots d → set.contains r.dots.visible d.0 ≡ true)
+  writes-same : (site : ℕ) (setting : Setting) (dots : List (Dot × Member)) → ((d : Dot × Member) → Contains dots d → set.contains r.dots.visible d.0 ≡ true)
       → write_at site r setting dots ≡ write_at site s setting dots
   writes-same site setting dots visible = λ i.
       let replaced = greatest-same (λ d. time_replaced r.dots setting d.0) (λ d. time_replaced s.dots setting d.0) dots (λ d here. replaced-same r.dots s.dots alike.dots setting d.0 (visible d here)) in

@@ -1,7 +1,7 @@
 pub mod AddLemmas
 pub mod AlikeSites
 pub mod EntryLemmas
-pub mod HeldLemmas
+pub mod MadeLimits
 pub mod Meanings
 pub mod NameLemmas
 pub mod OneMoreAdd

@@ -8,15 +8,17 @@ use Rattle.std.specs.FinMap as map
 use Rattle.std.specs.FinSet as set
 use Rattle.std.proofs.lemmas.Bool.Decides.{nat_tests}
 use Rattle.std.proofs.lemmas.List.Sums.{fails_before_first}
+use Rattle.std.proofs.Math.Bool.{or_self, or-false}
 use Rattle.dots.specs.declared.label.Label.{Label}
 use Rattle.dots.specs.declared.member.Member.{Member}
-use Rattle.dots.specs.Values.{Tag}
+use Rattle.dots.specs.Values.{Dot}
 use Rattle.dots.specs.Orders.{dot_cmp, member_cmp}
-use Rattle.dots.specs.DotSets.{Stretch, in_stretch, run_count, dots_from}
+use Rattle.dots.specs.DotSets.{Run, in_run, run_count, dots_from, is_older}
 use Rattle.dots.specs.Operations.{Operation}
 use Rattle.dots.specs.Knowledge.{Knowledge, is_asserted, is_named, visible_dots, known_dots, names}
 use Rattle.dots.specs.Rows.{MemberRow, dot_view, is_of, dots_of, row_if}
 use Rattle.dots.proofs.DotOrder.{dots_total, dots_exact, same_dot}
+use Rattle.dots.proofs.KnownLaws.{known-dot}
 use Rattle.dots.proofs.RunCounts.{run_count-runs}
 use Rattle.dots.proofs.VisibleLaws.{visible-dot}
 use Rattle.replica.specs.declared.command.Command.{Command}
@@ -26,15 +28,15 @@ use Rattle.replica.specs.declared.refusal.Refusal.TheVariants.{NoSuchQueue, Alre
 use Rattle.replica.specs.Changes.{Meaning, Refused, Makes, change_of, add_at, is_full, is_exhausted, within_limits, in_queue, where_absent}
 use Rattle.replica.specs.Commands.{IsAnswer, HasMember, HasQueue, IsFull, IsExhausted, member_made, row_made, after}
 use Rattle.replica.specs.Queues.{number_of}
-use Rattle.replica.specs.SiteViews.{SiteView, site_view, greatest, count_used, time_used, is_older, older_dots, dots_seen, is_past_limits}
+use Rattle.replica.specs.SiteViews.{SiteView, site_view, greatest, count_used, time_used, older_dots, dots_seen, is_past_limits}
 use Rattle.replica.specs.Site.{SiteState}
 use Rattle.replica.specs.Standing.{StandsFor, IsMeant}
 use Rattle.replica.specs.Steps.{SiteKnowledge, new_site, Do, after_meaning, step}
 use Rattle.replica.proofs.AddLemmas.{named_at}
 use Rattle.dots.proofs.MemberOrder.{members_total}
 use Rattle.replica.proofs.NameLemmas.{same_names, found-at}
-use Rattle.replica.proofs.OneMoreAdd.{or_false, listed, still_unnamed, one_more_visible, visible_count, rows_again}
-use Rattle.replica.proofs.SiteViewLaws.{known-dot, one-more, older-named}
+use Rattle.replica.proofs.OneMoreAdd.{listed, still_unnamed, one_more_visible, visible_count, rows_again}
+use Rattle.replica.proofs.SiteViewLaws.{one-more, older-named}
 
 -- a name that has no number isn't in the list
 no_number : (names : List (List ℕ)) (name : List ℕ) → number_of names name ≡ None → Contains names name → ⊥
@@ -47,10 +49,10 @@ no_number names name none (i, within, is) = by (nat_lt (position_or_len (pointwi
         true≢false (sym ((same_names name (get_or names i name)).1 (sym is)) ∙ fails_before_first (pointwise nat_eq name) names i name past)
 
 -- a row is there where a dot is
-row_there : (dots : List Tag) (row : MemberRow) (d : Tag) (ds : List Tag) → dots ≡ d ∷ ds → is_some (row_if dots row) ≡ true
+row_there : (dots : List Dot) (row : MemberRow) (d : Dot) (ds : List Dot) → dots ≡ d ∷ ds → is_some (row_if dots row) ≡ true
 row_there dots row d ds e = ap (λ x. is_some (row_if x row)) e
 
-no_row : (dots : List Tag) (row : MemberRow) → dots ≡ [] → row_if dots row ≡ None
+no_row : (dots : List Dot) (row : MemberRow) → dots ≡ [] → row_if dots row ≡ None
 no_row dots row e = ap (λ x. row_if x row) e
 
 -- one that has is
@@ -72,7 +74,7 @@ module _ (old : SiteState) (s : SiteKnowledge) (stands : StandsFor old s) (queue
     member_is i = record { queue = unwrap_or (numbered i) 0; interface = interface }
 
     -- the member is there where it has a dot
-    present : (d : Tag) (ds : List Tag) → dots_of (dot_view s.known) member ≡ d ∷ ds → HasMember old the_command
+    present : (d : Dot) (ds : List Dot) → dots_of (dot_view s.known) member ≡ d ∷ ds → HasMember old the_command
     present d ds e = ap is_some (ap (map.get old.members) member_is ∙ sym (stands.rows member)) ∙ row_there (dots_of (dot_view s.known) member) _ d ds e
 
     absent : dots_of (dot_view s.known) member ≡ [] → map.get old.members member ≡ None
@@ -81,13 +83,13 @@ module _ (old : SiteState) (s : SiteKnowledge) (stands : StandsFor old s) (queue
     not_there : dots_of (dot_view s.known) member ≡ [] → HasMember old the_command → ⊥
     not_there e has = true≢false (sym has ∙ ap is_some (ap (map.get old.members) member_is ∙ absent e))
 
-    abbrev next : Tag
+    abbrev next : Dot
     next = record { site = old.site; count = suc read.last_count }
 
     abbrev older : set.FinSet dot_cmp
     older = older_dots read (next ∷ [])
 
-    none_older : (dot : Tag) → set.contains older dot ≡ false
+    none_older : (dot : Dot) → set.contains older dot ≡ false
     none_older dot = older-named old.site s.known (next ∷ []) dot ∙ (λ i. stands.unnamed dot i && is_older (next ∷ []) dot)
 
     abbrev made : Operation
@@ -96,13 +98,13 @@ module _ (old : SiteState) (s : SiteKnowledge) (stands : StandsFor old s) (queue
     abbrev grown : Knowledge
     grown = made ∷ s.known
 
-    visible_so_far : (dot : Tag) → set.contains (visible_dots s.known) dot ≡ in_stretch dot (record { site = old.site; first = 1; last = read.last_count })
-    visible_so_far dot = let back = sym stands.last_count in stands.visible dot ∙ (λ i. in_stretch dot (record { site = old.site; first = 1; last = back i }))
+    visible_so_far : (dot : Dot) → set.contains (visible_dots s.known) dot ≡ in_run dot (record { site = old.site; first = 1; last = read.last_count })
+    visible_so_far dot = let back = sym stands.last_count in stands.visible dot ∙ (λ i. in_run dot (record { site = old.site; first = 1; last = back i }))
 
-    visible_then : (dot : Tag) → set.contains (visible_dots grown) dot ≡ in_stretch dot (record { site = old.site; first = 1; last = suc read.last_count })
+    visible_then : (dot : Dot) → set.contains (visible_dots grown) dot ≡ in_run dot (record { site = old.site; first = 1; last = suc read.last_count })
     visible_then = one_more_visible old.site read.last_count s.known visible_so_far stands.unnamed member (record { time = suc read.last_time; site = old.site }) penalty (record { paused = paused; reason = [] }) label older none_older
 
-    unnamed_then : (dot : Tag) → is_named grown dot ≡ false
+    unnamed_then : (dot : Dot) → is_named grown dot ≡ false
     unnamed_then = still_unnamed old.site read.last_count s.known visible_so_far stands.unnamed member (record { time = suc read.last_time; site = old.site }) penalty (record { paused = paused; reason = [] }) label older none_older
 
     as_many_then : set.len (visible_dots grown) ≡ map.len old.members + 1
@@ -111,7 +113,7 @@ module _ (old : SiteState) (s : SiteKnowledge) (stands : StandsFor old s) (queue
         ∙ ap (λ n. n + 1) stands.as_many
 
     -- all known dots are visible, so they are one run
-    known_is : (k : Knowledge) → ((dot : Tag) → is_named k dot ≡ false) → (dot : Tag) → set.contains (known_dots k) dot ≡ set.contains (visible_dots k) dot
+    known_is : (k : Knowledge) → ((dot : Dot) → is_named k dot ≡ false) → (dot : Dot) → set.contains (known_dots k) dot ≡ set.contains (visible_dots k) dot
     known_is k none dot =
         known-dot k dot ∙ ap (λ b. is_asserted k dot || b) (none dot) ∙ alike (is_asserted k dot) ∙ ap (λ b. is_asserted k dot && not b) (sym (none dot)) ∙ sym (visible-dot k dot)
       where
@@ -119,8 +121,8 @@ module _ (old : SiteState) (s : SiteKnowledge) (stands : StandsFor old s) (queue
         alike true = refl
         alike false = refl
 
-    one_run : (dots : set.FinSet dot_cmp) (r : Stretch) → r.first ≤ r.last → ((dot : Tag) → set.contains dots dot ≡ in_stretch dot r) → run_count dots ≡ 1
-    one_run dots r rises is = run_count-runs (r ∷ []) dots (record { apart = (rises, (λ k d h. absurd (omega (arith, h))), tt); same = λ d. is d ∙ sym (or_false (in_stretch d r)) })
+    one_run : (dots : set.FinSet dot_cmp) (r : Run) → r.first ≤ r.last → ((dot : Dot) → set.contains dots dot ≡ in_run dot r) → run_count dots ≡ 1
+    one_run dots r rises is = run_count-runs (r ∷ []) dots (record { apart = (rises, (λ k d h. absurd (omega (arith, h))), tt); same = λ d. is d ∙ sym (or-false (in_run d r)) })
 
     one_run_then : run_count (known_dots grown) ≡ 1
     one_run_then = one_run (known_dots grown) (record { site = old.site; first = 1; last = suc read.last_count }) (omega arith) (λ dot. known_is grown unnamed_then dot ∙ visible_then dot)
@@ -150,18 +152,14 @@ module _ (old : SiteState) (s : SiteKnowledge) (stands : StandsFor old s) (queue
     unfolding too_many
     full_is =
         let more = one-more old.site s.known made in
-        (λ i. is_past_limits (more.visible i) (more.known i)) ∙ (λ i. nat_lt 16384 (as_many_then i) || nat_lt 65536 (one_run_then i)) ∙ or_false (nat_lt 16384 (map.len old.members + 1))
+        (λ i. is_past_limits (more.visible i) (more.known i)) ∙ (λ i. nat_lt 16384 (as_many_then i) || nat_lt 65536 (one_run_then i)) ∙ or-false (nat_lt 16384 (map.len old.members + 1))
 
     used_up_is : is_exhausted made ≡ used_up
     unfolding used_up
     used_up_is =
         let counts : suc read.last_count ≡ old.adds + 1 = let same = stands.last_count in omega arith in
         let times : suc read.last_time ≡ old.adds + 1 = let same = stands.last_time in omega arith in
-        (λ i. nat_lt (2 ^ 40) (counts i) || nat_lt (2 ^ 40) (times i)) ∙ twice (nat_lt (2 ^ 40) (old.adds + 1))
-      where
-        twice : (b : Bool) → (b || b) ≡ b
-        twice true = refl
-        twice false = refl
+        (λ i. nat_lt (2 ^ 40) (counts i) || nat_lt (2 ^ 40) (times i)) ∙ or_self (nat_lt (2 ^ 40) (old.adds + 1))
 
     limits : within_limits read (site_view old.site s.buffer) made ≡ (if too_many then Refused MembersFull else if used_up then Refused Exhausted else Makes made)
     limits =
@@ -185,7 +183,7 @@ module _ (old : SiteState) (s : SiteKnowledge) (stands : StandsFor old s) (queue
 
     stands_then : map.get old.members member ≡ None → StandsFor (after old the_command) grown_site
     stands_then none = record {
-      visible = λ dot. visible_then dot ∙ (λ i. in_stretch dot (record { site = old.site; first = 1; last = counts i }));
+      visible = λ dot. visible_then dot ∙ (λ i. in_run dot (record { site = old.site; first = 1; last = counts i }));
       as_many = as_many_then ∙ sym (ap (λ m. map.len (map.insert old.members m (row_made the_command))) member_is ∙ map.len-insert members_total old.members member (row_made the_command)
           ∙ ap (λ o. cond (is_some o) (map.len old.members) (map.len old.members + 1)) none);
       last_count = ap (λ n. max n (greatest (count_used old.site) s.known)) (own old.site (suc read.last_count)) ∙ (let same = stands.last_count in omega arith);
@@ -297,7 +295,7 @@ module _ (old : SiteState) (s : SiteKnowledge) (stands : StandsFor old s) (queue
     unfolding IsSo
     seen = by (dots_of (dot_view s.known) (record { queue = q; interface = interface })) refl
       where
-        by : (ds : List Tag) → dots_of (dot_view s.known) (record { queue = q; interface = interface }) ≡ ds
+        by : (ds : List Dot) → dots_of (dot_view s.known) (record { queue = q; interface = interface }) ≡ ds
             → IsSo (where_absent (each (λ dot. (dot, record { queue = q; interface = interface })) ds) (within_limits (site_view old.site s.known) (site_view old.site s.buffer) (add_at old.site (site_view old.site s.known) (record { queue = q; interface = interface }) penalty paused label)))
         by [] e = within e
         by (d ∷ ds) e = there_already old the_add new (has_number old.names queue q numbered) (present old s stands queue interface penalty paused label q numbered d ds e) r answer

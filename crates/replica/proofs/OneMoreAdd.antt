@@ -8,17 +8,16 @@ use Rattle.std.specs.FinMap.Entries.{below_all}
 use Rattle.std.specs.FinSet as set
 use Rattle.std.specs.Ordering.{eq_by_cmp, is_eq, is_lt, ordering_then}
 use Rattle.std.specs.Cmp.{nat_cmp_is}
-use Rattle.std.specs.declared.cmp.Ordering.{Ordering}
-use Rattle.std.specs.declared.cmp.Ordering.TheVariants.{Less, Equal, Greater}
+use Rattle.std.specs.declared.cmp.Ordering.TheVariants.{Less}
 use Rattle.std.proofs.lemmas.Bool.Decides.{nat_tests}
 use Rattle.std.proofs.lemmas.Cmp.{tied_itself, nat_cmp_total}
 use Rattle.std.proofs.lemmas.List.Elements.{filter-append}
 use Rattle.dots.specs.declared.label.Label.{Label}
 use Rattle.dots.specs.declared.member.Member.{Member}
-use Rattle.dots.specs.Values.{Tag, Timestamp, PauseState}
+use Rattle.dots.specs.Values.{Dot, Stamp, PauseState}
 use Rattle.dots.specs.Orders.{dot_cmp, member_cmp}
 use Rattle.dots.specs.Registers.{Entry}
-use Rattle.dots.specs.DotSets.{in_stretch, dots_from}
+use Rattle.dots.specs.DotSets.{in_run, dots_from}
 use Rattle.dots.specs.Operations.{Operation, Field, Add, penalty_field, pause_field, label_field}
 use Rattle.dots.specs.Knowledge.{Knowledge, is_dot, asserts, is_asserted, is_named, all_asserted, visible_dots, member_of, settings_of, field_of, latest_of}
 use Rattle.dots.specs.SetItems.{in_order}
@@ -26,14 +25,12 @@ use Rattle.dots.specs.Rows.{MemberRow, dot_view, is_of, dots_of, row_if, row_of_
 use Rattle.dots.proofs.DotOrder.{dots_total, dots_exact, same_dot}
 use Rattle.dots.proofs.ItemOrder.{units, in_order-list}
 use Rattle.dots.proofs.Membership.{first-in, later-in, cases-in, any-in}
-use Rattle.dots.proofs.Stretches.{any_from}
+use Rattle.dots.proofs.Runs.{any_from}
 use Rattle.dots.proofs.VisibleLaws.{visible-dot}
-use Rattle.replica.proofs.HeldLemmas.{both, truth}
+use Rattle.dots.proofs.TruthTables.{truth, equal_of}
+use Rattle.std.proofs.lemmas.Bool.{and_from}
+use Rattle.std.proofs.Math.Bool.{and-false, and-true, or-false}
 use Rattle.dots.proofs.MemberOrder.{members_total, exact_members}
-
-pub or_false : (b : Bool) → (b || false) ≡ b
-or_false true = refl
-or_false false = refl
 
 -- dots of one site are in the order of their counts
 lesser_first : (site a b : ℕ) → a < b → is_lt (dot_cmp (record { site = site; count = a }) (record { site = site; count = b })) ≡ true
@@ -43,14 +40,14 @@ below_from : (site a first n : ℕ) → a < first → below_all dot_cmp (record 
 unfolding dots_from
 below_from site a first zero h = refl
 below_from site a first (suc n) h =
-    both (is_lt (dot_cmp (record { site = site; count = a }) (record { site = site; count = first }))) (below_all dot_cmp (record { site = site; count = a }) (units (dots_from site (suc first) n)))
+    and_from (is_lt (dot_cmp (record { site = site; count = a }) (record { site = site; count = first }))) (below_all dot_cmp (record { site = site; count = a }) (units (dots_from site (suc first) n)))
     (lesser_first site a first h) (below_from site a (suc first) n (omega (arith, h)))
 
 rising_from : (site first n : ℕ) → map.is_sorted dot_cmp (units (dots_from site first n)) ≡ true
 unfolding dots_from
 rising_from site first zero = refl
 rising_from site first (suc n) =
-    both (below_all dot_cmp (record { site = site; count = first }) (units (dots_from site (suc first) n))) (map.is_sorted dot_cmp (units (dots_from site (suc first) n)))
+    and_from (below_all dot_cmp (record { site = site; count = first }) (units (dots_from site (suc first) n))) (map.is_sorted dot_cmp (units (dots_from site (suc first) n)))
     (below_from site first (suc first) n (omega arith)) (rising_from site (suc first) n)
 
 -- one more of them stands at the end
@@ -67,7 +64,7 @@ in_bounds : (c n : ℕ) → (nat_le 1 c && nat_le (suc c) (1 + n)) ≡ (nat_le 1
 in_bounds c n = grind (arith, nat_tests)
 
 -- a set that has just the dots of a site up to a count has them in order
-pub listed : (dots : set.FinSet dot_cmp) (site n : ℕ) → ((dot : Tag) → set.contains dots dot ≡ in_stretch dot (record { site = site; first = 1; last = n })) → in_order dots ≡ dots_from site 1 n
+pub listed : (dots : set.FinSet dot_cmp) (site n : ℕ) → ((dot : Dot) → set.contains dots dot ≡ in_run dot (record { site = site; first = 1; last = n })) → in_order dots ≡ dots_from site 1 n
 listed dots site n is =
     in_order-list dots_total dots_exact dots (dots_from site 1 n) (truth (map.is_sorted dot_cmp (units (dots_from site 1 n))) (rising_from site 1 n)) (λ q.
     is q ∙ sym (any_from q site 1 n ∙ ap (λ b. nat_eq site q.site && b) (in_bounds q.count n)))
@@ -93,7 +90,7 @@ filter_of {X} p (y ∷ ys) x h = by (p y) (filter_of p ys x) h
     by false rest h = later-in y ys x (rest h)
 
 -- what no operation asserts has no setting
-no_setting : {V : Type 0} (field : Field V) (k : Knowledge) (dot : Tag) → is_asserted k dot ≡ false → settings_of field k dot ≡ []
+no_setting : {V : Type 0} (field : Field V) (k : Knowledge) (dot : Dot) → is_asserted k dot ≡ false → settings_of field k dot ≡ []
 no_setting field [] dot h = refl
 no_setting {V} field (o ∷ k) dot h = by (asserts dot o) (no_setting field k dot) h
   where
@@ -102,12 +99,12 @@ no_setting {V} field (o ∷ k) dot h = by (asserts dot o) (no_setting field k do
     by false rest h = rest h
 
 -- the row of dots with fields
-row_by : List Tag → (Tag → Option (Entry ℕ)) → (Tag → Option (Entry PauseState)) → (Tag → Option (Entry Label)) → Option MemberRow
+row_by : List Dot → (Dot → Option (Entry ℕ)) → (Dot → Option (Entry PauseState)) → (Dot → Option (Entry Label)) → Option MemberRow
 row_by dots p u l = row_if dots (row_of_fields (latest_of (filter_map p dots)) (latest_of (filter_map u dots)) (latest_of (filter_map l dots)))
 
-module _ (site n : ℕ) (k : Knowledge) (made : (dot : Tag) → set.contains (visible_dots k) dot ≡ in_stretch dot (record { site = site; first = 1; last = n })) (unnamed : (dot : Tag) → is_named k dot ≡ false)
-    (member : Member) (stamp : Timestamp) (penalty : ℕ) (pause : PauseState) (label : Label) (older : set.FinSet dot_cmp) (none_older : (dot : Tag) → set.contains older dot ≡ false) where
-  abbrev new_dot : Tag
+module _ (site n : ℕ) (k : Knowledge) (made : (dot : Dot) → set.contains (visible_dots k) dot ≡ in_run dot (record { site = site; first = 1; last = n })) (unnamed : (dot : Dot) → is_named k dot ≡ false)
+    (member : Member) (stamp : Stamp) (penalty : ℕ) (pause : PauseState) (label : Label) (older : set.FinSet dot_cmp) (none_older : (dot : Dot) → set.contains older dot ≡ false) where
+  abbrev new_dot : Dot
   new_dot = record { site = site; count = suc n }
 
   abbrev operation : Operation
@@ -116,24 +113,20 @@ module _ (site n : ℕ) (k : Knowledge) (made : (dot : Tag) → set.contains (vi
   abbrev after : Knowledge
   after = operation ∷ k
 
-  pub still_unnamed : (dot : Tag) → is_named after dot ≡ false
+  pub still_unnamed : (dot : Dot) → is_named after dot ≡ false
   still_unnamed dot = λ i. none_older dot i || unnamed dot i
 
-  visible_is : (k : Knowledge) → ((dot : Tag) → is_named k dot ≡ false) → (dot : Tag) → set.contains (visible_dots k) dot ≡ is_asserted k dot
-  visible_is k none dot = visible-dot k dot ∙ ap (λ b. is_asserted k dot && not b) (none dot) ∙ and_true_right (is_asserted k dot)
-    where
-      and_true_right : (b : Bool) → (b && true) ≡ b
-      and_true_right true = refl
-      and_true_right false = refl
+  visible_is : (k : Knowledge) → ((dot : Dot) → is_named k dot ≡ false) → (dot : Dot) → set.contains (visible_dots k) dot ≡ is_asserted k dot
+  visible_is k none dot = visible-dot k dot ∙ ap (λ b. is_asserted k dot && not b) (none dot) ∙ and-true (is_asserted k dot)
 
-  asserted_is : (dot : Tag) → is_asserted k dot ≡ in_stretch dot (record { site = site; first = 1; last = n })
+  asserted_is : (dot : Dot) → is_asserted k dot ≡ in_run dot (record { site = site; first = 1; last = n })
   asserted_is dot = sym (visible_is k unnamed dot) ∙ made dot
 
   one_further : (c : ℕ) → (nat_eq (suc n) c || (nat_le 1 c && nat_le c n)) ≡ (nat_le 1 c && nat_le c (suc n))
   one_further c = grind (arith, nat_tests)
 
   -- the new dot is visible too
-  pub one_more_visible : (dot : Tag) → set.contains (visible_dots after) dot ≡ in_stretch dot (record { site = site; first = 1; last = suc n })
+  pub one_more_visible : (dot : Dot) → set.contains (visible_dots after) dot ≡ in_run dot (record { site = site; first = 1; last = suc n })
   one_more_visible dot =
       visible_is after still_unnamed dot ∙ (λ i. (same_dot dot new_dot i || false) || asserted_is dot i)
       ∙ by (nat_eq site dot.site) (nat_eq (suc n) dot.count) (nat_le 1 dot.count && nat_le dot.count n)
@@ -145,27 +138,23 @@ module _ (site n : ℕ) (k : Knowledge) (made : (dot : Tag) → set.contains (vi
       by false b c = refl
 
   new_is_new : is_asserted k new_dot ≡ false
-  new_is_new = asserted_is new_dot ∙ ap (λ b. nat_eq site site && b) past ∙ none (nat_eq site site)
+  new_is_new = asserted_is new_dot ∙ ap (λ b. nat_eq site site && b) past ∙ and-false (nat_eq site site)
     where
       past : (nat_le 1 (suc n) && nat_le (suc n) n) ≡ false
       past = grind (arith, nat_tests)
-
-      none : (b : Bool) → (b && false) ≡ false
-      none true = refl
-      none false = refl
 
   -- there is one visible dot more
   pub visible_count : set.len (visible_dots after) ≡ set.len (visible_dots k) + 1
   visible_count =
       let inserted : visible_dots after ≡ set.insert (visible_dots k) new_dot =
       set.same_set dots_total dots_exact (visible_dots after) (set.insert (visible_dots k) new_dot) (λ dot.
-      visible_is after still_unnamed dot ∙ (let back = sym (visible_is k unnamed dot) in λ i. or_false (is_dot dot new_dot) i || back i)
+      visible_is after still_unnamed dot ∙ (let back = sym (visible_is k unnamed dot) in λ i. or-false (is_dot dot new_dot) i || back i)
       ∙ sym (set.contains-insert dots_total (visible_dots k) new_dot dot)) in
       ap set.len inserted ∙ set.len-insert dots_total (visible_dots k) new_dot
       ∙ ap (λ b. cond b (set.len (visible_dots k)) (set.len (visible_dots k) + 1)) (visible_is k unnamed new_dot ∙ new_is_new)
 
   -- the older dots have no setting of it
-  field_kept : {V : Type 0} (field : Field V) (dot : Tag) → is_dot dot new_dot ≡ false → field_of field after dot ≡ field_of field k dot
+  field_kept : {V : Type 0} (field : Field V) (dot : Dot) → is_dot dot new_dot ≡ false → field_of field after dot ≡ field_of field k dot
   field_kept field dot other = ap (λ b. latest_of (cons_option (if b || false then field operation else None) (settings_of field k dot))) other
 
   -- and the new one has its own alone
@@ -173,14 +162,14 @@ module _ (site n : ℕ) (k : Knowledge) (made : (dot : Tag) → set.contains (vi
   field_made field =
       (λ i. latest_of (cons_option (if is_eq (tied_itself dots_total new_dot i) || false then field operation else None) (no_setting field k new_dot new_is_new i)))
 
-  member_kept : (dot : Tag) → is_dot dot new_dot ≡ false → member_of after dot ≡ member_of k dot
+  member_kept : (dot : Dot) → is_dot dot new_dot ≡ false → member_of after dot ≡ member_of k dot
   member_kept dot other = ap (λ b. option_map (λ p. p.1) (cond b (Some (new_dot, member)) (find (λ p. is_dot dot p.0) (all_asserted k)))) other
 
   member_made : member_of after new_dot ≡ Some member
   member_made = ap (λ o. option_map (λ p. p.1) (cond (is_eq o) (Some (new_dot, member)) (find (λ p. is_dot new_dot p.0) (all_asserted k)))) (tied_itself dots_total new_dot)
 
   -- the dots before it are others
-  other_dot : (dot : Tag) → Contains (dots_from site 1 n) dot → is_dot dot new_dot ≡ false
+  other_dot : (dot : Dot) → Contains (dots_from site 1 n) dot → is_dot dot new_dot ≡ false
   other_dot dot here =
       same_dot dot new_dot
       ∙ apart (nat_eq site dot.site) dot.count (sym (any_from dot site 1 n) ∙ any-in (eq_by_cmp dot_cmp dot) (dots_from site 1 n) dot here (ap is_eq (tied_itself dots_total dot)))
@@ -202,7 +191,7 @@ module _ (site n : ℕ) (k : Knowledge) (made : (dot : Tag) → set.contains (vi
       ++ cond (of_member m i) (new_dot ∷ []) [])
       ∙ ap (λ ds. filter (is_of (dot_view k) m) ds ++ cond (eq_by_cmp member_cmp m member) (new_dot ∷ []) []) (sym (listed (visible_dots k) site n made))
 
-  old_dot : (m : Member) (dot : Tag) → Contains (dots_of (dot_view k) m) dot → is_dot dot new_dot ≡ false
+  old_dot : (m : Member) (dot : Dot) → Contains (dots_of (dot_view k) m) dot → is_dot dot new_dot ≡ false
   old_dot m dot here = other_dot dot (subst (λ ds. Contains ds dot) (listed (visible_dots k) site n made) (filter_of (is_of (dot_view k) m) (in_order (visible_dots k)) dot here))
 
   -- the row of another member is as before
@@ -228,7 +217,7 @@ module _ (site n : ℕ) (k : Knowledge) (made : (dot : Tag) → set.contains (vi
       ∙ (λ i. row_if (new_dot ∷ []) (row_of_fields
       (latest_of (cons_option (field_made penalty_field i) [])) (latest_of (cons_option (field_made pause_field i) [])) (latest_of (cons_option (field_made label_field i) []))))
     where
-      no_dots : (ds : List Tag) → row_by ds (field_of penalty_field k) (field_of pause_field k) (field_of label_field k) ≡ None → ds ≡ []
+      no_dots : (ds : List Dot) → row_by ds (field_of penalty_field k) (field_of pause_field k) (field_of label_field k) ≡ None → ds ≡ []
       no_dots [] h = refl
       no_dots (d ∷ ds) h = (cc)
 
@@ -240,11 +229,6 @@ module _ (site n : ℕ) (k : Knowledge) (made : (dot : Tag) → set.contains (vi
       made_row : MemberRow
       made_row = record { penalty = penalty; paused = pause.paused; reason = pause.reason; name = label.name; state = label.state }
 
-      equal : (o : Ordering) → is_eq o ≡ true → o ≡ Equal
-      equal Less h = absurd (true≢false (sym h))
-      equal Equal h = refl
-      equal Greater h = absurd (true≢false (sym h))
-
       by : (b : Bool) → eq_by_cmp member_cmp m member ≡ b → row_of (dot_view after) m ≡ cond b (Some made_row) (map.get members m)
-      by true e = ap (row_of (dot_view after)) (exact_members m member (equal (member_cmp m member) e)) ∙ row_made (same member ∙ absent)
+      by true e = ap (row_of (dot_view after)) (exact_members m member (equal_of (member_cmp m member) e)) ∙ row_made (same member ∙ absent)
       by false e = row_kept m e ∙ same m

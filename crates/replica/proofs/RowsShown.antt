@@ -12,7 +12,7 @@ use Rattle.std.specs.declared.cmp.Ordering.TheVariants.{Less, Equal, Greater}
 use Rattle.std.proofs.lemmas.Bool.Decides.{nat_tests}
 use Rattle.std.proofs.lemmas.Cmp.{tied_itself, nat_cmp_total, nat_list_cmp_total}
 use Rattle.dots.specs.declared.member.Member.{Member}
-use Rattle.dots.specs.Values.{Tag}
+use Rattle.dots.specs.Values.{Dot}
 use Rattle.dots.specs.Orders.{member_cmp, text_cmp}
 use Rattle.dots.specs.Knowledge.{Knowledge}
 use Rattle.dots.specs.SetItems.{in_order}
@@ -21,7 +21,8 @@ use Rattle.dots.proofs.ItemOrder.{in_order-keys}
 use Rattle.dots.proofs.Membership.{cases-in, first-in, later-in}
 use Rattle.replica.specs.Held.{Held}
 use Rattle.replica.specs.Site.{Members, rows_of}
-use Rattle.replica.proofs.HeldLemmas.{both, both_left, both_right, fact, truth}
+use Rattle.dots.proofs.TruthTables.{fact, truth}
+use Rattle.std.proofs.lemmas.Bool.{and_from, and_parts}
 
 -- members of one queue are in the order of their interfaces
 tied_of : (a b : ℕ) → nat_eq a b ≡ true → nat_cmp a b ≡ Equal
@@ -49,22 +50,22 @@ rows_in queue es = each row_at (of_queue queue es)
 -- what is below in the order of members is so in that of interfaces, in one queue
 below_rows : (queue : ℕ) (m : Member) (es : List Held) → (m.queue == queue) ≡ true → below_all member_cmp m es ≡ true → below_all text_cmp m.interface (rows_in queue es) ≡ true
 below_rows queue m [] here h = refl
-below_rows queue m (e ∷ es) here h = by (e.0.queue == queue) refl (below_rows queue m es here (both_right (is_lt (member_cmp m e.0)) (below_all member_cmp m es) h))
+below_rows queue m (e ∷ es) here h = by (e.0.queue == queue) refl (below_rows queue m es here ((and_parts (is_lt (member_cmp m e.0)) (below_all member_cmp m es) h).1))
   where
     by : (b : Bool) → (e.0.queue == queue) ≡ b → below_all text_cmp m.interface (rows_in queue es) ≡ true → below_all text_cmp m.interface (each row_at (cond b (e ∷ of_queue queue es) (of_queue queue es))) ≡ true
     by true is rest =
         let same : nat_eq m.queue e.0.queue ≡ true = grind (arith, nat_tests, here, is) in
-        both (is_lt (text_cmp m.interface e.0.interface)) (below_all text_cmp m.interface (rows_in queue es))
-        (sym (ap (λ o. is_lt (ordering_then o (text_cmp m.interface e.0.interface))) (tied_of m.queue e.0.queue same)) ∙ both_left (is_lt (member_cmp m e.0)) (below_all member_cmp m es) h) rest
+        and_from (is_lt (text_cmp m.interface e.0.interface)) (below_all text_cmp m.interface (rows_in queue es))
+        (sym (ap (λ o. is_lt (ordering_then o (text_cmp m.interface e.0.interface))) (tied_of m.queue e.0.queue same)) ∙ (and_parts (is_lt (member_cmp m e.0)) (below_all member_cmp m es) h).0) rest
     by false is rest = rest
 
 rising_rows : (queue : ℕ) (es : List Held) → map.is_sorted member_cmp es ≡ true → map.is_sorted text_cmp (rows_in queue es) ≡ true
 rising_rows queue [] h = refl
-rising_rows queue (e ∷ es) h = by (e.0.queue == queue) refl (rising_rows queue es (both_right (below_all member_cmp e.0 es) (map.is_sorted member_cmp es) h))
+rising_rows queue (e ∷ es) h = by (e.0.queue == queue) refl (rising_rows queue es ((and_parts (below_all member_cmp e.0 es) (map.is_sorted member_cmp es) h).1))
   where
     by : (b : Bool) → (e.0.queue == queue) ≡ b → map.is_sorted text_cmp (rows_in queue es) ≡ true → map.is_sorted text_cmp (each row_at (cond b (e ∷ of_queue queue es) (of_queue queue es))) ≡ true
-    by true is rest = both (below_all text_cmp e.0.interface (rows_in queue es)) (map.is_sorted text_cmp (rows_in queue es))
-        (below_rows queue e.0 es is (both_left (below_all member_cmp e.0 es) (map.is_sorted member_cmp es) h)) rest
+    by true is rest = and_from (below_all text_cmp e.0.interface (rows_in queue es)) (map.is_sorted text_cmp (rows_in queue es))
+        (below_rows queue e.0 es is ((and_parts (below_all member_cmp e.0 es) (map.is_sorted member_cmp es) h).0)) rest
     by false is rest = rest
 
 -- a row is found by its interface where the member is found
@@ -87,14 +88,14 @@ find_row queue interface (e ∷ es) =
 abbrev member_in : ℕ → List ℕ → Member
 member_in queue interface = record { queue = queue; interface = interface }
 
-abbrev interfaces_seen : DotView → ℕ → List Tag → List (List ℕ)
+abbrev interfaces_seen : DotView → ℕ → List Dot → List (List ℕ)
 interfaces_seen r queue dots = filter_map (λ dot. option_and_then (interface_in queue) (r.member dot)) dots
 
-abbrev dots_kept : DotView → ℕ → List ℕ → List Tag → List Tag
+abbrev dots_kept : DotView → ℕ → List ℕ → List Dot → List Dot
 dots_kept r queue interface dots = filter (is_of r (member_in queue interface)) dots
 
 -- an interface is shown where a dot of the member is visible
-shown_where : (r : DotView) (queue : ℕ) (interface : List ℕ) (row : MemberRow) (dots : List Tag)
+shown_where : (r : DotView) (queue : ℕ) (interface : List ℕ) (row : MemberRow) (dots : List Dot)
     → list_any (eq_by_cmp text_cmp interface) (interfaces_seen r queue dots) ≡ is_some (row_if (dots_kept r queue interface dots) row)
 shown_where r queue interface row [] = refl
 shown_where r queue interface row (dot ∷ dots) = by (r.member dot) (shown_where r queue interface row dots)
@@ -117,8 +118,8 @@ shown_where r queue interface row (dot ∷ dots) = by (r.member dot) (shown_wher
 all_above : {K X : Type 0} (R : K → K → Ordering) (k : K) (es : List (K × X)) (e : K × X) → below_all R k es ≡ true → Contains es e → is_lt (R k e.0) ≡ true
 all_above R k [] e h here = absurd (omega (arith, here.1))
 all_above R k (x ∷ es) e h here = elim (cases-in x es e here) [
-  | inl p ↦ ap (λ y. is_lt (R k y.0)) (sym p) ∙ both_left (is_lt (R k x.0)) (below_all R k es) h
-  | inr rest ↦ all_above R k es e (both_right (is_lt (R k x.0)) (below_all R k es) h) rest
+  | inl p ↦ ap (λ y. is_lt (R k y.0)) (sym p) ∙ (and_parts (is_lt (R k x.0)) (below_all R k es) h).0
+  | inr rest ↦ all_above R k es e ((and_parts (is_lt (R k x.0)) (below_all R k es) h).1) rest
 ]
 
 finds : {K X : Type 0} {R : K → K → Ordering} → IsTotalOrder R → (es : List (K × X)) (e : K × X) → map.is_sorted R es ≡ true → Contains es e → find R e.0 es ≡ Some e.1
@@ -126,8 +127,8 @@ finds o [] e h here = absurd (omega (arith, here.1))
 finds {R = R} o (x ∷ es) e h here = elim (cases-in x es e here) [
   | inl p ↦ subst (λ y. find R y.0 (x ∷ es) ≡ Some y.1) p (ap (λ t. cond (is_eq t) (Some x.1) (find R x.0 es)) (tied_itself o x.0))
   | inr rest ↦
-      ap (λ b. cond b (Some x.1) (find R e.0 es)) (apart (R x.0 e.0) (R e.0 x.0) (o.antisymm e.0 x.0) (all_above R x.0 es e (both_left (below_all R x.0 es) (map.is_sorted R es) h) rest))
-      ∙ finds o es e (both_right (below_all R x.0 es) (map.is_sorted R es) h) rest
+      ap (λ b. cond b (Some x.1) (find R e.0 es)) (apart (R x.0 e.0) (R e.0 x.0) (o.antisymm e.0 x.0) (all_above R x.0 es e ((and_parts (below_all R x.0 es) (map.is_sorted R es) h).0) rest))
+      ∙ finds o es e ((and_parts (below_all R x.0 es) (map.is_sorted R es) h).1) rest
 ]
   where
     apart : (p q : Ordering) → q ≡ ordering_reverse p → is_lt p ≡ true → is_eq q ≡ false

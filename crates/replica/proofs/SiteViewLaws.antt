@@ -1,36 +1,23 @@
 -- What is read of a knowledge once it has one operation more, and that it depends on what it contains alone.
 use Rattle.std.proofs.Common.{◌≡◌, ℕ, ◌≤◌, Bool, true, false, not, ◌&&◌, ◌||◌, [], ◌∷◌, Contains, refl, sym, ap, ◌∙◌, arith, inl, inr}
 use Rattle.std.specs.FinSet as set
-use Rattle.dots.specs.Values.{Tag}
-use Rattle.dots.specs.Operations.{Operation, named}
-use Rattle.dots.specs.Knowledge.{Knowledge, SameOperations, IsConsistent, asserts, names, is_asserted, is_named, asserted_dots, named_dots, visible_dots, known_dots}
+use Rattle.dots.specs.DotSets.{is_older}
+use Rattle.dots.specs.Values.{Dot}
+use Rattle.dots.specs.Operations.{Operation}
+use Rattle.dots.specs.Knowledge.{Knowledge, SameOperations, IsConsistent, asserts, names, is_asserted, is_named, asserted_dots, visible_dots, known_dots}
 use Rattle.dots.proofs.DotOrder.{dots_total, dots_exact}
+use Rattle.dots.proofs.KnownLaws.{known-dot, dead-dot}
 use Rattle.dots.proofs.Membership.{first-in, later-in, cases-in}
 use Rattle.dots.proofs.VisibleLaws.{asserted-dot, visible-dot, same-any}
 use Rattle.dots.proofs.RowLaws.{same-view}
 use Rattle.dots.proofs.CountLaws.{same-total}
 use Rattle.replica.specs.Changes.{meaning}
 use Rattle.replica.specs.Promises.{ForeseesOneMore, OlderAreNamed, MeansTheSame}
-use Rattle.replica.specs.SiteViews.{site_view, greatest, count_used, time_used, is_dead, is_older, older_dots, visible_with, known_with}
-
-pub named-dot : (k : Knowledge) (dot : Tag) → set.contains (named_dots k) dot ≡ is_named k dot
-unfolding named_dots
-named-dot [] dot = set.contains-empty _ dot
-named-dot (o ∷ k) dot = set.contains-union dots_total (named o) (named_dots k) dot ∙ ap (λ b. names dot o || b) (named-dot k dot)
-
-pub known-dot : (k : Knowledge) (dot : Tag) → set.contains (known_dots k) dot ≡ (is_asserted k dot || is_named k dot)
-unfolding known_dots
-known-dot k dot = set.contains-union dots_total (asserted_dots k) (named_dots k) dot ∙ (λ i. asserted-dot k dot i || named-dot k dot i)
-
-dead_bools : (a n : Bool) → ((a || n) && not (a && not n)) ≡ n
-dead_bools true true = refl
-dead_bools true false = refl
-dead_bools false true = refl
-dead_bools false false = refl
+use Rattle.replica.specs.SiteViews.{site_view, greatest, count_used, time_used, is_dead, older_dots, visible_with, known_with}
 
 -- a dead dot is one that some operation has named
-pub dead-is : (site : ℕ) (k : Knowledge) (dot : Tag) → is_dead (site_view site k) dot ≡ is_named k dot
-dead-is site k dot = (λ i. known-dot k dot i && not (visible-dot k dot i)) ∙ dead_bools (is_asserted k dot) (is_named k dot)
+pub dead-is : (site : ℕ) (k : Knowledge) (dot : Dot) → is_dead (site_view site k) dot ≡ is_named k dot
+dead-is site k dot = dead-dot k dot
 
 visible_bools : (a n b m : Bool) → (((a && not n) || (b || false)) && not (n || m)) ≡ ((b || a) && not (m || n))
 visible_bools true true true true = refl
@@ -61,7 +48,7 @@ known_bools false false true m = refl
 known_bools false false false true = refl
 known_bools false false false false = refl
 
-visible-with : (site : ℕ) (k : Knowledge) (o : Operation) (dot : Tag) → set.contains (visible_with (site_view site k) o) dot ≡ set.contains (visible_dots (o ∷ k)) dot
+visible-with : (site : ℕ) (k : Knowledge) (o : Operation) (dot : Dot) → set.contains (visible_with (site_view site k) o) dot ≡ set.contains (visible_dots (o ∷ k)) dot
 unfolding visible_with
 visible-with site k o dot =
     let r = site_view site k in
@@ -71,7 +58,7 @@ visible-with site k o dot =
     ∙ (λ i. (visible-dot k dot i || asserted-dot (o ∷ []) dot i) && not (is_named k dot || names dot o))
     ∙ visible_bools (is_asserted k dot) (is_named k dot) (asserts dot o) (names dot o) ∙ sym (visible-dot (o ∷ k) dot)
 
-known-with : (site : ℕ) (k : Knowledge) (o : Operation) (dot : Tag) → set.contains (known_with (site_view site k) o) dot ≡ set.contains (known_dots (o ∷ k)) dot
+known-with : (site : ℕ) (k : Knowledge) (o : Operation) (dot : Dot) → set.contains (known_with (site_view site k) o) dot ≡ set.contains (known_dots (o ∷ k)) dot
 unfolding known_with
 known-with site k o dot =
     set.contains-union dots_total (known_dots k) (known_dots (o ∷ [])) dot ∙ (λ i. known-dot k dot i || known-dot (o ∷ []) dot i)

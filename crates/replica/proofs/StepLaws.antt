@@ -6,7 +6,7 @@ use Rattle.dots.specs.Knowledge.{Knowledge, visible_dots, known_dots}
 use Rattle.replica.specs.Changes.{Meaning, Refused, Makes, meaning}
 use Rattle.replica.specs.Promises.{RefusalsChangeNothing}
 use Rattle.replica.specs.SiteViews.{site_view}
-use Rattle.replica.specs.Steps.{SiteKnowledge, Step, Do, Cut, Whole, Take, Outcome, Done, Denied, Framed, Nothing, NoNumber, Taken, CellsFull, RunsFull, after_meaning, framed, cut, take, step}
+use Rattle.replica.specs.Steps.{SiteKnowledge, Step, Do, Cut, Whole, Take, Outcome, Done, Denied, Framed, Nothing, NoNumber, Taken, CellsFull, RunsFull, after_meaning, after_frame, cut, take, step}
 
 -- whether an outcome is a change
 changes : Outcome → Bool
@@ -30,7 +30,7 @@ unfolding Kept changes
 kept-meaning s (Refused refusal) h = refl
 kept-meaning s (Makes o) h = no h
 
-kept-framed : (s : SiteKnowledge) (frame buffer : Knowledge) → Kept s (framed s frame buffer)
+kept-framed : (s : SiteKnowledge) (frame buffer : Knowledge) → Kept s (after_frame s frame buffer)
 unfolding Kept changes
 kept-framed s frame buffer = by (nat_lt (2 ^ 40) (suc s.frames))
   where

@@ -1,12 +1,14 @@
 -- What a command means (Asterisk's queue actions; the refusals and their order are this project's own): a refusal, or one
 -- operation more. Counts and times are plain numbers here, so that a site is full before its numbers are used up.
-use Rattle.std.specs.Prelude.{ℕ, suc, max, Bool, false, ◌||◌, ◌^◌, nat_lt, List, [], ◌∷◌, Option, Some, None, map as each, if◌then◌else◌}
+use Rattle.std.specs.Prelude.{ℕ, suc, max, Bool, false, ◌||◌, nat_lt, List, [], ◌∷◌, Option, Some, None, map as each, if◌then◌else◌}
 use Rattle.std.specs.FinSet as set
+use Rattle.dots.specs.declared.limits.TheConstants.{MOST_CALLS, MOST_COUNT, MOST_RUNS}
 use Rattle.dots.specs.declared.label.Label.{Label}
 use Rattle.dots.specs.declared.member.Member.{Member}
-use Rattle.dots.specs.Values.{Tag}
+use Rattle.dots.specs.Values.{Dot}
 use Rattle.dots.specs.Registers.{Entry}
-use Rattle.dots.specs.Operations.{Operation, Calls, Setting, Add, Write, Remove, Count, SetPenalty, SetPause, SetLabel}
+use Rattle.dots.specs.declared.calls.Calls.{Calls}
+use Rattle.dots.specs.Operations.{Operation, Setting, Add, Write, Remove, Count, SetPenalty, SetPause, SetLabel}
 use Rattle.dots.specs.Knowledge.{known_dots}
 use Rattle.dots.specs.DotSets.{run_count}
 use Rattle.dots.specs.Rows.{DotView}
@@ -40,7 +42,7 @@ time_of None = 0
 time_of (Some entry) = entry.stamp.time
 
 -- the time of what a setting replaces on a dot: the latest setting of the same field
-abbrev pub time_replaced : DotView → Setting → Tag → ℕ
+abbrev pub time_replaced : DotView → Setting → Dot → ℕ
 time_replaced r (SetPenalty penalty) dot = time_of (r.penalty dot)
 time_replaced r (SetPause pause) dot = time_of (r.pause dot)
 time_replaced r (SetLabel label) dot = time_of (r.label dot)
@@ -48,17 +50,17 @@ time_replaced r (SetLabel label) dot = time_of (r.label dot)
 -- an add: the site's next count and time, and an empty reason
 abbrev pub add_at : ℕ → SiteView → Member → ℕ → Bool → Label → Operation
 add_at site r member penalty paused label =
-    let dot : Tag = record { site = site; count = suc r.last_count } in
+    let dot : Dot = record { site = site; count = suc r.last_count } in
     Add dot member (record { time = suc r.last_time; site = site }) penalty (record { paused = paused; reason = [] }) label (older_dots r (dot ∷ []))
 
 -- a write of one field on dots: later than all that the site has written itself, and than all that it replaces
-abbrev pub write_at : ℕ → SiteView → Setting → List (Tag × Member) → Operation
+abbrev pub write_at : ℕ → SiteView → Setting → List (Dot × Member) → Operation
 write_at site r setting dots =
     Write dots setting (record { time = suc (max r.last_time (greatest (λ d. time_replaced r.dots setting d.0) dots)); site = site })
     (older_dots r (each (λ d. d.0) dots))
 
 -- a remove of dots
-abbrev pub remove_of : List (Tag × Member) → Operation
+abbrev pub remove_of : List (Dot × Member) → Operation
 remove_of dots = Remove (set.from_list (each (λ d. d.0) dots))
 
 -- one call more than the site has counted
@@ -71,11 +73,11 @@ is_full r o = is_past_limits (visible_with r o) (known_with r o)
 
 -- whether an operation alone has too many runs
 abbrev pub is_too_long : Operation → Bool
-is_too_long o = nat_lt 65536 (run_count (known_dots (o ∷ [])))
+is_too_long o = nat_lt MOST_RUNS (run_count (known_dots (o ∷ [])))
 
 -- whether a number is past the greatest count and time
 abbrev pub is_used_up : ℕ → Bool
-is_used_up n = nat_lt (2 ^ 40) n
+is_used_up n = nat_lt MOST_COUNT n
 
 -- whether an operation wants a count or a time past the greatest
 abbrev pub is_exhausted : Operation → Bool
@@ -89,7 +91,7 @@ abbrev pub is_past_total : Operation → Bool
 is_past_total (Add dot member stamp penalty pause label older) = false
 is_past_total (Write dots setting stamp older) = false
 is_past_total (Remove dots) = false
-is_past_total (Count site queue calls total) = nat_lt 1000000000 total
+is_past_total (Count site queue calls total) = nat_lt MOST_CALLS total
 
 -- an operation within the limits of the knowledge and of the buffer, whose readings these are, is made; the refusals in their order
 abbrev pub within_limits : SiteView → SiteView → Operation → Meaning
@@ -103,17 +105,17 @@ in_queue None go = Refused NoSuchQueue
 in_queue (Some queue) go = go queue
 
 -- where no dot is seen
-abbrev pub where_absent : List (Tag × Member) → Meaning → Meaning
+abbrev pub where_absent : List (Dot × Member) → Meaning → Meaning
 where_absent [] made = made
 where_absent (d ∷ ds) made = Refused AlreadyThere
 
 -- where some dot is seen
-abbrev pub where_present : List (Tag × Member) → Meaning → Meaning
+abbrev pub where_present : List (Dot × Member) → Meaning → Meaning
 where_present [] made = Refused NotThere
 where_present (d ∷ ds) made = made
 
 -- a setting on the dots that are seen
-abbrev pub meaning_of_setting : ℕ → SiteView → SiteView → Setting → List (Tag × Member) → Meaning
+abbrev pub meaning_of_setting : ℕ → SiteView → SiteView → Setting → List (Dot × Member) → Meaning
 meaning_of_setting site r buffer setting dots = where_present dots (within_limits r buffer (write_at site r setting dots))
 
 -- what a change means at a site that has these queues, reads this of its knowledge, and this of its buffer

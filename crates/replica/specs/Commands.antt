@@ -1,7 +1,8 @@
 -- What a command does to a site, and what it is refused for.
-use Rattle.std.specs.Prelude.{ℕ, ◌≡◌, ◌+◌, ◌≤◌, ◌^◌, List, [], Result, IsErrOf, OnOk, OnErr, IsTrue, Contains}
+use Rattle.std.specs.Prelude.{ℕ, ◌≡◌, ◌+◌, ◌≤◌, List, [], Result, IsErrOf, OnOk, OnErr, IsTrue, Contains}
 use Rattle.std.specs.Option.{unwrap_or}
 use Rattle.std.specs.FinMap as map
+use Rattle.dots.specs.declared.limits.TheConstants.{MOST_COUNT, MOST_LIVE}
 use Rattle.dots.specs.declared.member.Member.{Member}
 use Rattle.dots.specs.Rows.{MemberRow}
 use Rattle.replica.specs.declared.command.Command.{Command}
@@ -42,11 +43,11 @@ HasMember state command = IsTrue (map.contains_key state.members (member_made st
 
 -- the site has as many members as it may
 abbrev pub IsFull : SiteState → Type 0
-IsFull state = 16384 ≤ map.len state.members
+IsFull state = MOST_LIVE ≤ map.len state.members
 
 -- the site has made as many adds as it may
 abbrev pub IsExhausted : SiteState → Type 0
-IsExhausted state = 2 ^ 40 ≤ state.adds
+IsExhausted state = MOST_COUNT ≤ state.adds
 
 -- the member is a new one of a queue in the list
 pub record IsNewMember (state : SiteState) (command : Command) : Type 0 where

@@ -8,5 +8,5 @@ abbrev pub entry_row : Entry → MemberRow
 entry_row e = record { penalty = e.penalty; paused = e.pause.paused; reason = e.pause.reason; name = e.label.name; state = e.label.state }
 
 -- its interface and its row
-abbrev pub listed : Entry → List ℕ × MemberRow
-listed e = (e.member.interface, entry_row e)
+abbrev pub listing_of : Entry → List ℕ × MemberRow
+listing_of e = (e.member.interface, entry_row e)

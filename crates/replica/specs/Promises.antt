@@ -1,13 +1,17 @@
 -- What the definitions of commands and steps promise.
-use Rattle.std.specs.Prelude.{ℕ, ◌≡◌, Option, List, ◌∷◌, ◌&&◌}
+use Rattle.std.specs.Prelude.{ℕ, ⊤, ◌≡◌, Option, List, ◌∷◌, ◌&&◌}
 use Rattle.std.specs.FinSet as set
-use Rattle.dots.specs.Values.{Tag}
-use Rattle.dots.specs.Operations.{Operation, Calls}
+use Rattle.dots.specs.DotSets.{is_older}
+use Rattle.dots.specs.Values.{Dot, IsSite, IsPenalty, IsName}
+use Rattle.dots.specs.declared.calls.Calls.{Calls}
+use Rattle.dots.specs.Operations.{Operation}
 use Rattle.dots.specs.Knowledge.{Knowledge, SameOperations, IsConsistent, is_named, visible_dots, known_dots}
 use Rattle.dots.specs.Rows.{ShowAlike}
+use Rattle.dots.specs.WithinLimits.{AreWithinLimits, IsLabel, IsSetting, IsWithinLimits}
 use Rattle.replica.specs.declared.refusal.Refusal.{Refusal}
-use Rattle.replica.specs.Changes.{Change, meaning}
-use Rattle.replica.specs.SiteViews.{SiteView, site_view, dots_seen, is_older, older_dots, visible_with, known_with}
+use Rattle.replica.specs.Changes.{Change, AddMember, RemoveMember, SetField, CountCall, Makes, meaning}
+use Rattle.replica.specs.Queues.{AreQueues}
+use Rattle.replica.specs.SiteViews.{SiteView, site_view, dots_seen, older_dots, visible_with, known_with}
 use Rattle.replica.specs.Steps.{SiteKnowledge, Step, Denied, NoNumber, Nothing, CellsFull, RunsFull, step}
 
 -- what a site view says of one operation more is what is seen of the knowledge that has it
@@ -17,7 +21,7 @@ pub record ForeseesOneMore (site : ℕ) (k : Knowledge) (o : Operation) : Type 0
 
 -- the older dots are the dead ones of lesser counts: those that are known, and that some operation has named
 abbrev pub OlderAreNamed : Type 0
-OlderAreNamed = (site : ℕ) (k : Knowledge) (dots : List Tag) (dot : Tag) → set.contains (older_dots (site_view site k) dots) dot ≡ (is_named k dot && is_older dots dot)
+OlderAreNamed = (site : ℕ) (k : Knowledge) (dots : List Dot) (dot : Dot) → set.contains (older_dots (site_view site k) dots) dot ≡ (is_named k dot && is_older dots dot)
 
 -- a command means the same wherever the operations of the knowledge, and those of the buffer, are the same
 abbrev pub MeansTheSame : Type 0
@@ -45,3 +49,15 @@ pub record RefusalsChangeNothing (site : ℕ) (names : List (List ℕ)) (s : Sit
   pub no_number : (step site names s event).1 ≡ NoNumber → (step site names s event).0 ≡ s
   pub cells_full : (step site names s event).1 ≡ CellsFull → (step site names s event).0 ≡ s
   pub runs_full : (step site names s event).1 ≡ RunsFull → (step site names s event).0 ≡ s
+
+-- a change of values that are within their limits
+abbrev pub IsChange : Change → Type 0
+IsChange (AddMember queue interface penalty paused label) = IsName interface × (IsPenalty penalty × IsLabel label)
+IsChange (RemoveMember queue interface) = IsName interface
+IsChange (SetField queue interface setting) = IsName interface × IsSetting setting
+IsChange (CountCall queue calls) = ⊤
+
+-- what such a change makes, at a site whose operations are all within their limits, is within its limits
+abbrev pub MakesWithinLimits : Type 0
+MakesWithinLimits = (site : ℕ) (names : List (List ℕ)) (change : Change) (k buffer : Knowledge) (o : Operation) → IsSite site → AreQueues names → IsChange change
+    → AreWithinLimits k → meaning site names (site_view site k) (site_view site buffer) change ≡ Makes o → IsWithinLimits o

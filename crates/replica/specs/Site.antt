@@ -3,7 +3,7 @@ use Rattle.std.specs.Prelude.{ℕ, Bool, List, ◌==◌, map as each, refl}
 use Rattle.std.specs.List.{filter}
 use Rattle.std.specs.Coded.{Coded, code_by, coded×, coded_ℕ, coded_bool, coded_list}
 use Rattle.std.specs.FinMap as map
-use Rattle.dots.specs.declared.member.Member.{Member}
+use Rattle.dots.specs.Codes.{member_code}
 use Rattle.dots.specs.Orders.{member_cmp}
 use Rattle.dots.specs.Rows.{MemberRow}
 
@@ -22,10 +22,6 @@ pub record SiteState : Type 0 where
 -- the members of the queue of this number with their rows, by their interfaces' bytes
 abbrev pub rows_of : Members → ℕ → List (List ℕ × MemberRow)
 rows_of members queue = each (λ e. (e.0.interface, e.1)) (filter (λ e. e.0.queue == queue) (map.entries members))
-
--- a member is stored as its queue's number and its interface
-abbrev pub member_code : Coded Member
-member_code = code_by (ℕ × List ℕ) (coded× coded_ℕ (coded_list coded_ℕ)) (λ m. (m.queue, m.interface)) (λ p. record { queue = p.0; interface = p.1 }) (λ _. refl)
 
 -- a row is stored as its fields
 abbrev pub row_code : Coded MemberRow

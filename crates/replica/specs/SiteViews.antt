@@ -2,13 +2,15 @@
 -- one for the knowledge of a site and for what stands for it.
 use Rattle.std.specs.Prelude.{ℕ, max, Bool, not, ◌&&◌, ◌||◌, nat_lt, nat_eq, List, [], ◌∷◌, Option, Some, None, map as each, bytes_eq, if◌then◌else◌}
 use Rattle.std.specs.Option.{option_and_then}
-use Rattle.std.specs.List.{filter_map, list_any}
+use Rattle.std.specs.List.{filter_map}
 use Rattle.std.specs.FinSet as set
+use Rattle.dots.specs.declared.limits.TheConstants.{MOST_LIVE, MOST_RUNS}
 use Rattle.dots.specs.declared.member.Member.{Member}
-use Rattle.dots.specs.Values.{Tag, Timestamp}
+use Rattle.dots.specs.Values.{Dot, Stamp}
 use Rattle.dots.specs.Orders.{dot_cmp}
-use Rattle.dots.specs.DotSets.{run_count}
-use Rattle.dots.specs.Operations.{Operation, Calls, Add, Write, Remove, Count}
+use Rattle.dots.specs.DotSets.{is_older, run_count}
+use Rattle.dots.specs.declared.calls.Calls.{Calls}
+use Rattle.dots.specs.Operations.{Operation, Add, Write, Remove, Count}
 use Rattle.dots.specs.Knowledge.{Knowledge, known_dots, asserted_dots, names}
 use Rattle.dots.specs.SetItems.{in_order}
 use Rattle.dots.specs.Rows.{DotView, dot_view, dots_of}
@@ -31,7 +33,7 @@ count_used site (Remove dots) = 0
 count_used site (Count s queue calls total) = 0
 
 -- the time of a stamp of a site
-abbrev pub own_time : ℕ → Timestamp → ℕ
+abbrev pub own_time : ℕ → Stamp → ℕ
 own_time site stamp = if nat_eq stamp.site site then stamp.time else 0
 
 -- the time that a site has used for an operation
@@ -57,23 +59,19 @@ site_view site k = record {
 }
 
 -- whether a dot is known and isn't visible: an operation has named it
-abbrev pub is_dead : SiteView → Tag → Bool
+abbrev pub is_dead : SiteView → Dot → Bool
 is_dead r dot = set.contains r.known dot && not (set.contains r.dots.visible dot)
 
--- whether a dot is of the site of one of these dots and has a lesser count
-abbrev pub is_older : List Tag → Tag → Bool
-is_older dots dot = list_any (λ d. nat_eq dot.site d.site && nat_lt dot.count d.count) dots
-
 -- the dead dots of the sites of these dots, with lesser counts: what an add and a write of these dots also name
-unfoldable pub older_dots : SiteView → List Tag → set.FinSet dot_cmp
+unfoldable pub older_dots : SiteView → List Dot → set.FinSet dot_cmp
 older_dots r dots = set.retain r.known (λ dot. is_dead r dot && is_older dots dot)
 
 -- a dot with its member, where that has this interface
-abbrev pub with_interface : DotView → List ℕ → Tag → Option (Tag × Member)
+abbrev pub with_interface : DotView → List ℕ → Dot → Option (Dot × Member)
 with_interface r interface dot = option_and_then (λ member. if bytes_eq member.interface interface then Some (dot, member) else None) (r.member dot)
 
 -- the visible dots of a member, or, without a queue, of the members of this interface in every queue, each with its member
-abbrev pub dots_seen : DotView → Option ℕ → List ℕ → List (Tag × Member)
+abbrev pub dots_seen : DotView → Option ℕ → List ℕ → List (Dot × Member)
 dots_seen r None interface = filter_map (with_interface r interface) (in_order r.visible)
 dots_seen r (Some queue) interface =
     let member : Member = record { queue = queue; interface = interface } in each (λ dot. (dot, member)) (dots_of r member)
@@ -88,4 +86,4 @@ known_with r o = set.union r.known (known_dots (o ∷ []))
 
 -- whether there are more visible dots, or more runs of known ones, than a site may have
 abbrev pub is_past_limits : set.FinSet dot_cmp → set.FinSet dot_cmp → Bool
-is_past_limits visible known = nat_lt 16384 (set.len visible) || nat_lt 65536 (run_count known)
+is_past_limits visible known = nat_lt MOST_LIVE (set.len visible) || nat_lt MOST_RUNS (run_count known)

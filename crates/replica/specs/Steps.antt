@@ -1,7 +1,8 @@
 -- One site's steps: it does a command, cuts its buffer into a frame, makes a frame of all that it knows, or takes a frame (RR-7506:
 -- a replica updates its state at the source and merges what it is sent; the buffer and the frames' numbers are this project's own).
-use Rattle.std.specs.Prelude.{ℕ, suc, ◌^◌, nat_lt, List, [], ◌∷◌, ◌++◌, if◌then◌else◌}
+use Rattle.std.specs.Prelude.{ℕ, suc, nat_lt, List, [], ◌∷◌, ◌++◌, if◌then◌else◌}
 use Rattle.std.specs.FinSet as set
+use Rattle.dots.specs.declared.limits.TheConstants.{MOST_COUNT, MOST_LIVE, MOST_RUNS}
 use Rattle.dots.specs.DotSets.{run_count}
 use Rattle.dots.specs.Knowledge.{Knowledge, visible_dots, known_dots}
 use Rattle.replica.specs.declared.refusal.Refusal.{Refusal}
@@ -43,26 +44,26 @@ after_meaning s (Refused refusal) = (s, Denied refusal)
 after_meaning s (Makes o) = (record { known = o ∷ s.known; buffer = o ∷ s.buffer; frames = s.frames }, Done)
 
 -- a frame of this, under the next number, where there is one
-abbrev pub framed : SiteKnowledge → Knowledge → Knowledge → SiteKnowledge × Outcome
-framed s frame buffer =
-    if nat_lt (2 ^ 40) (suc s.frames) then (s, NoNumber)
+abbrev pub after_frame : SiteKnowledge → Knowledge → Knowledge → SiteKnowledge × Outcome
+after_frame s frame buffer =
+    if nat_lt MOST_COUNT (suc s.frames) then (s, NoNumber)
     else (record { known = s.known; buffer = buffer; frames = suc s.frames }, Framed (suc s.frames) frame)
 
 -- a cut: an empty buffer gives no frame and uses no number
 abbrev pub cut : SiteKnowledge → Knowledge → SiteKnowledge × Outcome
 cut s [] = (s, Nothing)
-cut s (o ∷ os) = framed s (o ∷ os) []
+cut s (o ∷ os) = after_frame s (o ∷ os) []
 
 -- a site that takes what a frame carries: its knowledge grows, and its buffer stays
 abbrev pub take : SiteKnowledge → Knowledge → SiteKnowledge × Outcome
 take s frame =
-    if nat_lt 16384 (set.len (visible_dots (frame ++ s.known))) then (s, CellsFull)
-    else if nat_lt 65536 (run_count (known_dots (frame ++ s.known))) then (s, RunsFull)
+    if nat_lt MOST_LIVE (set.len (visible_dots (frame ++ s.known))) then (s, CellsFull)
+    else if nat_lt MOST_RUNS (run_count (known_dots (frame ++ s.known))) then (s, RunsFull)
     else (record { known = frame ++ s.known; buffer = s.buffer; frames = s.frames }, Taken)
 
 -- a step of the site of this number with these queues
 abbrev pub step : ℕ → List (List ℕ) → SiteKnowledge → Step → SiteKnowledge × Outcome
 step site names s (Do change) = after_meaning s (meaning site names (site_view site s.known) (site_view site s.buffer) change)
 step site names s Cut = cut s s.buffer
-step site names s Whole = framed s s.known s.buffer
+step site names s Whole = after_frame s s.known s.buffer
 step site names s (Take frame) = take s frame

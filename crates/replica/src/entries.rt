@@ -2,8 +2,9 @@
 ghost use Rattle.std.specs.Prelude.{◌≡◌, ◌==◌, ◌≤◌, length, filter, option_map, IfOk, IfErr};
 ghost use Rattle.std.specs.FinMap as map;
 ghost use Rattle.dots.specs.Orders.{member_cmp};
-ghost use Rattle.replica.specs.Held.{IsRising, IsAt, IsGapFor, held};
+ghost use Rattle.dots.specs.SortedEntries.{IsRising, IsAt, IsGapFor};
 ghost use Rattle.dots.specs.Views.{row_view};
+ghost use Rattle.replica.specs.Held.{held_of_each};
 
 use crate::Row;
 use crate::entry::Entry;
@@ -11,17 +12,17 @@ use dots::Member;
 
 // The place of the member among the entries, or else the one where it would stand.
 pub(crate) fn place(entries: &[Entry], member: &Member) -> Result<usize, usize>
-    requires { IsRising (held entries.now) }
-    ensures found { IfOk result (IsAt (held entries.now) member.now) }
-    ensures absent { IfErr result (IsGapFor (held entries.now) member.now) }
+    requires { IsRising member_cmp (held_of_each entries.now) }
+    ensures found { IfOk result (IsAt (held_of_each entries.now) member.now) }
+    ensures absent { IfErr result (IsGapFor member_cmp (held_of_each entries.now) member.now) }
 {
     entries.binary_search_by(|entry| entry.member.cmp(member))
 }
 
 // The row of the member, where it is among the entries.
 pub(crate) fn row_in<'a>(entries: &'a [Entry], member: &Member) -> Option<Row<'a>>
-    requires { IsRising (held entries.now) }
-    ensures { option_map row_view result ≡ map.find member_cmp member.now (held entries.now) }
+    requires { IsRising member_cmp (held_of_each entries.now) }
+    ensures { option_map row_view result ≡ map.find member_cmp member.now (held_of_each entries.now) }
 {
     match place(entries, member) {
         Ok(at) => Some(entries[at].row()),
@@ -31,7 +32,7 @@ pub(crate) fn row_in<'a>(entries: &'a [Entry], member: &Member) -> Option<Row<'a
 
 // The entries of the queue of this number.
 pub(crate) fn of_queue(entries: &[Entry], queue: u16) -> &[Entry]
-    requires { IsRising (held entries.now) }
+    requires { IsRising member_cmp (held_of_each entries.now) }
     ensures value { result.now ≡ filter (λ e. e.member.queue == queue) entries.now }
     ensures few { length result.now ≤ length entries.now }
 {

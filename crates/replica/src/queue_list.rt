@@ -1,22 +1,27 @@
 ghost use Rattle.std.specs.Prelude.{◌≡◌, ◌↔◌, ◌<◌, ◌≤◌, length, Some, slice_get, option_map, Contains, IfSome, IfNone, IfOk, OnOk, IsErrOf};
 ghost use Rattle.replica.specs.Queues.{AreDistinct, AreQueues, number_of};
 
-use dots::{Memory, QueueName};
+use dots::{Memory, QUEUES, QueueName};
 use indexmap::IndexSet;
 use std::alloc::Global;
 use std::marker::Model;
+use thiserror::Error;
 
 /// Why names are no list of queues. Of several faults the first of this list is answered, but that a want of memory at
 /// one name hides a later name that comes twice (this project's own).
-#[derive(Clone, Copy, Debug, PartialEq, Eq)]
+#[derive(Clone, Copy, Debug, PartialEq, Eq, Error)]
 pub enum ListFault {
     /// There is no name.
+    #[error("no queue")]
     Empty,
     /// There are more than 256 names.
+    #[error("more than 256 queues")]
     TooMany,
     /// A name comes twice.
+    #[error("a queue twice")]
     Twice,
-    /// Memory was wanting.
+    /// An allocation was refused.
+    #[error("out of memory")]
     Memory,
 }
 
@@ -45,14 +50,14 @@ impl QueueList {
         ensures value { IfOk result (λ list. list ≡ names.now) }
         ensures within { OnOk result (AreQueues names.now) }
         ensures empty { IsErrOf result ListFault.Empty ↔ (length names.now ≡ 0) }
-        ensures too_many { IsErrOf result ListFault.TooMany ↔ (256 < length names.now) }
+        ensures too_many { IsErrOf result ListFault.TooMany ↔ (QUEUES < length names.now) }
         ensures twice { IsErrOf result ListFault.Twice
-            → (length names.now ≤ 256) × (AreDistinct names.now → ⊥) }
+            → (length names.now ≤ QUEUES) × (AreDistinct names.now → ⊥) }
     {
         if names.is_empty() {
             return Err(ListFault::Empty);
         }
-        if names.len() > 256 {
+        if names.len() > QUEUES {
             return Err(ListFault::TooMany);
         }
         let mut held = IndexSet::new(alloc);
@@ -86,7 +91,7 @@ impl QueueList {
     /// How many queues there are, 1 to 256.
     pub fn len(&self) -> u16
         ensures value { result ≡ length self.now }
-        ensures limit { (0 < result) × (result ≤ 256) }
+        ensures limit { (0 < result) × (result ≤ QUEUES) }
     {
         self.names.len() as u16
     }

@@ -11,12 +11,11 @@ ghost use Rattle.replica.specs.Steps.{SiteKnowledge, Do, new_site, step};
 use crate::entries::{of_queue, place, row_in};
 use crate::entry::Entry;
 use crate::{Command, QueueList, Refusal, Row, Rows};
-use dots::{Dot, Interface, Label, Member, Pause, Penalty, QueueName, SiteId, Stamp, Text80};
+use dots::{
+    Dot, Interface, Label, MOST_LIVE, Member, Pause, Penalty, QueueName, SiteId, Stamp, Text80,
+};
 use std::alloc::Global;
 use std::marker::Model;
-
-// How many members a replica may hold.
-const MOST_MEMBERS: usize = 16_384;
 
 /// What one site knows of the queue members: its number, the list of the queues, the members of each queue with
 /// what is set of them, at most 16,384 in all, and how many adds it has made, at most 2^40.
@@ -87,7 +86,7 @@ impl Replica {
     pub fn rows(&self, queue: u16) -> Rows<'_>
         ensures value { result ≡ rows_of self.now.members queue }
         ensures meaning { (s : SiteKnowledge) → StandsFor self.now s → result ≡ rows_read (dot_view s.known) queue }
-        ensures few { length result ≤ 16384 }
+        ensures few { length result ≤ MOST_LIVE }
     {
         Rows::new(of_queue(&self.entries, queue))
     }
@@ -153,7 +152,7 @@ impl Replica {
         let Err(gap) = place(&self.entries, &member) else {
             return Err(Refusal::AlreadyThere);
         };
-        if self.entries.len() >= MOST_MEMBERS {
+        if self.entries.len() >= MOST_LIVE {
             return Err(Refusal::MembersFull);
         }
         let next = self.last + 1;

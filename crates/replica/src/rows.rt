@@ -15,17 +15,17 @@ impl<'a> Model for Rows<'a> {
 
     ghost Value = { List (List ℕ × MemberRow) };
 
-    ghost use Rattle.replica.specs.Listed.{listed};
+    ghost use Rattle.replica.specs.Listed.{listing_of};
 
-    ghost view = { λ rows. map listed rows.entries.now };
+    ghost view = { λ rows. map listing_of rows.entries.now };
 }
 
 impl<'a> Rows<'a> {
     ghost use Rattle.std.specs.Prelude.{◌≡◌, map};
-    ghost use Rattle.replica.specs.Listed.{listed};
+    ghost use Rattle.replica.specs.Listed.{listing_of};
 
     pub(crate) fn new(entries: &'a [Entry]) -> Rows<'a>
-        ensures { result ≡ map listed entries.now }
+        ensures { result ≡ map listing_of entries.now }
     {
         Rows { entries }
     }

@@ -1,2 +1,2 @@
-pub mod RowLemmas
 pub mod EntryLemmas
+pub mod JoinedRows

@@ -1,3 +1,3 @@
 pub mod TotalLists
 pub mod Tally
-pub mod Kind
+pub mod Raising

@@ -1,36 +1,22 @@
 -- The list that totals are kept in: entries in the order of their keys.
-use Rattle.std.specs.Prelude.{ℕ, ◌≡◌, ◌<◌, ◌≤◌, true, List, length, slice_index_or}
+use Rattle.std.specs.Prelude.{List, [], ◌∷◌}
 use Rattle.std.specs.Option.{unwrap_or}
-use Rattle.std.specs.declared.cmp.Ordering.TheVariants.{Less, Greater}
+use Rattle.std.specs.Ordering.{on}
+use Rattle.std.specs.declared.cmp.Ordering.{Ordering}
 use Rattle.std.specs.FinMap as map
-use Rattle.dots.specs.Totals.{Key, key_cmp, Entries, InLimits}
+use Rattle.std.specs.FinMap.Entries.{by_order}
+use Rattle.dots.specs.declared.call_totals.CallTotals.{CallTotals}
+use Rattle.dots.specs.Fronts.{next_by}
+use Rattle.dots.specs.SortedEntries.{IsRising}
+use Rattle.dots.specs.Totals.{Key, key_cmp, Entries, InLimits, greater, no_calls}
 
--- an entry: a key with its pair of numbers
+-- an entry: a key with its totals
 abbrev pub Row : Type 0
-Row = Key × (ℕ × ℕ)
+Row = Key × CallTotals
 
--- the keys rise, so no key stands twice
-abbrev pub IsRising : List Row → Type 0
-IsRising rows = map.is_sorted key_cmp rows ≡ true
-
--- what the list has at a key, two zeros where it has none
-abbrev pub pair_in : List Row → Key → ℕ × ℕ
-pair_in rows key = unwrap_or (map.find key_cmp key rows) (0, 0)
-
--- the key of the entry at place i
-abbrev pub key_at : List Row → ℕ → Key
-key_at rows i = let row = slice_index_or rows i (record { site = 0; queue = 0 }, (0, 0)) in row.0
-
--- the entry at place i has the key
-pub record IsAt (rows : List Row) (key : Key) (i : ℕ) : Type 0 where
-  pub in_range : i < length rows
-  pub has_key : key_at rows i ≡ key
-
--- the key would go at place i: smaller keys before it, and greater keys from it on
-pub record IsGapFor (rows : List Row) (key : Key) (i : ℕ) : Type 0 where
-  pub in_range : i ≤ length rows
-  pub smaller_before : (j : ℕ) → j < i → key_cmp (key_at rows j) key ≡ Less
-  pub greater_after : (j : ℕ) → i ≤ j → j < length rows → key_cmp (key_at rows j) key ≡ Greater
+-- what the list has at a key, no calls where it has none
+abbrev pub row_totals : List Row → Key → CallTotals
+row_totals rows key = unwrap_or (map.find key_cmp key rows) no_calls
 
 -- the entries as a map
 abbrev pub entries_of : List Row → Entries
@@ -38,5 +24,20 @@ entries_of rows = map.from_sorted rows
 
 -- a list that totals may be kept in: its keys rise, and each entry is within the limits
 pub record IsKept (rows : List Row) : Type 0 where
-  pub rising : IsRising rows
+  pub rising : IsRising key_cmp rows
   pub limits : InLimits (entries_of rows)
+
+-- which list has the least key in front: `Less` where the first has it, `Equal` where both have it
+abbrev pub next_order : List Row → List Row → Ordering
+next_order = next_by (on (λ row. row.0) key_cmp)
+
+-- the join of an entry and what follows it with others, by the join of what follows it with any
+abbrev pub joined_from : Row → (List Row → List Row) → List Row → List Row
+joined_from row rest [] = row ∷ rest []
+joined_from row rest (other ∷ others) =
+    by_order (key_cmp row.0 other.0) (row ∷ rest (other ∷ others)) ((row.0, greater row.1 other.1) ∷ rest others) (other ∷ joined_from row rest others)
+
+-- the join of two lists whose keys rise: of a key of both the greater totals
+abbrev pub joined_rows : List Row → List Row → List Row
+joined_rows [] others = others
+joined_rows (row ∷ rows) others = joined_from row (joined_rows rows) others

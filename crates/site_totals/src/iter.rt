@@ -1,22 +1,22 @@
 ghost use Rattle.std.specs.Prelude.{◌≡◌};
 ghost use Rattle.std.specs.Iterator.{YieldsFirst, item_count};
 
-use crate::TotalKey;
 use crate::rows::Row;
+use crate::{CallTotals, TotalKey};
 use std::marker::Model;
 
-/// The entries of totals, by site, then by queue: a key with how many calls were completed and how many
-/// abandoned.
+/// The entries of totals, by site, then by queue: a key with its totals.
 #[derive(Drop)]
 pub struct Iter<'a> {
     rows: &'a [Row],
 }
 
 impl<'a> Model for Iter<'a> {
-    ghost use Rattle.std.specs.Prelude.{ℕ, List};
+    ghost use Rattle.std.specs.Prelude.{List};
+    ghost use Rattle.dots.specs.declared.call_totals.CallTotals.{CallTotals};
     ghost use Rattle.dots.specs.Totals.{Key};
 
-    ghost Value = { List (Key × (ℕ × ℕ)) };
+    ghost Value = { List (Key × CallTotals) };
 
     ghost view = { λ s. s.rows.now };
 }
@@ -30,13 +30,13 @@ impl<'a> Iter<'a> {
 }
 
 impl<'a> Iterator for Iter<'a> {
-    type Item = (TotalKey, (u64, u64));
+    type Item = (TotalKey, CallTotals);
 
     ghost next_gives = { YieldsFirst (λ s. s) };
 
     ghost remaining = { item_count (λ s. s) };
 
-    fn next(&mut self) -> Option<(TotalKey, (u64, u64))> {
+    fn next(&mut self) -> Option<(TotalKey, CallTotals)> {
         let (first, rest) = self.rows.split_first()?;
         self.rows = rest;
         Some(*first)

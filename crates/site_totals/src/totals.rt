@@ -1,12 +1,13 @@
-ghost use Rattle.std.specs.Prelude.{◌≡◌, ◌↔◌, ◌+◌, ◌≤◌, All, None, IsTrue, IsOk, IfOk, OnOk, OnErr, IsErrOf};
+ghost use Rattle.std.specs.Prelude.{◌≡◌, ◌↔◌, ◌+◌, ◌*◌, ◌<◌, ◌≤◌, All, None, IsTrue, IsOk, IfOk, OnOk, OnErr, IsErrOf};
 ghost use Rattle.std.specs.FinMap as map;
-ghost use Rattle.dots.specs.Totals.{InLimits, IsTotal, total_of, sum_of, joined, single};
+ghost use Rattle.dots.specs.Totals.{InLimits, IsTotal, totals_of, sum_of, join_of, single};
 ghost use Rattle.site_totals.specs.Tally.{HasRoomFor};
-ghost use Rattle.site_totals.specs.Kind.{number_of, raised};
+ghost use Rattle.site_totals.specs.Raising.{number_of, raised_totals};
 
-use crate::rows::{Row, count_missing, join_one, merge, pair_in, raise_one, same_rows};
-use crate::{Iter, Kind, Memory, TotalFault, TotalKey};
-use dots::SiteId;
+use crate::joining::{absorb_rows, count_missing};
+use crate::rows::{Row, join_one, raise_one, row_totals, same_rows};
+use crate::{CallTotals, Calls, Iter, Memory, TotalFault, TotalKey};
+use dots::{MOST_CALLS, QUEUES, SITES, SiteId};
 use std::alloc::Global;
 use std::marker::Model;
 
@@ -44,29 +45,29 @@ impl Totals {
 
     /// How many calls of a site in a queue were completed and how many abandoned, each at most
     /// 1,000,000,000. It takes no memory.
-    pub fn of(&self, site: SiteId, queue: u16) -> (u64, u64)
-        ensures value { result ≡ total_of self.now.entries site queue }
-        ensures limit { (result.0 ≤ 1000000000) × (result.1 ≤ 1000000000) }
+    pub fn of(&self, site: SiteId, queue: u16) -> CallTotals
+        ensures value { result ≡ totals_of self.now.entries site queue }
+        ensures limit { (result.completed ≤ MOST_CALLS) × (result.abandoned ≤ MOST_CALLS) }
     {
-        pair_in(&self.rows, TotalKey::new(site, queue))
+        row_totals(&self.rows, TotalKey::new(site, queue))
     }
 
     /// How many calls of a queue were completed and how many abandoned at all sites together: the sums of
     /// their totals, each at most 64,000,000,000. It takes no memory.
-    pub fn sum(&self, queue: u16) -> (u64, u64)
+    pub fn sum(&self, queue: u16) -> CallTotals
         ensures value { result ≡ sum_of self.now.entries queue }
-        ensures limit { (result.0 ≤ 64000000000) × (result.1 ≤ 64000000000) }
+        ensures limit { (result.completed ≤ SITES * MOST_CALLS)
+            × (result.abandoned ≤ SITES * MOST_CALLS) }
     {
-        let mut completed = 0;
-        let mut abandoned = 0;
-        for number in 0..64 {
+        let mut sum = CallTotals::none();
+        for number in 0..SITES {
             if let Some(site) = SiteId::new(number) {
                 let total = self.of(site, queue);
-                completed += total.0;
-                abandoned += total.1;
+                sum.completed += total.completed;
+                sum.abandoned += total.abandoned;
             }
         }
-        (completed, abandoned)
+        sum
     }
 
     /// The entries by site, then by queue, none of two zeros. It takes no memory.
@@ -92,36 +93,38 @@ impl Totals {
         same_rows(&self.rows, &other.rows)
     }
 
-    /// Counts one more call of a kind at a site in a queue, and answers the new total. Faults, in order, each
-    /// of which changes nothing: `TotalFull` exactly where the total is 1,000,000,000; `Memory`, for a first
-    /// entry that there is no room for.
-    pub fn raise(&mut self, site: SiteId, queue: u16, kind: Kind) -> Result<u64, TotalFault>
-        requires { queue ≤ 255 }
-        ensures value { IfOk result (λ total. total ≡ number_of kind (total_of self.old.entries site queue) + 1) }
+    /// Counts one more of these calls at a site in a queue, and answers the new total. Faults, in order,
+    /// each of which changes nothing: `TotalFull` exactly where the total is 1,000,000,000; `Memory`, for a
+    /// first entry that there is no room for.
+    pub fn raise(&mut self, site: SiteId, queue: u16, calls: Calls) -> Result<u64, TotalFault>
+        requires { queue < QUEUES }
+        ensures value { IfOk result (λ total. total
+            ≡ number_of calls (totals_of self.old.entries site queue) + 1) }
         ensures ok { OnOk result (self.new.entries
-            ≡ raised self.old.entries (record { site = site; queue = queue }) kind) }
+            ≡ raised_totals self.old.entries (record { site = site; queue = queue }) calls) }
         ensures full { (result ≡ Err TotalFault.TotalFull)
-            ↔ (number_of kind (total_of self.old.entries site queue) ≡ 1000000000) }
+            ↔ (number_of calls (totals_of self.old.entries site queue) ≡ MOST_CALLS) }
         ensures memory { result ≡ Err TotalFault.Memory
             → (map.get self.old.entries (record { site = site; queue = queue }) ≡ None) × (self.old.room ≡ 0) }
         ensures err { OnErr result (self.new.entries ≡ self.old.entries) }
     {
-        raise_one(&mut self.rows, TotalKey::new(site, queue), kind)
+        raise_one(&mut self.rows, TotalKey::new(site, queue), calls)
     }
 
     /// Joins in one entry: the greater of each number is kept, and two zeros are no entry. The queue's number
-    /// is at most 255, and each of the pair's, completed and abandoned calls, at most 1,000,000,000. Where
-    /// there is no memory for a new entry, nothing changes.
-    pub fn reach(&mut self, site: SiteId, queue: u16, pair: (u64, u64)) -> Result<(), Memory>
-        requires queue { queue ≤ 255 }
-        requires completed { pair.0 ≤ 1000000000 }
-        requires abandoned { pair.1 ≤ 1000000000 }
+    /// is at most 255, and each of the totals at most 1,000,000,000. Where there is no memory for a new
+    /// entry, nothing changes.
+    pub fn reach(&mut self, site: SiteId, queue: u16, totals: CallTotals) -> Result<(), Memory>
+        requires queue { queue < QUEUES }
+        requires completed { totals.completed ≤ MOST_CALLS }
+        requires abandoned { totals.abandoned ≤ MOST_CALLS }
         ensures ok { OnOk result (self.new.entries
-            ≡ joined self.old.entries (single (record { site = site; queue = queue }) pair)) }
+            ≡ join_of self.old.entries (single (record { site = site; queue = queue }) totals)) }
         ensures err { OnErr result (self.new.entries ≡ self.old.entries) }
-        ensures succeeds { HasRoomFor self.old (single (record { site = site; queue = queue }) pair) → IsOk result }
+        ensures succeeds { HasRoomFor self.old (single (record { site = site; queue = queue }) totals)
+            → IsOk result }
     {
-        join_one(&mut self.rows, TotalKey::new(site, queue), pair)
+        join_one(&mut self.rows, TotalKey::new(site, queue), totals)
     }
 
     /// Reserves room for all that the others have and these lack, and changes no total. The one fault is want
@@ -148,15 +151,15 @@ impl Totals {
     /// takes no memory and can't fail.
     pub fn absorb(&mut self, other: &Totals)
         requires { HasRoomFor self.old other.now.entries }
-        ensures { self.new.entries ≡ joined self.old.entries other.now.entries }
+        ensures { self.new.entries ≡ join_of self.old.entries other.now.entries }
     {
-        merge(&mut self.rows, &other.rows);
+        absorb_rows(&mut self.rows, &other.rows);
     }
 
     /// Joins the others in: the greater of each number is kept. The one fault is want of memory, and then no
     /// total is changed.
     pub fn join(&mut self, other: &Totals) -> Result<(), Memory>
-        ensures ok { OnOk result (self.new.entries ≡ joined self.old.entries other.now.entries) }
+        ensures ok { OnOk result (self.new.entries ≡ join_of self.old.entries other.now.entries) }
         ensures err { OnErr result (self.new.entries ≡ self.old.entries) }
         ensures succeeds { HasRoomFor self.old other.now.entries → IsOk result }
     {

@@ -1,27 +1,21 @@
 -- The answer to an ask is what a site that knows the same answers.
-use Rattle.std.proofs.Common.{◌≡◌, ◌⊎◌, ℕ, zero, suc, ◌+◌, List, Result, Ok, Err, IfOk, refl, sym, ap, subst, ◌∙◌, inl, inr, arith}
-use Rattle.std.specs.FinMap as map
-use Rattle.dots.specs.Totals.{sum_below}
-use Rattle.dots.specs.Operations.{Completed, Abandoned}
-use Rattle.dots.specs.Knowledge.{Knowledge}
-use Rattle.dots.specs.Rows.{dot_view, rows_of as rows_read}
-use Rattle.dots.specs.Counts.{site_total, queue_total}
+use Rattle.std.proofs.Common.{◌≡◌, ℕ, zero, suc, Result, Ok, Err, IfOk, refl, sym, ap, subst, ◌∙◌, inl, inr, arith}
+use Rattle.dots.specs.declared.calls.Calls.{Calls}
+use Rattle.dots.specs.Totals.{no_calls, sum_below}
+use Rattle.dots.specs.declared.calls.Calls.TheVariants.{Completed, Abandoned}
+use Rattle.dots.specs.Counts.{queue_total}
 use Rattle.replica.specs.declared.command.Command.{Command}
 use Rattle.replica.specs.declared.refusal.Refusal.{Refusal}
-use Rattle.replica.specs.declared.refusal.Refusal.TheVariants.{Memory}
-use Rattle.replica.specs.Changes.{Meaning, Refused as Denied, Makes, change_of, meaning}
+use Rattle.replica.specs.Changes.{Meaning, Refused as Denied, Makes}
 use Rattle.replica.specs.Commands.{IsAnswer}
-use Rattle.replica.specs.SiteViews.{site_view}
-use Rattle.replica.specs.Site.{SiteState, rows_of}
+use Rattle.replica.specs.Site.{SiteState}
 use Rattle.replica.specs.Standing.{StandsFor, IsMeant}
 use Rattle.replica.specs.Steps.{SiteKnowledge, after_meaning}
 use Rattle.replica.proofs.RowsShown.{rows_shown}
-use Rattle.status_report.specs.declared.asks.Answer.{Answer}
-use Rattle.status_report.specs.declared.asks.Answer.TheVariants.{Refused, Report}
 use Rattle.status_report.specs.declared.request.StatusRequest.{StatusRequest}
 use Rattle.status_report.specs.Answers.{answer_of}
 use Rattle.status_report.specs.Knowing.{status_in, totals_in, answer_of_outcome, IsAnswered}
-use Rattle.status_report.specs.Status.{no_calls, status_text, report_of}
+use Rattle.status_report.specs.Status.{status_text, report_of}
 
 -- a result that is meant is the answer of its meaning
 pub by-meaning : (old new : SiteState) (r : Result (Unit {0}) Refusal) (s : SiteKnowledge) → StandsFor old s → (m : Meaning) → IsMeant old new r (after_meaning s m)
@@ -36,8 +30,11 @@ none_below zero = refl
 none_below (suc n) = let none = none_below n in omega arith
 
 -- no calls are counted
-totals_none : (state : SiteState) (s : SiteKnowledge) → StandsFor state s → (queue : ℕ) → no_calls queue ≡ totals_in s.known queue
-totals_none state s stands queue = sym (λ i. ((ap (sum_below 64) (λ j site. stands.uncounted site queue Completed j) ∙ none_below 64) i, (ap (sum_below 64) (λ j site. stands.uncounted site queue Abandoned j) ∙ none_below 64) i))
+totals_none : (state : SiteState) (s : SiteKnowledge) → StandsFor state s → (queue : ℕ) → no_calls ≡ totals_in s.known queue
+totals_none state s stands queue = sym (λ i. record { completed = none Completed i; abandoned = none Abandoned i })
+  where
+    none : (calls : Calls) → queue_total s.known queue calls ≡ 0
+    none calls = ap (sum_below 64) (λ j site. stands.uncounted site queue calls j) ∙ none_below 64
 
 -- the report of a state is the text of the knowledge that it stands for
 pub report-is : (state : SiteState) (s : SiteKnowledge) → StandsFor state s → (request : StatusRequest) → report_of state request ≡ status_in s.known state.names request

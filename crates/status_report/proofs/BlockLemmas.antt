@@ -1,9 +1,10 @@
 -- The blocks of a report, written one after the other.
-use Rattle.std.proofs.Common.{◌≡◌, ℕ, zero, suc, ◌+◌, ◌<◌, ◌≤◌, Bool, true, false, cond, List, [], ◌∷◌, ◌++◌, length, get_or, drop, drop-cons, map as each, filter, slice_get, Option, Some, None, append_assoc, append-nil, length-append, refl, sym, ap, ◌∙◌, arith}
+use Rattle.std.proofs.Common.{◌≡◌, ℕ, zero, suc, ◌+◌, ◌<◌, ◌≤◌, Bool, true, false, cond, List, [], ◌∷◌, ◌++◌, length, get_or, drop, drop-cons, map as each, filter, slice_get, Option, Some, append_assoc, append-nil, length-append, refl, sym, ap, ◌∙◌, arith}
 use Rattle.std.specs.List.{concat}
 use Rattle.std.proofs.lemmas.List.{drop_all}
+use Rattle.dots.specs.declared.call_totals.CallTotals.{CallTotals}
 use Rattle.status_report.specs.declared.request.StatusRequest.{StatusRequest}
-use Rattle.status_report.specs.Status.{Row, Totals, is_member_wanted, is_queue_wanted, member_block, member_blocks, queue_block, blocks, blocks_named, opening, closing, status_text}
+use Rattle.status_report.specs.Status.{Row, is_member_wanted, is_queue_wanted, member_block, member_blocks, queue_block, blocks, blocks_named, opening, closing, status_text}
 
 -- ---- the members of a queue
 choose : (request : StatusRequest) (name : List ℕ) (row : Row) (rest : List Row) → Bool → List (List ℕ)
@@ -54,11 +55,11 @@ none_count request name left n all e h = let k = ap (λ rows. length (member_blo
 
 -- ---- the queues
 -- the blocks of the queues from a number on
-abbrev pub blocks_from : StatusRequest → (ℕ → Totals) → (ℕ → List Row) → List (List ℕ) → ℕ → List (List ℕ)
+abbrev pub blocks_from : StatusRequest → (ℕ → CallTotals) → (ℕ → List Row) → List (List ℕ) → ℕ → List (List ℕ)
 blocks_from request totals rows names number = blocks request totals rows number (drop number names)
 
 -- a queue that is shown has its own block, and then its members'
-pub whole_queue : (request : StatusRequest) (totals : ℕ → Totals) (rows : ℕ → List Row) (number : ℕ) (slot : Option (List ℕ)) (name : List ℕ) (counted : Totals) (listed : List Row) (out between new : List ℕ)
+pub whole_queue : (request : StatusRequest) (totals : ℕ → CallTotals) (rows : ℕ → List Row) (number : ℕ) (slot : Option (List ℕ)) (name : List ℕ) (counted : CallTotals) (listed : List Row) (out between new : List ℕ)
     → slot ≡ Some name → is_queue_wanted request.queue name ≡ true → counted ≡ totals number → listed ≡ rows number
     → between ≡ out ++ queue_block request.action_id name counted → new ≡ between ++ concat (member_blocks request name listed)
     → new ≡ out ++ concat (blocks_named request totals rows number slot)
@@ -75,7 +76,7 @@ concat-append : (xs ys : List (List ℕ)) → concat (xs ++ ys) ≡ concat xs ++
 concat-append [] ys = refl
 concat-append (x ∷ xs) ys = ap (λ rest. x ++ rest) (concat-append xs ys) ∙ sym (append_assoc x (concat xs) (concat ys))
 
-module _ (request : StatusRequest) (totals : ℕ → Totals) (rows : ℕ → List Row) where
+module _ (request : StatusRequest) (totals : ℕ → CallTotals) (rows : ℕ → List Row) where
   blocks_first : (names : List (List ℕ)) (i n : ℕ) → i < length names
       → blocks request totals rows n (drop i names) ≡ blocks_named request totals rows n (slice_get names i) ++ blocks request totals rows (n + 1) (drop (suc i) names)
   blocks_first [] i n lt = absurd (omega arith)

@@ -1,7 +1,8 @@
 -- What a site that knows these operations answers: the report of what they show (Asterisk's QueueStatus), and commands by their
 -- meaning.
 use Rattle.std.specs.Prelude.{ℕ, ◌≡◌, ◌⊎◌, List}
-use Rattle.dots.specs.Operations.{Completed, Abandoned}
+use Rattle.dots.specs.declared.call_totals.CallTotals.{CallTotals}
+use Rattle.dots.specs.declared.calls.Calls.TheVariants.{Completed, Abandoned}
 use Rattle.dots.specs.Knowledge.{Knowledge, SameOperations, IsConsistent}
 use Rattle.dots.specs.Rows.{dot_view, rows_of}
 use Rattle.dots.specs.Counts.{queue_total}
@@ -15,11 +16,11 @@ use Rattle.status_report.specs.declared.asks.Answer.TheVariants.{Done, Refused, 
 use Rattle.status_report.specs.declared.asks.Ask.{Ask}
 use Rattle.status_report.specs.declared.asks.Ask.TheVariants.{Command as asked_command, Status}
 use Rattle.status_report.specs.declared.request.StatusRequest.{StatusRequest}
-use Rattle.status_report.specs.Status.{Totals, status_text}
+use Rattle.status_report.specs.Status.{status_text}
 
 -- the totals of a queue in a knowledge
-abbrev pub totals_in : Knowledge → ℕ → Totals
-totals_in k queue = (queue_total k queue Completed, queue_total k queue Abandoned)
+abbrev pub totals_in : Knowledge → ℕ → CallTotals
+totals_in k queue = record { completed = queue_total k queue Completed; abandoned = queue_total k queue Abandoned }
 
 -- the status text of a knowledge: of the queues of these names, with the totals and the rows that it shows
 abbrev pub status_in : Knowledge → List (List ℕ) → StatusRequest → List ℕ

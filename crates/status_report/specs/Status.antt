@@ -2,7 +2,9 @@
 -- order, are this project's own).
 use Rattle.std.specs.Prelude.{ℕ, ◌+◌, Bool, true, if◌then◌else◌, ◌||◌, List, [], ◌∷◌, ◌++◌, length, map as each, filter, Option, None, Some, codes, decimal, bytes_eq}
 use Rattle.std.specs.List.{concat}
+use Rattle.dots.specs.declared.call_totals.CallTotals.{CallTotals}
 use Rattle.dots.specs.Rows.{MemberRow}
+use Rattle.dots.specs.Totals.{no_calls}
 use Rattle.replica.specs.Site.{SiteState, rows_of}
 use Rattle.status_report.specs.declared.request.StatusRequest.{StatusRequest}
 use Rattle.status_report.specs.WrittenLines.{field, action_id_line}
@@ -11,18 +13,10 @@ use Rattle.status_report.specs.WrittenLines.{field, action_id_line}
 abbrev pub Row : Type 0
 Row = List ℕ × MemberRow
 
--- how many calls of a queue were completed, and how many abandoned
-abbrev pub Totals : Type 0
-Totals = ℕ × ℕ
-
--- no call is counted in any queue
-abbrev pub no_calls : ℕ → Totals
-no_calls queue = (0, 0)
-
 -- a text of a member as it is shown: the interface where it is empty
-abbrev pub shown : List ℕ → List ℕ → List ℕ
-shown [] interface = interface
-shown (x ∷ xs) interface = x ∷ xs
+abbrev pub text_shown : List ℕ → List ℕ → List ℕ
+text_shown [] interface = interface
+text_shown (x ∷ xs) interface = x ∷ xs
 
 -- the request shows this queue
 abbrev pub is_queue_wanted : Option (List ℕ) → List ℕ → Bool
@@ -32,7 +26,7 @@ is_queue_wanted (Some wanted) name = bytes_eq wanted name
 -- the request shows this member: its interface or its name, as it is shown, is the text of the filter
 abbrev pub is_member_wanted : Option (List ℕ) → Row → Bool
 is_member_wanted None row = true
-is_member_wanted (Some wanted) row = bytes_eq wanted row.0 || bytes_eq wanted (shown row.1.name row.0)
+is_member_wanted (Some wanted) row = bytes_eq wanted row.0 || bytes_eq wanted (text_shown row.1.name row.0)
 
 -- the lines that begin an event: its name, and the ActionID
 abbrev pub event_lines : List ℕ → List ℕ → List ℕ
@@ -52,12 +46,12 @@ opening action_id =
     ++ end)))
 
 -- the block of a queue
-abbrev pub queue_block : List ℕ → List ℕ → Totals → List ℕ
+abbrev pub queue_block : List ℕ → List ℕ → CallTotals → List ℕ
 queue_block action_id name totals =
     event_lines action_id (codes "QueueParams")
     ++ (field (codes "Queue") name
-    ++ (field (codes "Completed") (decimal totals.0)
-    ++ (field (codes "Abandoned") (decimal totals.1)
+    ++ (field (codes "Completed") (decimal totals.completed)
+    ++ (field (codes "Abandoned") (decimal totals.abandoned)
     ++ end)))
 
 -- the block of a member
@@ -65,9 +59,9 @@ abbrev pub member_block : List ℕ → List ℕ → Row → List ℕ
 member_block action_id name row =
     event_lines action_id (codes "QueueMember")
     ++ (field (codes "Queue") name
-    ++ (field (codes "Name") (shown row.1.name row.0)
+    ++ (field (codes "Name") (text_shown row.1.name row.0)
     ++ (field (codes "Location") row.0
-    ++ (field (codes "StateInterface") (shown row.1.state row.0)
+    ++ (field (codes "StateInterface") (text_shown row.1.state row.0)
     ++ (field (codes "Membership") (codes "dynamic")
     ++ (field (codes "Penalty") (decimal row.1.penalty)
     ++ (field (codes "Paused") (decimal (if row.1.paused then 1 else 0))
@@ -87,17 +81,17 @@ abbrev pub member_blocks : StatusRequest → List ℕ → List Row → List (Lis
 member_blocks request name rows = each (member_block request.action_id name) (filter (is_member_wanted request.member) rows)
 
 -- the blocks of a queue: its own and its members', none where the request leaves it out
-abbrev pub queue_blocks : StatusRequest → List ℕ → Totals → List Row → List (List ℕ)
+abbrev pub queue_blocks : StatusRequest → List ℕ → CallTotals → List Row → List (List ℕ)
 queue_blocks request name totals rows =
     if is_queue_wanted request.queue name then queue_block request.action_id name totals ∷ member_blocks request name rows else []
 
 -- the blocks of the queues of these names, the first of which has this number
-abbrev pub blocks : StatusRequest → (ℕ → Totals) → (ℕ → List Row) → ℕ → List (List ℕ) → List (List ℕ)
+abbrev pub blocks : StatusRequest → (ℕ → CallTotals) → (ℕ → List Row) → ℕ → List (List ℕ) → List (List ℕ)
 blocks request totals rows number [] = []
 blocks request totals rows number (name ∷ names) = queue_blocks request name (totals number) (rows number) ++ blocks request totals rows (number + 1) names
 
 -- the report of the queues of these names, with each one's totals and rows by its number
-abbrev pub status_text : List (List ℕ) → (ℕ → Totals) → (ℕ → List Row) → StatusRequest → List ℕ
+abbrev pub status_text : List (List ℕ) → (ℕ → CallTotals) → (ℕ → List Row) → StatusRequest → List ℕ
 status_text names totals rows request =
     opening request.action_id
     ++ (concat (blocks request totals rows 0 names)
@@ -105,9 +99,9 @@ status_text names totals rows request =
 
 -- the report of a site where no call is counted
 abbrev pub report_of : SiteState → StatusRequest → List ℕ
-report_of site request = status_text site.names no_calls (rows_of site.members) request
+report_of site request = status_text site.names (λ _. no_calls) (rows_of site.members) request
 
 -- the blocks of the queue of this number and name, none where there is no such name
-abbrev pub blocks_named : StatusRequest → (ℕ → Totals) → (ℕ → List Row) → ℕ → Option (List ℕ) → List (List ℕ)
+abbrev pub blocks_named : StatusRequest → (ℕ → CallTotals) → (ℕ → List Row) → ℕ → Option (List ℕ) → List (List ℕ)
 blocks_named request totals rows number None = []
 blocks_named request totals rows number (Some name) = queue_blocks request name (totals number) (rows number)

@@ -1,9 +1,11 @@
 ghost use Rattle.std.specs.Prelude.{◌≡◌, ℕ, List, map as each, IfOk};
+ghost use Rattle.dots.specs.declared.call_totals.CallTotals.{CallTotals};
+ghost use Rattle.dots.specs.Totals.{no_calls};
 ghost use Rattle.dots.specs.Views.{listed_row_view};
 ghost use Rattle.replica.specs.Site.{rows_of};
-ghost use Rattle.status_report.specs.Status.{Row as ShownRow, Totals, no_calls};
+ghost use Rattle.status_report.specs.Status.{Row as ShownRow};
 
-use dots::{Interface, Memory};
+use dots::{CallTotals, Interface, Memory};
 use replica::{QueueList, Replica, Row};
 use std::alloc::Global;
 
@@ -12,8 +14,8 @@ pub trait Queues {
     /// The names of the queues, in the order of their numbers.
     ghost names: { Self → List (List ℕ) };
 
-    /// The totals of the queue of a number: how many calls were completed, and how many abandoned.
-    ghost totals: { Self → ℕ → Totals };
+    /// The totals of the queue of a number.
+    ghost totals: { Self → ℕ → CallTotals };
 
     /// The rows of the queue of a number, in the order of the interfaces' bytes.
     ghost rows: { Self → ℕ → List ShownRow };
@@ -23,7 +25,7 @@ pub trait Queues {
         ensures { result.now ≡ names self.now };
 
     /// How many calls of the queue of this number were completed, and how many abandoned.
-    fn totals(&self, number: u16) -> (u64, u64)
+    fn totals(&self, number: u16) -> CallTotals
         ensures { result ≡ totals self.now number };
 
     /// The members of the queue of this number with their rows, in the order of their interfaces' bytes. The one
@@ -36,7 +38,7 @@ pub trait Queues {
 impl Queues for Replica {
     ghost names = { λ r. r.names };
 
-    ghost totals = { λ _. no_calls };
+    ghost totals = { λ _ _. no_calls };
 
     ghost rows = { λ r. rows_of r.members };
 
@@ -44,8 +46,8 @@ impl Queues for Replica {
         self.list()
     }
 
-    fn totals(&self, _number: u16) -> (u64, u64) {
-        (0, 0)
+    fn totals(&self, _number: u16) -> CallTotals {
+        CallTotals::none()
     }
 
     fn rows(&self, alloc: Global, number: u16) -> Result<Vec<(&Interface, Row<'_>)>, Memory> {

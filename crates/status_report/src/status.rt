@@ -4,12 +4,12 @@ ghost use Rattle.dots.specs.Views.{row_view, listed_row_view};
 ghost use Rattle.replica.specs.Standing.{StandsFor};
 ghost use Rattle.replica.specs.Steps.{SiteKnowledge};
 ghost use Rattle.status_report.specs.Knowing.{status_in};
-ghost use Rattle.status_report.specs.Status.{blocks_named, closing, event_lines, is_member_wanted, is_queue_wanted, member_block, member_blocks, opening, queue_block, report_of, shown, status_text};
+ghost use Rattle.status_report.specs.Status.{blocks_named, closing, event_lines, is_member_wanted, is_queue_wanted, member_block, member_blocks, opening, queue_block, report_of, text_shown, status_text};
 ghost use Rattle.status_report.specs.WrittenLines.{action_id_line};
 
 use crate::lines::{push_action_id_line, push_end, push_field, push_number};
 use crate::{Queues, StatusRequest};
-use dots::{Interface, Memory, QueueName};
+use dots::{CallTotals, Interface, Memory, QueueName};
 use replica::{Replica, Row};
 use std::alloc::Global;
 
@@ -151,7 +151,7 @@ fn is_member_wanted(request: &StatusRequest, interface: &Interface, row: &Row<'_
 
 // A text of a member as it is shown: the interface where it is empty.
 fn shown<'a>(text: &'a [u8], interface: &'a Interface) -> &'a [u8]
-    ensures { result.now ≡ shown text.now interface.now }
+    ensures { result.now ≡ text_shown text.now interface.now }
 {
     if text.is_empty() {
         interface.as_bytes()
@@ -165,15 +165,14 @@ fn push_totals(
     out: &mut Vec<u8>,
     request: &StatusRequest,
     name: &QueueName,
-    totals: (u64, u64),
+    totals: CallTotals,
 ) -> Result<(), Memory>
     ensures { OnOk result (out.new.items ≡ out.old.items ++ queue_block request.now.action_id name.now totals) }
 {
-    let (completed, abandoned) = totals;
     push_event(out, request, b"QueueParams")?;
     push_field(out, "Queue", name.as_bytes())?;
-    push_number(out, "Completed", completed)?;
-    push_number(out, "Abandoned", abandoned)?;
+    push_number(out, "Completed", totals.completed)?;
+    push_number(out, "Abandoned", totals.abandoned)?;
     push_end(out)
 }
 

@@ -1,25 +1,28 @@
 use crate::values::{assert_same, site};
-use site_totals::{Iter, Kind, TotalFault, TotalKey, Totals};
+use site_totals::{CallTotals, Calls, Iter, TotalFault, TotalKey, Totals};
 use std::alloc::Global;
 use std::process::Abort;
 
 // Joins in one entry of small numbers.
-fn reach(rt: &impl Abort, totals: &mut Totals, number: u16, queue: u8, pair: (u16, u16)) {
-    let pair = (u64::from(pair.0), u64::from(pair.1));
-    let answer = totals.reach(site(rt, number), u16::from(queue), pair);
+fn reach(rt: &impl Abort, totals: &mut Totals, number: u16, queue: u8, counted: (u16, u16)) {
+    let counted = CallTotals {
+        completed: u64::from(counted.0),
+        abandoned: u64::from(counted.1),
+    };
+    let answer = totals.reach(site(rt, number), u16::from(queue), counted);
     assert!(rt; answer.is_ok());
 }
 
 // Checks the totals of a site in a queue.
 fn assert_of(rt: &impl Abort, totals: &Totals, number: u16, queue: u16, want: (u64, u64)) {
-    let (completed, abandoned) = totals.of(site(rt, number), queue);
-    assert!(rt; completed == want.0 && abandoned == want.1);
+    let counted = totals.of(site(rt, number), queue);
+    assert!(rt; counted.completed == want.0 && counted.abandoned == want.1);
 }
 
 // Checks the sum of the totals of a queue.
 fn assert_sum(rt: &impl Abort, totals: &Totals, queue: u16, completed: u64) {
     let sum = totals.sum(queue);
-    assert!(rt; sum.0 == completed && sum.1 == 0);
+    assert!(rt; sum.completed == completed && sum.abandoned == 0);
 }
 
 // Joins other totals in.
@@ -62,49 +65,53 @@ fn a_queue_has_the_sum_of_its_sites_totals(rt: HostRuntime) {
 }
 
 // Counts one more call of the first site in a queue.
-fn raise(rt: &impl Abort, totals: &mut Totals, kind: Kind, want: Result<u64, TotalFault>) {
-    assert!(rt; totals.raise(site(rt, 0), 2, kind) == want);
+fn raise(rt: &impl Abort, totals: &mut Totals, calls: Calls, want: Result<u64, TotalFault>) {
+    assert!(rt; totals.raise(site(rt, 0), 2, calls) == want);
 }
 
 #[test]
 fn a_total_is_raised_up_to_its_limit(rt: HostRuntime) {
     let mut totals = Totals::new(rt.alloc());
-    raise(&rt, &mut totals, Kind::Completed, Ok(1));
-    raise(&rt, &mut totals, Kind::Completed, Ok(2));
-    raise(&rt, &mut totals, Kind::Abandoned, Ok(1));
+    raise(&rt, &mut totals, Calls::Completed, Ok(1));
+    raise(&rt, &mut totals, Calls::Completed, Ok(2));
+    raise(&rt, &mut totals, Calls::Abandoned, Ok(1));
     assert_of(&rt, &totals, 0, 2, (2, 1));
-    assert!(rt; totals.reach(site(&rt, 0), 2, (1_000_000_000, 0)).is_ok());
+    let most = CallTotals {
+        completed: 1_000_000_000,
+        abandoned: 0,
+    };
+    assert!(rt; totals.reach(site(&rt, 0), 2, most).is_ok());
     raise(
         &rt,
         &mut totals,
-        Kind::Completed,
+        Calls::Completed,
         Err(TotalFault::TotalFull),
     );
     assert_of(&rt, &totals, 0, 2, (1_000_000_000, 1));
-    raise(&rt, &mut totals, Kind::Abandoned, Ok(2));
+    raise(&rt, &mut totals, Calls::Abandoned, Ok(2));
 }
 
 // Checks the next entry.
 fn assert_next(rt: &impl Abort, entries: &mut Iter<'_>, number: u16, queue: u16, want: (u64, u64)) {
-    let (key, pair) = entries.next().expect(rt, "an entry");
+    let (key, counted) = entries.next().expect(rt, "an entry");
     assert!(rt; key == TotalKey::new(site(rt, number), queue));
-    assert!(rt; pair.0 == want.0 && pair.1 == want.1);
+    assert!(rt; counted.completed == want.0 && counted.abandoned == want.1);
 }
 
 #[test]
 fn entries_come_by_site_and_queue_without_zeros(rt: HostRuntime) {
     let mut totals = Totals::new(rt.alloc());
-    for (number, queue, pair) in [
+    for (number, queue, counted) in [
         (1, 0, (4, 0)),
         (0, 255, (0, 1)),
         (63, 7, (0, 0)),
         (0, 3, (2, 5)),
     ] {
-        reach(&rt, &mut totals, number, queue, pair);
+        reach(&rt, &mut totals, number, queue, counted);
     }
     let mut entries = totals.iter();
-    for (number, queue, pair) in [(0, 3, (2, 5)), (0, 255, (0, 1)), (1, 0, (4, 0))] {
-        assert_next(&rt, &mut entries, number, queue, pair);
+    for (number, queue, counted) in [(0, 3, (2, 5)), (0, 255, (0, 1)), (1, 0, (4, 0))] {
+        assert_next(&rt, &mut entries, number, queue, counted);
     }
     assert!(rt; entries.next().is_none());
 }

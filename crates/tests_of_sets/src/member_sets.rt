@@ -1,6 +1,5 @@
 //! Sets of members: the dots that are live, joins of sets, and the rows that a queue shows.
 ghost use Rattle.member_orset.specs.Members.{HasField};
-ghost use Rattle.member_orset.specs.Reads.{dot_fields};
 
 use causal_context::Context;
 use dots::{Dot, Interface, Member, Penalty, SiteId, Stamp};
@@ -57,7 +56,7 @@ fn member(rt: &impl Abort, told: ToldMember) -> Member {
 }
 
 fn penalty(rt: &impl Abort, time: u64, number: u32) -> Fields
-    ensures { HasField (dot_fields result) }
+    ensures { HasField result }
 {
     let site = SiteId::new(0).expect(rt, "a site");
     let stamp = Stamp::new(time, site).expect(rt, "a stamp");
@@ -94,8 +93,8 @@ fn copy_of(rt: &impl Abort, set: &MemberSet) -> MemberSet {
 }
 
 fn penalty_of(set: &MemberSet, dot: Dot) -> Option<u32> {
-    let cell = set.live(dot)?;
-    let penalty = cell.fields.penalty.value()?;
+    let fields = set.live(dot)?.fields;
+    let penalty = fields.penalty.value()?;
     Some(penalty.get())
 }
 

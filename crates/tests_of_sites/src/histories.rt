@@ -5,19 +5,19 @@ use crate::shared::{
     queue_block, request, site, text,
 };
 use dots::{Dot, Member, Pause, Penalty, Stamp};
-use reference_model::{Calls, Operation, Setting, Total, row, rows, status, totals};
+use reference_model::{CallTotals, Calls, Operation, Setting, Total, row, rows, status, totals};
 use std::alloc::Global;
 use std::process::Abort;
 
 // A dot, told as its site and its count.
-type ToldDot = (u16, u64);
+pub(crate) type ToldDot = (u16, u64);
 
 // A dot with its member, told as the number of a queue and an interface.
-type ToldMember = (ToldDot, u16, &'static str);
+pub(crate) type ToldMember = (ToldDot, u16, &'static str);
 
 // An operation, told shortly. A stamp is a time and a site.
 #[derive(Clone, Copy)]
-enum Told {
+pub(crate) enum Told {
     Add {
         dot: ToldDot,
         member: (u16, &'static str),
@@ -46,15 +46,15 @@ enum Told {
     },
 }
 
-fn dot_of(rt: &impl Abort, told: ToldDot) -> Dot {
+pub(crate) fn dot_of(rt: &impl Abort, told: ToldDot) -> Dot {
     Dot::new(site(rt, told.0), told.1).expect(rt, "a dot")
 }
 
-fn stamp_of(rt: &impl Abort, told: (u64, u16)) -> Stamp {
+pub(crate) fn stamp_of(rt: &impl Abort, told: (u64, u16)) -> Stamp {
     Stamp::new(told.0, site(rt, told.1)).expect(rt, "a stamp")
 }
 
-fn dots_of(rt: &impl Abort, alloc: Global, told: &[ToldDot]) -> Vec<Dot> {
+pub(crate) fn dots_of(rt: &impl Abort, alloc: Global, told: &[ToldDot]) -> Vec<Dot> {
     let mut dots = Vec::new(alloc);
     for dot in told {
         dots.push(dot_of(rt, *dot)).expect(rt, "memory");
@@ -136,7 +136,7 @@ fn operation_of(rt: &impl Abort, alloc: Global, told: Told) -> Operation {
     }
 }
 
-fn operations_of(rt: &impl Abort, alloc: Global, told: &[Told]) -> Vec<Operation> {
+pub(crate) fn operations_of(rt: &impl Abort, alloc: Global, told: &[Told]) -> Vec<Operation> {
     let mut operations = Vec::new(alloc);
     for one in told {
         operations
@@ -540,7 +540,11 @@ fn totals_are_those_of_the_queue(rt: HostRuntime) {
         },
     ];
     let operations = operations_of(&rt, rt.alloc(), COUNTS);
-    for (queue, wanted) in [(0, (0, 1_000_000_007)), (1, (0, 0))] {
+    let wanted = CallTotals {
+        completed: 0,
+        abandoned: 1_000_000_007,
+    };
+    for (queue, wanted) in [(0, wanted), (1, CallTotals::none())] {
         assert!(rt; totals(&operations, queue) == wanted);
     }
 }

@@ -1,5 +1,5 @@
-//! Tests of replicas, reports, sessions and what histories show by their public calls. This
-//! crate has no code of its own.
+//! Tests of replicas, reports, sessions, what histories show and the steps of sites by their
+//! public calls. This crate has no code of its own.
 #![tactic(auto)]
 
 #[cfg(test)]
@@ -12,3 +12,5 @@ mod reports;
 mod sessions;
 #[cfg(test)]
 mod shared;
+#[cfg(test)]
+mod steps;

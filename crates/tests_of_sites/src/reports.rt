@@ -4,7 +4,7 @@ ghost use Rattle.std.specs.Prelude.{[]};
 use crate::shared::{
     add, assert_report, assert_text, list, member_block, queue_block, replica, request,
 };
-use dots::{Interface, Memory};
+use dots::{CallTotals, Interface, Memory};
 use replica::{QueueList, Refusal, Replica, Row};
 use status_report::{Answer, Ask, Queues, ask, report, write_report};
 use std::alloc::Global;
@@ -94,7 +94,7 @@ Event: QueueStatusComplete\r\nActionID: a1\r\nEventList: Complete\r\nListItems: 
 #[derive(Drop)]
 struct Counted<'a> {
     list: &'a QueueList,
-    totals: (u64, u64),
+    totals: CallTotals,
 }
 
 impl Queues for Counted<'_> {
@@ -108,7 +108,7 @@ impl Queues for Counted<'_> {
         self.list
     }
 
-    fn totals(&self, _number: u16) -> (u64, u64) {
+    fn totals(&self, _number: u16) -> CallTotals {
         self.totals
     }
 
@@ -122,7 +122,10 @@ fn a_report_of_other_queues_has_their_totals(rt: HostRuntime) {
     let alloc = rt.alloc();
     let counted = Counted {
         list: &list(&rt, alloc, &["sales"]),
-        totals: (3, 1),
+        totals: CallTotals {
+            completed: 3,
+            abandoned: 1,
+        },
     };
     let request = request(&rt, alloc, ("", ""), b"");
     let given = write_report(alloc, &counted, &request).expect(&rt, "memory");

@@ -2,9 +2,10 @@ use Rattle.std.proofs.Common.{◌≡◌, ◌++◌, length, drop, take, rules, ar
 use Rattle.std.proofs.lemmas.Grind.{common_steps}
 use Rattle.std.specs.FinSet as sets
 use Rattle.dots.specs.DotSets.{IsRunsOf, set_of}
-use Rattle.dots.proofs.Stretches.{set_of-runs}
+use Rattle.dots.proofs.Runs.{set_of-runs}
+use Rattle.dots.proofs.Fronts.{turned, written_back}
 use Rattle.causal_context.specs.Contexts.{IsContext}
-use Rattle.causal_context.proofs.Merging.{context_of, turned, union-none, written_back}
+use Rattle.causal_context.proofs.Merging.{context_of, union-none}
 use Rattle.causal_context.proofs.merge.absorb_runs.Goals as goal
 
 pub returns-then-is_empty-clause-united : goal.returns-then-is_empty-clause-united
@@ -17,7 +18,7 @@ returns-clause-valid c =
     let grown : c.extend_from_slice.new.self.items ≡ old ++ other = grind (arith, common_steps) in
     let own : c.len-own.result ≡ length old = search rules in
     let kept : drop (length other) c.deref_mut.result.now ≡ old =
-    turned old other c.deref_mut.result.now (c.deref_mut.ensures.value ∙ c.rotate_left.ensures.items ∙ (λ i. drop (own i) (grown i) ++ take (own i) (grown i))) in
+    turned old other c.deref_mut.result.now c.len-own.result own (c.deref_mut.ensures.value ∙ c.rotate_left.ensures.items ∙ (λ i. drop c.len-own.result (grown i) ++ take c.len-own.result (grown i))) in
     let united : IsRunsOf (take c.merge-united.result c.merge-united.new.runs) (sets.union (set_of old) (set_of other)) =
     subst (λ xs. IsRunsOf (take c.merge-united.result c.merge-united.new.runs) (sets.union (set_of xs) (set_of other))) kept c.merge-united.ensures.united in
     let same : c.truncate.new.self.items ≡ take c.merge-united.result c.merge-united.new.runs = c.truncate.ensures.items ∙ written_back _ _ _ _ (omega arith) (omega arith) in
@@ -30,7 +31,7 @@ returns-clause-united c =
     let grown : c.extend_from_slice.new.self.items ≡ old ++ other = grind (arith, common_steps) in
     let own : c.len-own.result ≡ length old = search rules in
     let kept : drop (length other) c.deref_mut.result.now ≡ old =
-    turned old other c.deref_mut.result.now (c.deref_mut.ensures.value ∙ c.rotate_left.ensures.items ∙ (λ i. drop (own i) (grown i) ++ take (own i) (grown i))) in
+    turned old other c.deref_mut.result.now c.len-own.result own (c.deref_mut.ensures.value ∙ c.rotate_left.ensures.items ∙ (λ i. drop c.len-own.result (grown i) ++ take c.len-own.result (grown i))) in
     let united : IsRunsOf (take c.merge-united.result c.merge-united.new.runs) (sets.union (set_of old) (set_of other)) =
     subst (λ xs. IsRunsOf (take c.merge-united.result c.merge-united.new.runs) (sets.union (set_of xs) (set_of other))) kept c.merge-united.ensures.united in
     let same : c.truncate.new.self.items ≡ take c.merge-united.result c.merge-united.new.runs = c.truncate.ensures.items ∙ written_back _ _ _ _ (omega arith) (omega arith) in

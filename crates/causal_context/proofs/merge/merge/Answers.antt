@@ -1,7 +1,6 @@
 use Rattle.std.proofs.Common.{◌≡◌, true, false, arith}
-use Rattle.std.proofs.lemmas.List.{length-set}
-use Rattle.dots.specs.DotSets.{Stretch, is_apart}
-use Rattle.causal_context.proofs.ListPlaces.{nothing_left}
+use Rattle.std.proofs.lemmas.List.{length-set, drop_all}
+use Rattle.dots.specs.DotSets.{Run, is_apart}
 use Rattle.causal_context.proofs.Merging.{writing_merging, grown_merging, last_merging}
 use Rattle.causal_context.proofs.merge.merge.Goals as goal
 
@@ -10,7 +9,7 @@ loop-own-preserved-then-is_before c =
     let before : is_apart c.loop-own.current c.next_run-next.result ≡ true = cc in
     record {
       spare = omega arith;
-      ours = omega (arith, length-set {A = Stretch});
+      ours = omega (arith, length-set {A = Run});
       others = omega arith;
       room = omega arith;
       merging = writing_merging c.loop-own.runs c.loop-own.written c.loop-own.own _ c.loop-own.current _ _ _ _ _ (omega arith) (omega arith) c.loop-own.invariant.merging c.next_run-next.ensures.next c.next_run-next.ensures.limit before;
@@ -30,4 +29,4 @@ loop-own-preserved c =
 pub returns-clause-united : goal.returns-clause-united
 returns-clause-united c =
     last_merging c.loop-own.runs _ _ _ _ _ _ (omega arith) c.loop-own.invariant.merging
-    (nothing_left c.loop-own.runs c.loop-own.own (omega arith)) (nothing_left c.args.other.now c.loop-own.theirs (omega arith))
+    (drop_all c.loop-own.own c.loop-own.runs (omega arith)) (drop_all c.loop-own.theirs c.args.other.now (omega arith))

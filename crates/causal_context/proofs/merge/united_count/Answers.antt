@@ -1,6 +1,6 @@
 use Rattle.std.proofs.Common.{◌≡◌, true, false, arith}
+use Rattle.std.proofs.lemmas.List.{drop_all}
 use Rattle.dots.specs.DotSets.{is_apart}
-use Rattle.causal_context.proofs.ListPlaces.{nothing_left}
 use Rattle.causal_context.proofs.Merging.{counting_none, counting_starts, counting_writes, counting_grows, counting_ends}
 use Rattle.causal_context.proofs.merge.united_count.Goals as goal
 
@@ -38,4 +38,4 @@ loop-own-preserved c =
 pub returns-clause-value : goal.returns-clause-value
 returns-clause-value c =
     counting_ends _ _ _ _ _ _ c.loop-own.invariant.counting
-    (nothing_left c.args.runs.now c.loop-own.own (omega arith)) (nothing_left c.args.other.now c.loop-own.theirs (omega arith))
+    (drop_all c.loop-own.own c.args.runs.now (omega arith)) (drop_all c.loop-own.theirs c.args.other.now (omega arith))

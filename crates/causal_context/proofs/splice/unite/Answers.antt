@@ -1,7 +1,7 @@
 use Rattle.std.proofs.Common.{◌≡◌, true, false, arith, subst}
+use Rattle.std.proofs.lemmas.List.{drop_all}
 use Rattle.dots.specs.DotSets.{is_apart}
 use Rattle.causal_context.specs.Contexts.{IsRun}
-use Rattle.causal_context.proofs.ListPlaces.{nothing_left}
 use Rattle.causal_context.proofs.Uniting.{uniting_starts, uniting_site, uniting_takes_at, uniting_ends_at, uniting_ends_all}
 use Rattle.causal_context.proofs.splice.unite.Goals as goal
 
@@ -37,4 +37,4 @@ loop-end-preserved c =
     }
 
 pub returns-clause-united : goal.returns-clause-united
-returns-clause-united c = uniting_ends_all _ _ _ _ _ c.loop-end.invariant.uniting (nothing_left c.args.runs.now c.loop-end.end (omega arith))
+returns-clause-united c = uniting_ends_all _ _ _ _ _ c.loop-end.invariant.uniting (drop_all c.loop-end.end c.args.runs.now (omega arith))

@@ -3,7 +3,7 @@ use Rattle.std.proofs.lemmas.List.Elements.{All-more, All-same}
 use Rattle.std.proofs.lemmas.List.{take_all}
 use Rattle.std.specs.FinMap as map
 use Rattle.member_orset.specs.declared.live_dot.LiveDot.{LiveDot}
-use Rattle.member_orset.specs.Cells.{HoldingsAgree, holding, live_of}
+use Rattle.member_orset.specs.LiveLists.{HoldingsAgree, holding, live_of}
 use Rattle.member_orset.proofs.agreement.cells_agree.Goals as goal
 
 pub loop-other-preserved : goal.loop-other-preserved

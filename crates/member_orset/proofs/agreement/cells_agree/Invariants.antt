@@ -1,7 +1,7 @@
 use Rattle.std.proofs.Common.{take}
 use Rattle.std.specs.List.{All}
 use Rattle.std.specs.FinMap as map
-use Rattle.member_orset.specs.Cells.{HoldingsAgree, holding, live_of}
+use Rattle.member_orset.specs.LiveLists.{HoldingsAgree, holding, live_of}
 use Rattle.member_orset.proofs.agreement.cells_agree.Given as goal
 
 abbrev pub invariant-loop-other : goal.invariant-loop-other

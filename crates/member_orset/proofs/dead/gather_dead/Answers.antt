@@ -1,5 +1,5 @@
 use Rattle.member_orset.specs.LiveDots.{dead_dots}
-use Rattle.member_orset.specs.Cells.{live_of}
+use Rattle.member_orset.specs.LiveLists.{live_of}
 use Rattle.member_orset.proofs.dead.gather_dead.Goals as goal
 
 pub returns-clause-ok : goal.returns-clause-ok

@@ -1,10 +1,10 @@
 use Rattle.std.proofs.Common.{◌≡◌, ◌+◌, ◌-◌, ap, sym, subst, ◌∙◌, arith}
 use Rattle.std.specs.FinSet as set
 use Rattle.dots.specs.DotSets.{set_of}
-use Rattle.dots.proofs.Stretches.{runs_of_set}
+use Rattle.dots.proofs.Runs.{runs_of_set}
 use Rattle.member_orset.specs.LiveDots.{dead_dots}
-use Rattle.member_orset.specs.Cells.{live_of}
-use Rattle.member_orset.specs.Seen.{IsGathered, IsPiece, part_before}
+use Rattle.member_orset.specs.LiveLists.{live_of}
+use Rattle.member_orset.specs.Gathering.{IsGathered, IsPiece, part_before}
 use Rattle.member_orset.proofs.DeadDots.{all_before_next, dead_past, dead_unknown, none_earlier}
 use Rattle.member_orset.proofs.SeenDots.{from_one, known_zero, next_site}
 use Rattle.member_orset.proofs.dead.gather_dead_at.Goals as goal

@@ -4,8 +4,8 @@ use Rattle.std.specs.FinSet as set
 use Rattle.dots.specs.Orders.{dot_cmp}
 use Rattle.dots.specs.DotSets.{IsRunsOf}
 use Rattle.member_orset.specs.LiveDots.{dead_dots}
-use Rattle.member_orset.specs.Cells.{live_of}
-use Rattle.member_orset.specs.Seen.{IsGathered, part_before}
+use Rattle.member_orset.specs.LiveLists.{live_of}
+use Rattle.member_orset.specs.Gathering.{IsGathered, part_before}
 use Rattle.member_orset.proofs.dead.gather_dead_at.Given as goal
 
 abbrev pub invariant-loop-first : goal.invariant-loop-first

@@ -4,9 +4,9 @@ use Rattle.std.specs.FinSet as set
 use Rattle.std.specs.List.{insert}
 use Rattle.std.specs.Option.{option_map, option_map_or}
 use Rattle.std.specs.Ordering.{eq_by_cmp}
+use Rattle.dots.specs.declared.limits.TheConstants.{MOST_LIVE}
 use Rattle.dots.specs.Orders.{member_cmp}
-use Rattle.member_orset.specs.Members.{most_cells}
-use Rattle.member_orset.specs.Cells.{AreCells, holding, live_of}
+use Rattle.member_orset.specs.LiveLists.{AreCells, holding, live_of}
 use Rattle.member_orset.specs.Index.{is_listed, listed_cmp}
 use Rattle.member_orset.proofs.Changes.{brought_cells, brought_live, gap_live}
 use Rattle.member_orset.proofs.Indexes.{entry, listed_more}
@@ -23,7 +23,7 @@ returns-clause-valid c =
     let cs = c.args.cells.now.items in
     let cell = c.args.cell in
     let sorted = c.requires.valid.are_cells.sorted in
-    let room : length cs < most_cells = search rules in
+    let room : length cs < MOST_LIVE = search rules in
     let after : c.put_in.new.items.items ≡ insert cs c.args.place cell = c.put_in.ensures.items ∙ ap (λ xs. insert xs c.args.place cell) c.make_place.ensures.same_cells in
     record {
       are_cells =

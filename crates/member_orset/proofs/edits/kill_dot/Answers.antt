@@ -2,7 +2,7 @@ use Rattle.std.proofs.Common.{sym, subst, ◌∙◌}
 use Rattle.std.specs.FinMap as map
 use Rattle.std.specs.FinSet as set
 use Rattle.member_orset.specs.Members.{condition_at}
-use Rattle.member_orset.specs.Cells.{AreCells, live_of}
+use Rattle.member_orset.specs.LiveLists.{AreCells, live_of}
 use Rattle.member_orset.proofs.Changes.{killed, known_more}
 use Rattle.member_orset.proofs.edits.kill_dot.Goals as goal
 

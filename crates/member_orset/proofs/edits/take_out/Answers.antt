@@ -5,9 +5,9 @@ use Rattle.std.specs.Ordering.{eq_by_cmp, is_eq}
 use Rattle.std.proofs.lemmas.Cmp.{tied_itself}
 use Rattle.dots.specs.Orders.{member_cmp}
 use Rattle.dots.proofs.MemberOrder.{members_total}
-use Rattle.dots.specs.Values.{Tag}
+use Rattle.dots.specs.Values.{Dot}
 use Rattle.member_orset.specs.declared.live_dot.LiveDot.{LiveDot}
-use Rattle.member_orset.specs.Cells.{IsAt, IsGap, AreCells, holding, live_of}
+use Rattle.member_orset.specs.LiveLists.{IsAt, IsGap, AreCells, holding, live_of}
 use Rattle.member_orset.specs.Index.{is_listed, listed_cmp}
 use Rattle.member_orset.proofs.CellLists.{Rise, found_at}
 use Rattle.member_orset.proofs.Changes.{taken_live, missed_live, taken_cells}
@@ -16,7 +16,7 @@ use Rattle.member_orset.proofs.Views.{get-live_of}
 use Rattle.member_orset.proofs.edits.take_out.Goals as goal
 
 -- the cell that is taken out was live, under its own dot
-held : (cs : List LiveDot) (d : Tag) (i : ℕ) (cell : LiveDot) → Rise cs → IsAt cs d i → cell ≡ get_or cs i cell → map.get (live_of cs) cell.dot ≡ Some (holding cell)
+held : (cs : List LiveDot) (d : Dot) (i : ℕ) (cell : LiveDot) → Rise cs → IsAt cs d i → cell ≡ get_or cs i cell → map.get (live_of cs) cell.dot ≡ Some (holding cell)
 held cs d i cell s at is =
     ap (map.get (live_of cs)) (ap (λ y. y.dot) is ∙ sym (at.here cell))
     ∙ get-live_of cs d s ∙ found_at d cs i cell at.within at.before (at.here cell) ∙ ap (λ y. Some (holding y)) (sym is)

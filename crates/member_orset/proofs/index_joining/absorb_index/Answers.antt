@@ -1,7 +1,7 @@
 use Rattle.std.proofs.Common.{◌≡◌, Bool, true, false, ◌&&◌, ◌++◌, length, drop, take, arith, rules, refl, sym, ap, subst, ◌∙◌}
-use Rattle.member_orset.specs.Cells.{live_of}
+use Rattle.member_orset.specs.LiveLists.{live_of}
 use Rattle.member_orset.specs.Index.{Rises, is_held, is_listed, is_listed_in_either}
-use Rattle.member_orset.proofs.Fronts.{turned, written_back}
+use Rattle.dots.proofs.Fronts.{turned, written_back}
 use Rattle.member_orset.proofs.index_joining.absorb_index.Goals as goal
 
 -- what is live is listed

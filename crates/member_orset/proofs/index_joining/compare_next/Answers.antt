@@ -1,6 +1,6 @@
 use Rattle.std.proofs.Common.{arith}
 use Rattle.member_orset.specs.Index.{listed_cmp}
-use Rattle.member_orset.proofs.Fronts.{none_there}
+use Rattle.dots.proofs.Fronts.{none_there}
 use Rattle.member_orset.proofs.index_joining.compare_next.Goals as goal
 
 pub returns-then-theirs-others : goal.returns-then-theirs-others

@@ -1,7 +1,7 @@
 use Rattle.std.proofs.Common.{◌≡◌, ◌+◌, ◌<◌, ◌&&◌, ◌||◌, ◌++◌, [], ◌∷◌, length, drop, set, take, ap, sym, subst, ◌∙◌, arith}
 use Rattle.std.proofs.lemmas.List.{drop-set-lt, length-set, take_more_set}
 use Rattle.member_orset.specs.declared.listed.Listed.{Listed}
-use Rattle.member_orset.specs.Cells.{live_of}
+use Rattle.member_orset.specs.LiveLists.{live_of}
 use Rattle.member_orset.specs.Index.{Rises, is_held, is_listed, is_listed_in_either}
 use Rattle.member_orset.proofs.IndexJoins.{AreBelow, passed_lists, still_below, taken_below, taken_lists, taken_rise}
 use Rattle.member_orset.proofs.index_joining.merge.Goals as goal

@@ -1,8 +1,8 @@
 -- The entries that are written rise and lie before what is left; with what of the rest is live, they list the join.
 use Rattle.std.proofs.Common.{◌≡◌, ◌+◌, ◌-◌, ◌≤◌, ◌&&◌, ◌||◌, length, drop, take}
-use Rattle.dots.specs.Values.{Tag}
+use Rattle.dots.specs.Values.{Dot}
 use Rattle.dots.specs.declared.member.Member.{Member}
-use Rattle.member_orset.specs.Cells.{live_of}
+use Rattle.member_orset.specs.LiveLists.{live_of}
 use Rattle.member_orset.specs.Index.{Rises, is_held, is_listed, is_listed_in_either}
 use Rattle.member_orset.proofs.IndexJoins.{AreBelow}
 use Rattle.member_orset.proofs.index_joining.merge.Given as goal
@@ -17,7 +17,7 @@ invariant-loop-own l = record {
   left_there : Rises (drop l.theirs l.others);
   rises : Rises (take l.written l.index);
   below : AreBelow (take l.written l.index) (drop l.own l.index) (drop l.theirs l.others);
-  lists : (m : Member) (d : Tag) → (is_listed (take l.written l.index) m d || (is_listed_in_either (drop l.own l.index) (drop l.theirs l.others) m d && is_held (live_of l.cells) m d))
+  lists : (m : Member) (d : Dot) → (is_listed (take l.written l.index) m d || (is_listed_in_either (drop l.own l.index) (drop l.theirs l.others) m d && is_held (live_of l.cells) m d))
       ≡ (is_listed_in_either (drop (length l.others) l.fn.index) l.others m d && is_held (live_of l.cells) m d);
 }
 

@@ -1,6 +1,6 @@
 use Rattle.std.proofs.Common.{drop, arith}
 use Rattle.member_orset.specs.Index.{listed_cmp}
-use Rattle.member_orset.proofs.Fronts.{equal_within, greater_within, less_within}
+use Rattle.dots.proofs.Fronts.{equal_within, greater_within, less_within}
 use Rattle.member_orset.proofs.IndexJoins.{equal_at, greater_at, less_at}
 use Rattle.member_orset.proofs.index_joining.next_entry.Goals as goal
 

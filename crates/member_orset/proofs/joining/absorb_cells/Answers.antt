@@ -1,8 +1,8 @@
 use Rattle.std.proofs.Common.{◌≡◌, ◌++◌, length, drop, take, arith, rules, sym, ap, subst, ◌∙◌}
 use Rattle.std.specs.FinSet as sets
-use Rattle.member_orset.specs.Cells.{entries_of}
+use Rattle.member_orset.specs.LiveLists.{entries_of}
 use Rattle.member_orset.specs.Joining.{AgreeInPairs, joined_entries}
-use Rattle.member_orset.proofs.Fronts.{turned, written_back}
+use Rattle.dots.proofs.Fronts.{turned, written_back}
 use Rattle.member_orset.proofs.joining.absorb_cells.Goals as goal
 
 pub merge-joined-requires-clause-agree : goal.merge-joined-requires-clause-agree

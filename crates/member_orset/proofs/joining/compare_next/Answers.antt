@@ -2,7 +2,7 @@ use Rattle.std.proofs.Common.{arith}
 use Rattle.std.specs.Ordering.{on}
 use Rattle.dots.specs.Orders.{dot_cmp}
 use Rattle.member_orset.specs.declared.live_dot.LiveDot.{LiveDot}
-use Rattle.member_orset.proofs.Fronts.{none_there}
+use Rattle.dots.proofs.Fronts.{none_there}
 use Rattle.member_orset.proofs.joining.compare_next.Goals as goal
 
 pub returns-then-theirs-others : goal.returns-then-theirs-others

@@ -1,7 +1,7 @@
 -- What is written, and the join of what is left, make the join.
 use Rattle.std.proofs.Common.{◌≡◌, ◌+◌, ◌-◌, ◌≤◌, ◌++◌, length, drop, take}
 use Rattle.std.specs.FinSet as set
-use Rattle.member_orset.specs.Cells.{entries_of}
+use Rattle.member_orset.specs.LiveLists.{entries_of}
 use Rattle.member_orset.specs.Joining.{AgreeInPairs, joined_entries}
 use Rattle.member_orset.proofs.joining.merge.Given as goal
 

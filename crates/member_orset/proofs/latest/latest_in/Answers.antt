@@ -1,8 +1,8 @@
 use Rattle.std.proofs.Common.{Some, ap, ◌∙◌}
 use Rattle.std.specs.Option.{option_map}
 use Rattle.member_orset.specs.Reads.{cell_read}
-use Rattle.member_orset.specs.Cells.{live_of}
-use Rattle.member_orset.specs.Shown.{latest_fields}
+use Rattle.member_orset.specs.LiveLists.{live_of}
+use Rattle.member_orset.specs.ShownRows.{latest_fields}
 use Rattle.member_orset.proofs.ShownFields.{shown_live, shown_missed}
 use Rattle.member_orset.proofs.latest.latest_in.Goals as goal
 use Rattle.member_orset.proofs.latest.latest_in.Goals.{in-Some, in_default}

@@ -1,9 +1,9 @@
 use Rattle.std.proofs.Common.{Some, sym, ap, ◌∙◌}
 use Rattle.std.specs.Option.{option_map}
 use Rattle.dots.specs.Rows.{row_of_fields}
-use Rattle.member_orset.specs.Cells.{live_of}
+use Rattle.member_orset.specs.LiveLists.{live_of}
 use Rattle.dots.specs.Views.{row_view}
-use Rattle.member_orset.specs.Shown.{dots_listed, fields_held, fields_shown}
+use Rattle.member_orset.specs.ShownRows.{dots_listed, fields_held, fields_shown}
 use Rattle.member_orset.proofs.ShownFields.{row_shown}
 use Rattle.member_orset.proofs.latest.row_in.Goals as goal
 

@@ -1,7 +1,7 @@
 use Rattle.std.proofs.Common.{rules, of_calls, arith}
 use Rattle.std.proofs.lemmas.Fn.{always_returns_same}
 use Rattle.std.specs.Option.{option_map}
-use Rattle.member_orset.specs.Shown.{is_passed}
+use Rattle.member_orset.specs.ShownRows.{is_passed}
 use Rattle.member_orset.proofs.Shows.{least_none, least_beyond, least_here, passed_first}
 use Rattle.member_orset.proofs.rows.least_after.Goals as goal
 

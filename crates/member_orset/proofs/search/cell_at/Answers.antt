@@ -1,5 +1,5 @@
 use Rattle.std.proofs.Common.{Some, sym, ap, ◌∙◌}
-use Rattle.member_orset.specs.Cells.{holding}
+use Rattle.member_orset.specs.LiveLists.{holding}
 use Rattle.member_orset.proofs.Views.{get-live_of}
 use Rattle.member_orset.proofs.CellLists.{found_at, missed_at}
 use Rattle.member_orset.proofs.search.cell_at.Goals as goal

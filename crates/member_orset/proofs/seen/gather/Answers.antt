@@ -1,7 +1,7 @@
 use Rattle.std.proofs.Common.{◌≡◌, ap, subst, ◌∙◌, arith}
-use Rattle.member_orset.specs.Cells.{live_of}
+use Rattle.member_orset.specs.LiveLists.{live_of}
 use Rattle.member_orset.specs.Reads.{seen_dots}
-use Rattle.member_orset.specs.Seen.{IsGathered, part_before}
+use Rattle.member_orset.specs.Gathering.{IsGathered, part_before}
 use Rattle.member_orset.proofs.SeenDots.{no_part, seen_sites, whole_part}
 use Rattle.member_orset.proofs.seen.gather.Goals as goal
 

@@ -2,9 +2,9 @@
 use Rattle.std.proofs.Common.{◌≤◌, ◌<◌, ◌*◌, ◌^◌}
 use Rattle.std.specs.List.{All}
 use Rattle.dots.specs.Values.{IsSite}
-use Rattle.member_orset.specs.Cells.{live_of}
+use Rattle.member_orset.specs.LiveLists.{live_of}
 use Rattle.member_orset.specs.Reads.{seen_dots}
-use Rattle.member_orset.specs.Seen.{IsGathered, part_before}
+use Rattle.member_orset.specs.Gathering.{IsGathered, part_before}
 use Rattle.member_orset.proofs.seen.gather.Given as goal
 
 abbrev pub invariant-loop-number : goal.invariant-loop-number

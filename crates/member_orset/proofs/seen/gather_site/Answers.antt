@@ -1,10 +1,10 @@
 use Rattle.std.proofs.Common.{◌≡◌, ◌+◌, ◌-◌, ap, sym, subst, ◌∙◌, arith}
 use Rattle.std.specs.FinSet as set
 use Rattle.dots.specs.DotSets.{set_of}
-use Rattle.dots.proofs.Stretches.{runs_of_set}
-use Rattle.member_orset.specs.Cells.{live_of}
+use Rattle.dots.proofs.Runs.{runs_of_set}
+use Rattle.member_orset.specs.LiveLists.{live_of}
 use Rattle.member_orset.specs.Reads.{seen_dots}
-use Rattle.member_orset.specs.Seen.{IsGathered, part_before}
+use Rattle.member_orset.specs.Gathering.{IsGathered, part_before}
 use Rattle.member_orset.proofs.SeenDots.{from_one, known_zero, next_site, seen_past, seen_zero}
 use Rattle.member_orset.proofs.seen.gather_site.Goals as goal
 

@@ -3,13 +3,13 @@ use Rattle.std.specs.Ordering.{eq_by_cmp}
 use Rattle.std.proofs.lemmas.List.{take_all}
 use Rattle.std.proofs.lemmas.List.Elements.{All-more, All-same, All-weaker}
 use Rattle.std.proofs.lemmas.List.Folds.{list_any_none}
-use Rattle.dots.specs.Values.{Tag}
+use Rattle.dots.specs.Values.{Dot}
 use Rattle.dots.specs.Orders.{dot_cmp}
 use Rattle.member_orset.proofs.Pieces.{differs}
 use Rattle.member_orset.proofs.SeenDots.{not_this}
 use Rattle.member_orset.proofs.seen.given_piece.Goals as goal
 
-abbrev Past : Tag → ℕ → Tag → Type 0
+abbrev Past : Dot → ℕ → Dot → Type 0
 Past from end d = d.site ≡ from.site → from.count ≤ d.count → end < d.count
 
 pub loop-dot-preserved-then-ne : goal.loop-dot-preserved-then-ne
@@ -67,7 +67,7 @@ returns c =
     record {
       some = c.loop-dot.invariant.some;
       within = c.loop-dot.invariant.within;
-      same = λ n lo hi. let at : Tag = record { site = from.site; count = n } in
+      same = λ n lo hi. let at : Dot = record { site = from.site; count = n } in
           list_any_none (eq_by_cmp dot_cmp at) given
           (All-weaker (Past from end) (λ d. eq_by_cmp dot_cmp at d ≡ false) (λ d p. not_this from.site n d (λ s k. let q = p s (omega arith) in omega arith)) given all);
     }

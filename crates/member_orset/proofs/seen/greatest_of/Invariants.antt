@@ -1,7 +1,7 @@
 use Rattle.std.proofs.Common.{◌≡◌, ◌≤◌, ◌<◌, ◌^◌, true, take}
 use Rattle.std.specs.List.{All}
 use Rattle.dots.specs.Values.{IsSite}
-use Rattle.member_orset.specs.Seen.{is_given}
+use Rattle.member_orset.specs.Gathering.{is_given}
 use Rattle.member_orset.proofs.seen.greatest_of.Given as goal
 
 abbrev pub invariant-loop-dot : goal.invariant-loop-dot

@@ -1,6 +1,6 @@
 use Rattle.std.proofs.Common.{◌≡◌, ◌<◌, length, sym, ap, ◌∙◌, arith}
 use Rattle.std.specs.FinMap as map
-use Rattle.member_orset.specs.Cells.{live_of}
+use Rattle.member_orset.specs.LiveLists.{live_of}
 use Rattle.member_orset.proofs.Pieces.{cell_here, past_cells, cells_elsewhere, cells_later, next_cell, differs, agrees}
 use Rattle.member_orset.proofs.seen.live_piece.Goals as goal
 

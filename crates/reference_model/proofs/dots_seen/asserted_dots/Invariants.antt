@@ -1,10 +1,10 @@
 use Rattle.std.proofs.Common.{◌≡◌, ◌||◌, drop}
 use Rattle.std.specs.List.{list_any}
-use Rattle.dots.specs.Values.{Tag}
+use Rattle.dots.specs.Values.{Dot}
 use Rattle.dots.specs.Knowledge.{is_dot, is_asserted}
 use Rattle.reference_model.specs.Plain.{knowledge_of}
 use Rattle.reference_model.proofs.dots_seen.asserted_dots.Given as goal
 
 -- what is held, and what is left to be asserted, are all that is asserted
 abbrev pub invariant-loop-operation : goal.invariant-loop-operation
-invariant-loop-operation l = (q : Tag) → (list_any (is_dot q) l.found.keys || is_asserted (knowledge_of (drop l.operation-index l.operations)) q) ≡ is_asserted (knowledge_of l.operations) q
+invariant-loop-operation l = (q : Dot) → (list_any (is_dot q) l.found.keys || is_asserted (knowledge_of (drop l.operation-index l.operations)) q) ≡ is_asserted (knowledge_of l.operations) q

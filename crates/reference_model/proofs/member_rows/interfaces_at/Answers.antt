@@ -5,7 +5,7 @@ use Rattle.dots.specs.Orders.{text_cmp}
 use Rattle.reference_model.specs.Plain.{knowledge_of}
 use Rattle.reference_model.proofs.RowSteps.{interface_at, interface_first, interface_absent, one_interface_more}
 use Rattle.reference_model.proofs.SetSteps.{adds_first}
-use Rattle.reference_model.proofs.Steps.{next_item}
+use Rattle.dots.proofs.Fronts.{open_at}
 use Rattle.reference_model.proofs.member_rows.interfaces_at.Goals as goal
 use Rattle.reference_model.proofs.member_rows.interfaces_at.Goals.{in-Some+in_ok-insert, in_default}
 
@@ -18,7 +18,7 @@ loop-dot-preserved c = λ q.
     let now : Bor (List ℕ) → List ℕ = λ i. i.now in
     let rest = drop (c.loop-dot.dot-index + 1) dots in
     let left = drop c.loop-dot.dot-index dots in
-    let next = next_item dots c.loop-dot.dot-index c.dot-item.result c.loop-dot-test.true c.dot-item.is in
+    let next = open_at dots c.loop-dot.dot-index c.dot-item.result c.loop-dot-test.true c.dot-item.is in
     elim c.match-interface_of.branch [
       | in-Some+in_ok-insert w ↦
           adds_first (list_any has (each now c.loop-dot.found.keys)) (has w.in-Some.interface.now) (list_any has (filter_map (interface_at k queue) rest)) (list_any has (filter_map (interface_at k queue) left)) (list_any has (each now c.match-interface_of.found.keys)) _

@@ -1,8 +1,8 @@
 use Rattle.std.proofs.Common.{ℕ, refl, arith}
 use Rattle.dots.specs.Totals.{sum_below}
 use Rattle.dots.specs.Counts.{site_total}
-use Rattle.reference_model.specs.Plain.{calls_of, knowledge_of}
-use Rattle.reference_model.proofs.CountSteps.{sum_more}
+use Rattle.reference_model.specs.Plain.{knowledge_of}
+use Rattle.dots.proofs.TotalsLaws.{sum_below-more}
 use Rattle.reference_model.proofs.queue_totals.queue_total.Goals as goal
 
 pub loop-site-init : goal.loop-site-init
@@ -11,8 +11,8 @@ loop-site-init c = record { so_far = refl; few = omega arith }
 
 pub loop-site-preserved : goal.loop-site-preserved
 loop-site-preserved c =
-    let f : ℕ → ℕ = λ site. site_total (knowledge_of c.args.operations.now) site c.args.queue (calls_of c.args.calls) in
-    let more = sum_more c.loop-site.site f in
+    let f : ℕ → ℕ = λ site. site_total (knowledge_of c.args.operations.now) site c.args.queue c.args.calls in
+    let more = sum_below-more f c.loop-site.site in
     record {
       so_far = omega (arith, more, c.loop-site.invariant.so_far, c.site_total-sum.ensures.value);
       few = omega (arith, c.loop-site.invariant.few, c.site_total-sum.ensures.limit);

@@ -1,12 +1,12 @@
 use Rattle.std.proofs.Common.{◌≡◌, ◌*◌, ◌≤◌}
 use Rattle.dots.specs.Totals.{sum_below}
 use Rattle.dots.specs.Counts.{site_total}
-use Rattle.reference_model.specs.Plain.{calls_of, knowledge_of}
+use Rattle.reference_model.specs.Plain.{knowledge_of}
 use Rattle.reference_model.proofs.queue_totals.queue_total.Given as goal
 
 -- the sum over the sites so far
 abbrev pub invariant-loop-site : goal.invariant-loop-site
 invariant-loop-site l = record {
-  so_far : l.sum ≡ sum_below l.site (λ site. site_total (knowledge_of l.operations) site l.queue (calls_of l.calls));
+  so_far : l.sum ≡ sum_below l.site (λ site. site_total (knowledge_of l.operations) site l.queue l.calls);
   few : l.sum ≤ 1000000000 * l.site;
 }

@@ -1,5 +1,5 @@
-use Rattle.dots.proofs.TotalsLaws.{pair_at-joined}
+use Rattle.dots.proofs.TotalsLaws.{totals_at-joined}
 use Rattle.site_totals.proofs.laws.join_takes_the_greater.Goals as goal
 
 pub returns : goal.returns
-returns c x y site queue = pair_at-joined x y (record { site = site; queue = queue })
+returns c x y site queue = totals_at-joined x y (record { site = site; queue = queue })

@@ -6,16 +6,16 @@ use Rattle.site_totals.proofs.rows.same_rows.Goals as goal
 
 -- whether four numbers are the same
 same_numbers : Row → Row → Bool
-same_numbers a b = (eqb a.0.site b.0.site && eqb a.0.queue b.0.queue) && (eqb a.1.0 b.1.0 && eqb a.1.1 b.1.1)
+same_numbers a b = (eqb a.0.site b.0.site && eqb a.0.queue b.0.queue) && (eqb a.1.completed b.1.completed && eqb a.1.abandoned b.1.abandoned)
 
 numbers_are : (a b : Row) → same_numbers a b ≡ true → a ≡ b
 unfolding same_numbers
 numbers_are a b h =
     let site : a.0.site ≡ b.0.site = grind (arith, nat_tests) in
     let queue : a.0.queue ≡ b.0.queue = grind (arith, nat_tests) in
-    let completed : a.1.0 ≡ b.1.0 = grind (arith, nat_tests) in
-    let abandoned : a.1.1 ≡ b.1.1 = grind (arith, nat_tests) in
-    λ i. (record { site = site i; queue = queue i }, (completed i, abandoned i))
+    let completed : a.1.completed ≡ b.1.completed = grind (arith, nat_tests) in
+    let abandoned : a.1.abandoned ≡ b.1.abandoned = grind (arith, nat_tests) in
+    λ i. (record { site = site i; queue = queue i }, record { completed = completed i; abandoned = abandoned i })
 
 same_self : (a : Row) → same_numbers a a ≡ true
 unfolding same_numbers

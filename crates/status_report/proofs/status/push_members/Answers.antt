@@ -1,4 +1,4 @@
-use Rattle.std.proofs.Common.{◌≡◌, ◌<◌, ◌≤◌, ◌+◌, ◌++◌, [], length, drop, map as each, ap, arith, sym, ◌∙◌}
+use Rattle.std.proofs.Common.{◌+◌, ◌++◌, length, drop, map as each, ap, arith, sym, ◌∙◌}
 use Rattle.std.specs.List.{concat}
 use Rattle.std.proofs.lemmas.List.{drop_all}
 use Rattle.dots.specs.Views.{listed_row_view}

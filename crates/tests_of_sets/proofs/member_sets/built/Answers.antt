@@ -1,7 +1,8 @@
 use Rattle.std.proofs.Common.{◌≡◌, ◌<◌, None, is_some, sym, ap, subst, ◌∙◌, arith}
 use Rattle.std.specs.FinMap as map
+use Rattle.dots.specs.declared.limits.TheConstants.{MOST_LIVE}
 use Rattle.dots.specs.Orders.{dot_cmp}
-use Rattle.member_orset.specs.Members.{Holding, most_cells}
+use Rattle.member_orset.specs.Members.{Holding}
 use Rattle.tests_of_sets.proofs.member_sets.built.Goals as goal
 
 pub cell-requires-clause-greater : goal.cell-requires-clause-greater
@@ -11,4 +12,4 @@ cell-requires-clause-greater g c q h =
     absurd (cc (no, h))
 
 pub cell-requires-clause-room : goal.cell-requires-clause-room
-cell-requires-clause-room g c = subst (λ n. n < most_cells) (sym (ap map.len c.new-builder.ensures.live ∙ map.len-empty dot_cmp Holding)) (omega arith)
+cell-requires-clause-room g c = subst (λ n. n < MOST_LIVE) (sym (ap map.len c.new-builder.ensures.live ∙ map.len-empty dot_cmp Holding)) (omega arith)

@@ -1,6 +1,6 @@
 use Rattle.std.proofs.Common.{ap, ◌∙◌}
 use Rattle.dots.specs.DotSets.{set_of}
-use Rattle.dots.proofs.Stretches.{set_of-nil}
+use Rattle.dots.proofs.Runs.{set_of-nil}
 use Rattle.causal_context.proofs.context.Context.new.Goals as goal
 
 pub returns : goal.returns

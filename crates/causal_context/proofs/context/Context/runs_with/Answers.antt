@@ -1,6 +1,6 @@
 use Rattle.std.proofs.Common.{ap, sym, ◌∙◌}
 use Rattle.std.specs.FinSet as sets
-use Rattle.dots.specs.Values.{Tag}
+use Rattle.dots.specs.Values.{Dot}
 use Rattle.dots.specs.DotSets.{run_count}
 use Rattle.dots.proofs.OneMoreDot.{insert_known}
 use Rattle.causal_context.proofs.Views.{count_united, with_new}
@@ -8,7 +8,7 @@ use Rattle.causal_context.proofs.context.Context.runs_with.Goals as goal
 
 pub returns-then-has : goal.returns-then-has
 returns-then-has c =
-    let d : Tag = record { site = c.args.site; count = c.args.count } in
+    let d : Dot = record { site = c.args.site; count = c.args.count } in
     let dots = sets.union c.args.self.now.dots c.args.other.now.dots in
     let united = count_united _ _ _ _ _ c.args.self.now.dots c.args.other.now.dots c.united_count-runs.ensures.value c.deref.ensures.value c.deref-2.ensures.value (ap (λ k. k.dots) c.self.view_is) (ap (λ k. k.dots) c.other.view_is) in
     united ∙ ap run_count (sym (insert_known dots d (sym c.has.ensures ∙ c.if-has.true)))

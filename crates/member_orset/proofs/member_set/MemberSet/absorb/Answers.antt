@@ -1,10 +1,10 @@
 use Rattle.std.proofs.Common.{◌≡◌, true, length, min, vec_len, rules, arith, ap, sym, subst, ◌∙◌}
 use Rattle.std.specs.FinSet as set
 use Rattle.std.specs.Vec.{vec_capacity}
-use Rattle.dots.specs.Values.{Tag}
+use Rattle.dots.specs.Values.{Dot}
 use Rattle.dots.specs.Conditions.{ConditionsAgree}
 use Rattle.member_orset.specs.Members.{CanBeJoined, both_joined, condition_of}
-use Rattle.member_orset.specs.Cells.{AreCells, entries_of, live_of, seen}
+use Rattle.member_orset.specs.LiveLists.{AreCells, entries_of, live_of, members_of}
 use Rattle.member_orset.specs.Index.{IsIndex, is_held, is_listed_in_either}
 use Rattle.member_orset.specs.Joining.{AgreeInPairs, joined_entries}
 use Rattle.member_orset.proofs.CellLists.{Rise}
@@ -18,7 +18,7 @@ absorb_cells-requires-clause-agree c =
     let ds = c.other.inside.cells.items in
     let agree = subst (λ s. CanBeJoined s c.args.other) (sym c.self.view_is) c.requires.agree in
     subst (AgreeInPairs cs) (sym c.deref.ensures.value)
-    (pairs cs ds c.self.inside.context.dots c.other.inside.context.dots c.self.invariant.are_cells.sorted c.other.invariant.are_cells.sorted (subst (λ t. (q : Tag) → ConditionsAgree (condition_of (seen cs c.self.inside.context.dots) q) (condition_of t q)) (sym c.other.view_is) agree))
+    (pairs cs ds c.self.inside.context.dots c.other.inside.context.dots c.self.invariant.are_cells.sorted c.other.invariant.are_cells.sorted (subst (λ t. (q : Dot) → ConditionsAgree (condition_of (members_of cs c.self.inside.context.dots) q) (condition_of t q)) (sym c.other.view_is) agree))
 
 pub absorb_cells-requires-clause-room : goal.absorb_cells-requires-clause-room
 absorb_cells-requires-clause-room c =
@@ -86,7 +86,7 @@ returns-clause-joined c =
     record {
       known = c.absorb.ensures.dots ∙ (λ i. set.union (ap (λ s. s.known) c.self.view_is i) (ap (λ s. s.known) c.other.view_is i));
       conditions = λ q.
-          ap (λ k. condition_of (seen new k) q) c.absorb.ensures.dots
+          ap (λ k. condition_of (members_of new k) q) c.absorb.ensures.dots
           ∙ joined_conditions cs ds known more new is c.self.invariant.are_cells.sorted c.other.invariant.are_cells.sorted q
           ∙ (λ i. both_joined (c.self.view_is i) (c.other.view_is i) q);
     }

@@ -1,5 +1,5 @@
 use Rattle.std.proofs.Common.{ap, subst, ◌∙◌}
-use Rattle.member_orset.specs.Cells.{IsTold, live_of}
+use Rattle.member_orset.specs.LiveLists.{IsTold, live_of}
 use Rattle.member_orset.proofs.Agreeing.{told}
 use Rattle.member_orset.proofs.member_set.MemberSet.agrees.Goals as goal
 

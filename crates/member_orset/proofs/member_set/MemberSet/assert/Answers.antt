@@ -2,12 +2,11 @@ use Rattle.std.proofs.Common.{◌≡◌, ◌≤◌, Some, min, length, vec_len, 
 use Rattle.std.specs.FinSet as set
 use Rattle.std.specs.Vec.{vec_capacity}
 use Rattle.std.proofs.lemmas.Result.{on_ok_weaker}
-use Rattle.dots.specs.Values.{Tag}
+use Rattle.dots.specs.declared.limits.TheConstants.{MOST_RUNS}
+use Rattle.dots.specs.Values.{Dot}
 use Rattle.dots.specs.DotSets.{run_count}
 use Rattle.dots.specs.Conditions.{Live, ConditionsAgree}
-use Rattle.causal_context.specs.Contexts.{most_runs}
 use Rattle.member_orset.specs.Members.{ConditionsConflict, condition_of, joined_at}
-use Rattle.member_orset.specs.Reads.{dot_fields}
 use Rattle.member_orset.proofs.Joins.{len_cells}
 use Rattle.member_orset.proofs.JoinedIndexes.{as_many}
 use Rattle.member_orset.proofs.Places.{on_err_both, lacks_place, has_place}
@@ -18,16 +17,16 @@ returns-clause-known c = on_ok_weaker c.assert_dot.result (λ h. h ∙ ap (λ s.
 
 pub returns-clause-conditions : goal.returns-clause-conditions
 returns-clause-conditions c =
-    on_ok_weaker c.assert_dot.result (λ h (q : Tag). h q ∙ ap (λ s. joined_at s c.args.dot (Live c.args.member.now (dot_fields c.args.fields.now)) q) c.self.view_is) c.assert_dot.ensures.conditions
+    on_ok_weaker c.assert_dot.result (λ h (q : Dot). h q ∙ ap (λ s. joined_at s c.args.dot (Live c.args.member.now c.args.fields.now) q) c.self.view_is) c.assert_dot.ensures.conditions
 
 pub returns-clause-refusals : goal.returns-clause-refusals
 returns-clause-refusals c =
-    let y = Some (Live c.args.member.now (dot_fields c.args.fields.now)) in
+    let y = Some (Live c.args.member.now c.args.fields.now) in
     let same = ap (λ s. condition_of s c.args.dot) c.self.view_is in
     let live = sym (ap (λ s. s.live) c.self.view_is) in
     let known = sym (ap (λ s. s.known) c.self.view_is) in
     let retired = sym (ap (λ s. s.retired) c.self.view_is) in
-    let runs = subst (λ n. n ≤ most_runs) c.runs.ensures.value c.runs.ensures.limit in
+    let runs = subst (λ n. n ≤ MOST_RUNS) c.runs.ensures.value c.runs.ensures.limit in
     let lacks = lacks_place c.args.self.now c.self.inside.cells.items c.self.inside.context.dots c.args.dot y c.self.invariant.are_cells live known retired in
     let has = has_place c.args.self.now c.self.inside.cells.items c.self.inside.context.dots c.args.dot c.self.invariant.are_cells runs live known retired in
     record {

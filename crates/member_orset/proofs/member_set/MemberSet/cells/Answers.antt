@@ -1,6 +1,6 @@
 use Rattle.std.proofs.Common.{◌≡◌, length, ap, sym, subst, ◌≤◌, ◌∙◌, rules}
 use Rattle.std.specs.FinMap as map
-use Rattle.causal_context.specs.Contexts.{most_runs}
+use Rattle.dots.specs.declared.limits.TheConstants.{MOST_RUNS}
 use Rattle.member_orset.proofs.Views.{len-live_of, within_limits}
 use Rattle.member_orset.proofs.member_set.MemberSet.cells.Goals as goal
 
@@ -12,4 +12,4 @@ returns-clause-value c =
 pub returns-clause-limits : goal.returns-clause-limits
 returns-clause-limits c =
     within_limits c.args.self.now c.self.inside.cells.items c.self.inside.context.dots c.self.invariant.are_cells (ap (λ s. s.live) c.self.view_is) (ap (λ s. s.known) c.self.view_is)
-    (subst (λ n. n ≤ most_runs) c.runs.ensures.value c.runs.ensures.limit)
+    (subst (λ n. n ≤ MOST_RUNS) c.runs.ensures.value c.runs.ensures.limit)

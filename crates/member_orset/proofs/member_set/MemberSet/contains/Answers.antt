@@ -3,7 +3,7 @@ use Rattle.std.specs.Prelude.{IsTrue}
 use Rattle.std.specs.List.{list_any}
 use Rattle.member_orset.specs.Index.{IsIndex}
 use Rattle.member_orset.specs.Members.{IsPresent}
-use Rattle.member_orset.specs.Shown.{is_own}
+use Rattle.member_orset.specs.ShownRows.{is_own}
 use Rattle.member_orset.proofs.Presence.{presence}
 use Rattle.member_orset.proofs.member_set.MemberSet.contains.Goals as goal
 

@@ -1,9 +1,9 @@
 use Rattle.std.proofs.Common.{◌≡◌, ◌<◌, ap, sym, subst, ◌∙◌}
 use Rattle.std.proofs.lemmas.Result.{IfOk-weaker}
+use Rattle.dots.specs.declared.limits.TheConstants.{MOST_RUNS}
 use Rattle.dots.specs.DotSets.{run_count}
-use Rattle.causal_context.specs.Contexts.{most_runs}
 use Rattle.member_orset.specs.LiveDots.{dead_dots, dead_dots_of}
-use Rattle.member_orset.specs.Cells.{live_of}
+use Rattle.member_orset.specs.LiveLists.{live_of}
 use Rattle.member_orset.proofs.member_set.MemberSet.dead_of.Goals as goal
 
 pub returns-clause-ok : goal.returns-clause-ok
@@ -16,4 +16,4 @@ pub returns-clause-full : goal.returns-clause-full
 returns-clause-full c =
     let same : dead_dots c.self.inside.context.dots (live_of c.deref.result.now) c.args.site ≡ dead_dots_of c.args.self.now c.args.site =
     λ i. dead_dots (ap (λ s. s.known) c.self.view_is i) ((ap live_of c.deref.ensures.value ∙ ap (λ s. s.live) c.self.view_is) i) c.args.site in
-    (λ h. subst (λ s. most_runs < run_count s) same (c.gather_dead.ensures.full.0 h), λ h. c.gather_dead.ensures.full.1 (subst (λ s. most_runs < run_count s) (sym same) h))
+    (λ h. subst (λ s. MOST_RUNS < run_count s) same (c.gather_dead.ensures.full.0 h), λ h. c.gather_dead.ensures.full.1 (subst (λ s. MOST_RUNS < run_count s) (sym same) h))

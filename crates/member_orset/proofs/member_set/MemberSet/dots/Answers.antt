@@ -1,7 +1,7 @@
 use Rattle.std.proofs.Common.{ap, ◌∙◌}
 use Rattle.dots.specs.Rows.{dots_of}
 use Rattle.member_orset.specs.Members.{dot_view_of}
-use Rattle.member_orset.specs.Shown.{dots_listed, group}
+use Rattle.member_orset.specs.ShownRows.{dots_listed, group}
 use Rattle.member_orset.proofs.MemberDots.{dots_are}
 use Rattle.member_orset.proofs.member_set.MemberSet.dots.Goals as goal
 

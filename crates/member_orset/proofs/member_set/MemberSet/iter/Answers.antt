@@ -1,6 +1,6 @@
 use Rattle.std.proofs.Common.{ap, sym, ◌∙◌}
 use Rattle.std.specs.FinMap as map
-use Rattle.member_orset.specs.Cells.{entries_of}
+use Rattle.member_orset.specs.LiveLists.{entries_of}
 use Rattle.member_orset.proofs.Views.{entries-live_of}
 use Rattle.member_orset.proofs.member_set.MemberSet.iter.Goals as goal
 

@@ -1,10 +1,10 @@
 use Rattle.std.proofs.Common.{◌≡◌, ◌<◌, arith, ap, sym, subst, ◌∙◌}
 use Rattle.std.specs.FinSet as set
 use Rattle.std.proofs.lemmas.Result.{on_ok_weaker}
-use Rattle.dots.specs.Values.{Tag}
+use Rattle.dots.specs.declared.limits.TheConstants.{MOST_RUNS}
+use Rattle.dots.specs.Values.{Dot}
 use Rattle.dots.specs.DotSets.{run_count}
 use Rattle.dots.specs.Conditions.{Dead}
-use Rattle.causal_context.specs.Contexts.{most_runs}
 use Rattle.member_orset.specs.Members.{joined_at}
 use Rattle.member_orset.proofs.Places.{on_err_both}
 use Rattle.member_orset.proofs.member_set.MemberSet.kill.Goals as goal
@@ -13,7 +13,7 @@ pub returns-clause-known : goal.returns-clause-known
 returns-clause-known c = on_ok_weaker c.kill_dot.result (λ h. h ∙ ap (λ s. set.insert s.known c.args.dot) c.self.view_is) c.kill_dot.ensures.known
 
 pub returns-clause-conditions : goal.returns-clause-conditions
-returns-clause-conditions c = on_ok_weaker c.kill_dot.result (λ h (q : Tag). h q ∙ ap (λ s. joined_at s c.args.dot Dead q) c.self.view_is) c.kill_dot.ensures.conditions
+returns-clause-conditions c = on_ok_weaker c.kill_dot.result (λ h (q : Dot). h q ∙ ap (λ s. joined_at s c.args.dot Dead q) c.self.view_is) c.kill_dot.ensures.conditions
 
 pub returns-clause-refusals : goal.returns-clause-refusals
 returns-clause-refusals c =
@@ -21,7 +21,7 @@ returns-clause-refusals c =
     record {
       agrees = c.kill_dot.ensures.agrees;
       has_place = c.kill_dot.ensures.has_place;
-      runs_full = (λ h. subst (λ n. most_runs < n) same (c.kill_dot.ensures.full.0 h), λ h. c.kill_dot.ensures.full.1 (subst (λ n. most_runs < n) (sym same) h));
+      runs_full = (λ h. subst (λ n. MOST_RUNS < n) same (c.kill_dot.ensures.full.0 h), λ h. c.kill_dot.ensures.full.1 (subst (λ n. MOST_RUNS < n) (sym same) h));
     }
 
 pub returns-clause-err : goal.returns-clause-err

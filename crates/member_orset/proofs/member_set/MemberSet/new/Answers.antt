@@ -1,5 +1,5 @@
 use Rattle.std.proofs.Common.{ap, ◌∙◌}
-use Rattle.member_orset.specs.Cells.{live_of}
+use Rattle.member_orset.specs.LiveLists.{live_of}
 use Rattle.member_orset.proofs.Views.{live_of-nil}
 use Rattle.member_orset.proofs.Relisted.{nothing_listed}
 use Rattle.member_orset.proofs.member_set.MemberSet.new.Goals as goal

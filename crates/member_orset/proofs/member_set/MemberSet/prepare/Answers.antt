@@ -2,10 +2,10 @@ use Rattle.std.proofs.Common.{◌≡◌, ◌<◌, min, length, vec_len, rules, a
 use Rattle.std.specs.FinSet as set
 use Rattle.std.specs.Vec.{vec_capacity}
 use Rattle.std.proofs.lemmas.Grind.{common_steps}
+use Rattle.dots.specs.declared.limits.TheConstants.{MOST_RUNS}
 use Rattle.dots.specs.DotSets.{run_count}
-use Rattle.causal_context.specs.Contexts.{most_runs}
 use Rattle.member_orset.specs.Members.{runs_joined}
-use Rattle.member_orset.specs.Cells.{live_of}
+use Rattle.member_orset.specs.LiveLists.{live_of}
 use Rattle.member_orset.proofs.Asserting.{on_ok_both}
 use Rattle.member_orset.proofs.Joins.{len_cells, is_prepared, context_prepared, has_places, lacks_none}
 use Rattle.member_orset.proofs.member_set.MemberSet.prepare.Goals as goal
@@ -24,7 +24,7 @@ returns-clause-ready c = on_ok_both c.make_room.result _ _ _ (λ cells runs.
     let len2 : vec_len c.other.inside.cells ≡ length c.other.inside.cells.items = search rules in
     is_prepared c.args.self.now (record { known = c.make_room.new.context.dots; live = live_of c.make_room.new.cells.items; retired = 0; cell_room = min (vec_capacity c.make_room.new.cells) (vec_capacity c.make_room.new.index); run_room = c.make_room.new.context.room }) c.args.other.now
     (c.make_room.ensures.same_dots ∙ ap (λ s. s.known) c.self.view_is) (ap live_of c.make_room.ensures.same_cells ∙ ap (λ s. s.live) c.self.view_is) (search rules) (c.agrees.ensures.agree.0 c.if-not-agrees.false)
-    (omega (arith, c.joined_cells.ensures, c.if-joined_cells-gt-MOST_CELLS.false)) (omega (arith, ours, few_ours)) (omega (arith, theirs, few_theirs))
+    (omega (arith, c.joined_cells.ensures, c.if-joined_cells-gt-MOST_LIVE.false)) (omega (arith, ours, few_ours)) (omega (arith, theirs, few_theirs))
     (omega (arith, united, runs.few)) (omega (arith, runs_there, runs.room)) (omega (arith, ours, theirs, same, len, len2, cells, c.len.ensures)))
     c.make_room.ensures.room c.make_room.ensures.runs
 
@@ -40,17 +40,17 @@ returns-clause-refusals c =
       conflict = grind (arith, common_steps);
       cells_full = (
         λ h. absurd (c.make_room.ensures.has_place h),
-        λ h. absurd (lacks_none c.args.self.now c.args.other.now (sym (ap (λ s. s.retired) c.self.view_is)) (omega (arith, c.joined_cells.ensures, c.if-joined_cells-gt-MOST_CELLS.false))
+        λ h. absurd (lacks_none c.args.self.now c.args.other.now (sym (ap (λ s. s.retired) c.self.view_is)) (omega (arith, c.joined_cells.ensures, c.if-joined_cells-gt-MOST_LIVE.false))
             (omega (arith, ours, few_ours)) (omega (arith, theirs, few_theirs)) h.1),
       );
       runs_full = (
         λ h. (
           c.agrees.ensures.agree.0 c.if-not-agrees.false,
-          has_places c.args.self.now c.args.other.now (sym (ap (λ s. s.retired) c.self.view_is)) (omega (arith, c.joined_cells.ensures, c.if-joined_cells-gt-MOST_CELLS.false))
+          has_places c.args.self.now c.args.other.now (sym (ap (λ s. s.retired) c.self.view_is)) (omega (arith, c.joined_cells.ensures, c.if-joined_cells-gt-MOST_LIVE.false))
               (omega (arith, ours, few_ours)) (omega (arith, theirs, few_theirs)),
-          subst (λ n. most_runs < n) same (c.make_room.ensures.full.0 h),
+          subst (λ n. MOST_RUNS < n) same (c.make_room.ensures.full.0 h),
         ),
-        λ h. c.make_room.ensures.full.1 (subst (λ n. most_runs < n) (sym same) h.2),
+        λ h. c.make_room.ensures.full.1 (subst (λ n. MOST_RUNS < n) (sym same) h.2),
       );
     }
 

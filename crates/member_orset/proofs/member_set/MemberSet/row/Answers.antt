@@ -1,7 +1,7 @@
 use Rattle.std.proofs.Common.{ap, ◌∙◌}
 use Rattle.dots.specs.Rows.{row_of}
 use Rattle.member_orset.specs.Members.{dot_view_of}
-use Rattle.member_orset.specs.Shown.{cells_view}
+use Rattle.member_orset.specs.ShownRows.{cells_view}
 use Rattle.member_orset.proofs.member_set.MemberSet.row.Goals as goal
 
 pub returns : goal.returns

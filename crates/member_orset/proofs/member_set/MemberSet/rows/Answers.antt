@@ -1,7 +1,7 @@
 use Rattle.std.proofs.Common.{None, ap, ◌∙◌}
 use Rattle.dots.specs.Rows.{rows_of}
 use Rattle.member_orset.specs.Members.{dot_view_of}
-use Rattle.member_orset.specs.Shown.{cells_view, rows_after}
+use Rattle.member_orset.specs.ShownRows.{cells_view, rows_after}
 use Rattle.member_orset.proofs.Shows.{all_rows}
 use Rattle.member_orset.proofs.member_set.MemberSet.rows.Goals as goal
 

@@ -3,10 +3,10 @@ use Rattle.std.specs.Prelude.{IsSome}
 use Rattle.std.specs.FinMap as map
 use Rattle.std.specs.FinSet as set
 use Rattle.std.specs.Vec.{vec_capacity}
+use Rattle.dots.specs.declared.limits.TheConstants.{MOST_LIVE}
 use Rattle.member_orset.specs.declared.live_dot.LiveDot.{LiveDot}
-use Rattle.member_orset.specs.Members.{HasField, most_cells}
-use Rattle.member_orset.specs.Reads.{dot_fields}
-use Rattle.member_orset.specs.Cells.{IsGap}
+use Rattle.member_orset.specs.Members.{HasField}
+use Rattle.member_orset.specs.LiveLists.{IsGap}
 use Rattle.member_orset.proofs.Views.{len-live_of}
 use Rattle.member_orset.proofs.Joins.{len_cells}
 use Rattle.member_orset.proofs.Building.{gap_behind, behind_cells, behind_live}
@@ -18,9 +18,9 @@ invariant_of-self-2 c =
     let cs = c.self.inside.cells.items in
     let live = ap (λ s. s.live) c.self.view_is in
     let gap : IsGap cs c.args.dot (length cs) = gap_behind cs c.args.dot c.self.invariant.0.sorted (λ q h. c.requires.greater q (subst (λ m. IsSome (map.get m q)) live h)) in
-    let room : length cs < most_cells = subst (λ n. n < most_cells) (ap map.len (sym live) ∙ len-live_of cs c.self.invariant.0.sorted) c.requires.room in
+    let room : length cs < MOST_LIVE = subst (λ n. n < MOST_LIVE) (ap map.len (sym live) ∙ len-live_of cs c.self.invariant.0.sorted) c.requires.room in
     let known : set.contains c.self.inside.context.dots c.args.dot ≡ true = ap (λ s. set.contains s.known c.args.dot) c.self.view_is ∙ c.requires.in_context in
-    (behind_cells cs c.push.new.self.items x c.self.inside.context.dots c.self.invariant.0 gap known (subst (λ f. HasField (dot_fields f)) (sym c.copy-2.ensures) c.requires.field) room c.in_ok-push.ensures.items, omega (arith, c.in_ok-push.ensures.len, c.in_ok-reserve.ensures.ok, c.reserve.ensures.len, c.len.ensures), c.reserve.ensures.items ∙ c.self.invariant.2)
+    (behind_cells cs c.push.new.self.items x c.self.inside.context.dots c.self.invariant.0 gap known (subst (λ f. HasField f) (sym c.copy-2.ensures) c.requires.field) room c.in_ok-push.ensures.items, omega (arith, c.in_ok-push.ensures.len, c.in_ok-reserve.ensures.ok, c.reserve.ensures.len, c.len.ensures), c.reserve.ensures.items ∙ c.self.invariant.2)
 
 pub returns-clause-ok : goal.returns-clause-ok
 returns-clause-ok c =
@@ -29,7 +29,7 @@ returns-clause-ok c =
     let live = ap (λ s. s.live) c.self.view_is in
     let gap : IsGap cs c.args.dot (length cs) = gap_behind cs c.args.dot c.self.invariant.0.sorted (λ q h. c.requires.greater q (subst (λ m. IsSome (map.get m q)) live h)) in
     behind_live cs c.push.new.self.items x c.self.invariant.0.sorted gap c.in_ok-push.ensures.items
-    ∙ (λ i. map.insert (live i) c.args.dot (c.copy.ensures i, dot_fields (c.copy-2.ensures i)))
+    ∙ (λ i. map.insert (live i) c.args.dot (c.copy.ensures i, (c.copy-2.ensures i)))
 
 pub returns-in_err-reserve-clause-with_room : goal.returns-in_err-reserve-clause-with_room
 returns-in_err-reserve-clause-with_room c h =

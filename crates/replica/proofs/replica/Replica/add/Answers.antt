@@ -5,7 +5,9 @@ use Rattle.replica.specs.declared.entry.Entry.{Entry}
 use Rattle.replica.specs.declared.command.Command.TheVariants.{Add}
 use Rattle.replica.specs.declared.refusal.Refusal.TheVariants.{AlreadyThere, MembersFull, Exhausted, Memory}
 use Rattle.replica.specs.Commands.{IsAnswer}
-use Rattle.replica.specs.Held.{IsAt, IsGapFor, held}
+use Rattle.dots.specs.Orders.{member_cmp}
+use Rattle.dots.specs.SortedEntries.{IsAt, IsGapFor}
+use Rattle.replica.specs.Held.{held_of_each}
 use Rattle.replica.specs.Site.{SiteState}
 use Rattle.replica.proofs.EntryLemmas.{kept_insert}
 use Rattle.replica.proofs.AddLemmas.{state_of, named_at, member_is_made, no_reason, is_there, is_full, is_exhausted, is_wanting, is_done}
@@ -22,15 +24,15 @@ returns-in_default-place c =
     subst (λ (s : SiteState). IsAnswer s command s (Err AlreadyThere)) c.self.view_is
     (is_there c.self.inside.site c.self.inside.list c.self.inside.entries.items c.self.inside.last c.self.invariant command
     (named_at _ _ _ c.in-Some.ensures.value) _ (member_is_made _ _ _ c.in-Some.ensures.number) _
-    (subst (λ (es : List Entry). IsAt (held es) (record { queue = c.in-Some.number; interface = c.args.interface }) c.in_default-place.field-0) c.deref.ensures.value c.in_default-place.ensures.found))
+    (subst (λ (es : List Entry). IsAt (held_of_each es) (record { queue = c.in-Some.number; interface = c.args.interface }) c.in_default-place.field-0) c.deref.ensures.value c.in_default-place.ensures.found))
 
-pub returns-then-len-ge-MOST_MEMBERS : goal.returns-then-len-ge-MOST_MEMBERS
-returns-then-len-ge-MOST_MEMBERS c =
+pub returns-then-len-ge-MOST_LIVE : goal.returns-then-len-ge-MOST_LIVE
+returns-then-len-ge-MOST_LIVE c =
     let command = Add c.args.queue c.args.interface c.args.penalty c.args.paused c.args.label in
     subst (λ (s : SiteState). IsAnswer s command s (Err MembersFull)) c.self.view_is
     (is_full c.self.inside.site c.self.inside.list c.self.inside.entries.items c.self.inside.last c.self.invariant command
     (named_at _ _ _ c.in-Some.ensures.value) _ (member_is_made _ _ _ c.in-Some.ensures.number) _
-    (subst (λ (es : List Entry). IsGapFor (held es) (record { queue = c.in-Some.number; interface = c.args.interface }) c.in-Err.gap) c.deref.ensures.value c.in-Err.ensures.absent)
+    (subst (λ (es : List Entry). IsGapFor member_cmp (held_of_each es) (record { queue = c.in-Some.number; interface = c.args.interface }) c.in-Err.gap) c.deref.ensures.value c.in-Err.ensures.absent)
     (omega (arith, c.self.inside.entries.ok.0)))
 
 -- no dot or no stamp has the next count
@@ -40,7 +42,7 @@ returns-in_default-2 c =
     subst (λ (s : SiteState). IsAnswer s command s (Err Exhausted)) c.self.view_is
     (is_exhausted c.self.inside.site c.self.inside.list c.self.inside.entries.items c.self.inside.last c.self.invariant command
     (named_at _ _ _ c.in-Some.ensures.value) _ (member_is_made _ _ _ c.in-Some.ensures.number) _
-    (subst (λ (es : List Entry). IsGapFor (held es) (record { queue = c.in-Some.number; interface = c.args.interface }) c.in-Err.gap) c.deref.ensures.value c.in-Err.ensures.absent)
+    (subst (λ (es : List Entry). IsGapFor member_cmp (held_of_each es) (record { queue = c.in-Some.number; interface = c.args.interface }) c.in-Err.gap) c.deref.ensures.value c.in-Err.ensures.absent)
     (omega (arith, c.self.inside.entries.ok.0))
     (elim c.in_default-2.branch [
       | in_default-2-via-in-Some+in_default w ↦ λ counted. none_some c.new-2.result w.in_default-2.is-1 (c.new-2.ensures.within.1 counted)
@@ -52,7 +54,7 @@ pub invariant_of-self : goal.invariant_of-self
 invariant_of-self c =
     rw c.in-Ok.ensures.items
     (kept_insert c.self.inside.list c.self.inside.entries.items c.self.inside.last c.in-Err.gap _ c.self.invariant
-    (subst (λ (es : List Entry). IsGapFor (held es) (record { queue = c.in-Some.number; interface = c.args.interface }) c.in-Err.gap) c.deref.ensures.value c.in-Err.ensures.absent)
+    (subst (λ (es : List Entry). IsGapFor member_cmp (held_of_each es) (record { queue = c.in-Some.number; interface = c.args.interface }) c.in-Err.gap) c.deref.ensures.value c.in-Err.ensures.absent)
     (slice_get_within _ _ _ c.in-Some.ensures.value)
     (omega (arith, c.self.inside.entries.ok.0))
     (c.in-Some-Some.ensures.within.0 refl).1)
@@ -63,7 +65,7 @@ returns-in-Ok c =
     subst (λ (s : SiteState). IsAnswer s command (state_of c.self.inside.site c.self.inside.list c.insert.new.self.items (c.self.inside.last + 1)) (Ok tt)) c.self.view_is
     (is_done c.self.inside.site c.self.inside.list c.self.inside.entries.items c.self.inside.last c.self.invariant command
     (named_at _ _ _ c.in-Some.ensures.value) _ (member_is_made _ _ _ c.in-Some.ensures.number) _
-    (subst (λ (es : List Entry). IsGapFor (held es) (record { queue = c.in-Some.number; interface = c.args.interface }) c.in-Err.gap) c.deref.ensures.value c.in-Err.ensures.absent)
+    (subst (λ (es : List Entry). IsGapFor member_cmp (held_of_each es) (record { queue = c.in-Some.number; interface = c.args.interface }) c.in-Err.gap) c.deref.ensures.value c.in-Err.ensures.absent)
     (omega (arith, c.self.inside.entries.ok.0))
     (c.in-Some-Some.ensures.within.0 refl)
     _ _ c.in-Ok.ensures.items refl
@@ -76,7 +78,7 @@ returns-in-Err-insert c =
     subst (λ (s : SiteState). IsAnswer s command (state_of c.self.inside.site c.self.inside.list c.insert.new.self.items c.self.inside.last) (Err Memory)) c.self.view_is
     (is_wanting c.self.inside.site c.self.inside.list c.self.inside.entries.items c.self.inside.last c.self.invariant command
     (named_at _ _ _ c.in-Some.ensures.value) _ (member_is_made _ _ _ c.in-Some.ensures.number) _
-    (subst (λ (es : List Entry). IsGapFor (held es) (record { queue = c.in-Some.number; interface = c.args.interface }) c.in-Err.gap) c.deref.ensures.value c.in-Err.ensures.absent)
+    (subst (λ (es : List Entry). IsGapFor member_cmp (held_of_each es) (record { queue = c.in-Some.number; interface = c.args.interface }) c.in-Err.gap) c.deref.ensures.value c.in-Err.ensures.absent)
     (omega (arith, c.self.inside.entries.ok.0))
     (c.in-Some-Some.ensures.within.0 refl)
     _ c.in-Err-insert.ensures.items)

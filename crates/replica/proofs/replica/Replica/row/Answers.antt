@@ -1,7 +1,7 @@
 use Rattle.std.proofs.Common.{sym, ap, ◌∙◌}
 use Rattle.std.specs.FinMap as map
 use Rattle.dots.specs.Orders.{member_cmp}
-use Rattle.replica.specs.Held.{held}
+use Rattle.replica.specs.Held.{held_of_each}
 use Rattle.replica.specs.Site.{SiteState}
 use Rattle.replica.proofs.EntryLemmas.{get_is}
 use Rattle.replica.proofs.replica.Replica.row.Goals as goal
@@ -10,7 +10,7 @@ use Rattle.replica.proofs.replica.Replica.row.Goals as goal
 pub returns-clause-value : goal.returns-clause-value
 returns-clause-value c =
     c.row_in.ensures
-    ∙ ap (λ es. map.find member_cmp c.args.member.now (held es)) c.deref.ensures.value
+    ∙ ap (λ es. map.find member_cmp c.args.member.now (held_of_each es)) c.deref.ensures.value
     ∙ sym (get_is c.self.inside.entries.items c.self.invariant.rising c.args.member.now)
     ∙ ap (λ (s : SiteState). map.get s.members c.args.member.now) c.self.view_is
 

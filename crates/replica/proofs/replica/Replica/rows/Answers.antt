@@ -1,7 +1,7 @@
 use Rattle.std.proofs.Common.{◌==◌, map as each, ap, ◌∙◌}
 use Rattle.std.specs.List.{filter}
 use Rattle.replica.specs.declared.entry.Entry.{Entry}
-use Rattle.replica.specs.Listed.{listed}
+use Rattle.replica.specs.Listed.{listing_of}
 use Rattle.replica.specs.Site.{SiteState, rows_of}
 use Rattle.replica.proofs.EntryLemmas.{rows_are}
 use Rattle.replica.proofs.RowsShown.{rows_shown}
@@ -11,7 +11,7 @@ use Rattle.replica.proofs.replica.Replica.rows.Goals as goal
 pub returns-clause-value : goal.returns-clause-value
 returns-clause-value c =
     c.new.ensures
-    ∙ ap (each listed) (c.of_queue.ensures.value ∙ ap (filter (λ (e : Entry). e.member.queue == c.args.queue)) c.deref.ensures.value)
+    ∙ ap (each listing_of) (c.of_queue.ensures.value ∙ ap (filter (λ (e : Entry). e.member.queue == c.args.queue)) c.deref.ensures.value)
     ∙ rows_are c.self.inside.entries.items c.args.queue c.self.invariant.rising
     ∙ ap (λ (s : SiteState). rows_of s.members c.args.queue) c.self.view_is
 

@@ -1,0 +1,23 @@
+ghost use Rattle.std.specs.Prelude.{◌≡◌};
+ghost use Rattle.dots.specs.Counts.{same_calls};
+
+/// The calls that are counted (this project's own).
+#[derive(Clone, Copy, Debug)]
+pub enum Calls {
+    /// Calls that were completed.
+    Completed,
+    /// Calls that were abandoned.
+    Abandoned,
+}
+
+impl Calls {
+    /// Whether both are one.
+    pub fn same(self, other: Calls) -> bool
+        ensures { result ≡ same_calls self other }
+    {
+        match self {
+            Calls::Completed => matches!(other, Calls::Completed),
+            Calls::Abandoned => matches!(other, Calls::Abandoned),
+        }
+    }
+}

@@ -1,0 +1,42 @@
+-- How the dots that given ones stand for are gathered, piece by piece.
+use Rattle.std.specs.Prelude.{ℕ, ◌≡◌, ◌<◌, ◌≤◌, ◌+◌, Bool, true, ◌&&◌, ◌||◌, nat_eq, nat_lt, List, Some, None, if◌then◌else◌}
+use Rattle.std.specs.List.{All, list_any}
+use Rattle.std.specs.FinSet as set
+use Rattle.std.specs.Ordering.{eq_by_cmp}
+use Rattle.dots.specs.declared.limits.TheConstants.{MOST_RUNS}
+use Rattle.dots.specs.Values.{Dot}
+use Rattle.dots.specs.Orders.{dot_cmp}
+use Rattle.dots.specs.DotSets.{run_count}
+use Rattle.causal_context.specs.declared.context_fault.ContextFault.TheVariants.{RunsFull}
+use Rattle.member_orset.specs.declared.gathered.Gathered.{Gathered}
+use Rattle.member_orset.specs.declared.piece.Piece.{Piece}
+
+-- whether a dot is given
+abbrev pub is_given : List Dot → Dot → Bool
+is_given given dot = list_any (eq_by_cmp dot_cmp dot) given
+
+-- the greatest count of the given dots of a site, or 0 where none is of it; all of theirs are from 1
+pub record IsGreatest (given : List Dot) (site greatest : ℕ) : Type 0 where
+  pub least : All (λ d. d.site ≡ site → 1 ≤ d.count) given
+  pub most : All (λ d. d.site ≡ site → d.count ≤ greatest) given
+  pub reached : 0 < greatest → is_given given (record { site = site; count = greatest }) ≡ true
+
+-- counts from a first one to the piece's last one, and no further than a last one: all pass a test, or none does
+pub record IsPiece (test : ℕ → Bool) (first last : ℕ) (piece : Piece) : Type 0 where
+  pub some : first ≤ piece.last
+  pub within : piece.last ≤ last
+  pub same : (n : ℕ) → first ≤ n → n ≤ piece.last → test n ≡ piece.inside
+
+-- the dots of a set that lie before the dot of a site and a count
+unfoldable pub part_before : set.FinSet dot_cmp → ℕ → ℕ → set.FinSet dot_cmp
+part_before dots site count = set.retain dots (λ d. nat_lt d.site site || (nat_eq d.site site && nat_lt d.count count))
+
+-- what was gathered: so many runs, and a context of the dots, unless it failed; it is full only where there are too many runs
+pub record IsGathered (g : Gathered) (dots : set.FinSet dot_cmp) : Type 0 where
+  pub counted : g.runs ≡ run_count dots
+  pub kept : g.fault ≡ None → g.context.dots ≡ dots
+  pub full : g.fault ≡ Some RunsFull → MOST_RUNS < g.runs
+
+-- how many runs there are with one that begins, or with one that goes on
+abbrev pub runs_after : ℕ → Bool → ℕ
+runs_after runs begins = if begins then runs + 1 else runs

@@ -1,0 +1,14 @@
+use Rattle.std.proofs.Common.{◌+◌, drop, ap}
+use Rattle.std.specs.List.{list_any}
+use Rattle.dots.specs.Knowledge.{is_dot}
+use Rattle.reference_model.proofs.DotSteps.{one_dot_more}
+use Rattle.reference_model.proofs.SetSteps.{adds_first}
+use Rattle.dots.proofs.Fronts.{open_at}
+use Rattle.reference_model.proofs.dots_seen.insert_each.Goals as goal
+
+pub loop-dot-preserved : goal.loop-dot-preserved
+loop-dot-preserved c = λ q.
+    let dots = c.args.dots.now in
+    let next = open_at dots c.loop-dot.dot-index c.dot-item.result c.loop-dot-test.true c.dot-item.is in
+    adds_first (list_any (is_dot q) c.loop-dot.found.keys) (is_dot q c.dot-item.result) (list_any (is_dot q) (drop (c.loop-dot.dot-index + 1) dots)) (list_any (is_dot q) (drop c.loop-dot.dot-index dots)) (list_any (is_dot q) c.insert.new.self.keys) _
+    (ap (list_any (is_dot q)) next) (one_dot_more q c.dot-item.result c.loop-dot.found.keys c.insert.new.self.keys c.in_ok-insert.ensures.keys) (c.loop-dot.invariant q)

@@ -1,0 +1,10 @@
+-- Dots in their order, and whether one goes on in the next.
+use Rattle.std.specs.Prelude.{Bool, false, List, [], ◌∷◌}
+use Rattle.dots.specs.Values.{Dot}
+use Rattle.dots.specs.DotSets.{next_dot}
+use Rattle.dots.specs.Knowledge.{is_dot}
+
+-- whether the first of the dots is that of the next count
+abbrev pub goes_on : Dot → List Dot → Bool
+goes_on dot [] = false
+goes_on dot (x ∷ xs) = is_dot (next_dot dot) x

@@ -1,0 +1,166 @@
+// How many dots are visible, and how many runs the known ones have, with those that one operation more asserts and names.
+ghost use Rattle.std.specs.Prelude.{◌≡◌, ◌||◌, ◌&&◌, ◌+◌, not, count_by, map as each, IfOk, OnOk};
+ghost use Rattle.std.specs.FinSet as set;
+ghost use Rattle.std.specs.List.{list_any};
+ghost use Rattle.std.specs.List.Sorted.{IsStrictlySortedBy};
+ghost use Rattle.dots.specs.DotSets.{run_count};
+ghost use Rattle.dots.specs.Values.{Dot};
+ghost use Rattle.dots.specs.Knowledge.{is_dot, is_asserted, is_named};
+ghost use Rattle.dots.specs.Orders.{dot_cmp};
+ghost use Rattle.reference_model.specs.NextDots.{goes_on};
+ghost use Rattle.reference_model.specs.Plain.{knowledge_of};
+
+use crate::Operation;
+use crate::dots_seen::{asserted_dots, insert_each, named_dots};
+use crate::plain_dot::PlainDot;
+use dots::{Dot, Memory};
+use std::alloc::Global;
+use std::collections::BTreeSet;
+
+// The dots of a set, in their order.
+fn listed(alloc: Global, dots: &BTreeSet<Dot>) -> Result<Vec<Dot>, Memory>
+    ensures { IfOk result (λ listed. listed.items ≡ dots.now.keys) }
+{
+    dots.iter().copied().collect(alloc)
+}
+
+// The same dots as plain ones.
+fn plain_dots(alloc: Global, dots: &[Dot]) -> Result<Vec<PlainDot>, Memory>
+    ensures { IfOk result (λ plain. plain.items ≡ each (λ d. d) dots.now) }
+{
+    dots.iter().map(|dot| PlainDot::of(*dot)).collect(alloc)
+}
+
+// Adds these dots.
+fn insert_plain(found: &mut BTreeSet<PlainDot>, dots: &[PlainDot]) -> Result<(), Memory>
+    ensures { OnOk result ((dot : Dot) → list_any (is_dot dot) found.new.keys
+        ≡ (list_any (is_dot dot) found.old.keys || list_any (is_dot dot) dots.now)) }
+{
+    for dot in dots {
+        found.insert(*dot)?;
+    }
+    Ok(())
+}
+
+// A set of dots, with these.
+fn set_with(
+    alloc: Global,
+    dots: &BTreeSet<Dot>,
+    more: &[PlainDot],
+) -> Result<BTreeSet<PlainDot>, Memory>
+    ensures { IfOk result (λ found. (dot : Dot) → list_any (is_dot dot) found.keys
+        ≡ (list_any (is_dot dot) dots.now.keys || list_any (is_dot dot) more.now)) }
+{
+    let listed = listed(alloc, dots)?;
+    let plain = plain_dots(alloc, &listed)?;
+    let mut found = BTreeSet::new(alloc);
+    insert_plain(&mut found, &plain)?;
+    insert_plain(&mut found, more)?;
+    Ok(found)
+}
+
+// The dots that some operation asserts, and these.
+fn asserted_with(
+    alloc: Global,
+    operations: &[Operation],
+    asserted: &[PlainDot],
+) -> Result<BTreeSet<PlainDot>, Memory>
+    ensures { IfOk result (λ found. (dot : Dot) → list_any (is_dot dot) found.keys
+        ≡ (is_asserted (knowledge_of operations.now) dot || list_any (is_dot dot) asserted.now)) }
+{
+    let found = asserted_dots(alloc, operations)?;
+    set_with(alloc, &found, asserted)
+}
+
+// The dots that some operation names, and these.
+fn named_with(
+    alloc: Global,
+    operations: &[Operation],
+    named: &[Dot],
+) -> Result<BTreeSet<PlainDot>, Memory>
+    ensures { IfOk result (λ found. (dot : Dot) → list_any (is_dot dot) found.keys
+        ≡ (is_named (knowledge_of operations.now) dot || list_any (is_dot dot) named.now)) }
+{
+    let mut found = named_dots(alloc, operations)?;
+    insert_each(&mut found, named)?;
+    set_with(alloc, &found, &[])
+}
+
+// How many of the first dots aren't among the second.
+fn count_missing(first: &BTreeSet<PlainDot>, second: &BTreeSet<PlainDot>) -> usize
+    ensures value { result ≡ count_by (λ dot. not (list_any (is_dot dot) second.now.keys)) first.now.keys }
+    ensures ordered { IsStrictlySortedBy dot_cmp first.now.keys }
+{
+    first.iter().filter(|dot| !second.contains(*dot)).count()
+}
+
+// How many dots are visible where these are asserted and these named too.
+pub(crate) fn visible_count(
+    alloc: Global,
+    operations: &[Operation],
+    asserted: &[PlainDot],
+    named: &[Dot],
+) -> Result<usize, Memory>
+    ensures { IfOk result (λ count. (s : set.FinSet dot_cmp)
+        → ((dot : Dot) → set.contains s dot
+        ≡ ((is_asserted (knowledge_of operations.now) dot || list_any (is_dot dot) asserted.now)
+        && not (is_named (knowledge_of operations.now) dot || list_any (is_dot dot) named.now)))
+        → count ≡ set.len s) }
+{
+    let asserted = asserted_with(alloc, operations, asserted)?;
+    let named = named_with(alloc, operations, named)?;
+    Ok(count_missing(&asserted, &named))
+}
+
+// The dots of a set, in their order.
+fn in_vec(alloc: Global, found: &BTreeSet<PlainDot>) -> Result<Vec<PlainDot>, Memory>
+    ensures value { IfOk result (λ dots. dots.items ≡ found.now.keys) }
+    ensures ordered { IsStrictlySortedBy dot_cmp found.now.keys }
+{
+    found.iter().copied().collect(alloc)
+}
+
+// Whether the first of these dots is the one of the next count.
+fn goes_on(dot: PlainDot, dots: &[PlainDot]) -> bool
+    ensures { result ≡ goes_on dot dots.now }
+{
+    match dots.first() {
+        Some(next) => dot.is_before(*next),
+        None => false,
+    }
+}
+
+// How many runs dots in their order have: one for each dot that the one of the next count doesn't follow.
+fn count_ends(dots: &[PlainDot]) -> usize
+    requires { IsStrictlySortedBy dot_cmp dots.now }
+    ensures { result ≡ run_count (set.from_list dots.now) }
+{
+    let mut runs = 0;
+    for (place, dot) in dots.iter().enumerate() {
+        if !goes_on(*dot, &dots[place + 1..]) {
+            runs += 1;
+        }
+    }
+    runs
+}
+
+// How many runs the known dots have where these are asserted and these named too.
+pub(crate) fn known_runs(
+    alloc: Global,
+    operations: &[Operation],
+    asserted: &[PlainDot],
+    named: &[Dot],
+) -> Result<usize, Memory>
+    ensures { IfOk result (λ count. (s : set.FinSet dot_cmp)
+        → ((dot : Dot) → set.contains s dot
+        ≡ ((is_asserted (knowledge_of operations.now) dot || list_any (is_dot dot) asserted.now)
+        || (is_named (knowledge_of operations.now) dot || list_any (is_dot dot) named.now)))
+        → count ≡ run_count s) }
+{
+    let named = named_with(alloc, operations, named)?;
+    let named = in_vec(alloc, &named)?;
+    let mut known = asserted_with(alloc, operations, asserted)?;
+    insert_plain(&mut known, &named)?;
+    let known = in_vec(alloc, &known)?;
+    Ok(count_ends(&known))
+}

@@ -1,0 +1,12 @@
+use crate::Operation;
+
+/// What a site knows, latest first, what of its own it has put in no frame yet, and how many frames it has made.
+#[derive(Drop)]
+pub struct SiteKnowledge {
+    /// All operations that it has made or taken.
+    pub known: Vec<Operation>,
+    /// Those of its own that it has put in no frame yet.
+    pub buffer: Vec<Operation>,
+    /// How many frames it has made.
+    pub frames: u64,
+}

@@ -1,0 +1,187 @@
+-- What a command makes is within the limits of operations.
+use Rattle.std.proofs.Common.{◌≡◌, ℕ, suc, ◌<◌, ◌≤◌, max, Bool, true, false, ◌&&◌, ◌||◌, not, nat_lt, unwrap_or, bytes_eq, inl, inr, List, [], ◌∷◌, Contains, Option, Some, None, map as each, refl, sym, ap, subst, ◌∙◌, arith, true≢false, if◌then◌else◌}
+use Rattle.std.specs.FinSet as set
+use Rattle.std.specs.Cmp.Lexicographic.{pointwise}
+use Rattle.std.specs.Option.{option_and_then}
+use Rattle.std.specs.Prelude.{nat_eq}
+use Rattle.std.specs.Ordering.{is_eq}
+use Rattle.std.proofs.lemmas.Cmp.{tied_itself}
+use Rattle.std.proofs.lemmas.Bool.Decides.{nat_tests}
+use Rattle.std.proofs.lemmas.List.Quantifiers.{position-Some}
+use Rattle.dots.specs.declared.limits.TheConstants.{MOST_CALLS, QUEUES}
+use Rattle.dots.specs.declared.member.Member.{Member}
+use Rattle.dots.specs.Values.{Dot, IsSite, IsCount, IsName}
+use Rattle.dots.specs.DotSets.{is_older}
+use Rattle.dots.specs.Operations.{Operation, Setting}
+use Rattle.dots.specs.Knowledge.{Knowledge, is_asserted, is_dot, is_named, member_of, visible_dots}
+use Rattle.dots.specs.Rows.{dot_view, dots_of, is_of}
+use Rattle.dots.specs.SetItems.{in_order}
+use Rattle.dots.specs.WithinLimits.{AreAsserted, AreDots, AreWithinLimits, IsDot, IsMember, IsSetting, IsWithinLimits}
+use Rattle.dots.proofs.DotOrder.{dots_total}
+use Rattle.dots.proofs.Filters.{filter-in}
+use Rattle.dots.proofs.ItemOrder.{in_order-has}
+use Rattle.dots.proofs.Membership.{any-in, cases-in, first-in, in-any, in-some, later-in, nothing-in}
+use Rattle.dots.proofs.VisibleLaws.{visible-dot}
+use Rattle.dots.proofs.WithinLimitsLaws.{asserted-dot-is, member-of-is, named-dot-is, one-dot}
+use Rattle.replica.specs.declared.refusal.Refusal.TheVariants.{Exhausted, MembersFull, TotalFull}
+use Rattle.replica.specs.Changes.{Meaning, Refused, Makes, AddMember, RemoveMember, SetField, CountCall, add_at, count_at, in_queue, is_exhausted, is_full, is_past_total, is_too_long, is_used_up, meaning_of_setting, remove_of, time_replaced, where_absent, where_present, within_limits, write_at}
+use Rattle.replica.specs.Promises.{MakesWithinLimits}
+use Rattle.replica.specs.Queues.{AreQueues, number_of}
+use Rattle.replica.specs.SiteViews.{SiteView, dots_seen, greatest, older_dots, site_view, with_interface}
+use Rattle.replica.proofs.SiteViewLaws.{older-named}
+
+-- an operation that is made passes every test
+record Made (o p : Operation) : Type 0 where
+  pub same : o ≡ p
+  pub numbers : is_exhausted o ≡ false
+  pub total : is_past_total o ≡ false
+
+made : (r buffer : SiteView) (o p : Operation) → within_limits r buffer o ≡ Makes p → Made o p
+made r buffer o p h = by (is_full r o || (is_full buffer o || is_too_long o)) (is_exhausted o) (is_past_total o) refl refl h
+  where
+    by : (a b c : Bool) → is_exhausted o ≡ b → is_past_total o ≡ c → (if a then Refused MembersFull else if b then Refused Exhausted else if c then Refused TotalFull else Makes o) ≡ Makes p → Made o p
+    by true b c e f h = absurd (cc)
+    by false true c e f h = absurd (cc)
+    by false false true e f h = absurd (cc)
+    by false false false e f h = record { same = cc; numbers = e; total = f }
+
+in_queue-made : (x : Option ℕ) (go : ℕ → Meaning) (o : Operation) → in_queue x go ≡ Makes o → (q : ℕ) × (x ≡ Some q) × (go q ≡ Makes o)
+in_queue-made None go o h = absurd (cc)
+in_queue-made (Some q) go o h = (q, refl, h)
+
+where_absent-made : (dots : List (Dot × Member)) (m : Meaning) (o : Operation) → where_absent dots m ≡ Makes o → m ≡ Makes o
+where_absent-made [] m o h = h
+where_absent-made (d ∷ dots) m o h = absurd (cc)
+
+where_present-made : (dots : List (Dot × Member)) (m : Meaning) (o : Operation) → where_present dots m ≡ Makes o → m ≡ Makes o
+where_present-made [] m o h = absurd (cc)
+where_present-made (d ∷ dots) m o h = h
+
+-- the number of a queue
+queue-is : (names : List (List ℕ)) → AreQueues names → (queue : List ℕ) (q : ℕ) → number_of names queue ≡ Some q → q < QUEUES
+queue-is names are queue q h = let there = position-Some (pointwise nat_eq queue) names q [] h in omega (arith, there.0, are.few)
+
+-- numbers that are left
+first-false : (a b : Bool) → (a || b) ≡ false → a ≡ false
+first-false true b h = h
+first-false false b h = refl
+
+second-false : (a b : Bool) → (a || b) ≡ false → b ≡ false
+second-false true b h = absurd (true≢false h)
+second-false false b h = h
+
+count-is : (n : ℕ) → is_used_up (suc n) ≡ false → IsCount (suc n)
+count-is n h = (omega arith, grind (arith, nat_tests))
+
+total-is : (n : ℕ) → nat_lt MOST_CALLS n ≡ false → n ≤ MOST_CALLS
+total-is n h = grind (arith, nat_tests)
+
+and-left : (a b : Bool) → (a && b) ≡ true → a ≡ true
+and-left true b h = refl
+and-left false b h = h
+
+-- the older dots
+older-are : (site : ℕ) (k : Knowledge) (dots : List Dot) → AreWithinLimits k → AreDots (older_dots (site_view site k) dots)
+older-are site k dots within dot h = named-dot-is k within dot (and-left (is_named k dot) (is_older dots dot) (sym (older-named site k dots dot) ∙ h))
+
+-- a dot that is visible
+visible-is : (k : Knowledge) (dot : Dot) → Contains (in_order (visible_dots k)) dot → is_asserted k dot ≡ true
+visible-is k dot here =
+    and-left (is_asserted k dot) (not (is_named k dot))
+    (sym (visible-dot k dot) ∙ sym (in_order-has dots_total (visible_dots k) dot) ∙ any-in (is_dot dot) (in_order (visible_dots k)) dot here (ap is_eq (tied_itself dots_total dot)))
+
+-- the dots that are seen of an interface
+in-each : {X Y : Type 0} (f : X → Y) (xs : List X) (y : Y) → Contains (each f xs) y → (x : X) × Contains xs x × (f x ≡ y)
+in-each f [] y h = absurd (nothing-in y h)
+in-each f (x ∷ xs) y h = elim (cases-in (f x) (each f xs) y h) [
+  | inl e ↦ (x, first-in x xs, e)
+  | inr r ↦ let s = in-each f xs y r in (s.0, later-in x xs s.0 s.1, s.2)
+]
+
+with-is : (interface : List ℕ) (o : Option Member) (d dot : Dot) (member : Member)
+    → option_and_then {U = Dot × Member} (λ m. if bytes_eq m.interface interface then Some (d, m) else None) o ≡ Some (dot, member) → (d ≡ dot) × (o ≡ Some member)
+with-is interface None d dot member h = absurd (cc)
+with-is interface (Some m) d dot member h = by (bytes_eq m.interface interface) h
+  where
+    held : (x y : Dot × Member) → Some x ≡ Some y → x ≡ y
+    held x y e = ap (λ o. unwrap_or o x) e
+
+    shown : Bool → Option (Dot × Member)
+    shown b = if b then Some (d, m) else None
+
+    by : (b : Bool) → shown b ≡ Some (dot, member) → (d ≡ dot) × (Some m ≡ Some member)
+    by true e = let same = held (d, m) (dot, member) e in (ap (λ p. p.0) same, ap (λ p. Some p.1) same)
+    by false e = absurd (cc)
+
+seen-are : (k : Knowledge) → AreWithinLimits k → (queue : Option ℕ) (interface : List ℕ) → ((q : ℕ) → queue ≡ Some q → q < QUEUES) → IsName interface → AreAsserted (dots_seen (dot_view k) queue interface)
+seen-are k within None interface few name dot member here =
+    let x = in-some (with_interface (dot_view k) interface) (in_order (visible_dots k)) (dot, member) here in
+    let e = with-is interface (member_of k x.0) x.0 dot member x.2 in
+    let is = member-of-is k within x.0 member e.1 in
+    (subst IsDot e.0 is.0, is.1)
+seen-are k within (Some q) interface few name dot member here =
+    let m : Member = record { queue = q; interface = interface } in
+    let x = in-each (λ d. (d, m)) (dots_of (dot_view k) m) (dot, member) here in
+    let seen = visible-is k x.0 (filter-in (is_of (dot_view k) m) (in_order (visible_dots k)) x.0 x.1) in
+    (subst IsDot (ap (λ p. p.0) x.2) (asserted-dot-is k within x.0 seen), subst IsMember (ap (λ p. p.1) x.2) (record { queue = few q refl; interface = name }))
+
+-- dots alone
+alone-are : (dots : List (Dot × Member)) → AreAsserted dots → AreDots (set.from_list (each (λ d. d.0) dots))
+alone-are dots are dot h =
+    let x = in-any (is_dot dot) (each (λ d. d.0) dots) (sym (set.contains-from_list dots_total (each (λ d. d.0) dots) dot) ∙ h) in
+    let p = in-each (λ d. d.0) dots x.0 x.1 in
+    subst IsDot (p.2 ∙ sym (one-dot dot x.0 x.2)) (are p.0.0 p.0.1 p.1).0
+
+-- what is made, change by change
+none-few : (q : ℕ) → None ≡ Some q → q < QUEUES
+none-few q h = absurd (cc)
+
+setting-made : (site : ℕ) (k buffer : Knowledge) (setting : Setting) (queue : Option ℕ) (interface : List ℕ) (o : Operation) → IsSite site → IsSetting setting
+    → ((q : ℕ) → queue ≡ Some q → q < QUEUES) → IsName interface → AreWithinLimits k
+    → meaning_of_setting site (site_view site k) (site_view site buffer) setting (dots_seen (dot_view k) queue interface) ≡ Makes o → IsWithinLimits o
+setting-made site k buffer setting queue interface o at is few name within h =
+    let dots = dots_seen (dot_view k) queue interface in
+    let r = site_view site k in
+    let write = write_at site r setting dots in
+    let m = made r (site_view site buffer) write o (where_present-made dots (within_limits r (site_view site buffer) write) o h) in
+    subst IsWithinLimits m.same (record {
+      dots_are = seen-are k within queue interface few name;
+      setting_is = is;
+      stamp_is = record { site = at; time = count-is (max r.last_time (greatest (λ d. time_replaced r.dots setting d.0) dots)) m.numbers };
+      older_are = older-are site k (each (λ d. d.0) dots) within;
+    })
+
+pub makes-within-limits : MakesWithinLimits
+makes-within-limits site names (AddMember queue interface penalty paused label) k buffer o at are is within h =
+    let r = site_view site k in
+    let q = in_queue-made (number_of names queue) _ o h in
+    let member : Member = record { queue = q.0; interface = interface } in
+    let add = add_at site r member penalty paused label in
+    let m = made r (site_view site buffer) add o (where_absent-made (dots_seen r.dots (Some q.0) interface) (within_limits r (site_view site buffer) add) o q.2) in
+    subst IsWithinLimits m.same (record {
+      dot_is = record { site = at; count = count-is r.last_count (first-false _ _ m.numbers) };
+      member_is = record { queue = queue-is names are queue q.0 q.1; interface = is.0 };
+      stamp_is = record { site = at; time = count-is r.last_time (second-false _ _ m.numbers) };
+      penalty_is = is.1.0;
+      pause_is = record { reason = record { short = omega arith; clean = refl }; none = λ _. refl };
+      label_is = is.1.1;
+      older_are = older-are site k _ within;
+    })
+makes-within-limits site names (RemoveMember queue interface) k buffer o at are is within h =
+    let r = site_view site k in
+    let q = in_queue-made (number_of names queue) _ o h in
+    let dots = dots_seen r.dots (Some q.0) interface in
+    let m = made r (site_view site buffer) (remove_of dots) o (where_present-made dots (within_limits r (site_view site buffer) (remove_of dots)) o q.2) in
+    subst IsWithinLimits m.same (alone-are dots (seen-are k within (Some q.0) interface (λ p e. subst (λ n. n < QUEUES) (same q.0 p e) (queue-is names are queue q.0 q.1)) is))
+  where
+    same : (a b : ℕ) → Some a ≡ Some b → a ≡ b
+    same a b e = ap (λ o. unwrap_or o a) e
+makes-within-limits site names (SetField None interface setting) k buffer o at are is within h = setting-made site k buffer setting None interface o at is.1 none-few is.0 within h
+makes-within-limits site names (SetField (Some queue) interface setting) k buffer o at are is within h =
+    let q = in_queue-made (number_of names queue) _ o h in
+    setting-made site k buffer setting (Some q.0) interface o at is.1 (λ p e. subst (λ n. n < QUEUES) (ap (λ o. unwrap_or o q.0) e) (queue-is names are queue q.0 q.1)) is.0 within q.2
+makes-within-limits site names (CountCall queue calls) k buffer o at are is within h =
+    let r = site_view site k in
+    let q = in_queue-made (number_of names queue) _ o h in
+    let m = made r (site_view site buffer) (count_at site r q.0 calls) o q.2 in
+    subst IsWithinLimits m.same (record { site_is = at; queue_is = queue-is names are queue q.0 q.1; total_is = total-is _ m.total })
