@@ -44,7 +44,7 @@ fn assert_one(set: &mut MemberSet, site: SiteId, count: u64) -> Result<(), JoinF
 }
 
 // A set in which so many dots of a site are live, each of a member of its own.
-fn live_dots(alloc: Global, site: u16, cells: u64) -> Result<MemberSet, JoinFault>
+pub(crate) fn live_dots(alloc: Global, site: u16, cells: u64) -> Result<MemberSet, JoinFault>
     requires { cells ≤ 16384 }
 {
     let mut set = MemberSet::new(alloc);
@@ -103,7 +103,7 @@ fn checked_rows(alloc: Global, cells: u64, times: u32) -> Result<u64, JoinFault>
 }
 
 // What a fault is called.
-fn named(answer: Result<u64, JoinFault>) -> Result<u64, &'static str> {
+pub(crate) fn named(answer: Result<u64, JoinFault>) -> Result<u64, &'static str> {
     match answer {
         Ok(sum) => Ok(sum),
         Err(JoinFault::Conflict) => Err("conflict"),

@@ -116,7 +116,7 @@ pair-moves : (k l : Knowledge) → ((o : Operation) → Contains k o → Contain
 pair-moves k l to p h = let o = in-part asserted_by k p h in part-in asserted_by l o.0 p (to o.0 o.1) o.2
 
 -- what is found for a dot stands in the knowledge under that very dot
-found_pair : (k : Knowledge) (dot : Dot) (p : Dot × Member) → find (λ q. is_dot dot q.0) (all_asserted k) ≡ Some p → Contains (all_asserted k) (dot, p.1)
+pub found_pair : (k : Knowledge) (dot : Dot) (p : Dot × Member) → find (λ q. is_dot dot q.0) (all_asserted k) ≡ Some p → Contains (all_asserted k) (dot, p.1)
 found_pair k dot p h =
     let is = in-find (λ (q : Dot × Member). is_dot dot q.0) (all_asserted k) p h in
     subst (λ d. Contains (all_asserted k) (d, p.1)) (sym (own_dot dot p is.1)) is.0

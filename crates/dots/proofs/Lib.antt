@@ -8,6 +8,8 @@ pub mod FieldLaws
 pub mod Filters
 pub mod Fronts
 pub mod ItemOrder
+pub mod JoinedKnowledge
+pub mod KeySets
 pub mod KnownLaws
 pub mod MemberOrder
 pub mod Membership
@@ -17,10 +19,12 @@ pub mod RowLaws
 pub mod RunCounts
 pub mod ShownLaws
 pub mod SortedEntries
+pub mod StandingJoins
 pub mod StandingLaws
 pub mod Runs
 pub mod TotalsLaws
 pub mod TruthTables
 pub mod UniqueRuns
+pub mod TraceLaws
 pub mod VisibleLaws
 pub mod WithinLimitsLaws

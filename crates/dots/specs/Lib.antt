@@ -15,4 +15,5 @@ pub mod SortedEntries
 pub mod Totals
 pub mod Values
 pub mod Views
+pub mod Traces
 pub mod WithinLimits

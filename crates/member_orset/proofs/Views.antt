@@ -1,5 +1,5 @@
 -- What a set shows of its cells.
-use Rattle.std.proofs.Common.{◌≡◌, suc, ◌≤◌, true, cond, List, [], ◌∷◌, length, Some, refl, sym, ap, ◌∙◌, subst, inl, inr}
+use Rattle.std.proofs.Common.{◌≡◌, suc, ◌≤◌, arith, true, cond, List, [], ◌∷◌, length, Some, refl, sym, ap, ◌∙◌, subst, inl, inr}
 use Rattle.std.specs.List.{All}
 use Rattle.std.specs.Ordering.{eq_by_cmp}
 use Rattle.std.specs.FinMap as maps
@@ -57,9 +57,10 @@ found_field (c ∷ cs) q h a e = elim (cases_Bool (eq_by_cmp dot_cmp q c.dot)) [
     same_some x y e = cc
 
 -- what holds of every set
-pub within_limits : (s : Members) (cs : List LiveDot) (known : sets.FinSet dot_cmp) → AreCells cs known → live_of cs ≡ s.live → known ≡ s.known → run_count known ≤ MOST_RUNS → IsWithinLimits s
-within_limits s cs known a live same runs = record {
-  cells = subst (λ n. n ≤ MOST_LIVE) (sym (len-live_of cs a.sorted) ∙ ap maps.len live) a.few;
+pub within_limits : (s : Members) (cs : List LiveDot) (known : sets.FinSet dot_cmp) → AreCells cs known → live_of cs ≡ s.live → known ≡ s.known → s.retired ≡ 0 → run_count known ≤ MOST_RUNS → IsWithinLimits s
+within_limits s cs known a live same unused runs = record {
+  cells = cells_few;
+  places = omega (arith, cells_few, unused);
   runs = subst (λ k. run_count k ≤ MOST_RUNS) same runs;
   held = λ q h e. let f = sym (get-live_of cs q a.sorted) ∙ ap (λ m. maps.get m q) live ∙ e in
       record {
@@ -67,3 +68,6 @@ within_limits s cs known a live same runs = record {
         set = found_field cs q h a.have_field f;
       };
 }
+  where
+    cells_few : maps.len s.live ≤ MOST_LIVE
+    cells_few = subst (λ n. n ≤ MOST_LIVE) (sym (len-live_of cs a.sorted) ∙ ap maps.len live) a.few

@@ -67,9 +67,14 @@ pub record IsLiveIn (s : Members) (dot : Dot) (h : Holding) : Type 0 where
   pub known : set.contains s.known dot ≡ true
   pub set : HasField h.1
 
--- what holds of every set: few enough live dots and runs, and of each live dot
+-- the greatest number of places of cells
+abbrev pub most_places : ℕ
+most_places = 1048576
+
+-- what holds of every set: few enough live dots, places and runs, and of each live dot
 pub record IsWithinLimits (s : Members) : Type 0 where
   pub cells : map.len s.live ≤ MOST_LIVE
+  pub places : s.retired + map.len s.live ≤ most_places
   pub runs : run_count s.known ≤ MOST_RUNS
   pub held : (dot : Dot) (h : Holding) → map.get s.live dot ≡ Some h → IsLiveIn s dot h
 
@@ -95,10 +100,6 @@ ConditionsConflict (Some (Live m f)) (Some Dead) = ⊥
 ConditionsConflict (Some (Live m f)) None = ⊥
 ConditionsConflict (Some Dead) y = ⊥
 ConditionsConflict None y = ⊥
-
--- the greatest number of places of cells
-abbrev pub most_places : ℕ
-most_places = 1048576
 
 -- how many live dots there are once a dot is live that may be known already
 abbrev pub cells_with : Members → Dot → ℕ

@@ -24,6 +24,7 @@ mod live_dot;
 mod member_set;
 mod piece;
 mod rows;
+mod sameness;
 mod search;
 mod seen;
 mod set_builder;

@@ -28,6 +28,7 @@ use crate::joining::{absorb_cells, joined_count, make_room};
 use crate::latest::row_in;
 use crate::listed::Listed;
 use crate::live_dot::LiveDot;
+use crate::sameness::{are_same_cells, is_same_context};
 use crate::search::cell_at;
 use crate::seen::gather;
 use crate::{Cell, Cells, Dots, JoinFault, Row, Rows};
@@ -236,6 +237,13 @@ impl MemberSet {
         ensures conflict { IsFalse result ↔ Conflicts self.now other.now }
     {
         cells_agree(&self.cells, &other.cells)
+    }
+
+    /// Whether both say the same of each dot.
+    pub fn same(&self, other: &MemberSet) -> bool
+        ensures { IsTrue result ↔ SaysTheSame self.now other.now }
+    {
+        is_same_context(&self.context, &other.context) && are_same_cells(&self.cells, &other.cells)
     }
 
     /// Makes room for what another set says, which `absorb` then joins. It leaves what is said as it is. 1 `Conflict`,

@@ -94,24 +94,6 @@ fn count_missing(first: &BTreeSet<PlainDot>, second: &BTreeSet<PlainDot>) -> usi
     first.iter().filter(|dot| !second.contains(*dot)).count()
 }
 
-// How many dots are visible where these are asserted and these named too.
-pub(crate) fn visible_count(
-    alloc: Global,
-    operations: &[Operation],
-    asserted: &[PlainDot],
-    named: &[Dot],
-) -> Result<usize, Memory>
-    ensures { IfOk result (λ count. (s : set.FinSet dot_cmp)
-        → ((dot : Dot) → set.contains s dot
-        ≡ ((is_asserted (knowledge_of operations.now) dot || list_any (is_dot dot) asserted.now)
-        && not (is_named (knowledge_of operations.now) dot || list_any (is_dot dot) named.now)))
-        → count ≡ set.len s) }
-{
-    let asserted = asserted_with(alloc, operations, asserted)?;
-    let named = named_with(alloc, operations, named)?;
-    Ok(count_missing(&asserted, &named))
-}
-
 // The dots of a set, in their order.
 fn in_vec(alloc: Global, found: &BTreeSet<PlainDot>) -> Result<Vec<PlainDot>, Memory>
     ensures value { IfOk result (λ dots. dots.items ≡ found.now.keys) }
@@ -144,23 +126,29 @@ fn count_ends(dots: &[PlainDot]) -> usize
     runs
 }
 
-// How many runs the known dots have where these are asserted and these named too.
-pub(crate) fn known_runs(
+// How many dots are visible, and how many runs the known ones have, where these dots are asserted and those named too.
+pub(crate) fn dots_and_runs(
     alloc: Global,
     operations: &[Operation],
     asserted: &[PlainDot],
     named: &[Dot],
-) -> Result<usize, Memory>
-    ensures { IfOk result (λ count. (s : set.FinSet dot_cmp)
+) -> Result<(usize, usize), Memory>
+    ensures dots { IfOk result (λ counts. (s : set.FinSet dot_cmp)
+        → ((dot : Dot) → set.contains s dot
+        ≡ ((is_asserted (knowledge_of operations.now) dot || list_any (is_dot dot) asserted.now)
+        && not (is_named (knowledge_of operations.now) dot || list_any (is_dot dot) named.now)))
+        → counts.0 ≡ set.len s) }
+    ensures runs { IfOk result (λ counts. (s : set.FinSet dot_cmp)
         → ((dot : Dot) → set.contains s dot
         ≡ ((is_asserted (knowledge_of operations.now) dot || list_any (is_dot dot) asserted.now)
         || (is_named (knowledge_of operations.now) dot || list_any (is_dot dot) named.now)))
-        → count ≡ run_count s) }
+        → counts.1 ≡ run_count s) }
 {
-    let named = named_with(alloc, operations, named)?;
-    let named = in_vec(alloc, &named)?;
     let mut known = asserted_with(alloc, operations, asserted)?;
-    insert_plain(&mut known, &named)?;
+    let dead = named_with(alloc, operations, named)?;
+    let visible = count_missing(&known, &dead);
+    let dead = in_vec(alloc, &dead)?;
+    insert_plain(&mut known, &dead)?;
     let known = in_vec(alloc, &known)?;
-    Ok(count_ends(&known))
+    Ok((visible, count_ends(&known)))
 }

@@ -7,7 +7,7 @@ ghost use Rattle.dots.specs.Rows.{dot_view};
 ghost use Rattle.reference_model.specs.Plain.{knowledge_of, setting_of};
 ghost use Rattle.reference_model.specs.Sites.{Touches, buffer_view, change_meant, known_view, meaning_of};
 
-use crate::dot_sets::{known_runs, visible_count};
+use crate::dot_sets::dots_and_runs;
 use crate::members_seen::dots_seen;
 use crate::own_numbers::{last_count, last_time, older_dots};
 use crate::plain_dot::PlainDot;
@@ -33,8 +33,7 @@ fn is_full(
         → full ≡ is_full (site_view site (knowledge_of operations.now)) o) }
 {
     a_site_view_foresees_one_operation_more();
-    let dots = visible_count(alloc, operations, asserted, named)?;
-    let runs = known_runs(alloc, operations, asserted, named)?;
+    let (dots, runs) = dots_and_runs(alloc, operations, asserted, named)?;
     Ok(dots > MOST_LIVE || runs > MOST_RUNS)
 }
 
@@ -42,7 +41,7 @@ fn is_full(
 fn is_too_long(alloc: Global, asserted: &[PlainDot], named: &[Dot]) -> Result<bool, Memory>
     ensures { IfOk result (λ long. (o : defined.Operation) → Touches o asserted.now named.now → long ≡ is_too_long o) }
 {
-    let runs = known_runs(alloc, &[], asserted, named)?;
+    let (_, runs) = dots_and_runs(alloc, &[], asserted, named)?;
     Ok(runs > MOST_RUNS)
 }
 

@@ -1,6 +1,7 @@
 use crate::Operation;
 
-/// What a site knows, latest first, what of its own it has put in no frame yet, and how many frames it has made.
+/// What a site knows, what of its own it has put in no frame yet, and how many frames it has made. The operations that came
+/// last stand first.
 #[derive(Drop)]
 pub struct SiteKnowledge {
     /// All operations that it has made or taken.

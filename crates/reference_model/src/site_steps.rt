@@ -4,7 +4,7 @@ ghost use Rattle.replica.specs.Steps.{after_meaning, cut, after_frame, step, tak
 ghost use Rattle.reference_model.specs.Plain.{knowledge_of};
 ghost use Rattle.reference_model.specs.Sites.{meaning_of, outcome_of, site_of, step_of};
 
-use crate::dot_sets::{known_runs, visible_count};
+use crate::dot_sets::dots_and_runs;
 use crate::{Meaning, Operation, Outcome, SiteKnowledge, Step, meaning_at};
 use dots::{MOST_COUNT, MOST_LIVE, MOST_RUNS, Memory, SiteId};
 use replica::QueueList;
@@ -112,10 +112,11 @@ fn take(alloc: Global, old: &SiteKnowledge, frame: &[Operation]) -> Result<After
     ensures { IfOk result (λ after. (site_of after.0, outcome_of after.1) ≡ take (site_of old.now) (knowledge_of frame.now)) }
 {
     let known = joined(alloc, frame, &old.known)?;
-    if visible_count(alloc, &known, &[], &[])? > MOST_LIVE {
+    let (dots, runs) = dots_and_runs(alloc, &known, &[], &[])?;
+    if dots > MOST_LIVE {
         return Ok((same(alloc, old)?, Outcome::CellsFull));
     }
-    if known_runs(alloc, &known, &[], &[])? > MOST_RUNS {
+    if runs > MOST_RUNS {
         return Ok((same(alloc, old)?, Outcome::RunsFull));
     }
     let new = SiteKnowledge {

@@ -8,3 +8,4 @@ pub mod OneMoreAdd
 pub mod SiteViewLaws
 pub mod RowsShown
 pub mod StepLaws
+pub mod TracesMade

@@ -31,12 +31,12 @@ use Rattle.replica.specs.SiteViews.{SiteView, dots_seen, greatest, older_dots, s
 use Rattle.replica.proofs.SiteViewLaws.{older-named}
 
 -- an operation that is made passes every test
-record Made (o p : Operation) : Type 0 where
+pub record Made (o p : Operation) : Type 0 where
   pub same : o ≡ p
   pub numbers : is_exhausted o ≡ false
   pub total : is_past_total o ≡ false
 
-made : (r buffer : SiteView) (o p : Operation) → within_limits r buffer o ≡ Makes p → Made o p
+pub made : (r buffer : SiteView) (o p : Operation) → within_limits r buffer o ≡ Makes p → Made o p
 made r buffer o p h = by (is_full r o || (is_full buffer o || is_too_long o)) (is_exhausted o) (is_past_total o) refl refl h
   where
     by : (a b c : Bool) → is_exhausted o ≡ b → is_past_total o ≡ c → (if a then Refused MembersFull else if b then Refused Exhausted else if c then Refused TotalFull else Makes o) ≡ Makes p → Made o p
@@ -45,11 +45,11 @@ made r buffer o p h = by (is_full r o || (is_full buffer o || is_too_long o)) (i
     by false false true e f h = absurd (cc)
     by false false false e f h = record { same = cc; numbers = e; total = f }
 
-in_queue-made : (x : Option ℕ) (go : ℕ → Meaning) (o : Operation) → in_queue x go ≡ Makes o → (q : ℕ) × (x ≡ Some q) × (go q ≡ Makes o)
+pub in_queue-made : (x : Option ℕ) (go : ℕ → Meaning) (o : Operation) → in_queue x go ≡ Makes o → (q : ℕ) × (x ≡ Some q) × (go q ≡ Makes o)
 in_queue-made None go o h = absurd (cc)
 in_queue-made (Some q) go o h = (q, refl, h)
 
-where_absent-made : (dots : List (Dot × Member)) (m : Meaning) (o : Operation) → where_absent dots m ≡ Makes o → m ≡ Makes o
+pub where_absent-made : (dots : List (Dot × Member)) (m : Meaning) (o : Operation) → where_absent dots m ≡ Makes o → m ≡ Makes o
 where_absent-made [] m o h = h
 where_absent-made (d ∷ dots) m o h = absurd (cc)
 

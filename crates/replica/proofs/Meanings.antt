@@ -25,18 +25,29 @@ use Rattle.replica.specs.declared.command.Command.{Command}
 use Rattle.replica.specs.declared.command.Command.TheVariants as command
 use Rattle.replica.specs.declared.refusal.Refusal.{Refusal}
 use Rattle.replica.specs.declared.refusal.Refusal.TheVariants.{NoSuchQueue, AlreadyThere, NotThere, MembersFull, Exhausted, TotalFull, Memory}
-use Rattle.replica.specs.Changes.{Meaning, Refused, Makes, change_of, add_at, is_full, is_exhausted, within_limits, in_queue, where_absent}
+use Rattle.replica.specs.Changes.{Meaning, Refused, Makes, meaning, change_of, add_at, is_full, is_exhausted, within_limits, in_queue, where_absent}
 use Rattle.replica.specs.Commands.{IsAnswer, HasMember, HasQueue, IsFull, IsExhausted, member_made, row_made, after}
 use Rattle.replica.specs.Queues.{number_of}
 use Rattle.replica.specs.SiteViews.{SiteView, site_view, greatest, count_used, time_used, older_dots, dots_seen, is_past_limits}
 use Rattle.replica.specs.Site.{SiteState}
 use Rattle.replica.specs.Standing.{StandsFor, IsMeant}
-use Rattle.replica.specs.Steps.{SiteKnowledge, new_site, Do, after_meaning, step}
+use Rattle.replica.specs.Steps.{SiteKnowledge, Outcome, Done, Denied, Framed, Nothing, NoNumber, Taken, CellsFull, RunsFull, new_site, Do, after_meaning, step}
 use Rattle.replica.proofs.AddLemmas.{named_at}
 use Rattle.dots.proofs.MemberOrder.{members_total}
 use Rattle.replica.proofs.NameLemmas.{same_names, found-at}
 use Rattle.replica.proofs.OneMoreAdd.{listed, still_unnamed, one_more_visible, visible_count, rows_again}
 use Rattle.replica.proofs.SiteViewLaws.{one-more, older-named}
+
+-- An add is done, where want of memory alone may stand in its place, or is refused for the cause that is told.
+abbrev IsExactly : SiteState → SiteState → Result (Unit {0}) Refusal → SiteKnowledge × Outcome → Type 0
+IsExactly old new result (s, Done) = ((result ≡ Ok tt) × StandsFor new s) ⊎ ((result ≡ Err Memory) × (new ≡ old))
+IsExactly old new result (s, Denied refusal) = (result ≡ Err refusal) × (new ≡ old)
+IsExactly old new result (s, Framed number frame) = ⊥
+IsExactly old new result (s, Nothing) = ⊥
+IsExactly old new result (s, NoNumber) = ⊥
+IsExactly old new result (s, Taken) = ⊥
+IsExactly old new result (s, CellsFull) = ⊥
+IsExactly old new result (s, RunsFull) = ⊥
 
 -- a name that has no number isn't in the list
 no_number : (names : List (List ℕ)) (name : List ℕ) → number_of names name ≡ None → Contains names name → ⊥
@@ -263,7 +274,7 @@ module _ (old : SiteState) (s : SiteKnowledge) (stands : StandsFor old s) (queue
   the_add = command.Add queue interface penalty paused label
 
   IsSo : Meaning → Type 0
-  IsSo m = IsMeant old new r (after_meaning s m)
+  IsSo m = IsExactly old new r (after_meaning s m)
 
   -- once the limits are looked at
   module _ (q : ℕ) (numbered : number_of old.names queue ≡ Some q) where
@@ -300,7 +311,7 @@ module _ (old : SiteState) (s : SiteKnowledge) (stands : StandsFor old s) (queue
         by [] e = within e
         by (d ∷ ds) e = there_already old the_add new (has_number old.names queue q numbered) (present old s stands queue interface penalty paused label q numbered d ds e) r answer
 
-  is_meant : IsMeant old new r (step old.site old.names s (Do (change_of the_add)))
+  is_meant : IsExactly old new r (step old.site old.names s (Do (change_of the_add)))
   unfolding IsSo
   is_meant = by (number_of old.names queue) refl
     where
@@ -310,10 +321,19 @@ module _ (old : SiteState) (s : SiteKnowledge) (stands : StandsFor old s) (queue
       by None e = no_queue old the_add new (no_number old.names queue e) r answer
       by (Some q) e = seen q e
 
+-- what is told exactly is what is meant
+as_meant : (old new : SiteState) (r : Result (Unit {0}) Refusal) (s : SiteKnowledge) → StandsFor old s → (m : Meaning) → IsExactly old new r (after_meaning s m) → IsMeant ⊥ old new r (after_meaning s m)
+as_meant old new r s stands (Refused refusal) is = inl (subst (λ n. StandsFor n s) (sym is.1) stands, is.0)
+as_meant old new r s stands (Makes o) (inl is) = inl (is.1, is.0)
+as_meant old new r s stands (Makes o) (inr is) = inr (is.1, record { refusal = Memory; is = is.0; may = tt })
+
 -- the answer to a command is what it means
 pub meant : (old : SiteState) (change : Command) (new : SiteState) (r : Result (Unit {0}) Refusal) → IsAnswer old change new r → (s : SiteKnowledge) → StandsFor old s
-    → IsMeant old new r (step old.site old.names s (Do (change_of change)))
-meant old (command.Add queue interface penalty paused label) new r answer s stands = is_meant old s stands queue interface penalty paused label new r answer
+    → IsMeant ⊥ old new r (step old.site old.names s (Do (change_of change)))
+meant old (command.Add queue interface penalty paused label) new r answer s stands =
+    let add = command.Add queue interface penalty paused label in
+    as_meant old new r s stands (meaning old.site old.names (site_view old.site s.known) (site_view old.site s.buffer) (change_of add))
+    (is_meant old s stands queue interface penalty paused label new r answer)
 
 -- a new replica stands for a site that knows nothing
 pub stands_new : (state : SiteState) → state.members ≡ map.empty → state.adds ≡ 0 → StandsFor state new_site

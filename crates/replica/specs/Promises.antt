@@ -7,6 +7,7 @@ use Rattle.dots.specs.declared.calls.Calls.{Calls}
 use Rattle.dots.specs.Operations.{Operation}
 use Rattle.dots.specs.Knowledge.{Knowledge, SameOperations, IsConsistent, is_named, visible_dots, known_dots}
 use Rattle.dots.specs.Rows.{ShowAlike}
+use Rattle.dots.specs.Traces.{LeavesTrace}
 use Rattle.dots.specs.WithinLimits.{AreWithinLimits, IsLabel, IsSetting, IsWithinLimits}
 use Rattle.replica.specs.declared.refusal.Refusal.{Refusal}
 use Rattle.replica.specs.Changes.{Change, AddMember, RemoveMember, SetField, CountCall, Makes, meaning}
@@ -61,3 +62,7 @@ IsChange (CountCall queue calls) = ⊤
 abbrev pub MakesWithinLimits : Type 0
 MakesWithinLimits = (site : ℕ) (names : List (List ℕ)) (change : Change) (k buffer : Knowledge) (o : Operation) → IsSite site → AreQueues names → IsChange change
     → AreWithinLimits k → meaning site names (site_view site k) (site_view site buffer) change ≡ Makes o → IsWithinLimits o
+
+-- each operation that a change makes leaves a trace, whatever is read
+abbrev pub MakesTraces : Type 0
+MakesTraces = (site : ℕ) (names : List (List ℕ)) (change : Change) (r buffer : SiteView) (o : Operation) → meaning site names r buffer change ≡ Makes o → LeavesTrace o

@@ -1,5 +1,5 @@
 -- What a replica that has never cut or taken anything stands for: the operations that it has made, which are adds alone.
-use Rattle.std.specs.Prelude.{ℕ, ◌≡◌, ◌⊎◌, false, Result, Ok, Err}
+use Rattle.std.specs.Prelude.{ℕ, ⊤, ◌≡◌, ◌⊎◌, false, Option, Some, None, Result, Ok, Err}
 use Rattle.std.specs.FinMap as map
 use Rattle.std.specs.FinSet as set
 use Rattle.dots.specs.declared.member.Member.{Member}
@@ -10,10 +10,10 @@ use Rattle.dots.specs.Knowledge.{is_named, visible_dots}
 use Rattle.dots.specs.Rows.{dot_view, row_of}
 use Rattle.dots.specs.Counts.{site_total}
 use Rattle.replica.specs.declared.refusal.Refusal.{Refusal}
-use Rattle.replica.specs.declared.refusal.Refusal.TheVariants.{Memory}
+use Rattle.replica.specs.declared.refusal.Refusal.TheVariants.{NoSuchQueue, AlreadyThere, NotThere, MembersFull, Exhausted, TotalFull, Memory}
 use Rattle.replica.specs.SiteViews.{greatest, count_used, time_used}
 use Rattle.replica.specs.Site.{SiteState}
-use Rattle.replica.specs.Steps.{SiteKnowledge, Outcome, Done, Denied, Framed, Nothing, NoNumber, Taken, CellsFull, RunsFull}
+use Rattle.replica.specs.Steps.{SiteKnowledge, Outcome, Denied}
 
 -- the dots of the adds that a site has made
 abbrev pub dots_made : SiteState → Run
@@ -31,14 +31,45 @@ pub record StandsFor (state : SiteState) (s : SiteKnowledge) : Type 0 where
   pub uncut : s.buffer ≡ s.known
   pub rows : (member : Member) → row_of (dot_view s.known) member ≡ map.get state.members member
 
--- A result and the state after it are what a command means, given the site after it and what comes of it by the meaning. Where it
--- is done, memory may also have been wanting, and then it changes nothing.
-abbrev pub IsMeant : SiteState → SiteState → Result (Unit {0}) Refusal → SiteKnowledge × Outcome → Type 0
-IsMeant old new result (s, Done) = ((result ≡ Ok tt) × StandsFor new s) ⊎ ((result ≡ Err Memory) × (new ≡ old))
-IsMeant old new result (s, Denied refusal) = (result ≡ Err refusal) × (new ≡ old)
-IsMeant old new result (s, Framed number frame) = ⊥
-IsMeant old new result (s, Nothing) = ⊥
-IsMeant old new result (s, NoNumber) = ⊥
-IsMeant old new result (s, Taken) = ⊥
-IsMeant old new result (s, CellsFull) = ⊥
-IsMeant old new result (s, RunsFull) = ⊥
+-- the result of a command of which this comes
+abbrev pub result_of : Outcome → Result (Unit {0}) Refusal
+result_of (Denied refusal) = Err refusal
+result_of outcome = Ok tt
+
+-- the refusal of one that is refused
+abbrev pub refusal_of : Outcome → Option Refusal
+refusal_of (Denied refusal) = Some refusal
+refusal_of outcome = None
+
+-- what is told only where `MembersFull` isn't: that a command is done, and each refusal from there on in their order
+abbrev pub IsToldAfterFull : Option Refusal → Type 0
+IsToldAfterFull None = ⊤
+IsToldAfterFull (Some NoSuchQueue) = ⊥
+IsToldAfterFull (Some AlreadyThere) = ⊥
+IsToldAfterFull (Some NotThere) = ⊥
+IsToldAfterFull (Some MembersFull) = ⊤
+IsToldAfterFull (Some Exhausted) = ⊤
+IsToldAfterFull (Some TotalFull) = ⊤
+IsToldAfterFull (Some Memory) = ⊤
+
+-- A refusal may stand in place of what the definitions tell, be that a refusal or none: want of memory in place of all; and `MembersFull` in place of what
+-- is told after it, where too many places of dead dots aren't used again (`worn`), of which the definitions know nothing.
+abbrev pub MayStandFor : Type 0 → Option Refusal → Refusal → Type 0
+MayStandFor worn told NoSuchQueue = ⊥
+MayStandFor worn told AlreadyThere = ⊥
+MayStandFor worn told NotThere = ⊥
+MayStandFor worn told MembersFull = worn × IsToldAfterFull told
+MayStandFor worn told Exhausted = ⊥
+MayStandFor worn told TotalFull = ⊥
+MayStandFor worn told Memory = ⊤
+
+-- a result is a refusal that may stand for what is told
+pub record IsInstead (worn : Type 0) (told : Option Refusal) (result : Result (Unit {0}) Refusal) : Type 0 where
+  pub refusal : Refusal
+  pub is : result ≡ Err refusal
+  pub may : MayStandFor worn told refusal
+
+-- A result and the state after it are what a command means, given the site after it and what comes of it by the meaning; or a refusal stands in its place, which
+-- changes nothing.
+abbrev pub IsMeant : Type 0 → SiteState → SiteState → Result (Unit {0}) Refusal → SiteKnowledge × Outcome → Type 0
+IsMeant worn old new result after = (StandsFor new after.0 × (result ≡ result_of after.1)) ⊎ ((new ≡ old) × IsInstead worn (refusal_of after.1) result)

@@ -2,7 +2,7 @@
 ghost use Rattle.std.specs.Prelude.{ℕ, List};
 ghost use Rattle.dots.specs.Operations.{Operation};
 ghost use Rattle.dots.specs.Knowledge.{Knowledge};
-ghost use Rattle.replica.specs.Promises.{ForeseesOneMore, OlderAreNamed, MakesWithinLimits, MeansTheSame, AreAlike, MeansTheSameAlike, RefusalsChangeNothing};
+ghost use Rattle.replica.specs.Promises.{ForeseesOneMore, OlderAreNamed, MakesTraces, MakesWithinLimits, MeansTheSame, AreAlike, MeansTheSameAlike, RefusalsChangeNothing};
 ghost use Rattle.replica.specs.SiteViews.{SiteView};
 ghost use Rattle.replica.specs.Steps.{SiteKnowledge, Step};
 
@@ -32,6 +32,11 @@ pub fn a_command_means_the_same_at_views_that_are_alike()
 /// that a site ever makes is (this project's own).
 pub fn a_command_makes_operations_within_limits()
     ensures { MakesWithinLimits }
+{}
+
+/// What a command makes leaves a trace in whatever stands for it, so that a buffer which isn't empty has no empty delta (this project's own).
+pub fn a_command_makes_operations_that_leave_traces()
+    ensures { MakesTraces }
 {}
 
 /// A step that is refused leaves the site as it was (this project's own).

@@ -113,7 +113,8 @@ impl Replica {
 
         // Where the replica stands for what a site knows, all this is the command's meaning there.
         ensures meaning { (s : SiteKnowledge) → StandsFor self.old s
-            → IsMeant self.old self.new result (step self.old.site self.old.names s (Do (change_of command))) }
+            → IsMeant ⊥ self.old self.new result
+            (step self.old.site self.old.names s (Do (change_of command))) }
     {
         self.run(command)
     }

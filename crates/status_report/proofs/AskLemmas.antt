@@ -1,5 +1,5 @@
 -- The answer to an ask is what a site that knows the same answers.
-use Rattle.std.proofs.Common.{◌≡◌, ℕ, zero, suc, Result, Ok, Err, IfOk, refl, sym, ap, subst, ◌∙◌, inl, inr, arith}
+use Rattle.std.proofs.Common.{◌≡◌, ℕ, zero, suc, Result, Ok, Err, IfOk, refl, sym, ap, ◌∙◌, inl, inr, arith}
 use Rattle.dots.specs.declared.calls.Calls.{Calls}
 use Rattle.dots.specs.Totals.{no_calls, sum_below}
 use Rattle.dots.specs.declared.calls.Calls.TheVariants.{Completed, Abandoned}
@@ -9,20 +9,21 @@ use Rattle.replica.specs.declared.refusal.Refusal.{Refusal}
 use Rattle.replica.specs.Changes.{Meaning, Refused as Denied, Makes}
 use Rattle.replica.specs.Commands.{IsAnswer}
 use Rattle.replica.specs.Site.{SiteState}
-use Rattle.replica.specs.Standing.{StandsFor, IsMeant}
+use Rattle.replica.specs.Standing.{StandsFor, IsMeant, result_of}
 use Rattle.replica.specs.Steps.{SiteKnowledge, after_meaning}
 use Rattle.replica.proofs.RowsShown.{rows_shown}
 use Rattle.status_report.specs.declared.request.StatusRequest.{StatusRequest}
 use Rattle.status_report.specs.Answers.{answer_of}
-use Rattle.status_report.specs.Knowing.{status_in, totals_in, answer_of_outcome, IsAnswered}
+use Rattle.status_report.specs.Knowing.{status_in, totals_in, IsAnswered}
 use Rattle.status_report.specs.Status.{status_text, report_of}
 
 -- a result that is meant is the answer of its meaning
-pub by-meaning : (old new : SiteState) (r : Result (Unit {0}) Refusal) (s : SiteKnowledge) → StandsFor old s → (m : Meaning) → IsMeant old new r (after_meaning s m)
-    → IsAnswered old new (answer_of r) ((after_meaning s m).0, answer_of_outcome (after_meaning s m).1)
-by-meaning old new r s stands (Denied refusal) is = inl (subst (λ x. StandsFor x s) (sym is.1) stands, ap answer_of is.0)
-by-meaning old new r s stands (Makes o) (inl h) = inl (h.1, ap answer_of h.0)
-by-meaning old new r s stands (Makes o) (inr h) = inr (h.1, ap answer_of h.0)
+pub by-meaning : (old new : SiteState) (r : Result (Unit {0}) Refusal) (s : SiteKnowledge) → StandsFor old s → (m : Meaning) → IsMeant ⊥ old new r (after_meaning s m)
+    → IsAnswered ⊥ old new (answer_of r) ((after_meaning s m).0, answer_of (result_of (after_meaning s m).1))
+by-meaning old new r s stands (Denied refusal) (inl h) = inl (h.0, ap answer_of h.1)
+by-meaning old new r s stands (Denied refusal) (inr h) = inr (h.0, (r, refl, h.1))
+by-meaning old new r s stands (Makes o) (inl h) = inl (h.0, ap answer_of h.1)
+by-meaning old new r s stands (Makes o) (inr h) = inr (h.0, (r, refl, h.1))
 
 none_below : (n : ℕ) → sum_below n (λ site. 0) ≡ 0
 unfolding sum_below

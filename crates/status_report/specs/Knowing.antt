@@ -1,6 +1,6 @@
 -- What a site that knows these operations answers: the report of what they show (Asterisk's QueueStatus), and commands by their
 -- meaning.
-use Rattle.std.specs.Prelude.{ℕ, ◌≡◌, ◌⊎◌, List}
+use Rattle.std.specs.Prelude.{ℕ, ◌≡◌, ◌⊎◌, List, Option, Some, None, Result}
 use Rattle.dots.specs.declared.call_totals.CallTotals.{CallTotals}
 use Rattle.dots.specs.declared.calls.Calls.TheVariants.{Completed, Abandoned}
 use Rattle.dots.specs.Knowledge.{Knowledge, SameOperations, IsConsistent}
@@ -8,14 +8,15 @@ use Rattle.dots.specs.Rows.{dot_view, rows_of}
 use Rattle.dots.specs.Counts.{queue_total}
 use Rattle.replica.specs.Changes.{change_of}
 use Rattle.replica.specs.Site.{SiteState}
-use Rattle.replica.specs.Standing.{StandsFor}
-use Rattle.replica.specs.Steps.{SiteKnowledge, Outcome, Denied, Do, step}
-use Rattle.replica.specs.declared.refusal.Refusal.TheVariants.{Memory}
+use Rattle.replica.specs.Standing.{StandsFor, IsInstead, result_of}
+use Rattle.replica.specs.Steps.{SiteKnowledge, Do, step}
+use Rattle.replica.specs.declared.refusal.Refusal.{Refusal}
 use Rattle.status_report.specs.declared.asks.Answer.{Answer}
 use Rattle.status_report.specs.declared.asks.Answer.TheVariants.{Done, Refused, Report}
 use Rattle.status_report.specs.declared.asks.Ask.{Ask}
 use Rattle.status_report.specs.declared.asks.Ask.TheVariants.{Command as asked_command, Status}
 use Rattle.status_report.specs.declared.request.StatusRequest.{StatusRequest}
+use Rattle.status_report.specs.Answers.{answer_of}
 use Rattle.status_report.specs.Status.{status_text}
 
 -- the totals of a queue in a knowledge
@@ -30,17 +31,19 @@ status_in k names request = status_text names (totals_in k) (rows_of (dot_view k
 abbrev pub SameStatusTexts : Type 0
 SameStatusTexts = (k l : Knowledge) (names : List (List ℕ)) (request : StatusRequest) → IsConsistent k → SameOperations k l → status_in k names request ≡ status_in l names request
 
--- how a command is answered of which this comes: it is refused, or done
-abbrev pub answer_of_outcome : Outcome → Answer
-answer_of_outcome (Denied refusal) = Refused refusal
-answer_of_outcome outcome = Done
-
 -- what a site of this number with these queues answers, and what it knows then: a command is one step of the site, a status is
 -- answered by its text, and changes nothing
 abbrev pub answer_in : ℕ → List (List ℕ) → SiteKnowledge → Ask → SiteKnowledge × Answer
-answer_in site names s (asked_command command) = let done = step site names s (Do (change_of command)) in (done.0, answer_of_outcome done.1)
+answer_in site names s (asked_command command) = let done = step site names s (Do (change_of command)) in (done.0, answer_of (result_of done.1))
 answer_in site names s (Status request) = (s, Report (status_in s.known names request))
 
--- a state, and an answer, are those of a site that knows this now; or memory was wanting, and the state is as before
-abbrev pub IsAnswered : SiteState → SiteState → Answer → SiteKnowledge × Answer → Type 0
-IsAnswered old new answer after = (StandsFor new after.0 × (answer ≡ after.1)) ⊎ ((new ≡ old) × (answer ≡ Refused Memory))
+-- the refusal of an answer that is one
+abbrev pub refusal_told : Answer → Option Refusal
+refusal_told Done = None
+refusal_told (Refused refusal) = Some refusal
+refusal_told (Report bytes) = None
+
+-- A state, and an answer, are those of a site that knows this now; or a refusal that may stand in place of the answer was answered, and the state is as before.
+abbrev pub IsAnswered : Type 0 → SiteState → SiteState → Answer → SiteKnowledge × Answer → Type 0
+IsAnswered worn old new answer after =
+    (StandsFor new after.0 × (answer ≡ after.1)) ⊎ ((new ≡ old) × ((result : Result (Unit {0}) Refusal) × (answer ≡ answer_of result) × IsInstead worn (refusal_told after.1) result))

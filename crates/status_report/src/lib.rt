@@ -38,7 +38,8 @@ pub fn ask(alloc: Global, replica: &mut Replica, asked: Ask) -> Answer
 
     // Where the replica stands for what a site knows, the answer is that site's.
     ensures meaning { (s : SiteKnowledge) → StandsFor replica.old s
-        → IsAnswered replica.old replica.new result (answer_in replica.old.site replica.old.names s asked) }
+        → IsAnswered ⊥ replica.old replica.new result
+        (answer_in replica.old.site replica.old.names s asked) }
 {
     match asked {
         Ask::Command(command) => answer_command(replica, command),
@@ -51,7 +52,8 @@ fn answer_command(replica: &mut Replica, command: Command) -> Answer
     ensures site { replica.new.site ≡ replica.old.site }
     ensures names { replica.new.names ≡ replica.old.names }
     ensures meaning { (s : SiteKnowledge) → StandsFor replica.old s
-        → IsAnswered replica.old replica.new result (answer_in replica.old.site replica.old.names s (Ask.Command command)) }
+        → IsAnswered ⊥ replica.old replica.new result
+        (answer_in replica.old.site replica.old.names s (Ask.Command command)) }
 {
     match replica.command(command) {
         Ok(()) => Answer::Done,
@@ -62,7 +64,8 @@ fn answer_command(replica: &mut Replica, command: Command) -> Answer
 fn answer_status(alloc: Global, replica: &Replica, request: &StatusRequest) -> Answer
     ensures status { AnswersStatus replica.now (Ask.Status request.now) result }
     ensures meaning { (s : SiteKnowledge) → StandsFor replica.now s
-        → IsAnswered replica.now replica.now result (answer_in replica.now.site replica.now.names s (Ask.Status request.now)) }
+        → IsAnswered ⊥ replica.now replica.now result
+        (answer_in replica.now.site replica.now.names s (Ask.Status request.now)) }
 {
     match report(alloc, replica, request) {
         Ok(text) => Answer::Report(Bytes::new(text)),

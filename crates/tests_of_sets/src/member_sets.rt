@@ -9,26 +9,26 @@ use std::alloc::Global;
 use std::process::Abort;
 
 // A dot, told as its site and its count.
-type ToldDot = (u16, u64);
+pub(crate) type ToldDot = (u16, u64);
 
-const FIRST: ToldDot = (0, 1);
+pub(crate) const FIRST: ToldDot = (0, 1);
 
 const SECOND: ToldDot = (0, 2);
 
 const OTHER: ToldDot = (1, 1);
 
 // A member, told as the number of its queue and its interface.
-type ToldMember = (u16, &'static str);
+pub(crate) type ToldMember = (u16, &'static str);
 
-const SIP_1: ToldMember = (0, "SIP/1");
+pub(crate) const SIP_1: ToldMember = (0, "SIP/1");
 
-const SIP_2: ToldMember = (0, "SIP/2");
+pub(crate) const SIP_2: ToldMember = (0, "SIP/2");
 
 const SIP_3: ToldMember = (0, "SIP/3");
 
 // A change of a set, told shortly.
 #[derive(Clone, Copy)]
-enum Told {
+pub(crate) enum Told {
     // A dot of a member is asserted, with a penalty that site 0 has set at a time: first the time.
     Put(ToldDot, ToldMember, u64, u32),
     // A dot is killed.
@@ -43,7 +43,7 @@ enum State {
     Live(u32),
 }
 
-fn dot(rt: &impl Abort, told: ToldDot) -> Dot {
+pub(crate) fn dot(rt: &impl Abort, told: ToldDot) -> Dot {
     let site = SiteId::new(told.0).expect(rt, "a site");
     Dot::new(site, told.1).expect(rt, "a dot")
 }
@@ -82,7 +82,7 @@ fn change_all(rt: &impl Abort, set: &mut MemberSet, changes: &[Told]) {
 }
 
 // A set after these changes.
-fn set_of(rt: &impl Abort, alloc: Global, changes: &[Told]) -> MemberSet {
+pub(crate) fn set_of(rt: &impl Abort, alloc: Global, changes: &[Told]) -> MemberSet {
     let mut set = MemberSet::new(alloc);
     change_all(rt, &mut set, changes);
     set

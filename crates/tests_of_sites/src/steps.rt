@@ -1,6 +1,9 @@
 //! What the steps of sites do and show, as the definitions say, with each of their outcomes.
 use crate::histories::{Told, ToldDot, dot_of, dots_of, operations_of, stamp_of};
 use crate::shared::{assert_text, interface, label, list, member, name, penalty, site, text};
+use Asked::{Add, Count, Cut, Remove, Take, Whole};
+use Came::{CellsFull, Denied, Done, Framed, NoNumber, Nothing, RunsFull, Taken};
+use Event::{Dots, Row, Stamp, Totals};
 use dots::{Dot, Pause, QueueName};
 use reference_model::{
     Calls, Change, Operation, Outcome, Setting, SiteKnowledge, Step, after_step, dots_of_member,
@@ -265,10 +268,6 @@ fn assert_events(rt: &impl Abort, alloc: Global, queues: &[&str], events: &[Even
     assert_from(rt, alloc, queues, first, Vec::new(alloc), events);
 }
 
-use Asked::{Add, Count, Cut, Remove, Take, Whole};
-use Came::{CellsFull, Denied, Done, Framed, NoNumber, Nothing, RunsFull, Taken};
-use Event::{Dots, Row, Stamp, Totals};
-
 const SALES: &[&str] = &["sales"];
 
 #[test]
@@ -318,6 +317,8 @@ fn a_remove_is_taken_before_its_add(rt: HostRuntime) {
         Row(1, (0, "SIP/1"), None),
         Event::Step(1, Add("sales", "SIP/1", 9), Done),
         Row(1, (0, "SIP/1"), Some((9, false, ""))),
+        // The times of others count for writes alone.
+        Stamp(1, (1, 1)),
     ];
     assert_events(&rt, rt.alloc(), SALES, EVENTS);
 }
@@ -386,6 +387,7 @@ fn without_a_queue_a_pause_is_of_every_queue(rt: HostRuntime) {
         Event::Step(0, Add("b", "SIP/1", 0), Done),
         Event::Step(0, Add("c", "SIP/1", 0), Done),
         Event::Step(0, Asked::Pause("", "SIP/1", true, "lunch"), Done),
+        Stamp(0, (4, 0)),
         Row(0, (0, "SIP/1"), PAUSED),
         Row(0, (1, "SIP/1"), PAUSED),
         Row(0, (2, "SIP/1"), PAUSED),
@@ -395,6 +397,7 @@ fn without_a_queue_a_pause_is_of_every_queue(rt: HostRuntime) {
             Denied(Refusal::NotThere),
         ),
         Event::Step(0, Asked::Pause("", "SIP/1", false, "x"), Done),
+        Stamp(0, (5, 0)),
         Row(0, (0, "SIP/1"), UNPAUSED),
         Row(0, (1, "SIP/1"), UNPAUSED),
         Row(0, (2, "SIP/1"), UNPAUSED),
@@ -416,6 +419,46 @@ fn counts_that_are_taken_again_count_once(rt: HostRuntime) {
         Event::Step(1, Whole, Framed(2)),
         Event::Step(0, Take(1), Taken),
         Totals(0, (3, 1)),
+    ];
+    assert_events(&rt, rt.alloc(), SALES, EVENTS);
+}
+
+#[test]
+fn a_write_is_later_than_what_it_replaces_of_the_same_field(rt: HostRuntime) {
+    const EVENTS: &[Event] = &[
+        Event::Step(0, Add("sales", "SIP/1", 0), Done),
+        Event::Step(0, Asked::Pause("sales", "SIP/1", true, ""), Done),
+        Event::Step(0, Asked::Pause("sales", "SIP/1", false, ""), Done),
+        Stamp(0, (3, 0)),
+        Event::Step(0, Cut, Framed(1)),
+        Event::Step(1, Take(0), Taken),
+        Event::Step(1, Asked::Penalty("sales", "SIP/1", 1), Done),
+        Stamp(1, (2, 1)),
+        Event::Step(1, Asked::Pause("sales", "SIP/1", true, ""), Done),
+        Stamp(1, (4, 1)),
+    ];
+    assert_events(&rt, rt.alloc(), SALES, EVENTS);
+}
+
+#[test]
+fn a_whole_is_of_all_that_is_known_and_leaves_the_buffer(rt: HostRuntime) {
+    const EVENTS: &[Event] = &[
+        Event::Step(1, Whole, Framed(1)),
+        Event::Step(0, Add("sales", "SIP/1", 3), Done),
+        Event::Step(0, Whole, Framed(1)),
+        Event::Step(0, Cut, Framed(2)),
+        Event::Step(0, Cut, Nothing),
+        // A penalty that is there already is written again.
+        Event::Step(0, Asked::Penalty("sales", "SIP/1", 3), Done),
+        Event::Step(0, Cut, Framed(3)),
+        Event::Step(0, Whole, Framed(4)),
+        Event::Step(1, Take(3), Taken),
+        Dots(1, &[(0, 1)]),
+        Event::Step(1, Take(0), Taken),
+        Event::Step(1, Take(4), Taken),
+        Row(1, (0, "SIP/1"), Some((3, false, ""))),
+        // What is taken isn't put in the buffer.
+        Event::Step(1, Cut, Nothing),
     ];
     assert_events(&rt, rt.alloc(), SALES, EVENTS);
 }
@@ -655,7 +698,6 @@ fn a_site_takes_no_more_runs_than_it_may_have(rt: HostRuntime) {
     const EVENTS: &[Event] = &[
         Event::Step(0, Take(0), RunsFull),
         Event::Step(0, Take(1), Taken),
-        Event::Step(0, Take(1), Taken),
         Event::Step(0, Add("sales", "SIP/1", 0), FULL),
         Event::Step(0, Count("sales", Calls::Completed), Done),
     ];
@@ -667,8 +709,17 @@ fn a_site_takes_no_more_runs_than_it_may_have(rt: HostRuntime) {
     assert_from(&rt, alloc, SALES, site, frames, EVENTS);
 }
 
+// Asserts what comes of commands at a site that knows more runs than it may have, and two dots of
+// SIP/1.
+fn assert_full(rt: &impl Abort, alloc: Global, events: &[Event]) {
+    const KNOWN: &[Told] = &[added!((2, 2), "SIP/1"), LAST_ADD];
+    let mut site = knowledge(rt, alloc, &[], &[], 0);
+    site.known = with(rt, alloc, KNOWN, odd(rt, alloc, 3, 65_537));
+    assert_from(rt, alloc, SALES, site, Vec::new(alloc), events);
+}
+
 #[test]
-fn a_full_site_does_no_command(rt: HostRuntime) {
+fn a_full_site_adds_removes_and_pauses_no_more(rt: HostRuntime) {
     const EVENTS: &[Event] = &[
         Event::Step(0, Add("b", "SIP/2", 0), Denied(Refusal::NoSuchQueue)),
         Event::Step(0, Add("sales", "SIP/1", 0), Denied(Refusal::AlreadyThere)),
@@ -676,19 +727,19 @@ fn a_full_site_does_no_command(rt: HostRuntime) {
         Event::Step(0, Add("sales", "SIP/2", 0), FULL),
         Event::Step(0, Remove("sales", "SIP/1"), FULL),
         Event::Step(0, Asked::Pause("sales", "SIP/1", true, ""), FULL),
+    ];
+    assert_full(&rt, rt.alloc(), EVENTS);
+}
+
+#[test]
+fn a_full_site_writes_and_counts_no_more(rt: HostRuntime) {
+    const EVENTS: &[Event] = &[
+        // Its time is the last too, but a full site is told first.
         Event::Step(0, Asked::Penalty("", "SIP/1", 1), FULL),
         Event::Step(0, Count("sales", Calls::Completed), FULL),
         Event::Step(0, Count("sales", Calls::Abandoned), FULL),
     ];
-    let alloc = rt.alloc();
-    let mut site = knowledge(&rt, alloc, &[], &[], 0);
-    site.known = with(
-        &rt,
-        alloc,
-        &[added!((2, 2), "SIP/1"), LAST_ADD],
-        odd(&rt, alloc, 3, 65_537),
-    );
-    assert_from(&rt, alloc, SALES, site, Vec::new(alloc), EVENTS);
+    assert_full(&rt, rt.alloc(), EVENTS);
 }
 
 #[test]
@@ -718,25 +769,32 @@ fn a_full_buffer_is_cut_before_an_add(rt: HostRuntime) {
     assert_from(&rt, alloc, SALES, site, Vec::new(alloc), EVENTS);
 }
 
-#[test]
-fn an_operation_has_no_more_runs_than_a_site(rt: HostRuntime) {
-    // The runs of what is known are one fewer: the dots of SIP/2 stand between others.
+// Asserts what comes of penalties set at a site whose runs are one fewer than those of SIP/1's dot
+// with all dead dots before it: the dots of SIP/2 stand between others.
+fn assert_penalty(rt: &impl Abort, alloc: Global, events: &[Event]) {
     const KNOWN: &[Told] = &[
         added!((1, 2), "SIP/2"),
         added!((1, 131_074), "SIP/2"),
         added!((1, 131_075), "SIP/1"),
     ];
-    const EVENTS: &[Event] = &[
-        Event::Step(0, Asked::Penalty("", "SIP/1", 1), FULL),
-        Event::Step(0, Asked::Penalty("", "SIP/2", 1), Done),
-    ];
-    let alloc = rt.alloc();
     let site = SiteKnowledge {
-        known: with(&rt, alloc, KNOWN, odd(&rt, alloc, 1, 65_537)),
-        buffer: with(&rt, alloc, KNOWN, odd(&rt, alloc, 1, 65_537)),
+        known: with(rt, alloc, KNOWN, odd(rt, alloc, 1, 65_537)),
+        buffer: with(rt, alloc, KNOWN, odd(rt, alloc, 1, 65_537)),
         frames: 0,
     };
-    assert_from(&rt, alloc, SALES, site, Vec::new(alloc), EVENTS);
+    assert_from(rt, alloc, SALES, site, Vec::new(alloc), events);
+}
+
+#[test]
+fn an_operation_has_no_more_runs_than_a_site(rt: HostRuntime) {
+    const EVENTS: &[Event] = &[Event::Step(0, Asked::Penalty("", "SIP/1", 1), FULL)];
+    assert_penalty(&rt, rt.alloc(), EVENTS);
+}
+
+#[test]
+fn an_operation_has_as_many_runs_as_a_site(rt: HostRuntime) {
+    const EVENTS: &[Event] = &[Event::Step(0, Asked::Penalty("", "SIP/2", 1), Done)];
+    assert_penalty(&rt, rt.alloc(), EVENTS);
 }
 
 // A penalty written on the first dots of a site, so many, all of SIP/1.
@@ -756,13 +814,12 @@ fn many(rt: &impl Abort, alloc: Global, count: u32) -> Operation {
 }
 
 #[test]
-fn a_site_sees_no_more_dots_than_it_may_have(rt: HostRuntime) {
+fn a_site_takes_no_more_dots_than_it_may_see(rt: HostRuntime) {
     const EVENTS: &[Event] = &[
+        // Its runs are too many too, but the dots are told first.
         Event::Step(0, Take(0), CellsFull),
         Event::Step(0, Take(1), Taken),
-        Event::Step(0, Add("sales", "SIP/2", 0), FULL),
-        Event::Step(0, Asked::Penalty("", "SIP/1", 4), Done),
-        Row(0, (0, "SIP/1"), Some((4, false, ""))),
+        Event::Step(0, Count("sales", Calls::Completed), Done),
     ];
     let alloc = rt.alloc();
     let mut first = with(&rt, alloc, &[], odd(&rt, alloc, 2, 65_537));
@@ -771,4 +828,26 @@ fn a_site_sees_no_more_dots_than_it_may_have(rt: HostRuntime) {
     let frames = frames_of(&rt, alloc, first, second);
     let site = knowledge(&rt, alloc, &[], &[], 0);
     assert_from(&rt, alloc, SALES, site, frames, EVENTS);
+}
+
+#[test]
+fn a_buffer_that_sees_as_many_dots_as_it_may_is_cut_before_an_add(rt: HostRuntime) {
+    const EVENTS: &[Event] = &[
+        Event::Step(0, Add("sales", "SIP/2", 0), FULL),
+        Event::Step(0, Cut, Framed(1)),
+        Event::Step(0, Add("sales", "SIP/2", 0), Done),
+    ];
+    let alloc = rt.alloc();
+    let mut site = knowledge(&rt, alloc, &[], &[], 0);
+    site.buffer = with(&rt, alloc, &[], many(&rt, alloc, 16_384));
+    assert_from(&rt, alloc, SALES, site, Vec::new(alloc), EVENTS);
+}
+
+#[test]
+fn a_site_that_sees_too_many_dots_counts_no_more(rt: HostRuntime) {
+    const EVENTS: &[Event] = &[Event::Step(0, Count("sales", Calls::Completed), FULL)];
+    let alloc = rt.alloc();
+    let mut site = knowledge(&rt, alloc, &[], &[], 0);
+    site.known = with(&rt, alloc, &[], many(&rt, alloc, 16_385));
+    assert_from(&rt, alloc, SALES, site, Vec::new(alloc), EVENTS);
 }

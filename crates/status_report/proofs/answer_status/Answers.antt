@@ -1,4 +1,5 @@
-use Rattle.std.proofs.Common.{◌∙◌, ap, inl}
+use Rattle.std.proofs.Common.{◌∙◌, ap, inl, inr, refl, Err}
+use Rattle.replica.specs.declared.refusal.Refusal.TheVariants.{Memory}
 use Rattle.status_report.specs.declared.asks.Answer.TheVariants.{Report}
 use Rattle.status_report.proofs.AskLemmas.{report-is}
 use Rattle.status_report.proofs.answer_status.Goals as goal
@@ -6,3 +7,7 @@ use Rattle.status_report.proofs.answer_status.Goals as goal
 -- the report is the text of what the site knows
 pub returns-in-Ok-clause-meaning : goal.returns-in-Ok-clause-meaning
 returns-in-Ok-clause-meaning c = λ s stands. inl (stands, ap Report (c.new.ensures ∙ c.in-Ok.ensures.value ∙ report-is c.args.replica.now s stands c.args.request.now))
+
+-- want of memory may stand in its place
+pub returns-in-Err-clause-meaning : goal.returns-in-Err-clause-meaning
+returns-in-Err-clause-meaning c = λ s stands. inr (refl, (Err Memory, refl, record { refusal = Memory; is = refl; may = tt }))

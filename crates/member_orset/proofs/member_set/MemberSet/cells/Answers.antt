@@ -11,5 +11,5 @@ returns-clause-value c =
 
 pub returns-clause-limits : goal.returns-clause-limits
 returns-clause-limits c =
-    within_limits c.args.self.now c.self.inside.cells.items c.self.inside.context.dots c.self.invariant.are_cells (ap (λ s. s.live) c.self.view_is) (ap (λ s. s.known) c.self.view_is)
+    within_limits c.args.self.now c.self.inside.cells.items c.self.inside.context.dots c.self.invariant.are_cells (ap (λ s. s.live) c.self.view_is) (ap (λ s. s.known) c.self.view_is) (sym (ap (λ s. s.retired) c.self.view_is))
     (subst (λ n. n ≤ MOST_RUNS) c.runs.ensures.value c.runs.ensures.limit)

@@ -1,0 +1,5 @@
+pub mod EmptySets
+pub mod EmptyTotals
+pub mod Merging
+pub mod Sameness
+pub mod StandingDeltas

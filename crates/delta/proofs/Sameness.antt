@@ -1,0 +1,31 @@
+-- Sets of members that have the same conditions say the same.
+use Rattle.std.proofs.Common.{◌≡◌, Bool, true, false, Option, Some, None, refl, sym, ap, ◌∙◌}
+use Rattle.std.specs.FinMap as map
+use Rattle.std.specs.FinSet as set
+use Rattle.dots.specs.Values.{Dot}
+use Rattle.dots.specs.Conditions.{Condition, Live, Dead}
+use Rattle.dots.proofs.DotOrder.{dots_exact, dots_total}
+use Rattle.member_orset.specs.Members.{Members, Holding, SaysTheSame, condition_at, condition_of}
+
+-- what is live by a condition
+abbrev holding_in : Option Condition → Option Holding
+holding_in None = None
+holding_in (Some Dead) = None
+holding_in (Some (Live member fields)) = Some (member, fields)
+
+holding_back : (o : Option Holding) (known : Bool) → holding_in (condition_at o known) ≡ o
+holding_back (Some h) known = refl
+holding_back None true = refl
+holding_back None false = refl
+
+-- the same conditions and the same known dots
+pub says_the_same : (s t : Members) → ((q : Dot) → condition_of s q ≡ condition_of t q) → s.known ≡ t.known → SaysTheSame s t
+says_the_same s t conditions known = record {
+  known = sym known;
+  live = map.same_map dots_total dots_exact t.live s.live (λ q.
+      sym (holding_back (map.get t.live q) (set.contains t.known q)) ∙ ap holding_in (sym (conditions q)) ∙ holding_back (map.get s.live q) (set.contains s.known q));
+}
+
+-- and the other way
+pub same_conditions : (s t : Members) → SaysTheSame s t → (q : Dot) → condition_of s q ≡ condition_of t q
+same_conditions s t same q = λ i. condition_at (map.get (sym same.live i) q) (set.contains (sym same.known i) q)

@@ -1,0 +1,41 @@
+-- What contracts see of a delta.
+use Rattle.std.specs.Prelude.{◌≡◌, ◌≤◌, None, refl}
+use Rattle.std.specs.FinMap as map
+use Rattle.std.specs.FinSet as set
+use Rattle.std.specs.Coded.{Coded, code_by, coded×}
+use Rattle.dots.specs.Values.{Dot}
+use Rattle.member_orset.specs.Members as sets
+use Rattle.member_orset.specs.Members.{Members, members_code, condition_of}
+use Rattle.site_totals.specs.Tally.{Tally, tally_code}
+
+-- A set of members, and totals. Both have rooms beside what they say, and the set its retired places.
+pub record DeltaState : Type 0 where
+  pub members : Members
+  pub totals : Tally
+
+-- it is stored as the pair of these
+abbrev pub delta_code : Coded DeltaState
+delta_code = code_by (Members × Tally) (coded× members_code tally_code) (λ d. (d.members, d.totals)) (λ p. record { members = p.0; totals = p.1 }) (λ _. refl)
+
+-- nothing is known: of no dot a condition, and no total
+pub record IsEmpty (d : DeltaState) : Type 0 where
+  pub conditions : (dot : Dot) → condition_of d.members dot ≡ None
+  pub known : d.members.known ≡ set.empty
+  pub totals : d.totals.entries ≡ map.empty
+
+-- both have the same condition of each dot, know the same dots and have the same totals
+pub record IsSame (d e : DeltaState) : Type 0 where
+  pub conditions : (dot : Dot) → condition_of d.members dot ≡ condition_of e.members dot
+  pub known : d.members.known ≡ e.members.known
+  pub totals : d.totals.entries ≡ e.totals.entries
+
+-- a delta says the same as before, and as many places aren't used again; its rooms may have grown
+pub record IsUnchanged (old new : DeltaState) : Type 0 where
+  pub members : sets.IsUnchanged old.members new.members
+  pub totals : new.totals.entries ≡ old.totals.entries
+
+-- no room is less than before
+pub record KeepsRoom (old new : DeltaState) : Type 0 where
+  pub cells : old.members.cell_room ≤ new.members.cell_room
+  pub runs : old.members.run_room ≤ new.members.run_room
+  pub totals : old.totals.room ≤ new.totals.room

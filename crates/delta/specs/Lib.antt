@@ -1,0 +1,3 @@
+pub mod DeltaStates
+pub mod Joining
+pub mod Standing

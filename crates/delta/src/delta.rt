@@ -1,0 +1,165 @@
+ghost use Rattle.std.specs.Prelude.{◌≡◌, ◌↔◌, Err, IfErr, IfOk, IsFalse, IsOk, IsTrue, OnErr, OnOk};
+ghost use Rattle.std.specs.FinMap as map;
+ghost use Rattle.std.specs.FinSet as set;
+ghost use Rattle.delta.specs.DeltaStates.{IsEmpty, IsSame, IsUnchanged, KeepsRoom};
+ghost use Rattle.delta.specs.Joining.{Agree, Disagree, IsJoinOf, IsPrepared, IsRefusedFor, IsRefusedJoin};
+
+use crate::parts::{
+    absorb_members, absorb_totals, has_prepared_members, has_prepared_totals, knows_nothing,
+    prepare_members, prepare_totals,
+};
+use crate::{JoinFault, Memory};
+use member_orset::MemberSet;
+use site_totals::Totals;
+use std::alloc::Global;
+use std::marker::Model;
+
+/// A delta: a set of members, and totals. It is what a site keeps of all that it knows, and what it sends to others, and it
+/// stands for the operations that made it. Deltas are joined in any order and as often as may be (RR-7506: states form a join
+/// semilattice). The limits are those of its parts.
+#[derive(Drop)]
+pub struct Delta {
+    members: MemberSet,
+    totals: Totals,
+}
+
+impl Model for Delta {
+    ghost use Rattle.delta.specs.DeltaStates.{DeltaState, delta_code};
+
+    ghost Value = { DeltaState };
+
+    ghost coded = { delta_code };
+
+    ghost view = { λ d. record { members = d.members; totals = d.totals } };
+}
+
+impl Delta {
+    /// The delta of nothing. It takes no memory.
+    pub fn empty(alloc: Global) -> Delta
+        ensures empty { IsEmpty result }
+        ensures retired { result.members.retired ≡ 0 }
+    {
+        Delta {
+            members: MemberSet::new(alloc),
+            totals: Totals::new(alloc),
+        }
+    }
+
+    /// The delta of a set of members and totals. It takes no memory.
+    pub fn of(members: MemberSet, totals: Totals) -> Delta
+        ensures members { result.members ≡ members }
+        ensures totals { result.totals ≡ totals }
+    {
+        Delta { members, totals }
+    }
+
+    /// Its parts. It takes no memory.
+    pub fn into_parts(self) -> (MemberSet, Totals)
+        ensures members { result.0 ≡ self.members }
+        ensures totals { result.1 ≡ self.totals }
+    {
+        (self.members, self.totals)
+    }
+
+    /// Its set of members. It takes no memory, like all that only reads.
+    pub fn members(&self) -> &MemberSet
+        ensures { result.now ≡ self.now.members }
+    {
+        &self.members
+    }
+
+    /// Its totals.
+    pub fn totals(&self) -> &Totals
+        ensures { result.now ≡ self.now.totals }
+    {
+        &self.totals
+    }
+
+    /// Whether nothing is known: no dot, and no total.
+    pub fn is_empty(&self) -> bool
+        ensures { IsTrue result ↔ IsEmpty self.now }
+    {
+        knows_nothing(&self.members) && self.totals.is_empty()
+    }
+
+    /// Whether both say the same of each dot and have the same totals.
+    pub fn same(&self, other: &Delta) -> bool
+        ensures { IsTrue result ↔ IsSame self.now other.now }
+    {
+        self.members.same(&other.members) && self.totals.same(&other.totals)
+    }
+
+    /// Whether both can be joined: no dot is live in both with two members, or with a field of one stamp and two values.
+    pub fn agrees(&self, other: &Delta) -> bool
+        ensures agree { IsTrue result ↔ Agree self.now other.now }
+        ensures conflict { IsFalse result ↔ Disagree self.now other.now }
+    {
+        self.members.agrees(&other.members)
+    }
+
+    /// Makes room for what another delta says, which `absorb` then joins. It leaves what is said as it is. 1 `Conflict`, exactly
+    /// where `agrees` is false; 2 `CellsFull`, exactly where the join has more than 16,384 live dots, or the places that aren't
+    /// used again and the live dots of both pass 1,048,576; 3 `RunsFull`, exactly where the known dots of both make more than
+    /// 65,536 runs; 4 `Memory`. An empty part of the other costs nothing.
+    pub fn prepare(&mut self, other: &Delta) -> Result<(), JoinFault>
+        ensures ready { OnOk result (IsPrepared self.new other.now) }
+        ensures refusals { IsRefusedJoin self.old other.now (λ fault. result ≡ Err fault) }
+        ensures again { IsPrepared self.old other.now → IsOk result }
+        ensures kept { IsUnchanged self.old self.new }
+        ensures room { KeepsRoom self.old self.new }
+    {
+        prepare_members(&mut self.members, &other.members)?;
+        match prepare_totals(&mut self.totals, &other.totals) {
+            Ok(()) => Ok(()),
+            Err(_) => Err(JoinFault::Memory),
+        }
+    }
+
+    /// Whether another delta can be absorbed: the two agree, the join is small enough, and there is room for both parts.
+    pub fn prepared(&self, other: &Delta) -> bool
+        ensures { IsTrue result ↔ IsPrepared self.now other.now }
+    {
+        has_prepared_members(&self.members, &other.members)
+            && has_prepared_totals(&self.totals, &other.totals)
+    }
+
+    /// Joins what another delta says that was prepared: each dot has the join of its two conditions, and each total is the
+    /// greater of both. It takes no memory and can't fail. An empty part of the other costs nothing.
+    pub fn absorb(&mut self, other: Delta)
+        requires { IsPrepared self.old other }
+        ensures joined { IsJoinOf self.old other self.new }
+        ensures retired { self.new.members.retired ≡ self.old.members.retired }
+    {
+        let (members, totals) = other.into_parts();
+        absorb_members(&mut self.members, members);
+        absorb_totals(&mut self.totals, &totals);
+    }
+
+    /// Joins what another delta says: each dot has the join of its two conditions, and each total is the greater of both. A
+    /// refused delta comes back as it was, and no fault changes what this one says. The faults are those of `prepare`, in its
+    /// order, and so is the cost of an empty part.
+    pub fn join(&mut self, other: Delta) -> Result<(), (JoinFault, Delta)>
+        ensures joined { OnOk result (IsJoinOf self.old other self.new) }
+        ensures refusals { IsRefusedJoin self.old other (λ fault. IsRefusedFor result fault) }
+        ensures prepared { IsPrepared self.old other → IsOk result }
+        ensures back { IfErr result (λ refused. refused.1 ≡ other) }
+        ensures err { OnErr result (IsUnchanged self.old self.new) }
+        ensures retired { self.new.members.retired ≡ self.old.members.retired }
+    {
+        if let Err(fault) = self.prepare(&other) {
+            return Err((fault, other));
+        }
+        self.absorb(other);
+        Ok(())
+    }
+
+    /// Another delta that says the same. The one fault is want of memory.
+    pub fn copy(&self) -> Result<Delta, Memory>
+        ensures same { IfOk result (λ copy. IsSame self.now copy) }
+        ensures retired { IfOk result (λ copy. copy.members.retired ≡ self.now.members.retired) }
+    {
+        let members = self.members.copy()?;
+        let totals = self.totals.copy()?;
+        Ok(Delta { members, totals })
+    }
+}

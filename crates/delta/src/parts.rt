@@ -1,0 +1,94 @@
+//! The parts of deltas, where one of them says nothing: then nothing is walked, whatever the other has.
+ghost use Rattle.std.specs.Prelude.{◌≡◌, ◌≢◌, ◌↔◌, ◌≤◌, Err, IsOk, IsTrue, OnErr, OnOk};
+ghost use Rattle.std.specs.FinMap as map;
+ghost use Rattle.std.specs.FinSet as set;
+ghost use Rattle.dots.specs.Totals.{join_of};
+ghost use Rattle.member_orset.specs.Members.{IsJoinOf, IsPrepared, IsUnchanged, IsWithinLimits};
+ghost use Rattle.member_orset.specs.Refusals.{IsRefusedJoin};
+ghost use Rattle.site_totals.specs.Tally.{HasRoomFor};
+
+use crate::{JoinFault, Memory};
+use causal_context::Context;
+use member_orset::MemberSet;
+use site_totals::Totals;
+
+// Whether no dot is known. It looks at no run.
+fn has_no_runs(context: &Context) -> bool
+    ensures { IsTrue result ↔ (context.now.dots ≡ set.empty) }
+{
+    context.as_slice().is_empty()
+}
+
+// Whether a set knows no dot.
+pub(crate) fn knows_nothing(members: &MemberSet) -> bool
+    ensures value { IsTrue result ↔ (members.now.known ≡ set.empty) }
+    ensures limits { IsWithinLimits members.now }
+{
+    let _ = members.cells(); // so that its limits are known
+    has_no_runs(members.context())
+}
+
+// Makes room for what another set says, if it says anything.
+pub(crate) fn prepare_members(members: &mut MemberSet, other: &MemberSet) -> Result<(), JoinFault>
+    ensures ready { OnOk result (other.now.known ≢ set.empty → IsPrepared members.new other.now) }
+    ensures refusals { IsRefusedJoin members.old other.now (λ fault. result ≡ Err fault) }
+    ensures again { (other.now.known ≢ set.empty → IsPrepared members.old other.now) → IsOk result }
+    ensures kept { IsUnchanged members.old members.new }
+    ensures cell_room { members.old.cell_room ≤ members.new.cell_room }
+    ensures run_room { members.old.run_room ≤ members.new.run_room }
+{
+    let _ = members.cells(); // so that its limits are known
+    if knows_nothing(other) {
+        return Ok(());
+    }
+    members.prepare(other)
+}
+
+// Whether another set was prepared, or says nothing.
+pub(crate) fn has_prepared_members(members: &MemberSet, other: &MemberSet) -> bool
+    ensures { IsTrue result ↔ (other.now.known ≢ set.empty → IsPrepared members.now other.now) }
+{
+    knows_nothing(other) || members.prepared(other)
+}
+
+// Joins what another set says that was prepared, or says nothing.
+pub(crate) fn absorb_members(members: &mut MemberSet, other: MemberSet)
+    requires { other.known ≢ set.empty → IsPrepared members.old other }
+    ensures joined { IsJoinOf members.old other members.new }
+    ensures retired { members.new.retired ≡ members.old.retired }
+{
+    let _ = members.cells(); // so that its limits are known
+    if !knows_nothing(&other) {
+        members.absorb(other);
+    }
+}
+
+// Makes room for other totals, if there are any.
+pub(crate) fn prepare_totals(totals: &mut Totals, other: &Totals) -> Result<(), Memory>
+    ensures ok { OnOk result (HasRoomFor totals.new other.now.entries) }
+    ensures unchanged { totals.new.entries ≡ totals.old.entries }
+    ensures room { totals.old.room ≤ totals.new.room }
+    ensures again { HasRoomFor totals.old other.now.entries → IsOk result }
+{
+    if other.is_empty() {
+        return Ok(());
+    }
+    totals.prepare(other)
+}
+
+// Whether there is room for other totals.
+pub(crate) fn has_prepared_totals(totals: &Totals, other: &Totals) -> bool
+    ensures { IsTrue result ↔ HasRoomFor totals.now other.now.entries }
+{
+    other.is_empty() || totals.prepared(other)
+}
+
+// Joins other totals that there is room for.
+pub(crate) fn absorb_totals(totals: &mut Totals, other: &Totals)
+    requires { HasRoomFor totals.old other.now.entries }
+    ensures { totals.new.entries ≡ join_of totals.old.entries other.now.entries }
+{
+    if !other.is_empty() {
+        totals.absorb(other);
+    }
+}
