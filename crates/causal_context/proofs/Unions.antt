@@ -1,7 +1,6 @@
--- The laws of union and of subsets, at dots.
+-- The laws of subsets, at dots.
 use Rattle.std.proofs.Common.{◌≡◌, Bool, true, false, ◌||◌, refl, sym, ap, ◌∙◌}
 use Rattle.std.specs.FinSet as sets
-use Rattle.std.proofs.Math.Bool.{or_assoc, or_comm, or_self}
 use Rattle.dots.specs.Values.{Dot}
 use Rattle.dots.specs.Orders.{dot_cmp}
 use Rattle.dots.proofs.DotOrder.{dots_total, dots_exact}
@@ -9,18 +8,6 @@ use Rattle.dots.proofs.Membership.{same-tests}
 
 abbrev Dots : Type 0
 Dots = sets.FinSet dot_cmp
-
-pub union-comm : (a b : Dots) → sets.union a b ≡ sets.union b a
-union-comm a b = sets.same_set dots_total dots_exact _ _ (λ q.
-    sets.contains-union dots_total a b q ∙ or_comm (sets.contains a q) (sets.contains b q) ∙ sym (sets.contains-union dots_total b a q))
-
-pub union-assoc : (a b c : Dots) → sets.union (sets.union a b) c ≡ sets.union a (sets.union b c)
-union-assoc a b c = sets.same_set dots_total dots_exact _ _ (λ q.
-    sets.contains-union dots_total (sets.union a b) c q ∙ ap (λ x. x || sets.contains c q) (sets.contains-union dots_total a b q) ∙ or_assoc (sets.contains a q) (sets.contains b q) (sets.contains c q)
-    ∙ sym (sets.contains-union dots_total a (sets.union b c) q ∙ ap (λ x. sets.contains a q || x) (sets.contains-union dots_total b c q)))
-
-pub union-same : (a : Dots) → sets.union a a ≡ a
-union-same a = sets.same_set dots_total dots_exact _ _ (λ q. sets.contains-union dots_total a a q ∙ or_self (sets.contains a q))
 
 pub subset_members : (a b : Dots) → (sets.is_subset a b ≡ true → (d : Dot) → sets.contains a d ≡ true → sets.contains b d ≡ true) × (((d : Dot) → sets.contains a d ≡ true → sets.contains b d ≡ true) → sets.is_subset a b ≡ true)
 subset_members a b = (sets.is_subset-contains dots_total a b, sets.contains-is_subset dots_total a b)

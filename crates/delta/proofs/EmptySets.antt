@@ -1,5 +1,5 @@
 -- A set of members that knows no dot: its join with any other is never refused, and changes nothing.
-use Rattle.std.proofs.Common.{◌≡◌, ◌<◌, Bool, true, false, ◌&&◌, ◌||◌, Option, Some, None, is_some, Result, Ok, Err, refl, sym, ap, subst, ◌∙◌, arith, inl, inr}
+use Rattle.std.proofs.Common.{◌≡◌, ◌<◌, Bool, true, false, ◌&&◌, Option, Some, None, is_some, Result, Ok, Err, refl, sym, ap, subst, ◌∙◌, arith, inl, inr}
 use Rattle.std.specs.FinMap as map
 use Rattle.std.specs.FinSet as set
 use Rattle.dots.specs.declared.limits.TheConstants.{MOST_RUNS}
@@ -8,8 +8,9 @@ use Rattle.dots.specs.Orders.{dot_cmp}
 use Rattle.dots.specs.DotSets.{run_count}
 use Rattle.dots.specs.Conditions.{Condition, Live, Dead, ConditionsAgree, condition_joined}
 use Rattle.dots.proofs.ConditionLaws.{unknown_is_neutral}
-use Rattle.dots.proofs.DotOrder.{dots_exact, dots_total}
+use Rattle.dots.proofs.DotOrder.{dots_exact}
 use Rattle.dots.proofs.KeySets.{len_of_keys}
+use Rattle.dots.proofs.Unions.{union-empty}
 use Rattle.member_orset.specs.declared.join_fault.JoinFault.{JoinFault}
 use Rattle.member_orset.specs.Members.{Members, Holding, IsWithinLimits, CanBeJoined, Conflicts, ConditionsConflict, LacksPlaces, both_joined, cells_joined, condition_at, condition_of, is_live, joined_dots, runs_joined}
 use Rattle.member_orset.specs.Refusals.{IsRefusedJoin}
@@ -39,11 +40,7 @@ module _ (t : Members) (within : IsWithinLimits t) (nothing : t.known ≡ set.em
 
   module _ (s : Members) (limits : IsWithinLimits s) where
     pub union_is : set.union s.known t.known ≡ s.known
-    union_is = set.same_set dots_total dots_exact _ _ (λ q. set.contains-union dots_total s.known t.known q ∙ ap (λ b. set.contains s.known q || b) (not_known q) ∙ or_false (set.contains s.known q))
-      where
-        or_false : (b : Bool) → (b || false) ≡ b
-        or_false true = refl
-        or_false false = refl
+    union_is = ap (set.union s.known) nothing ∙ union-empty s.known
 
     -- the other joined with it stays as it is, and knows the same dots
     pub joined_nothing : (q : Dot) → condition_of s q ≡ both_joined s t q

@@ -1,6 +1,5 @@
 -- The keys of a map from dots make a set of as many.
-use Rattle.std.proofs.Common.{◌≡◌, ◌+◌, Bool, true, false, cond, ◌||◌, List, [], ◌∷◌, length, map as each, refl, sym, ap, ◌∙◌, arith}
-use Rattle.std.specs.Prelude.{T}
+use Rattle.std.proofs.Common.{◌≡◌, ◌+◌, true, false, cond, ◌||◌, List, [], ◌∷◌, length, map as each, refl, sym, ap, ◌∙◌, arith}
 use Rattle.std.specs.List.{list_any}
 use Rattle.std.specs.Ordering.{eq_by_cmp, is_eq, is_lt}
 use Rattle.std.specs.declared.cmp.Ordering.{Ordering}
@@ -12,10 +11,7 @@ use Rattle.std.proofs.lemmas.Bool.{and_parts}
 use Rattle.dots.specs.Values.{Dot}
 use Rattle.dots.specs.Orders.{dot_cmp}
 use Rattle.dots.proofs.DotOrder.{dots_total, dots_exact}
-
-from_T : (b : Bool) → T b → b ≡ true
-from_T true h = refl
-from_T false h = absurd h
+use Rattle.dots.proofs.TruthTables.{fact}
 
 apart : (o : Ordering) → is_lt o ≡ true → is_eq o ≡ false
 apart Less h = refl
@@ -30,7 +26,8 @@ module _ {V : Type 0} where
       let p = and_parts (is_lt (dot_cmp d e.0)) (below_all dot_cmp d es) h in
       ap (λ b. b || list_any (eq_by_cmp dot_cmp d) (each (λ e. e.0) es)) (apart (dot_cmp d e.0) p.0) ∙ none_tied d es p.1
 
-  len_rising : (es : List (Dot × V)) → map.is_sorted dot_cmp es ≡ true → set.len (set.from_list {R = dot_cmp} (each (λ e. e.0) es)) ≡ length es
+  -- the keys of entries that rise make a set of as many
+  pub len_rising : (es : List (Dot × V)) → map.is_sorted dot_cmp es ≡ true → set.len (set.from_list {R = dot_cmp} (each (λ e. e.0) es)) ≡ length es
   len_rising [] h = set.len-empty dot_cmp
   len_rising (e ∷ es) h =
       let p = and_parts (below_all dot_cmp e.0 es) (map.is_sorted dot_cmp es) h in
@@ -43,5 +40,5 @@ module _ {V : Type 0} where
   pub len_of_keys : (m : map.FinMap dot_cmp V) (s : set.FinSet dot_cmp) → ((q : Dot) → set.contains s q ≡ map.contains_key m q) → set.len s ≡ map.len m
   len_of_keys m s same =
       ap set.len (set.same_set dots_total dots_exact s (set.from_list (map.keys m)) (λ q. same q ∙ map.contains_key-keys m q ∙ sym (set.contains-from_list dots_total (map.keys m) q)))
-      ∙ len_rising (map.entries m) (from_T _ (map.entries_sorted m))
+      ∙ len_rising (map.entries m) (fact _ (map.entries_sorted m))
       ∙ sym (map.len-entries m)

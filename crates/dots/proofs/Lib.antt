@@ -24,6 +24,7 @@ pub mod StandingLaws
 pub mod Runs
 pub mod TotalsLaws
 pub mod TruthTables
+pub mod Unions
 pub mod UniqueRuns
 pub mod TraceLaws
 pub mod VisibleLaws

@@ -1,5 +1,5 @@
 -- Facts on tests, each of which is seen case by case.
-use Rattle.std.proofs.Common.{◌≡◌, Bool, true, false, ◌||◌, refl, sym, subst}
+use Rattle.std.proofs.Common.{◌≡◌, Bool, true, false, ◌&&◌, ◌||◌, refl, sym, subst}
 use lib.Dec.{T}
 use Rattle.std.specs.declared.cmp.Ordering.{Ordering}
 use Rattle.std.specs.declared.cmp.Ordering.TheVariants.{Less, Equal, Greater}
@@ -18,6 +18,15 @@ pub or_swap : (a b c : Bool) → (a || (b || c)) ≡ (b || (a || c))
 or_swap true true c = refl
 or_swap true false c = refl
 or_swap false b c = refl
+
+-- of a test and another, or a third: where the other passes and the third doesn't, and where the other doesn't
+pub first_alone : (a : Bool) → ((a && true) || false) ≡ a
+first_alone true = refl
+first_alone false = refl
+
+pub third_alone : (a c : Bool) → ((a && false) || c) ≡ c
+third_alone true c = refl
+third_alone false c = refl
 
 -- what the test of an order tells
 pub less_of : (o : Ordering) → is_lt o ≡ true → o ≡ Less

@@ -17,7 +17,7 @@ use Rattle.dots.specs.Orders.{dot_cmp, member_cmp}
 use Rattle.dots.specs.declared.member.Member.{Member}
 use Rattle.dots.proofs.DotOrder.{dots_total, dots_exact}
 use Rattle.dots.proofs.MemberOrder.{members_total, exact_members}
-use Rattle.dots.proofs.TruthTables.{truth, fact}
+use Rattle.dots.proofs.TruthTables.{first_alone, third_alone, truth, fact}
 use Rattle.member_orset.specs.declared.listed.Listed.{Listed}
 use Rattle.member_orset.specs.Members.{Holding}
 use Rattle.member_orset.specs.Index.{IsBelow, IsIndex, IsPlaceFor, Rises, is_held, is_listed, listed_cmp, listings}
@@ -144,24 +144,16 @@ module _ (index new : List Listed) (live after : maps.FinMap dot_cmp Holding) (m
     lists = λ m q. lists m q ∙ (λ i. same_parts m member q dot i || is.lists m q i) ∙ elim (cases_Bool (eq_by_cmp dot_cmp q dot)) [
       | inl t ↦
           (λ i. (eq_by_cmp member_cmp m member && t i) || option_map_or (eq_by_cmp member_cmp m) (option_map (λ x. x.0) ((ap (maps.get live) (one_dot q dot t) ∙ gone) i)) false)
-          ∙ first (eq_by_cmp member_cmp m member) ∙ ap (eq_by_cmp member_cmp m) (sym one)
+          ∙ first_alone (eq_by_cmp member_cmp m member) ∙ ap (eq_by_cmp member_cmp m) (sym one)
           ∙ (λ i. option_map_or (eq_by_cmp member_cmp m) (option_map (λ x. x.0) (cond (sym t i) (Some h) (maps.get live q))) false)
           ∙ (λ i. option_map_or (eq_by_cmp member_cmp m) (option_map (λ x. x.0) (sym (got q) i)) false)
       | inr f ↦
           (λ i. (eq_by_cmp member_cmp m member && f i) || is_held live m q)
-          ∙ second (eq_by_cmp member_cmp m member) (is_held live m q)
+          ∙ third_alone (eq_by_cmp member_cmp m member) (is_held live m q)
           ∙ (λ i. option_map_or (eq_by_cmp member_cmp m) (option_map (λ x. x.0) (cond (sym f i) (Some h) (maps.get live q))) false)
           ∙ (λ i. option_map_or (eq_by_cmp member_cmp m) (option_map (λ x. x.0) (sym (got q) i)) false)
     ];
   }
-    where
-      first : (b : Bool) → ((b && true) || false) ≡ b
-      first true = refl
-      first false = refl
-
-      second : (b c : Bool) → ((b && false) || c) ≡ c
-      second true c = refl
-      second false c = refl
 
   pub listed_less : (h : Holding) → h.0 ≡ member → IsIndex index live → maps.get live dot ≡ Some h → after ≡ maps.remove live dot
       → Rises new → ((m : Member) (q : Dot) → is_listed new m q ≡ (not (eq_by_cmp listed_cmp (entry m q) (entry member dot)) && is_listed index m q)) → IsIndex new after

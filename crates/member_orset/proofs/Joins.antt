@@ -1,11 +1,8 @@
 -- The join of two sets, by their cells.
-use Rattle.std.proofs.Common.{◌≡◌, ℕ, ◌+◌, ◌≤◌, ◌<◌, Bool, true, false, cond, ◌&&◌, ◌||◌, List, [], ◌∷◌, length, get_or, Option, Some, None, is_some, map as each, refl, sym, ap, ◌∙◌, subst, inl, inr, arith}
-use Rattle.std.specs.List.{list_any}
-use Rattle.std.specs.Ordering.{eq_by_cmp, is_lt}
+use Rattle.std.proofs.Common.{◌≡◌, ℕ, ◌+◌, ◌≤◌, ◌<◌, Bool, true, false, ◌&&◌, ◌||◌, List, length, get_or, Option, Some, None, is_some, map as each, refl, sym, ap, ◌∙◌, subst, inl, inr, arith}
 use Rattle.std.specs.FinMap as maps
 use Rattle.std.specs.FinSet as sets
-use Rattle.std.specs.FinMap.Entries.{find, is_some-find, below_all}
-use Rattle.std.proofs.lemmas.Bool.{and_parts}
+use Rattle.std.specs.FinMap.Entries.{find, is_some-find}
 use Rattle.std.proofs.lemmas.Option.{same_Some}
 use Rattle.std.proofs.lemmas.List.{length-map}
 use Rattle.dots.specs.declared.limits.TheConstants.{MOST_LIVE, MOST_RUNS}
@@ -15,13 +12,13 @@ use Rattle.dots.specs.Orders.{dot_cmp}
 use Rattle.dots.specs.DotSets.{run_count}
 use Rattle.dots.specs.Conditions.{ConditionsAgree, condition_joined, fields_joined}
 use Rattle.dots.proofs.DotOrder.{dots_total, dots_exact}
+use Rattle.dots.proofs.KeySets.{len_rising}
 use Rattle.causal_context.specs.Contexts as contexts
 use Rattle.causal_context.specs.Contexts.{Known}
 use Rattle.member_orset.specs.declared.live_dot.LiveDot.{LiveDot}
 use Rattle.member_orset.specs.Members.{CanBeJoined, Members, Holding, HasField, HasPlaces, IsPrepared, LacksPlaces, both_joined, cells_joined, condition_at, condition_of, is_live, joined_dots, runs_joined}
 use Rattle.member_orset.specs.LiveLists.{AreCells, entries_of, entry_of, holding, live_of, members_of}
 use Rattle.member_orset.specs.Joining.{AgreeInPairs, holding_joined, joined_entries}
-use Rattle.member_orset.proofs.DotTests.{apart_after}
 use Rattle.member_orset.proofs.CellLists.{Rise}
 use Rattle.member_orset.proofs.Views.{get-live_of, len-live_of, found_known, found_field}
 use Rattle.member_orset.proofs.FieldReadings.{joined_field}
@@ -60,22 +57,6 @@ of_either P (Some x) None a false h e f g k = f h e
 of_either P None p true b h e f g k = absurd (cc)
 of_either P None p false b h e f g k = g h e
 
--- the keys of entries that rise make a set of as many
-none_tied : (d : Dot) (es : List (Dot × Holding)) → below_all dot_cmp d es ≡ true → list_any (eq_by_cmp dot_cmp d) (each (λ e. e.0) es) ≡ false
-none_tied d [] h = refl
-none_tied d (e ∷ es) h =
-    let p = and_parts (is_lt (dot_cmp d e.0)) (below_all dot_cmp d es) h in
-    ap (λ b. b || list_any (eq_by_cmp dot_cmp d) (each (λ e. e.0) es)) (apart_after d e.0 p.0) ∙ none_tied d es p.1
-
-pub len_keys : (es : List (Dot × Holding)) → maps.is_sorted dot_cmp es ≡ true → sets.len (sets.from_list {R = dot_cmp} (each (λ e. e.0) es)) ≡ length es
-len_keys [] h = sets.len-empty dot_cmp
-len_keys (e ∷ es) h =
-    let p = and_parts (below_all dot_cmp e.0 es) (maps.is_sorted dot_cmp es) h in
-    let rest = sets.from_list {R = dot_cmp} (each (λ e. e.0) es) in
-    sets.len-insert dots_total rest e.0
-    ∙ ap (λ b. cond b (sets.len rest) (sets.len rest + 1)) (sets.contains-from_list dots_total (each (λ e. e.0) es) e.0 ∙ none_tied e.0 es p.0)
-    ∙ ap (λ n. n + 1) (len_keys es p.1) ∙ omega arith
-
 module _ (cs ds : List LiveDot) (known more : sets.FinSet dot_cmp) where
   abbrev joined : List (Dot × Holding)
   joined = joined_entries (sets.contains known) (sets.contains more) cs ds
@@ -99,7 +80,7 @@ module _ (cs ds : List LiveDot) (known more : sets.FinSet dot_cmp) where
       ∙ (λ i. (sets.contains (sym same i) q || sets.contains (sym same_there i) q) && is_live (condition_joined (condition_at (o i) (sets.contains (sym same i) q)) (condition_at (p i) (sets.contains (sym same_there i) q))))
       ∙ stays_live (find dot_cmp q (entries_of cs)) (find dot_cmp q (entries_of ds)) (sets.contains known q) (sets.contains more q) (λ h e. found_known cs known q h a.in_context e) (λ h e. found_known ds more q h b.in_context e)
       ∙ ap is_some (sym (find-joined a.sorted b.sorted q)) ∙ is_some-find dot_cmp q joined ∙ sym (sets.contains-from_list dots_total (each (λ e. e.0) joined) q)))
-      ∙ len_keys joined (sorted-joined a.sorted b.sorted)
+      ∙ len_rising joined (sorted-joined a.sorted b.sorted)
 
   module _ (new : List LiveDot) (e : entries_of new ≡ joined) where
     pub new_rise : Rise cs → Rise ds → Rise new

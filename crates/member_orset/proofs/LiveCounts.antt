@@ -10,13 +10,13 @@ use Rattle.std.proofs.Math.Bool.{and-false}
 use Rattle.dots.specs.Values.{Dot}
 use Rattle.dots.specs.Orders.{dot_cmp}
 use Rattle.dots.proofs.DotOrder.{dots_total, dots_exact}
+use Rattle.dots.proofs.KeySets.{len_rising}
 use Rattle.dots.proofs.TruthTables.{truth, fact}
 use Rattle.member_orset.specs.declared.live_dot.LiveDot.{LiveDot}
 use Rattle.member_orset.specs.Members.{Members, Holding}
 use Rattle.member_orset.specs.LiveDots.{live_dots_without}
 use Rattle.member_orset.specs.LiveLists.{AreCells, entries_of, entry_of, live_of}
 use Rattle.member_orset.proofs.DotTests.{one_dot}
-use Rattle.member_orset.proofs.Joins.{len_keys}
 use Rattle.member_orset.proofs.Views.{entries-live_of}
 
 -- the keys of the entries that pass a test
@@ -65,5 +65,5 @@ len_without s others cs known a live =
     sets.contains-difference dots_total (sets.from_list (maps.keys s.live)) others q
     ∙ ap (λ b. b && test q) (sets.contains-from_list dots_total (maps.keys s.live) q ∙ ap (λ xs. list_any (eq_by_cmp dot_cmp q) (each (λ e. e.0) xs)) entries)
     ∙ has_passing test q es ∙ sym (sets.contains-from_list dots_total (each (λ e. e.0) (passing test es)) q)))
-    ∙ len_keys (passing test es) (fact _ (is_sorted-where_key dot_cmp test es (truth _ a.sorted)))
+    ∙ len_rising (passing test es) (fact _ (is_sorted-where_key dot_cmp test es (truth _ a.sorted)))
     ∙ counted test cs

@@ -1,5 +1,5 @@
 -- The index that is made anew of all cells.
-use Rattle.std.proofs.Common.{◌≡◌, ℕ, suc, ◌+◌, add-one, ◌<◌, Bool, true, false, cond, ◌&&◌, ◌||◌, List, [], ◌∷◌, length, get_or, map as each, Some, refl, sym, ap, ◌∙◌, subst, inl, inr, arith}
+use Rattle.std.proofs.Common.{◌≡◌, ℕ, suc, ◌+◌, add-one, ◌<◌, true, false, cond, ◌&&◌, ◌||◌, List, [], ◌∷◌, length, get_or, map as each, Some, refl, sym, ap, ◌∙◌, subst, inl, inr, arith}
 use Rattle.std.specs.FinMap.Entries.{below_all, find, is_sorted}
 use Rattle.std.specs.FinSet as sets
 use Rattle.std.specs.List.{AllByRecursion, IsDistinct, list_any}
@@ -15,6 +15,7 @@ use Rattle.std.proofs.Math.Bool.{and-false}
 use Rattle.dots.specs.Values.{Dot}
 use Rattle.dots.specs.Orders.{dot_cmp, member_cmp}
 use Rattle.dots.specs.declared.member.Member.{Member}
+use Rattle.dots.proofs.TruthTables.{first_alone, third_alone}
 use Rattle.member_orset.specs.declared.listed.Listed.{Listed}
 use Rattle.member_orset.specs.declared.live_dot.LiveDot.{LiveDot}
 use Rattle.member_orset.specs.LiveLists.{entries_of, holding, live_of}
@@ -47,20 +48,12 @@ held_by (c ∷ cs) m d s =
     ap (λ b. b || list_any (eq_by_cmp listed_cmp (entry m d)) (each listing cs)) (same_parts m c.member d c.dot) ∙ elim (cases_Bool (eq_by_cmp dot_cmp d c.dot)) [
       | inl t ↦
           let rest = none_listed m d cs (subst (λ x. below_all dot_cmp x (entries_of cs) ≡ true) (sym (one_dot d c.dot t)) (rise-head c cs s)) in
-          (λ i. (eq_by_cmp member_cmp m c.member && t i) || rest i) ∙ first (eq_by_cmp member_cmp m c.member)
+          (λ i. (eq_by_cmp member_cmp m c.member && t i) || rest i) ∙ first_alone (eq_by_cmp member_cmp m c.member)
           ∙ (λ i. option_map_or (eq_by_cmp member_cmp m) (option_map (λ h. h.0) (cond (sym t i) (Some (holding c)) (find dot_cmp d (entries_of cs)))) false)
       | inr f ↦
-          (λ i. (eq_by_cmp member_cmp m c.member && f i) || held_by cs m d (rise-tail c cs s) i) ∙ second (eq_by_cmp member_cmp m c.member) _
+          (λ i. (eq_by_cmp member_cmp m c.member && f i) || held_by cs m d (rise-tail c cs s) i) ∙ third_alone (eq_by_cmp member_cmp m c.member) _
           ∙ (λ i. option_map_or (eq_by_cmp member_cmp m) (option_map (λ h. h.0) (cond (sym f i) (Some (holding c)) (find dot_cmp d (entries_of cs)))) false)
     ]
-  where
-    first : (b : Bool) → ((b && true) || false) ≡ b
-    first true = refl
-    first false = refl
-
-    second : (b x : Bool) → ((b && false) || x) ≡ x
-    second true x = refl
-    second false x = refl
 
 -- the entries of cells that rise differ
 apart_all : (m : Member) (d : Dot) (cs : List LiveDot) → below_all dot_cmp d (entries_of cs) ≡ true → AllByRecursion (λ y. eq_by_cmp listed_cmp (entry m d) y ≡ false) (each listing cs)

@@ -1,23 +1,19 @@
 -- Steps of the walks that take memory and give it back. Assumes `Logic`.
 --     Al, Data, data_val, told, made      the allocator's names; the one field of `Lease`, which takes no bytes
---     pair_val, pair_of      a pair of two values
 --     then_runs      what runs after an arm
 use Rattle.std.proofs.Common.{◌≡◌, List, [], ◌∷◌, ◌++◌, refl, ap, ◌∙◌}
 use seplogic.Ra.Ura.{Ura}
 use mir.Syntax.{Body}
 use mir.Val.{Val, vstruct, vcons, vnil, of_list}
-use base.Logic.{ent, sep, emp}
+use base.Logic.{ent, emp}
 use prog.Wp.{Env, Calls, Loops, Wp, after_seq}
 use types.Logic.{Logic, sem}
-use types.Kit.{Post, any_q, post, ‵, ◌$◌, ◌∵◌, !, qed, move, fjoin, fpack, feq_i, done}
-use denote.RattleType.{RattleType, Valss}
+use types.Kit.{Post, any_q, post}
+use denote.RattleType.{RattleType}
 use denote.Laws.{Is}
 use denote.Shadow.{makes_shadow}
-use denote.Steps.{nothing}
-use denote.Struct.Struct.{Struct, within}
+use denote.Struct.Struct.{Struct}
 use denote.Struct.Owning.{shape}
-use denote.Struct.Declared as Declared
-use denote.Struct.Tuple.{Tuple, tuple_type}
 use Rattle.core.specs.declared.alloc.Allocator.{Ghosts}
 use Rattle.op_arena.specs.contracts.places.Lease as lease
 
@@ -33,16 +29,6 @@ module _ (Y A : RattleType) (g : Ghosts A.Denot) where
 
   pub made : {M : Type 1} {𝓤 : Ura M} (𝓛 : Logic 𝓤) → ent 𝓤 (emp 𝓤) (sem 𝓛 (Data.own_val (tt, tt) (data_val ∷ [])))
   made 𝓛 = makes_shadow 𝓛 (Data.own_val (tt, tt) (data_val ∷ [])) (λ _. (tt, ((λ _. (tt, tt)), tt))) ((vstruct vnil ∷ [], tt), (refl, ((tt, (refl, tt)), tt)))
-
-abbrev pub pair_val : Val → Val → Val
-pair_val u v = vstruct (vcons u (vcons v vnil))
-
-pub pair_of : {M : Type 1} {𝓤 : Ura M} (𝓛 : Logic 𝓤) (R S : RattleType) (x : R.Denot) (y : S.Denot) (u v : Val)
-    → ent 𝓤 (sep 𝓤 (sem 𝓛 (R.own_val x (u ∷ []))) (sem 𝓛 (S.own_val y (v ∷ [])))) (sem 𝓛 ((Tuple (R ∷ S ∷ [])).own_val (x, y) (pair_val u v ∷ [])))
-pair_of 𝓛 R S x y u v =
-    qed 𝓛 (‵ (R.own_val x (u ∷ [])) ∷ ‵ (S.own_val y (v ∷ [])) ∷ []) ∵ nothing ! $ move ! (2 ∷ 0 ∷ []) $ fjoin ! $ move ! (1 ∷ 0 ∷ []) $ fjoin ! $
-    feq_i ! (List Val) (pair_val u v ∷ []) (pair_val u v ∷ []) refl $ fjoin ! $
-    fpack ! (Valss (R ∷ S ∷ [])) (within (Declared.shape (tuple_type (R ∷ S ∷ []))) (x, (y, tt)) (pair_val u v ∷ [])) (u ∷ [], (v ∷ [], tt)) $ done !
 
 abbrev pub then_runs : {M : Type 1} {𝓤 : Ura M} (𝓛 : Logic 𝓤) → Calls 𝓤 𝓛.H → Loops 𝓤 𝓛.H → Env 𝓤 𝓛.H → Body → Post 𝓤 𝓛.H → Post 𝓤 𝓛.H
 then_runs {𝓤 = 𝓤} 𝓛 C Λ E body q = any_q (after_seq 𝓤 𝓛.H (Wp 𝓤 𝓛.H C Λ E body (post 𝓤 𝓛.H q)) (post 𝓤 𝓛.H q))

@@ -1,4 +1,4 @@
-use Rattle.causal_context.proofs.Unions.{union-comm, union-assoc, union-same}
+use Rattle.dots.proofs.Unions.{union-comm, union-assoc, union-same}
 use Rattle.causal_context.proofs.laws.contexts_are_joined.Goals as goal
 
 pub returns : goal.returns

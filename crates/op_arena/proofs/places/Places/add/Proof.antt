@@ -42,6 +42,7 @@ use Rattle.core.proofs.alloc.Shapes.{after, head, arm_body}
 use Rattle.core.proofs.atomic.Steps.{fm}
 use Rattle.core.proofs.mem.Param.{El, elτ}
 use Rattle.core.proofs.slots.Leases.{uncapped, block_ty, block_size, block_align}
+use Rattle.std_alloc.proofs.Pairs as pairs
 use Rattle.std_alloc.proofs.ResultValues.{ok_of, err_of}
 use Rattle.op_arena.specs.CellRows.{owns_row}
 use Rattle.op_arena.specs.contracts.places.Places as places
@@ -88,7 +89,7 @@ add_spec 𝓤 𝓛 𝓜 𝓡 wired T A laws alloc_laws g d dd met md =
     answers Z ! at_mem run h τ v
     (λ b o e. let p : Ptr = block_ptr b o in
     let made : PlacesOf.Denot = record { first = p; slots = replicate n None } in let right : LeaseOf.Denot = record { marker = record {}; first = p; count = n; alloc = h } in
-    let u : Val = lease-steps.pair_val (places-steps.data_val p) lease-steps.data_val in
+    let u : Val = pairs.pair_val (places-steps.data_val p) lease-steps.data_val in
     lands_as ! e refl (Answer-typed true b o) $ first ! $ switches_on ! (get_tag ! (vrt ! refl (fld ! refl (stop !))) (whole !)) $ exec ! C Λ Ev (arm_body 0 arms) Then $
     sets ! (of_opd ! (get_in ! (vrt ! refl (fld ! refl (stop !))) (in_variant ! 0 0 refl refl (whole !)))) refl (tt, tt) $ sets ! (of_opd ! (get ! refl)) refl (tt, tt) $
     sets ! (agg ! (and_then ! (get ! refl) (no_more !))) refl (tt, (tt, tt)) $ sets ! (of_opd ! (get ! refl)) refl (tt, (tt, tt)) $
@@ -101,7 +102,7 @@ add_spec 𝓤 𝓛 𝓜 𝓡 wired T A laws alloc_laws g d dd met md =
     use1 𝓛 (‵ (froom (ty_array (elτ E) n) b o)) (𝓛.laws.raw-room (ty_array (elτ E) n) b o) $ use1 𝓛 (‵ (owns_row R b o made.slots)) (places-steps.of_room E 𝓛 b n o) $
     flt_i ! (length made.slots * s) (2 ^ 63) (subst (λ (k : ℕ). k * s < 2 ^ 63) (sym (length-replicate n None)) small) $ fjoin ! $
     use0 𝓛 (‵ ((places-steps.Data R).own_val (p, tt) (places-steps.data_val p ∷ []))) (places-steps.made R 𝓛 p) $ fjoin ! $
-    use2 𝓛 (‵ (Both.own_val (made, right) (u ∷ []))) (lease-steps.pair_of 𝓛 PlacesOf LeaseOf made right (places-steps.data_val p) lease-steps.data_val) $
+    use2 𝓛 (‵ (Both.own_val (made, right) (u ∷ []))) (pairs.pair_of 𝓛 PlacesOf LeaseOf made right (places-steps.data_val p) lease-steps.data_val) $
     use1 𝓛 (‵ (Out.own_val (Ok (made, right)) (live 0 (vcons u vnil) ∷ []))) (ok_of 𝓛 Both refusal.the_row (made, right) u) $
     returns ! (look_at ! 0 refl) $ free_all ! refl $ keep ! (0 ∷ 1 ∷ 2 ∷ []) $ by ! (out (Ok (made, right)) (live 0 (vcons u vnil)) (refl, refl, refl, refl)))
     (λ e. let Refusal : RattleType = Struct (Declared.shape refusal.the_type) in let none : Val = live 1 (vcons (vstruct vnil) vnil) in
