@@ -40,7 +40,7 @@ pub none_below : (d : Dot) (cs : List LiveDot) → below_all dot_cmp d (entries_
 none_below = rising.none_below dot_cmp dots_total dots_exact (λ c. c.dot) holding
 
 -- what is found of a dot that has the cell at its place
-pub found_at : (d : Dot) (cs : List LiveDot) (i : ℕ) (e : LiveDot) → i < length cs → Ahead d cs i → d ≡ (get_or cs i e).dot → find dot_cmp d (entries_of cs) ≡ Some (holding (get_or cs i e))
+pub found_at : (d : Dot) (cs : List LiveDot) (i : ℕ) (e : LiveDot) → Rise cs → i < length cs → d ≡ (get_or cs i e).dot → find dot_cmp d (entries_of cs) ≡ Some (holding (get_or cs i e))
 found_at = rising.found_at dot_cmp dots_total dots_exact (λ c. c.dot) holding
 
 -- nothing is found where the cell at the place lies after it
@@ -48,11 +48,11 @@ pub missed_at : (d : Dot) (cs : List LiveDot) (i : ℕ) → Rise cs → Ahead d 
 missed_at = rising.missed_at dot_cmp dots_total dots_exact (λ c. c.dot) holding
 
 -- a cell that is put in at its place
-pub put_at : (cs : List LiveDot) (i : ℕ) (c : LiveDot) → i ≤ length cs → Ahead c.dot cs i → (here : (e : LiveDot) → i < length cs → is_lt (dot_cmp c.dot (get_or cs i e).dot) ≡ true) → entries_of (insert cs i c) ≡ put dot_cmp c.dot (holding c) (entries_of cs)
+pub put_at : (cs : List LiveDot) (i : ℕ) (c : LiveDot) → Rise cs → i ≤ length cs → Ahead c.dot cs i → (here : (e : LiveDot) → i < length cs → is_lt (dot_cmp c.dot (get_or cs i e).dot) ≡ true) → entries_of (insert cs i c) ≡ put dot_cmp c.dot (holding c) (entries_of cs)
 put_at = rising.put_at dot_cmp dots_total dots_exact (λ c. c.dot) holding
 
 -- a cell that takes the place of the one of its dot
-pub set_at : (cs : List LiveDot) (i : ℕ) (c e : LiveDot) → i < length cs → Ahead c.dot cs i → c.dot ≡ (get_or cs i e).dot → entries_of (set cs i c) ≡ put dot_cmp c.dot (holding c) (entries_of cs)
+pub set_at : (cs : List LiveDot) (i : ℕ) (c e : LiveDot) → Rise cs → i < length cs → c.dot ≡ (get_or cs i e).dot → entries_of (set cs i c) ≡ put dot_cmp c.dot (holding c) (entries_of cs)
 set_at = rising.set_at dot_cmp dots_total dots_exact (λ c. c.dot) holding
 
 -- the cell of a dot that is taken out

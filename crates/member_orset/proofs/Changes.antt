@@ -149,7 +149,7 @@ All-insert : (P : LiveDot → Type 0) (cs : List LiveDot) (i : ℕ) (c : LiveDot
 All-insert P cs i c p a = All-append P (take i cs) (c ∷ drop i cs) (All-take P i cs a) (All-cons P c (drop i cs) p (All-drop P i cs a))
 
 brought_sorted : (cs : List LiveDot) (i : ℕ) (c : LiveDot) → Rise cs → IsGap cs c.dot i → Rise (insert cs i c)
-brought_sorted cs i c s gap = fact _ (subst (λ es. T (maps.is_sorted dot_cmp es)) (sym (put_at cs i c gap.within gap.before gap.after)) (is_sorted-put dot_cmp dots_total c.dot (holding c) (entries_of cs) (truth _ s)))
+brought_sorted cs i c s gap = fact _ (subst (λ es. T (maps.is_sorted dot_cmp es)) (sym (put_at cs i c s gap.within gap.before gap.after)) (is_sorted-put dot_cmp dots_total c.dot (holding c) (entries_of cs) (truth _ s)))
 
 -- a cell that is put in
 pub brought_cells : (cs : List LiveDot) (i : ℕ) (c : LiveDot) (known : sets.FinSet dot_cmp) → IsGap cs c.dot i → HasField c.fields → length cs < MOST_LIVE → AreCells cs known → AreCells (insert cs i c) (sets.insert known c.dot)
@@ -162,13 +162,13 @@ brought_cells cs i c known gap field room a = record {
 
 pub brought_live : (cs : List LiveDot) (i : ℕ) (c : LiveDot) (q : Dot) → Rise cs → IsGap cs c.dot i → maps.get (live_of (insert cs i c)) q ≡ cond (eq_by_cmp dot_cmp q c.dot) (Some (holding c)) (maps.get (live_of cs) q)
 brought_live cs i c q s gap =
-    get-live_of (insert cs i c) q (brought_sorted cs i c s gap) ∙ ap (find dot_cmp q) (put_at cs i c gap.within gap.before gap.after)
+    get-live_of (insert cs i c) q (brought_sorted cs i c s gap) ∙ ap (find dot_cmp q) (put_at cs i c s gap.within gap.before gap.after)
     ∙ find-put dot_cmp dots_total q c.dot (holding c) (entries_of cs) ∙ ap (cond (eq_by_cmp dot_cmp q c.dot) (Some (holding c))) (sym (get-live_of cs q s))
 
 -- a cell that takes the place of another of its dot
 pub met_live : (cs : List LiveDot) (i : ℕ) (x j : LiveDot) (q : Dot) → Rise cs → IsAt cs j.dot i → x ≡ get_or cs i x → maps.get (live_of (set cs i j)) q ≡ cond (eq_by_cmp dot_cmp q j.dot) (Some (holding j)) (maps.get (live_of cs) q)
 met_live cs i x j q s at is =
-    get-live_of (set cs i j) q (sorted-set cs i x j at.within is (at.here x ∙ ap (λ y. y.dot) (sym is)) ∙ s) ∙ ap (find dot_cmp q) (set_at cs i j x at.within at.before (at.here x))
+    get-live_of (set cs i j) q (sorted-set cs i x j at.within is (at.here x ∙ ap (λ y. y.dot) (sym is)) ∙ s) ∙ ap (find dot_cmp q) (set_at cs i j x s at.within (at.here x))
     ∙ find-put dot_cmp dots_total q j.dot (holding j) (entries_of cs) ∙ ap (cond (eq_by_cmp dot_cmp q j.dot) (Some (holding j))) (sym (get-live_of cs q s))
 
 -- the conditions where one dot is live with what it and one more condition make
@@ -193,7 +193,7 @@ absent cs d i known b s gap e = λ k. condition_at (gap_live cs d i s gap k) (sy
 -- what is known of a present dot
 pub present : (cs : List LiveDot) (d : Dot) (i : ℕ) (x : LiveDot) (known : sets.FinSet dot_cmp) → Rise cs → IsAt cs d i → x ≡ get_or cs i x → condition_of (members_of cs known) d ≡ Some (Live x.member x.fields)
 present cs d i x known s at is =
-    ap (λ o. condition_at o (sets.contains known d)) (get-live_of cs d s ∙ found_at d cs i x at.within at.before (at.here x) ∙ ap (λ y. Some (holding y)) (sym is))
+    ap (λ o. condition_at o (sets.contains known d)) (get-live_of cs d s ∙ found_at d cs i x s at.within (at.here x) ∙ ap (λ y. Some (holding y)) (sym is))
 
 pub present_known : (cs : List LiveDot) (d : Dot) (i : ℕ) (x : LiveDot) (known : sets.FinSet dot_cmp) → AreCells cs known → IsAt cs d i → x ≡ get_or cs i x → sets.contains known d ≡ true
 present_known cs d i x known a at is = ap (sets.contains known) (at.here x) ∙ All-get_or (λ c. sets.contains known c.dot ≡ true) cs i x at.within a.in_context

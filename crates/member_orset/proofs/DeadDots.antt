@@ -1,5 +1,5 @@
 -- The dead dots of a site, gathered in the order of their counts.
-use Rattle.std.proofs.Common.{◌≡◌, ℕ, ◌+◌, ◌≤◌, ◌<◌, ◌^◌, Bool, true, false, not, ◌&&◌, ◌||◌, nat_eq, sym, ap, ◌∙◌, arith}
+use Rattle.std.proofs.Common.{◌≡◌, ℕ, ◌+◌, ◌≤◌, ◌<◌, ◌^◌, [], Bool, true, false, not, ◌&&◌, ◌||◌, nat_eq, sym, ap, ◌∙◌, arith}
 use Rattle.std.specs.Prelude.{nat_lt, nat_le, List}
 use Rattle.std.specs.List.{All}
 use Rattle.std.specs.FinMap as maps
@@ -11,14 +11,13 @@ use Rattle.std.proofs.lemmas.List.Folds.{list_any_none}
 use Rattle.std.proofs.Math.Bool.{and-false, and-true}
 use Rattle.dots.specs.Values.{Dot}
 use Rattle.dots.specs.Orders.{dot_cmp}
-use Rattle.dots.specs.DotSets.{IsRunsOf, Run, in_run, in_runs}
+use Rattle.dots.specs.DotSets.{IsRunsOf, Run, in_run}
 use Rattle.dots.proofs.DotOrder.{dots_total, dots_exact}
 use Rattle.causal_context.specs.Contexts.{IsRun}
-use Rattle.member_orset.specs.declared.piece.Piece.{Piece}
 use Rattle.member_orset.specs.Members.{Holding}
 use Rattle.member_orset.specs.LiveDots.{dead_dots}
-use Rattle.member_orset.specs.Gathering.{IsPiece, part_before}
-use Rattle.member_orset.proofs.SeenDots.{contains-part, under}
+use Rattle.member_orset.specs.Gathering.{AreToName, part_before}
+use Rattle.member_orset.proofs.SeenDots.{contains-part, known_zero, under}
 
 abbrev at : ℕ → ℕ → Dot
 at site count = record { site = site; count = count }
@@ -57,10 +56,10 @@ module _ (known : sets.FinSet dot_cmp) (live : maps.FinMap dot_cmp Holding) (sit
   dead_site : (q : Dot) → sets.contains dead q ≡ true → nat_eq q.site site ≡ true
   dead_site q h = (and_parts (nat_eq q.site site) (not (maps.contains_key live q)) (and_parts (sets.contains known q) (is_dead q) (sym (contains-dead q) ∙ h)).1).0
 
-  pub dead_unknown : (n : ℕ) → sets.contains known (at site n) ≡ false → sets.contains dead (at site n) ≡ false
+  dead_unknown : (n : ℕ) → sets.contains known (at site n) ≡ false → sets.contains dead (at site n) ≡ false
   dead_unknown n h = dead_at n ∙ ap (λ b. b && not (maps.contains_key live (at site n))) h
 
-  pub dead_past : (runs : List Run) (n : ℕ) → IsRunsOf runs known → All IsRun runs → 2 ^ 40 < n → sets.contains dead (at site n) ≡ false
+  dead_past : (runs : List Run) (n : ℕ) → IsRunsOf runs known → All IsRun runs → 2 ^ 40 < n → sets.contains dead (at site n) ≡ false
   dead_past runs n is limits h = dead_unknown n (known_past runs known site n is limits h)
 
   -- all of them are of the site
@@ -73,21 +72,10 @@ module _ (known : sets.FinSet dot_cmp) (live : maps.FinMap dot_cmp Holding) (sit
   all_before_next = sets.same_set dots_total dots_exact _ _ (λ q.
       contains-part dead (site + 1) 0 q ∙ under (sets.contains dead q) _ true (λ t. before_next q.site q.count site (dead_site q t)) ∙ and-true (sets.contains dead q))
 
-  -- a piece where none is known, or where all are
-  module _ (runs : List Run) (are : IsRunsOf runs known) (first last : ℕ) (k : Piece) (known_is : IsPiece (λ n. in_runs runs (at site n)) first last k) where
-    pub unknown_piece : k.inside ≡ false → IsPiece (λ n. sets.contains dead (at site n)) first last k
-    unknown_piece y = record {
-      some = known_is.some;
-      within = known_is.within;
-      same = λ n lo hi. dead_unknown n (are.same (at site n) ∙ known_is.same n lo hi ∙ y) ∙ sym y;
-    }
-
-    pub known_piece : (l r : Piece) → k.inside ≡ true → IsPiece (λ n. maps.contains_key live (at site n)) first k.last l → r.inside ≡ not l.inside → r.last ≡ l.last → IsPiece (λ n. sets.contains dead (at site n)) first last r
-    known_piece l r y live_is inside end = record {
-      some = let a = live_is.some in omega arith;
-      within = let a = live_is.within in let b = known_is.within in omega arith;
-      same = λ n lo hi.
-          let in_live : n ≤ l.last = omega arith in
-          let in_known : n ≤ k.last = let a = live_is.within in omega arith in
-          dead_at n ∙ (λ i. (are.same (at site n) ∙ known_is.same n lo in_known ∙ y) i && not (live_is.same n lo in_live i)) ∙ sym inside;
-    }
+  -- so they are the dead ones up to the greatest count
+  pub dead_to_name : (runs : List Run) (last : ℕ) → IsRunsOf runs known → All IsRun runs → 2 ^ 40 ≤ last → AreToName known live [] site last dead
+  dead_to_name runs last is limits most = record {
+    not_zero = dead_unknown 0 (known_zero runs known site is limits);
+    same = λ n lo hi. dead_at n;
+    none_past = λ n h. dead_past runs n is limits (omega arith);
+  }

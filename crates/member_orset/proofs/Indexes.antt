@@ -70,16 +70,16 @@ other q index i e within none same = absurd (true≢false (sym (list_any_at (eq_
 
 -- one more entry, at its place
 module _ (index : List Listed) (i : ℕ) (l : Listed) (at : IsPlaceFor index l i) (none : is_listed index l.member l.dot ≡ false) where
-  put : listings (insert index i l) ≡ maps.Entries.put listed_cmp l tt (listings index)
-  put = rising.put_at listed_cmp listed_total listed_exact (λ x. x) (λ x. tt) index i l at.within at.before
+  put : Rises index → listings (insert index i l) ≡ maps.Entries.put listed_cmp l tt (listings index)
+  put s = rising.put_at listed_cmp listed_total listed_exact (λ x. x) (λ x. tt) index i l s at.within at.before
       (λ e k. rising.after listed_cmp listed_total listed_exact (get_or index i e) l (λ same. other l index i e k none (sym same)) (at.past i e (omega arith) k))
 
   pub more_rises : Rises index → Rises (insert index i l)
-  more_rises s = fact _ (subst (λ es. T (is_sorted listed_cmp es)) (sym put) (is_sorted-put listed_cmp listed_total l tt (listings index) (truth _ s)))
+  more_rises s = fact _ (subst (λ es. T (is_sorted listed_cmp es)) (sym (put s)) (is_sorted-put listed_cmp listed_total l tt (listings index) (truth _ s)))
 
-  pub more_lists : (m : Member) (dot : Dot) → is_listed (insert index i l) m dot ≡ (eq_by_cmp listed_cmp (entry m dot) l || is_listed index m dot)
-  more_lists m dot =
-      any_find (entry m dot) (insert index i l) ∙ ap (λ es. is_some (find listed_cmp (entry m dot) es)) put
+  pub more_lists : Rises index → (m : Member) (dot : Dot) → is_listed (insert index i l) m dot ≡ (eq_by_cmp listed_cmp (entry m dot) l || is_listed index m dot)
+  more_lists s m dot =
+      any_find (entry m dot) (insert index i l) ∙ ap (λ es. is_some (find listed_cmp (entry m dot) es)) (put s)
       ∙ ap is_some (find-put listed_cmp listed_total (entry m dot) l tt (listings index))
       ∙ one (eq_by_cmp listed_cmp (entry m dot) l) (find listed_cmp (entry m dot) (listings index))
       ∙ ap (λ b. eq_by_cmp listed_cmp (entry m dot) l || b) (sym (any_find (entry m dot) index))

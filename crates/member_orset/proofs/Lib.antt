@@ -13,6 +13,7 @@ pub mod JoinedCells
 pub mod Joins
 pub mod SeenDots
 pub mod Pieces
+pub mod SiteWalk
 pub mod MemberOrder
 pub mod Indexes
 pub mod Relisted

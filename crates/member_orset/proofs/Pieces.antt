@@ -90,7 +90,7 @@ no_less d n h x l = lt_dots x (at d.site n) ∙ later_on d.site x.site x.count d
 -- cells
 pub cell_here : (cells : List LiveDot) (d : Dot) (i : ℕ) → Rise cells → IsAt cells d i → maps.contains_key (live_of cells) (at d.site d.count) ≡ true
 cell_here [] d i s is = absurd (let l = is.within in omega arith)
-cell_here (x ∷ cells) d i s is = ap is_some (get-live_of (x ∷ cells) d s ∙ found_at d (x ∷ cells) i x is.within is.before (is.here x))
+cell_here (x ∷ cells) d i s is = ap is_some (get-live_of (x ∷ cells) d s ∙ found_at d (x ∷ cells) i x s is.within (is.here x))
 
 no_cell : (cells : List LiveDot) (d : Dot) (i n : ℕ) → Rise cells → IsGap cells d i → d.count ≤ n → ((e : LiveDot) → i < length cells → is_lt (dot_cmp (at d.site n) (get_or cells i e).dot) ≡ true) → maps.contains_key (live_of cells) (at d.site n) ≡ false
 no_cell cells d i n s gap h past =
@@ -130,3 +130,10 @@ given_now given i x l e =
     ap (list_any (eq_by_cmp dot_cmp x)) (take_more given i x l) ∙ list_any-append (eq_by_cmp dot_cmp x) (take i given) (get_or given i x ∷ [])
     ∙ ap (λ y. list_any (eq_by_cmp dot_cmp x) (take i given) || (eq_by_cmp dot_cmp x y || false)) (sym e)
     ∙ ap (λ b. list_any (eq_by_cmp dot_cmp x) (take i given) || (b || false)) (same_itself x) ∙ or-true (list_any (eq_by_cmp dot_cmp x) (take i given))
+
+-- what lies before a dot lies before those of later counts
+pub runs_ahead : (d : Dot) (site n : ℕ) (runs : List Run) (i : ℕ) → d.site ≡ site → d.count ≤ n → AllWithin (λ r. is_below d r ≡ true) runs 0 i → AllWithin (λ r. is_below (at site n) r ≡ true) runs 0 i
+runs_ahead d site n runs i same h before k e lo hi = ap (λ s. is_below (at s n) (get_or runs k e)) (sym same) ∙ still_below d n (get_or runs k e) h (before k e lo hi)
+
+pub cells_ahead : (d : Dot) (site n : ℕ) (cells : List LiveDot) (i : ℕ) → d.site ≡ site → d.count ≤ n → AllWithin (λ c. is_lt (dot_cmp c.dot d) ≡ true) cells 0 i → AllWithin (λ c. is_lt (dot_cmp c.dot (at site n)) ≡ true) cells 0 i
+cells_ahead d site n cells i same h before k e lo hi = ap (λ s. is_lt (dot_cmp (get_or cells k e).dot (at s n))) (sym same) ∙ no_less d n h (get_or cells k e).dot (before k e lo hi)

@@ -1,15 +1,19 @@
 -- Lists whose keys rise by an order: what is found in them, and what they are after one more, one replaced or one less.
-use Rattle.std.proofs.Common.{◌≡◌, ◌≢◌, ℕ, Bool, suc, zero, ◌≤◌, ◌<◌, true, false, not, cond, List, [], ◌∷◌, length, map as each, get_or, set, Some, None, refl, sym, ap, ◌∙◌, subst, arith}
+use Rattle.std.proofs.Common.{◌≡◌, ◌≢◌, ℕ, Bool, suc, zero, ◌≤◌, ◌<◌, true, false, not, cond, List, [], ◌∷◌, length, map as each, get_or, set, Some, None, inl, inr, refl, sym, ap, ◌∙◌, subst, arith}
 use Rattle.std.specs.Cmp.{IsTotalOrder}
 use Rattle.std.specs.FinMap.{IsAntisymmetric}
-use Rattle.std.specs.FinMap.Entries.{put, find, is_sorted, below_all, where_key, by_order}
+use Rattle.std.specs.FinMap.Entries.{put, find, is_sorted, below_all, where_key}
 use Rattle.std.specs.List.{AllWithin, insert, remove}
 use Rattle.std.specs.List.Sorted.{IsPartitionedBy}
 use Rattle.std.specs.Ordering.{is_lt, is_eq, eq_by_cmp, ordering_reverse}
 use Rattle.std.specs.declared.cmp.Ordering.{Ordering}
 use Rattle.std.specs.declared.cmp.Ordering.TheVariants.{Less, Equal, Greater}
-use Rattle.std.proofs.lemmas.Bool.{and_parts, and_from}
+use Rattle.std.proofs.lemmas.Bool.{and_parts, cases_lt}
+use Rattle.std.proofs.lemmas.List.{get_or-map, get_or_default, length-map, map-set}
 use Rattle.std.proofs.lemmas.Cmp.{tied_itself}
+use Rattle.dots.specs.SortedEntries.{IsAt, IsGapFor}
+use Rattle.dots.proofs.SortedEntries as sorted
+use Rattle.dots.proofs.SortedEntries.{find_at, find_below, find_in_gap, put_in_gap, rising_at, rising_head, rising_tail}
 use Rattle.dots.proofs.TruthTables.{equal_of, less_of}
 
 greater : (o : Ordering) → is_lt o ≡ false → is_eq o ≡ false → o ≡ Greater
@@ -65,10 +69,10 @@ module _ {X K V : Type 0} (R : K → K → Ordering) (o : IsTotalOrder R) (exact
   Ahead d cs i = AllWithin (λ c. is_lt (R (key c) d) ≡ true) cs 0 i
 
   pub rise-tail : (c : X) (cs : List X) → Rise (c ∷ cs) → Rise cs
-  rise-tail c cs h = (and_parts (below_all R (key c) (entries cs)) (is_sorted R (entries cs)) h).1
+  rise-tail c cs h = rising_tail R o (key c, value c) (entries cs) h
 
   pub rise-head : (c : X) (cs : List X) → Rise (c ∷ cs) → below_all R (key c) (entries cs) ≡ true
-  rise-head c cs h = (and_parts (below_all R (key c) (entries cs)) (is_sorted R (entries cs)) h).0
+  rise-head c cs h = rising_head R o (key c, value c) (entries cs) h
 
   -- what lies before all keys lies before each
   pub below_at : (d : K) (cs : List X) → below_all R d (entries cs) ≡ true → (k : ℕ) (e : X) → k < length cs → is_lt (R d (key (get_or cs k e))) ≡ true
@@ -77,10 +81,7 @@ module _ {X K V : Type 0} (R : K → K → Ordering) (o : IsTotalOrder R) (exact
   below_at d (c ∷ cs) h (suc k) e l = below_at d cs (and_parts (is_lt (R d (key c))) (below_all R d (entries cs)) h).1 k e (omega arith)
 
   pub below_from : (d x : K) (cs : List X) → is_lt (R d x) ≡ true → below_all R x (entries cs) ≡ true → below_all R d (entries cs) ≡ true
-  below_from d x [] l h = refl
-  below_from d x (c ∷ cs) l h =
-      let p = and_parts (is_lt (R x (key c))) (below_all R x (entries cs)) h in
-      and_from (is_lt (R d (key c))) (below_all R d (entries cs)) (before_trans R o exact d x (key c) l p.0) (below_from d x cs l p.1)
+  below_from d x cs l h = sorted.below_from R o d x (entries cs) (less_of _ l) h
 
   -- elements that pass a test come first, where each that lies before one that passes it passes it
   pub partitioned_by : (p : X → Bool) → ((a b : X) → is_lt (R (key a) (key b)) ≡ true → p b ≡ true → p a ≡ true) → (cs : List X) → Rise cs → IsPartitionedBy p cs
@@ -101,46 +102,67 @@ module _ {X K V : Type 0} (R : K → K → Ordering) (o : IsTotalOrder R) (exact
   ahead-head d c cs i a = a 0 c (omega arith) (omega arith)
 
   pub none_below : (d : K) (cs : List X) → below_all R d (entries cs) ≡ true → find R d (entries cs) ≡ None
-  none_below d [] h = refl
-  none_below d (c ∷ cs) h =
-      let p = and_parts (is_lt (R d (key c))) (below_all R d (entries cs)) h in
-      ap (λ b. cond b (Some (value c)) (find R d (entries cs))) (apart_after R o exact d (key c) p.0) ∙ none_below d cs p.1
+  none_below d cs h = find_below R o d (entries cs) h
+
+  entry_at : (cs : List X) (i : ℕ) (e : X) (d : K × V) → i < length cs → get_or (entries cs) i d ≡ (key (get_or cs i e), value (get_or cs i e))
+  entry_at cs i e d l = get_or-map (λ x. (key x, value x)) cs i e d l
+
+  count : (cs : List X) → length (entries cs) ≡ length cs
+  count cs = length-map cs (λ x. (key x, value x))
+
+  -- the place of an element's key among the entries
+  at : (d : K) (cs : List X) (i : ℕ) (e : X) → i < length cs → d ≡ key (get_or cs i e) → IsAt (entries cs) d i
+  at d cs i e l h = record {
+    in_range = omega (arith, count cs);
+    has_key = λ n. ap (λ x. x.0) (entry_at cs i e n l) ∙ sym h;
+  }
+
+  -- the gap for a key, of which the keys before a place lie before it, and the one there lies after it
+  gap : (d : K) (cs : List X) (i : ℕ) → Rise cs → Ahead d cs i → i ≤ length cs → (here : (e : X) → i < length cs → is_lt (R d (key (get_or cs i e))) ≡ true) → IsGapFor R (entries cs) d i
+  gap d [] i s a w h = record {
+    in_range = w;
+    smaller_before = λ j n lt. absurd (omega arith);
+    greater_after = λ j n le lt. absurd (omega arith);
+  }
+  gap d (c ∷ cs) i s a w h = record {
+    in_range = omega (arith, count (c ∷ cs));
+    smaller_before = λ j n lt. ap (λ x. R x.0 d) (entry_at (c ∷ cs) j c n (omega arith)) ∙ less_of _ (a j c (omega arith) lt);
+    greater_after = λ j n le lt.
+        let there : j < length (c ∷ cs) = omega (arith, count (c ∷ cs)) in
+        ap (λ x. R x.0 d) (entry_at (c ∷ cs) j c n there) ∙ turned R o exact d (key (get_or (c ∷ cs) j c)) (later j there le);
+  }
+    where
+      later : (j : ℕ) → j < length (c ∷ cs) → i ≤ j → is_lt (R d (key (get_or (c ∷ cs) j c))) ≡ true
+      later j l le = elim (cases_lt i j) [
+        | inl m ↦ before_trans R o exact d (key (get_or (c ∷ cs) i c)) (key (get_or (c ∷ cs) j c)) (h c (omega arith))
+            (ap is_lt ((λ k. R (sym (ap (λ x. x.0) (entry_at (c ∷ cs) i c (key c, value c) (omega arith))) k) (sym (ap (λ x. x.0) (entry_at (c ∷ cs) j c (key c, value c) l)) k))
+            ∙ rising_at R o (entries (c ∷ cs)) s i j (key c, value c) m (omega (arith, count (c ∷ cs)))))
+        | inr m ↦ let e : j ≡ i = omega arith in ap (λ k. is_lt (R d (key (get_or (c ∷ cs) k c)))) e ∙ h c (omega arith)
+      ]
 
   -- what is found of the key that stands at a place
-  pub found_at : (d : K) (cs : List X) (i : ℕ) (e : X) → i < length cs → Ahead d cs i → d ≡ key (get_or cs i e) → find R d (entries cs) ≡ Some (value (get_or cs i e))
-  found_at d [] i e l a h = absurd (omega arith)
-  found_at d (c ∷ cs) zero e l a h = ap (λ b. cond b (Some (value c)) (find R d (entries cs))) (same_tied R o exact d (key c) h)
-  found_at d (c ∷ cs) (suc i) e l a h =
-      ap (λ b. cond b (Some (value c)) (find R d (entries cs))) (apart R o exact (key c) d (ahead-head d c cs i a)) ∙ found_at d cs i e (omega arith) (ahead-tail d c cs i a) h
+  pub found_at : (d : K) (cs : List X) (i : ℕ) (e : X) → Rise cs → i < length cs → d ≡ key (get_or cs i e) → find R d (entries cs) ≡ Some (value (get_or cs i e))
+  found_at d cs i e s l h =
+      let n : K × V = (key e, value e) in
+      find_at R o (entries cs) s d i n (at d cs i e l h) ∙ ap (λ x. Some x.1) (entry_at cs i e n l)
 
   -- nothing is found where the key at the place lies after it
   pub missed_at : (d : K) (cs : List X) (i : ℕ) → Rise cs → Ahead d cs i → i ≤ length cs → (here : (e : X) → i < length cs → is_lt (R d (key (get_or cs i e))) ≡ true) → find R d (entries cs) ≡ None
-  missed_at d [] i s a w h = refl
-  missed_at d (c ∷ cs) zero s a w h =
-      ap (λ b. cond b (Some (value c)) (find R d (entries cs))) (apart_after R o exact d (key c) (h c (omega arith))) ∙ none_below d cs (below_from d (key c) cs (h c (omega arith)) (rise-head c cs s))
-  missed_at d (c ∷ cs) (suc i) s a w h =
-      ap (λ b. cond b (Some (value c)) (find R d (entries cs))) (apart R o exact (key c) d (ahead-head d c cs i a))
-      ∙ missed_at d cs i (rise-tail c cs s) (ahead-tail d c cs i a) (omega arith) (λ e l. h e (omega arith))
+  missed_at d cs i s a w h = find_in_gap R o (entries cs) d i (gap d cs i s a w h)
 
   -- an element that is put in at its place
-  pub put_at : (cs : List X) (i : ℕ) (c : X) → i ≤ length cs → Ahead (key c) cs i → (here : (e : X) → i < length cs → is_lt (R (key c) (key (get_or cs i e))) ≡ true) → entries (insert cs i c) ≡ put R (key c) (value c) (entries cs)
-  put_at [] zero c w a h = refl
-  put_at [] (suc i) c w a h = absurd (omega arith)
-  put_at (x ∷ cs) zero c w a h =
-      ap (λ o. by_order o ((key c, value c) ∷ entries (x ∷ cs)) ((key x, value c) ∷ entries cs) ((key x, value x) ∷ put R (key c) (value c) (entries cs))) (sym (less_of _ (h x (omega arith))))
-  put_at (x ∷ cs) (suc i) c w a h =
-      ap (λ es. (key x, value x) ∷ es) (put_at cs i c (omega arith) (ahead-tail (key c) x cs i a) (λ e l. h e (omega arith)))
-      ∙ ap (λ o. by_order o ((key c, value c) ∷ entries (x ∷ cs)) ((key x, value c) ∷ entries cs) ((key x, value x) ∷ put R (key c) (value c) (entries cs))) (sym (turned R o exact (key x) (key c) (ahead-head (key c) x cs i a)))
+  pub put_at : (cs : List X) (i : ℕ) (c : X) → Rise cs → i ≤ length cs → Ahead (key c) cs i → (here : (e : X) → i < length cs → is_lt (R (key c) (key (get_or cs i e))) ≡ true) → entries (insert cs i c) ≡ put R (key c) (value c) (entries cs)
+  put_at cs i c s w a h = inserted cs i c ∙ put_in_gap R o (entries cs) (key c) (value c) i (gap (key c) cs i s a w h)
+    where
+      inserted : (xs : List X) (j : ℕ) (x : X) → entries (insert xs j x) ≡ insert (entries xs) j (key x, value x)
+      inserted [] zero x = refl
+      inserted [] (suc j) x = refl
+      inserted (y ∷ xs) zero x = refl
+      inserted (y ∷ xs) (suc j) x = ap (λ es. (key y, value y) ∷ es) (inserted xs j x)
 
   -- an element that takes the place of the one of its key
-  pub set_at : (cs : List X) (i : ℕ) (c e : X) → i < length cs → Ahead (key c) cs i → key c ≡ key (get_or cs i e) → entries (set cs i c) ≡ put R (key c) (value c) (entries cs)
-  set_at [] i c e l a h = absurd (omega arith)
-  set_at (x ∷ cs) zero c e l a h =
-      ap (λ d. (d, value c) ∷ entries cs) h
-      ∙ ap (λ o. by_order o ((key c, value c) ∷ entries (x ∷ cs)) ((key x, value c) ∷ entries cs) ((key x, value x) ∷ put R (key c) (value c) (entries cs))) (sym (equal_of (R (key c) (key x)) (same_tied R o exact (key c) (key x) h)))
-  set_at (x ∷ cs) (suc i) c e l a h =
-      ap (λ es. (key x, value x) ∷ es) (set_at cs i c e (omega arith) (ahead-tail (key c) x cs i a) h)
-      ∙ ap (λ o. by_order o ((key c, value c) ∷ entries (x ∷ cs)) ((key x, value c) ∷ entries cs) ((key x, value x) ∷ put R (key c) (value c) (entries cs))) (sym (turned R o exact (key x) (key c) (ahead-head (key c) x cs i a)))
+  pub set_at : (cs : List X) (i : ℕ) (c e : X) → Rise cs → i < length cs → key c ≡ key (get_or cs i e) → entries (set cs i c) ≡ put R (key c) (value c) (entries cs)
+  set_at cs i c e s l h = map-set (λ x. (key x, value x)) cs i c ∙ sorted.put_at R o (entries cs) s (key c) (value c) i (at (key c) cs i e l h)
 
   -- all stay where none has the key
   kept : (d : K) (cs : List X) → below_all R d (entries cs) ≡ true → entries cs ≡ where_key R (λ x. not (eq_by_cmp R d x)) (entries cs)
@@ -161,9 +183,7 @@ module _ {X K V : Type 0} (R : K → K → Ordering) (o : IsTotalOrder R) (exact
       ∙ ap (λ b. cond (not b) ((key c, value c) ∷ where_key R (λ x. not (eq_by_cmp R d x)) (entries cs)) (where_key R (λ x. not (eq_by_cmp R d x)) (entries cs))) (sym (apart R o exact (key c) d (ahead-head d c cs i a)))
 
   pub same_place : (cs : List X) (i : ℕ) (e x : X) → i < length cs → get_or cs i e ≡ get_or cs i x
-  same_place [] i e x l = absurd (omega arith)
-  same_place (c ∷ cs) zero e x l = refl
-  same_place (c ∷ cs) (suc i) e x l = same_place cs i e x (omega arith)
+  same_place cs i e x l = get_or_default cs i e x l
 
   -- a key that doesn't lie before another, and isn't that one, lies after it
   pub lies_after : (d : K) (cs : List X) (i : ℕ) (x : X) → i < length cs → x ≡ get_or cs i x → d ≢ key x

@@ -12,17 +12,16 @@ use Rattle.std.proofs.lemmas.List.Folds.{list_any_none}
 use Rattle.std.proofs.Math.Bool.{and-false, and-true, or-false, or_comm}
 use Rattle.dots.specs.Values.{Dot, IsSite}
 use Rattle.dots.specs.Orders.{dot_cmp}
-use Rattle.dots.specs.DotSets.{IsRunsOf, Run, dots_between, in_run, in_runs, next_dot, run_count, is_older}
+use Rattle.dots.specs.DotSets.{IsRunsOf, Run, dots_between, in_run, next_dot, run_count, is_older}
 use Rattle.dots.proofs.DotOrder.{dots_total, dots_exact, same_dot}
 use Rattle.dots.proofs.OneMoreDot.{dot_before, run_count-insert}
 use Rattle.dots.proofs.Runs.{contains-set_of}
 use Rattle.dots.proofs.TruthTables.{or_swap}
 use Rattle.causal_context.specs.Contexts.{IsRun}
-use Rattle.member_orset.specs.declared.piece.Piece.{Piece}
 use Rattle.member_orset.specs.Members.{Holding}
 use Rattle.member_orset.proofs.DotTests.{one_dot}
 use Rattle.member_orset.specs.Reads.{seen_dots}
-use Rattle.member_orset.specs.Gathering.{IsGreatest, IsPiece, is_given, part_before, runs_after}
+use Rattle.member_orset.specs.Gathering.{AreToName, IsGreatest, is_given, is_to_name, part_before, runs_after}
 
 abbrev Dots : Type 0
 Dots = sets.FinSet dot_cmp
@@ -248,7 +247,7 @@ module _ (known : Dots) (live : maps.FinMap dot_cmp Holding) (given : List Dot) 
       (λ d t. let e = one_dot (at site last) d t in is_older_than d.site d.count site n last (sym (ap (λ x. x.site) e)) (sym (ap (λ x. x.count) e)) h) (g.reached (omega arith))
 
   -- past the greatest given dot nothing was seen, nor at the count 0
-  pub seen_past : (n : ℕ) → last < n → sets.contains seen (at site n) ≡ false
+  seen_past : (n : ℕ) → last < n → sets.contains seen (at site n) ≡ false
   seen_past n h =
       contains-seen known live given (at site n)
       ∙ or_from _ _ (list_any_none (eq_by_cmp dot_cmp (at site n)) given (All-weaker (λ d. d.site ≡ site → d.count ≤ last) (λ d. eq_by_cmp dot_cmp (at site n) d ≡ false) (λ d m. not_this site n d (λ s c. let k = m s in omega arith)) given g.most))
@@ -259,51 +258,28 @@ module _ (known : Dots) (live : maps.FinMap dot_cmp Holding) (given : List Dot) 
       none true false = refl
       none false b = refl
 
-  pub seen_zero : sets.contains known (at site 0) ≡ false → sets.contains seen (at site 0) ≡ false
+  seen_zero : sets.contains known (at site 0) ≡ false → sets.contains seen (at site 0) ≡ false
   seen_zero k =
       contains-seen known live given (at site 0)
       ∙ or_from _ _ (list_any_none (eq_by_cmp dot_cmp (at site 0)) given (All-weaker (λ d. d.site ≡ site → 1 ≤ d.count) (λ d. eq_by_cmp dot_cmp (at site 0) d ≡ false) (λ d m. not_this site 0 d (λ s c. let k = m s in omega arith)) given g.least))
       (ap (λ b. b && (not (maps.contains_key live (at site 0)) && is_older given (at site 0))) k)
 
-  -- a piece where all are given, where none is given or known, or where none is given and all are known
-  pub seen_given : (first : ℕ) (p : Piece) → IsPiece (λ n. is_given given (at site n)) first last p → p.inside ≡ true → IsPiece (λ n. sets.contains seen (at site n)) first last p
-  seen_given first p is y = record {
-    some = is.some;
-    within = is.within;
-    same = λ n lo hi. contains-seen known live given (at site n) ∙ ap (λ b. b || dead_below (at site n)) (is.same n lo hi ∙ y) ∙ sym y;
+  -- so those of the site are the given and the dead ones up to there
+  up_to : (n : ℕ) → 1 ≤ n → n ≤ last → (is_given given (at site n) || dead_below (at site n)) ≡ is_to_name known live given (at site n)
+  up_to n lo hi = elim (cases_lt n last) [
+    | inl m ↦ ap (λ b. is_given given (at site n) || (sets.contains known (at site n) && b)) (ap (λ b. not (maps.contains_key live (at site n)) && b) (older_below n m) ∙ and-true (not (maps.contains_key live (at site n))))
+    | inr m ↦
+        let e : n ≡ last = omega arith in
+        let t : is_given given (at site n) ≡ true = ap (λ x. is_given given (at site x)) e ∙ g.reached (omega arith) in
+        ap (λ b. b || dead_below (at site n)) t ∙ sym (ap (λ b. b || (sets.contains known (at site n) && not (maps.contains_key live (at site n)))) t)
+  ]
+
+  pub seen_to_name : sets.contains known (at site 0) ≡ false → AreToName known live given site last seen
+  seen_to_name k = record {
+    not_zero = seen_zero k;
+    same = λ n lo hi. contains-seen known live given (at site n) ∙ up_to n lo hi;
+    none_past = seen_past;
   }
-
-  module _ (runs : List Run) (are : IsRunsOf runs known) (first : ℕ) (p k : Piece) (given_is : IsPiece (λ n. is_given given (at site n)) first last p) (ungiven : p.inside ≡ false)
-      (known_is : IsPiece (λ n. in_runs runs (at site n)) first p.last k) where
-    pub seen_unknown : k.inside ≡ false → IsPiece (λ n. sets.contains seen (at site n)) first last k
-    seen_unknown y = record {
-      some = known_is.some;
-      within = let a = known_is.within in let b = given_is.within in omega arith;
-      same = λ n lo hi.
-          contains-seen known live given (at site n)
-          ∙ (λ i. (given_is.same n lo (let a = known_is.within in omega arith) ∙ ungiven) i || ((are.same (at site n) ∙ known_is.same n lo hi ∙ y) i && (not (maps.contains_key live (at site n)) && is_older given (at site n))))
-          ∙ sym y;
-    }
-
-    pub seen_known : (l r : Piece) → 1 ≤ first → k.inside ≡ true → IsPiece (λ n. maps.contains_key live (at site n)) first k.last l → r.inside ≡ not l.inside → r.last ≡ l.last → IsPiece (λ n. sets.contains seen (at site n)) first last r
-    seen_known l r least y live_is inside end = record {
-      some = let a = live_is.some in omega arith;
-      within = let a = live_is.within in let b = known_is.within in let d = given_is.within in omega arith;
-      same = λ n lo hi.
-          let in_live : n ≤ l.last = omega arith in
-          let in_known : n ≤ k.last = let a = live_is.within in omega arith in
-          let in_given : n ≤ p.last = let a = known_is.within in omega arith in
-          let fresh = given_is.same n lo in_given ∙ ungiven in
-          contains-seen known live given (at site n)
-          ∙ (λ i. fresh i || ((are.same (at site n) ∙ known_is.same n lo in_known ∙ y) i && (not (live_is.same n lo in_live i) && older_below n (below n lo fresh (let b = given_is.within in omega arith)) i)))
-          ∙ and-true (not l.inside) ∙ sym inside;
-    }
-      where
-        below : (n : ℕ) → first ≤ n → is_given given (at site n) ≡ false → n ≤ last → n < last
-        below n lo fresh hi = elim (cases_lt n last) [
-          | inl m ↦ m
-          | inr m ↦ absurd (let e : n ≡ last = omega arith in let t = ap (λ x. is_given given (at site x)) e ∙ g.reached (omega arith) in cc)
-        ]
 
 -- what was seen is of sites of given dots
 pub seen_sites : (known : Dots) (live : maps.FinMap dot_cmp Holding) (given : List Dot) → All (λ d. IsSite d.site) given → (q : Dot) → sets.contains (seen_dots known live given) q ≡ true → q.site < 64

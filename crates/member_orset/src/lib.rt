@@ -28,6 +28,7 @@ mod sameness;
 mod search;
 mod seen;
 mod set_builder;
+mod site_walk;
 
 pub use cell::Cell;
 pub use cells::Cells;

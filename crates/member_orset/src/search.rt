@@ -22,21 +22,33 @@ pub(crate) fn place(cells: &[LiveDot], dot: Dot) -> usize
     cells.partition_point(|cell| cell.dot < dot)
 }
 
+// The place of a dot's cell, or, where it has none, the place where it would go in, once it is known how many cells lie
+// before the dot.
+pub(crate) fn find_at(cells: &[LiveDot], before: usize, dot: Dot) -> Result<usize, usize>
+    requires within { before ≤ length cells.now }
+    requires before { AllWithin (λ c. is_lt (dot_cmp c.dot dot) ≡ true) cells.now 0 before }
+    requires after { AllWithin (λ c. is_lt (dot_cmp c.dot dot) ≡ false) cells.now before
+        (length cells.now) }
+    ensures found { IfOk result (IsAt cells.now dot) }
+    ensures missed { IfErr result (IsGap cells.now dot) }
+{
+    if before == cells.len() {
+        return Err(before);
+    }
+    let cell = &cells[before];
+    if cell.dot != dot {
+        return Err(before);
+    }
+    Ok(before)
+}
+
 // The place of a dot's cell, or, where it has none, the place where it would go in.
 pub(crate) fn find(cells: &[LiveDot], dot: Dot) -> Result<usize, usize>
     requires { IsTrue (map.is_sorted dot_cmp (entries_of cells.now)) }
     ensures found { IfOk result (IsAt cells.now dot) }
     ensures missed { IfErr result (IsGap cells.now dot) }
 {
-    let index = place(cells, dot);
-    if index == cells.len() {
-        return Err(index);
-    }
-    let cell = &cells[index];
-    if cell.dot != dot {
-        return Err(index);
-    }
-    Ok(index)
+    find_at(cells, place(cells, dot), dot)
 }
 
 // The cell of a dot, where it is live.

@@ -19,7 +19,7 @@ use Rattle.member_orset.proofs.edits.take_out.Goals as goal
 held : (cs : List LiveDot) (d : Dot) (i : ℕ) (cell : LiveDot) → Rise cs → IsAt cs d i → cell ≡ get_or cs i cell → map.get (live_of cs) cell.dot ≡ Some (holding cell)
 held cs d i cell s at is =
     ap (map.get (live_of cs)) (ap (λ y. y.dot) is ∙ sym (at.here cell))
-    ∙ get-live_of cs d s ∙ found_at d cs i cell at.within at.before (at.here cell) ∙ ap (λ y. Some (holding y)) (sym is)
+    ∙ get-live_of cs d s ∙ found_at d cs i cell s at.within (at.here cell) ∙ ap (λ y. Some (holding y)) (sym is)
 
 pub unlist_dot-requires-clause-there : goal.unlist_dot-requires-clause-there
 unlist_dot-requires-clause-there c =

@@ -11,4 +11,4 @@ returns-clause-rises c =
 pub returns-clause-lists : goal.returns-clause-lists
 returns-clause-lists c m dot =
     let at = subst (λ xs. IsPlaceFor xs c.args.listed c.place_in-place.result) c.deref.ensures.value c.place_in-place.ensures in
-    ap (λ xs. is_listed xs m dot) c.put_in.ensures.items ∙ more_lists c.args.index.now.items c.place_in-place.result c.args.listed at c.requires.new m dot
+    ap (λ xs. is_listed xs m dot) c.put_in.ensures.items ∙ more_lists c.args.index.now.items c.place_in-place.result c.args.listed at c.requires.new c.requires.rises m dot

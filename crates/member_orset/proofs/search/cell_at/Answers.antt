@@ -14,4 +14,4 @@ returns-in-Ok c =
     let at = c.in-Ok.ensures.found in
     let x = c.index-cells-index.result in
     sym (get-live_of c.args.cells.now c.args.dot c.requires
-    ∙ found_at c.args.dot c.args.cells.now c.in-Ok.index x at.within at.before (at.here x) ∙ ap (λ y. Some (holding y)) (sym c.index-cells-index.is))
+    ∙ found_at c.args.dot c.args.cells.now c.in-Ok.index x c.requires at.within (at.here x) ∙ ap (λ y. Some (holding y)) (sym c.index-cells-index.is))

@@ -1,8 +1,8 @@
-use Rattle.std.proofs.Common.{◌≡◌, ap, subst, ◌∙◌, arith}
+use Rattle.std.proofs.Common.{◌≡◌, ◌+◌, ap, sym, subst, ◌∙◌, arith}
 use Rattle.member_orset.specs.LiveLists.{live_of}
 use Rattle.member_orset.specs.Reads.{seen_dots}
 use Rattle.member_orset.specs.Gathering.{IsGathered, part_before}
-use Rattle.member_orset.proofs.SeenDots.{no_part, seen_sites, whole_part}
+use Rattle.member_orset.proofs.SeenDots.{known_zero, no_part, seen_sites, seen_to_name, whole_part}
 use Rattle.member_orset.proofs.seen.gather.Goals as goal
 
 pub loop-number-init : goal.loop-number-init
@@ -12,6 +12,23 @@ loop-number-init c =
       few = omega arith;
       gathered = subst (IsGathered c.none-gathered.result) (no_part (seen_dots c.args.context.now.dots (live_of c.args.cells.now) c.args.given.now)) c.none-gathered.ensures.none;
       sites = λ h. absurd (omega arith);
+    }
+
+pub loop-number-preserved : goal.loop-number-preserved
+loop-number-preserved c =
+    let known = c.args.context.now.dots in
+    let live = live_of c.args.cells.now in
+    let given = c.args.given.now in
+    let few = c.gather_site.ensures.few in
+    let site = c.in-Some.ensures.value in
+    let is = c.as_slice-runs.ensures.value in
+    record {
+      few = omega arith;
+      gathered = subst (λ n. IsGathered c.gather_site.new.gathered (part_before (seen_dots known live given) (n + 1) 0)) site
+          (c.gather_site.ensures.gathered known (seen_dots known live given) is
+          (seen_to_name known live given c.in-Some.site c.greatest_of-last.result c.greatest_of-last.ensures.greatest (known_zero c.as_slice-runs.result.now known c.in-Some.site is c.as_slice-runs.ensures.limits))
+          (subst (λ n. IsGathered c.loop-number.gathered (part_before (seen_dots known live given) n 0)) (sym site) c.loop-number.invariant.gathered));
+      sites = λ h. c.greatest_of-last.ensures.sites;
     }
 
 pub returns-clause-ok : goal.returns-clause-ok

@@ -2,7 +2,7 @@ use Rattle.std.proofs.Common.{◌≡◌, ◌<◌, length, sym, ap, ◌∙◌, ar
 use Rattle.std.specs.FinMap as map
 use Rattle.member_orset.specs.LiveLists.{live_of}
 use Rattle.member_orset.proofs.Pieces.{cell_here, past_cells, cells_elsewhere, cells_later, next_cell, differs, agrees}
-use Rattle.member_orset.proofs.seen.live_piece.Goals as goal
+use Rattle.member_orset.proofs.site_walk.live_piece.Goals as goal
 
 pub returns-in_default : goal.returns-in_default
 returns-in_default c =

@@ -1,6 +1,6 @@
 use Rattle.std.proofs.Common.{◌≡◌, ◌≤◌, ◌<◌, take}
 use Rattle.std.specs.List.{All}
-use Rattle.member_orset.proofs.seen.given_piece.Given as goal
+use Rattle.member_orset.proofs.site_walk.given_piece.Given as goal
 
 abbrev pub invariant-loop-dot : goal.invariant-loop-dot
 invariant-loop-dot l = record {

@@ -2,18 +2,18 @@ use Rattle.std.proofs.Common.{◌≡◌, ◌<◌, true, length, sym, ap, subst, 
 use Rattle.std.specs.List.{AllWithin}
 use Rattle.causal_context.specs.RunLists.{is_below}
 use Rattle.member_orset.proofs.Pieces.{past_runs, runs_elsewhere, runs_later, differs, agrees}
-use Rattle.member_orset.proofs.seen.known_piece.Goals as goal
+use Rattle.member_orset.proofs.site_walk.known_piece.Goals as goal
 
 pub returns-then-place-runs : goal.returns-then-place-runs
 returns-then-place-runs c = record {
   some = c.requires.order;
   within = omega arith;
-  same = λ n lo hi. past_runs c.args.runs.now c.args.from (subst (λ m. AllWithin (λ r. is_below c.args.from r ≡ true) c.args.runs.now 0 m) c.if-place-runs.true c.runs_below-place.ensures.before) n lo;
+  same = λ n lo hi. past_runs c.args.runs.now c.args.from (subst (λ m. AllWithin (λ r. is_below c.args.from r ≡ true) c.args.runs.now 0 m) c.if-place-runs.true c.requires.before) n lo;
 }
 
 pub returns-then-ne : goal.returns-then-ne
 returns-then-ne c =
-    let place = c.runs_below-place.result in
+    let place = c.args.place in
     let runs = c.args.runs.now in
     let x = c.index-runs-place.result in
     let within : place < length runs = omega arith in
@@ -23,12 +23,12 @@ returns-then-ne c =
     record {
       some = c.requires.order;
       within = omega arith;
-      same = λ n lo hi. runs_elsewhere runs c.args.from place x c.requires.apart within c.runs_below-place.ensures.before c.runs_below-place.ensures.after (λ e. other (is ∙ e ∙ sym site)) n lo;
+      same = λ n lo hi. runs_elsewhere runs c.args.from place x c.requires.apart within c.requires.before c.requires.after (λ e. other (is ∙ e ∙ sym site)) n lo;
     }
 
 pub returns-then-count-run : goal.returns-then-count-run
 returns-then-count-run c =
-    let place = c.runs_below-place.result in
+    let place = c.args.place in
     let runs = c.args.runs.now in
     let x = c.index-runs-place.result in
     let within : place < length runs = omega arith in
@@ -41,5 +41,5 @@ returns-then-count-run c =
     record {
       some = omega arith;
       within = omega arith;
-      same = λ n lo hi. runs_later runs c.args.from place x c.requires.apart within c.runs_below-place.ensures.before c.runs_below-place.ensures.after (sym is ∙ alike ∙ site) n lo (omega arith);
+      same = λ n lo hi. runs_later runs c.args.from place x c.requires.apart within c.requires.before c.requires.after (sym is ∙ alike ∙ site) n lo (omega arith);
     }

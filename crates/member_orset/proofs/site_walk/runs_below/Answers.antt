@@ -4,7 +4,7 @@ use Rattle.std.proofs.lemmas.Fn.{always_returns_same}
 use Rattle.dots.specs.Values.{Dot}
 use Rattle.causal_context.specs.RunLists.{is_below}
 use Rattle.causal_context.proofs.Places.{partitioned}
-use Rattle.member_orset.proofs.seen.runs_below.Goals as goal
+use Rattle.member_orset.proofs.site_walk.runs_below.Goals as goal
 
 pub returns-clause-before : goal.returns-clause-before
 returns-clause-before c =

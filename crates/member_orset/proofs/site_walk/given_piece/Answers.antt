@@ -7,7 +7,7 @@ use Rattle.dots.specs.Values.{Dot}
 use Rattle.dots.specs.Orders.{dot_cmp}
 use Rattle.member_orset.proofs.Pieces.{differs}
 use Rattle.member_orset.proofs.SeenDots.{not_this}
-use Rattle.member_orset.proofs.seen.given_piece.Goals as goal
+use Rattle.member_orset.proofs.site_walk.given_piece.Goals as goal
 
 abbrev Past : Dot → ℕ → Dot → Type 0
 Past from end d = d.site ≡ from.site → from.count ≤ d.count → end < d.count

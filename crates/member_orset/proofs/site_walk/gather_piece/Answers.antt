@@ -4,7 +4,7 @@ use Rattle.std.proofs.lemmas.Bool.{not-false, not-true}
 use Rattle.dots.specs.DotSets.{dots_between, run_count}
 use Rattle.member_orset.specs.Gathering.{IsGathered, part_before, runs_after}
 use Rattle.member_orset.proofs.SeenDots.{before_it, none_past, part_inside, part_outside, runs_grown}
-use Rattle.member_orset.proofs.seen.gather_piece.Goals as goal
+use Rattle.member_orset.proofs.site_walk.gather_piece.Goals as goal
 
 pub returns-then-not-piece-clause-gathered : goal.returns-then-not-piece-clause-gathered
 returns-then-not-piece-clause-gathered c dots last g is before =

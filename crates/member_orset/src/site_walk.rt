@@ -1,0 +1,285 @@
+//! The walk over the dots of a site: which of them are given or dead. It goes over the site's runs and live dots once.
+ghost use Rattle.std.specs.Prelude.{ℕ, ◌≡◌, ◌+◌, ◌-◌, ◌*◌, ◌<◌, ◌≤◌, ◌^◌, IsTrue, length, true, false};
+ghost use Rattle.std.specs.List.{All, AllWithin};
+ghost use Rattle.std.specs.Ordering.{is_lt};
+ghost use Rattle.std.specs.FinMap as map;
+ghost use Rattle.std.specs.FinSet as set;
+ghost use Rattle.dots.specs.Orders.{dot_cmp};
+ghost use Rattle.dots.specs.DotSets.{AreApart, IsRunsOf, in_runs};
+ghost use Rattle.causal_context.specs.Contexts.{IsRun};
+ghost use Rattle.causal_context.specs.RunLists.{is_below};
+ghost use Rattle.member_orset.specs.LiveLists.{entries_of, live_of};
+ghost use Rattle.member_orset.specs.Gathering.{AreToName, IsGathered, IsPiece, is_given, is_to_name, part_before};
+
+use crate::gathered::Gathered;
+use crate::live_dot::LiveDot;
+use crate::piece::Piece;
+use crate::search::{find_at, place};
+use causal_context::Run;
+use dots::{Dot, MOST_COUNT, SiteId};
+
+// Whether a dot is given, and how far this is so of the counts from its own on.
+fn given_piece(given: &[Dot], from: Dot, last: u64) -> Piece
+    requires { from.count ≤ last }
+    ensures { IsPiece (λ n. is_given given.now (record { site = from.site; count = n }))
+        from.count last result }
+{
+    let mut end = last;
+    for dot in given {
+        if dot.site() != from.site() {
+            continue;
+        }
+        if dot.count() < from.count() {
+            continue;
+        }
+        if dot.count() == from.count() {
+            return Piece {
+                inside: true,
+                last: from.count(),
+            };
+        }
+        end = end.min(dot.count() - 1);
+    }
+    Piece {
+        inside: false,
+        last: end,
+    }
+}
+
+// How many runs end before a dot.
+fn runs_below(runs: &[Run], dot: Dot) -> usize
+    requires { AreApart runs.now }
+    ensures within { result ≤ length runs.now }
+    ensures before { AllWithin (λ r. is_below dot r ≡ true) runs.now 0 result }
+    ensures after { AllWithin (λ r. is_below dot r ≡ false) runs.now result (length runs.now) }
+{
+    let (site, count) = (dot.site(), dot.count());
+    runs.partition_point(|run| run.site < site || run.site == site && run.last < count)
+}
+
+// Whether a run ends before a dot.
+fn ends_before(run: Run, dot: Dot) -> bool
+    ensures { result ≡ is_below dot run }
+{
+    run.site < dot.site() || run.site == dot.site() && run.last < dot.count()
+}
+
+// How many runs end before a dot, of which some are known to.
+fn runs_passed(runs: &[Run], known: usize, dot: Dot) -> usize
+    requires apart { AreApart runs.now }
+    requires within { known ≤ length runs.now }
+    requires before { AllWithin (λ r. is_below dot r ≡ true) runs.now 0 known }
+    ensures within { result ≤ length runs.now }
+    ensures before { AllWithin (λ r. is_below dot r ≡ true) runs.now 0 result }
+    ensures after { AllWithin (λ r. is_below dot r ≡ false) runs.now result (length runs.now) }
+{
+    let mut passed = known;
+    while passed < runs.len() {
+        if !ends_before(runs[passed], dot) {
+            return passed;
+        }
+        passed += 1;
+    }
+    passed
+}
+
+// How many cells lie before a dot, of which some are known to.
+fn cells_passed(cells: &[LiveDot], known: usize, dot: Dot) -> usize
+    requires rise { IsTrue (map.is_sorted dot_cmp (entries_of cells.now)) }
+    requires within { known ≤ length cells.now }
+    requires before { AllWithin (λ c. is_lt (dot_cmp c.dot dot) ≡ true) cells.now 0 known }
+    ensures within { result ≤ length cells.now }
+    ensures before { AllWithin (λ c. is_lt (dot_cmp c.dot dot) ≡ true) cells.now 0 result }
+    ensures after { AllWithin (λ c. is_lt (dot_cmp c.dot dot) ≡ false) cells.now result
+        (length cells.now) }
+{
+    let mut passed = known;
+    while passed < cells.len() {
+        let cell = &cells[passed];
+        if cell.dot >= dot {
+            return passed;
+        }
+        passed += 1;
+    }
+    passed
+}
+
+// Whether a dot is in runs, of which so many end before it, and how far this is so of the counts from its own on.
+fn known_piece(runs: &[Run], place: usize, from: Dot, last: u64) -> Piece
+    requires apart { AreApart runs.now }
+    requires within { place ≤ length runs.now }
+    requires before { AllWithin (λ r. is_below from r ≡ true) runs.now 0 place }
+    requires after { AllWithin (λ r. is_below from r ≡ false) runs.now place (length runs.now) }
+    requires order { from.count ≤ last }
+    ensures { IsPiece (λ n. in_runs runs.now (record { site = from.site; count = n }))
+        from.count last result }
+{
+    if place == runs.len() {
+        return Piece {
+            inside: false,
+            last,
+        };
+    }
+    let run = runs[place];
+    if run.site != from.site() {
+        return Piece {
+            inside: false,
+            last,
+        };
+    }
+    if from.count() < run.first {
+        return Piece {
+            inside: false,
+            last: last.min(run.first - 1),
+        };
+    }
+    Piece {
+        inside: true,
+        last: run.last.min(last),
+    }
+}
+
+// Whether a dot is live, and how far this is so of the counts from its own on. So many cells lie before it.
+fn live_piece(cells: &[LiveDot], below: usize, from: Dot, last: u64) -> Piece
+    requires rise { IsTrue (map.is_sorted dot_cmp (entries_of cells.now)) }
+    requires within { below ≤ length cells.now }
+    requires before { AllWithin (λ c. is_lt (dot_cmp c.dot from) ≡ true) cells.now 0 below }
+    requires after { AllWithin (λ c. is_lt (dot_cmp c.dot from) ≡ false) cells.now below
+        (length cells.now) }
+    requires order { from.count ≤ last }
+    ensures { IsPiece
+        (λ n. map.contains_key (live_of cells.now)
+        (record { site = from.site; count = n }))
+        from.count last result }
+{
+    let Err(place) = find_at(cells, below, from) else {
+        return Piece {
+            inside: true,
+            last: from.count(),
+        };
+    };
+    if place == cells.len() {
+        return Piece {
+            inside: false,
+            last,
+        };
+    }
+    let next = cells[place].dot;
+    if next.site() != from.site() {
+        return Piece {
+            inside: false,
+            last,
+        };
+    }
+    Piece {
+        inside: false,
+        last: last.min(next.count() - 1),
+    }
+}
+
+// Whether a dot is given or dead, and how far this is so of the counts from its own on. So many runs end before it, and
+// so many cells lie before it.
+fn piece_at(
+    runs: &[Run],
+    run: usize,
+    cells: &[LiveDot],
+    cell: usize,
+    given: &[Dot],
+    from: Dot,
+    last: u64,
+) -> Piece
+    requires apart { AreApart runs.now }
+    requires run { run ≤ length runs.now }
+    requires run_before { AllWithin (λ r. is_below from r ≡ true) runs.now 0 run }
+    requires run_after { AllWithin (λ r. is_below from r ≡ false) runs.now run
+        (length runs.now) }
+    requires rise { IsTrue (map.is_sorted dot_cmp (entries_of cells.now)) }
+    requires cell { cell ≤ length cells.now }
+    requires cell_before { AllWithin (λ c. is_lt (dot_cmp c.dot from) ≡ true) cells.now 0 cell }
+    requires cell_after { AllWithin (λ c. is_lt (dot_cmp c.dot from) ≡ false) cells.now cell
+        (length cells.now) }
+    requires order { from.count ≤ last }
+    ensures { (known : set.FinSet dot_cmp)
+        → IsRunsOf runs.now known
+        → IsPiece
+        (λ n. is_to_name known (live_of cells.now) given.now
+        (record { site = from.site; count = n }))
+        from.count last result }
+{
+    let given = given_piece(given, from, last);
+    if given.inside {
+        return given;
+    }
+    let known = known_piece(runs, run, from, given.last);
+    if !known.inside {
+        return known;
+    }
+    let live = live_piece(cells, cell, from, known.last);
+    Piece {
+        inside: !live.inside,
+        last: live.last,
+    }
+}
+
+// Gathers the dots of a piece, where they are in: they go on with a run, or begin one.
+fn gather_piece(gathered: &mut Gathered, from: Dot, piece: Piece, goes_on: bool)
+    requires order { from.count ≤ piece.last }
+    requires limit { piece.last ≤ MOST_COUNT }
+    requires few { gathered.old.runs < 2 ^ 60 }
+    ensures gathered { (dots : set.FinSet dot_cmp) (last : ℕ)
+        → IsGathered gathered.old (part_before dots from.site from.count)
+        → IsPiece (λ n. set.contains dots (record { site = from.site; count = n }))
+        from.count last piece
+        → goes_on ≡ set.contains dots (record { site = from.site; count = from.count - 1 })
+        → IsGathered gathered.new (part_before dots from.site (piece.last + 1)) }
+    ensures few { gathered.new.runs ≤ gathered.old.runs + 1 }
+{
+    let (site, first) = (from.site(), from.count());
+    if !piece.inside {
+        return;
+    }
+    gathered.add(site, first, piece.last, !goes_on);
+}
+
+// Gathers the dots of a site that are given or dead, up to a last count. It walks the site's runs and live dots once,
+// from the first ones on, which are found by halving.
+pub(crate) fn gather_site(
+    gathered: &mut Gathered,
+    runs: &[Run],
+    cells: &[LiveDot],
+    given: &[Dot],
+    site: SiteId,
+    last: u64,
+)
+    requires apart { AreApart runs.now }
+    requires counts { All IsRun runs.now }
+    requires rise { IsTrue (map.is_sorted dot_cmp (entries_of cells.now)) }
+    requires limit { last ≤ MOST_COUNT }
+    requires few { gathered.old.runs ≤ site * 2 ^ 41 }
+    ensures gathered { (known dots : set.FinSet dot_cmp)
+        → IsRunsOf runs.now known
+        → AreToName known (live_of cells.now) given.now site last dots
+        → IsGathered gathered.old (part_before dots site 0)
+        → IsGathered gathered.new (part_before dots (site + 1) 0) }
+    ensures few { gathered.new.runs ≤ (site + 1) * 2 ^ 41 }
+{
+    let _ = site.number(); // so that its limit is known
+    let Some(start) = Dot::new(site, 1) else {
+        return;
+    };
+    let mut run = runs_below(runs, start);
+    let mut cell = place(cells, start);
+    let mut first = 1;
+    let mut goes_on = false;
+    while first <= last {
+        let Some(from) = Dot::new(site, first) else {
+            return;
+        };
+        run = runs_passed(runs, run, from);
+        cell = cells_passed(cells, cell, from);
+        let piece = piece_at(runs, run, cells, cell, given, from, last);
+        gather_piece(gathered, from, piece, goes_on);
+        goes_on = piece.inside;
+        first = piece.last + 1;
+    }
+}
