@@ -49,6 +49,17 @@ fn unite(runs: &[Run], run: Run) -> United
     }
 }
 
+// How many runs there are with one more, which makes one with all those that it touches.
+pub(crate) fn count_with(runs: &[Run], run: Run) -> usize
+    requires apart { AreApart runs.now }
+    requires few { length runs.now ≤ MOST_RUNS }
+    ensures value { result ≡ run_count (set.union (set_of runs.now) (set_of (run ∷ []))) }
+    ensures few { result ≤ length runs.now + 1 }
+{
+    let United { run: _, start, end } = unite(runs, run);
+    start + 1 + (runs.len() - end)
+}
+
 // Puts a run in place of those from a start to an end. Full exactly where it replaces none and there are 65,536.
 fn replace(runs: &mut Vec<Run>, united: United) -> Result<(), ContextFault>
     requires order { united.start ≤ united.end }
@@ -62,6 +73,7 @@ fn replace(runs: &mut Vec<Run>, united: United) -> Result<(), ContextFault>
     ensures with_room { vec_len runs.old < vec_capacity runs.old
         → result ≢ Err ContextFault.Memory }
     ensures err { OnErr result (runs.new.items ≡ runs.old.items) }
+    ensures capacity { vec_capacity runs.old ≤ vec_capacity runs.new }
 {
     let United { run, start, end } = united;
     if start == end {
@@ -93,6 +105,7 @@ pub(crate) fn unite_run(runs: &mut Vec<Run>, run: Run) -> Result<(), ContextFaul
     ensures with_room { vec_len runs.old < vec_capacity runs.old
         → result ≢ Err ContextFault.Memory }
     ensures err { OnErr result (runs.new.items ≡ runs.old.items) }
+    ensures capacity { vec_capacity runs.old ≤ vec_capacity runs.new }
 {
     let united = unite(runs, run);
     replace(runs, united)

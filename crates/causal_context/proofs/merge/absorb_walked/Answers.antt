@@ -6,7 +6,7 @@ use Rattle.dots.proofs.Runs.{set_of-runs}
 use Rattle.dots.proofs.Fronts.{turned, written_back}
 use Rattle.causal_context.specs.Contexts.{IsContext}
 use Rattle.causal_context.proofs.Merging.{context_of, union-none}
-use Rattle.causal_context.proofs.merge.absorb_runs.Goals as goal
+use Rattle.causal_context.proofs.merge.absorb_walked.Goals as goal
 
 pub returns-then-is_empty-clause-united : goal.returns-then-is_empty-clause-united
 returns-then-is_empty-clause-united c = union-none c.args.runs.now.items c.args.other.now (grind arith)

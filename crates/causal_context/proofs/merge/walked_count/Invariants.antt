@@ -1,7 +1,7 @@
 -- The runs counted so far, with the one at hand, and what is left make the union.
 use Rattle.std.proofs.Common.{◌+◌, ◌-◌, ◌≤◌, length, drop}
 use Rattle.causal_context.proofs.Merging.{IsCounting}
-use Rattle.causal_context.proofs.merge.united_count.Given as goal
+use Rattle.causal_context.proofs.merge.walked_count.Given as goal
 
 abbrev pub invariant-loop-own : goal.invariant-loop-own
 invariant-loop-own l = record {

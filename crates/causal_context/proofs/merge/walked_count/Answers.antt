@@ -2,7 +2,7 @@ use Rattle.std.proofs.Common.{◌≡◌, true, false, arith}
 use Rattle.std.proofs.lemmas.List.{drop_all}
 use Rattle.dots.specs.DotSets.{is_apart}
 use Rattle.causal_context.proofs.Merging.{counting_none, counting_starts, counting_writes, counting_grows, counting_ends}
-use Rattle.causal_context.proofs.merge.united_count.Goals as goal
+use Rattle.causal_context.proofs.merge.walked_count.Goals as goal
 
 pub returns-then-is_empty-2-clause-value : goal.returns-then-is_empty-2-clause-value
 returns-then-is_empty-2-clause-value c = counting_none c.args.runs.now c.args.other.now (grind arith) (grind arith)
