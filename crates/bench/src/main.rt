@@ -9,7 +9,7 @@ mod totals;
 
 use deltas::{dot_taken_often, halves_joined_often};
 use joins::joined_often;
-use sets::{rows_read, sets_joined_often};
+use sets::{dead_told_often, rows_read, sets_copied_often, sets_joined_often};
 use std::alloc::Global;
 use std::{env, io};
 use totals::totals_joined_often;
@@ -20,7 +20,7 @@ const TIMES: u32 = 100;
 // What a workload computed, or why it has no checksum. The small ones, done twice, are seen by hand: the counts 1 to 6 of
 // a site are one run, so each join adds 6 and 1; three live dots of each of two sites are six in two runs, and of one
 // site three in one; deltas join as their sets do, and a dot that is known adds none; four members have the penalties
-// 1 to 4; three entries have the totals 1 to 3.
+// 1 to 4; three dots are dead, each a run; two copies have three live dots each; three entries have the totals 1 to 3.
 fn checksum(alloc: Global, word: &str) -> Result<u64, &'static str> {
     match word {
         "join_3_runs" => joined_often(alloc, 3, 2),
@@ -29,14 +29,19 @@ fn checksum(alloc: Global, word: &str) -> Result<u64, &'static str> {
         "rows_of_4_members" => rows_read(alloc, 4, 2),
         "join_1_dot_into_3" => dot_taken_often(alloc, 3, 2),
         "join_2_halves_of_6_dots" => halves_joined_often(alloc, 3, 2),
+        "dead_beside_3_live_dots" => dead_told_often(alloc, 3, 2),
+        "copy_3_cells_twice" => sets_copied_often(alloc, 3, 2),
         "join_3_totals" => totals_joined_often(alloc, 3, 2),
         "join_65536_runs" => joined_often(alloc, 65_536, TIMES),
         "join_32768_runs" => joined_often(alloc, 32_768, TIMES),
         "join_16384_cells" => sets_joined_often(alloc, (0, 0), 16_384, TIMES),
         "join_8192_and_8192_cells" => sets_joined_often(alloc, (0, 1), 8_192, TIMES),
         "join_1_dot_into_16384" => dot_taken_often(alloc, 16_384, TIMES),
+        "join_1_dot_into_256" => dot_taken_often(alloc, 256, TIMES),
         "join_2_halves_of_16384_dots" => halves_joined_often(alloc, 8_192, TIMES),
         "rows_of_16384_members" => rows_read(alloc, 16_384, TIMES),
+        "dead_beside_16384_live_dots" => dead_told_often(alloc, 16_384, TIMES),
+        "copy_16384_cells_twice" => sets_copied_often(alloc, 16_384, TIMES),
         "join_16384_totals" => totals_joined_often(alloc, 16_384, TIMES),
         _ => Err("no such workload"),
     }

@@ -1,6 +1,7 @@
 ghost use Rattle.std.specs.Prelude.{◌≤◌};
 ghost use Rattle.member_orset.specs.Members.{HasField};
 
+use causal_context::ContextFault;
 use dots::{Dot, Interface, Member, Penalty, SiteId, Stamp};
 use lww_registers::{Fields, Register};
 use member_orset::{JoinFault, MemberSet};
@@ -102,6 +103,62 @@ fn checked_rows(alloc: Global, cells: u64, times: u32) -> Result<u64, JoinFault>
     Ok(sum)
 }
 
+// A set in which so many dots of site 0 are live, each of a member of its own, and each next dot is dead.
+fn dots_in_turn(alloc: Global, cells: u64) -> Result<MemberSet, JoinFault>
+    requires { cells ≤ 16384 }
+{
+    let mut set = MemberSet::new(alloc);
+    let Some(site) = SiteId::new(0) else {
+        return Ok(set);
+    };
+    for number in 0..cells {
+        assert_one(&mut set, site, 2 * number + 1)?;
+        if let Some(dot) = Dot::new(site, 2 * number + 2) {
+            set.kill(dot)?;
+        }
+    }
+    Ok(set)
+}
+
+// How many runs the dead dots of a site make.
+fn dead_runs(set: &MemberSet, site: SiteId) -> Result<u64, JoinFault> {
+    match set.dead_of(site) {
+        Ok(dead) => Ok(dead.runs() as u64),
+        Err(ContextFault::RunsFull) => Err(JoinFault::RunsFull),
+        Err(ContextFault::Memory) => Err(JoinFault::Memory),
+    }
+}
+
+// Tells the dead dots of a site of which so many dots are live, so often.
+fn checked_dead(alloc: Global, cells: u64, times: u32) -> Result<u64, JoinFault>
+    requires { cells ≤ 16384 }
+{
+    let set = dots_in_turn(alloc, cells)?;
+    let mut sum = 0u64;
+    if let Some(site) = SiteId::new(0) {
+        for _ in 0..times {
+            sum = sum.wrapping_add(dead_runs(&set, site)?);
+        }
+    }
+    Ok(sum)
+}
+
+// Copies a set of so many live dots twice, so often.
+fn checked_copies(alloc: Global, cells: u64, times: u32) -> Result<u64, JoinFault>
+    requires { cells ≤ 16384 }
+{
+    let set = live_dots(alloc, 0, cells)?;
+    let mut sum = 0u64;
+    for _ in 0..times {
+        let (Ok(first), Ok(second)) = (set.copy(), set.copy()) else {
+            return Err(JoinFault::Memory);
+        };
+        let cells = (first.cells() as u64).wrapping_add(second.cells() as u64);
+        sum = sum.wrapping_add(cells);
+    }
+    Ok(sum)
+}
+
 // What a fault is called.
 pub(crate) fn named(answer: Result<u64, JoinFault>) -> Result<u64, &'static str> {
     match answer {
@@ -130,4 +187,18 @@ pub fn rows_read(alloc: Global, cells: u64, times: u32) -> Result<u64, &'static 
     requires { cells ≤ 16384 }
 {
     named(checked_rows(alloc, cells, times))
+}
+
+/// The checksum of telling the dead dots of a site so often: so many of its dots are live, and each next one is dead.
+pub fn dead_told_often(alloc: Global, cells: u64, times: u32) -> Result<u64, &'static str>
+    requires { cells ≤ 16384 }
+{
+    named(checked_dead(alloc, cells, times))
+}
+
+/// The checksum of copying a set of so many live dots twice, so often.
+pub fn sets_copied_often(alloc: Global, cells: u64, times: u32) -> Result<u64, &'static str>
+    requires { cells ≤ 16384 }
+{
+    named(checked_copies(alloc, cells, times))
 }
