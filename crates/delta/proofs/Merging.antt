@@ -19,6 +19,15 @@ commutative x y joint turned agree j t = record {
   totals = j.totals ∙ joined_comm x.totals.entries y.totals.entries ∙ sym t.totals;
 }
 
+pub turned : (x y joint : DeltaState) → Agree x y → IsJoinOf x y joint → IsJoinOf y x joint
+turned x y joint agree j = record {
+  members = record {
+    known = j.members.known ∙ union-comm x.members.known y.members.known;
+    conditions = λ q. j.members.conditions q ∙ conditions_comm (condition_of x.members q) (condition_of y.members q) (agree q);
+  };
+  totals = j.totals ∙ joined_comm x.totals.entries y.totals.entries;
+}
+
 pub associative : (x y z xy yz left right : DeltaState) → IsJoinOf x y xy → IsJoinOf xy z left → IsJoinOf y z yz → IsJoinOf x yz right → IsSame left right
 associative x y z xy yz left right a l b r = record {
   conditions = λ q.

@@ -8,14 +8,16 @@ ghost use Rattle.dots.specs.Traces.{LeaveTraces};
 ghost use Rattle.member_orset.specs.Members.{cells_joined, runs_joined};
 ghost use Rattle.delta.specs.DeltaStates.{DeltaState, IsEmpty, IsSame};
 ghost use Rattle.delta.specs.Joining.{Agree, IsJoinOf};
-ghost use Rattle.delta.specs.Standing.{IsDeltaOf};
+ghost use Rattle.delta.specs.Standing.{IsDeltaOf, IsReadAs};
 
 /// Deltas are joined in any order (RR-7506: states form a join semilattice). It is all the same which of two that agree is joined
-/// into the other, how three are grouped, and how often one is joined; what agrees with two that agree, agrees with their join;
+/// into the other, since what is the join one way is so the other way too, how three are grouped, and how often one is joined; what agrees with two that agree, agrees with their join;
 /// and an empty one changes nothing, whichever of both it is.
 pub fn deltas_are_joined_in_any_order()
     ensures commutative { (x y joint turned : DeltaState) → Agree x y
         → IsJoinOf x y joint → IsJoinOf y x turned → IsSame joint turned }
+    ensures turned { (x y joint : DeltaState) → Agree x y
+        → IsJoinOf x y joint → IsJoinOf y x joint }
     ensures associative { (x y z xy yz left right : DeltaState)
         → IsJoinOf x y xy → IsJoinOf xy z left
         → IsJoinOf y z yz → IsJoinOf x yz right → IsSame left right }
@@ -42,6 +44,12 @@ pub fn a_knowledge_has_one_delta()
 pub fn knowledges_of_the_same_operations_have_one_delta()
     ensures { (x : DeltaState) (k l : Knowledge) → IsConsistent k → SameOperations k l
         → IsDeltaOf x k → IsDeltaOf x l }
+{}
+
+/// A delta is read as its knowledge: dots, members, fields and totals show alike, so rows and what commands mean are the same of both
+/// (RR-7506: the payload of a replica stands for the updates that it has delivered).
+pub fn a_delta_is_read_as_its_knowledge()
+    ensures { (x : DeltaState) (k : Knowledge) → IsDeltaOf x k → IsReadAs x k }
 {}
 
 /// The deltas of two knowledges that are consistent together agree, so no conflict comes of what sites make.

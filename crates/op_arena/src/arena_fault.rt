@@ -1,9 +1,12 @@
-/// Why an arena can't make room.
-#[derive(Clone, Copy, Debug, PartialEq, Eq)]
+use thiserror::Error;
+
+/// Why an arena can't make room. Of both causes the first is told.
+#[derive(Clone, Copy, Debug, PartialEq, Eq, Error)]
 pub enum ArenaFault {
     /// The values, the retired cells and the room that is asked for would together be more than 1,048,576 cells.
+    #[error("too many cells")]
     Full,
-
-    /// Memory ran out.
+    /// An allocation was refused.
+    #[error("out of memory")]
     Memory,
 }

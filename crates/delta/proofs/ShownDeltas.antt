@@ -1,0 +1,77 @@
+-- A delta shows what its knowledge shows.
+use Rattle.std.proofs.Common.{◌≡◌, ℕ, Bool, true, false, not, ◌&&◌, Option, Some, None, is_some, if◌then◌else◌, refl, sym, ap, ◌∙◌}
+use Rattle.std.specs.Option.{option_and_then, option_map}
+use Rattle.std.specs.FinMap as map
+use Rattle.std.specs.FinSet as set
+use Rattle.dots.specs.declared.calls.Calls.{Calls}
+use Rattle.dots.specs.declared.calls.Calls.TheVariants.{Completed, Abandoned}
+use Rattle.dots.specs.declared.member.Member.{Member}
+use Rattle.dots.specs.Values.{Dot}
+use Rattle.dots.specs.Conditions.{DotFields, Live, Dead, fields_in}
+use Rattle.dots.specs.Counts.{site_total}
+use Rattle.dots.specs.Knowledge.{Knowledge, is_named, member_of, visible_dots}
+use Rattle.dots.specs.Rows.{ShowAlike, dot_view}
+use Rattle.dots.specs.Totals.{totals_of}
+use Rattle.dots.proofs.DotOrder.{dots_exact, dots_total}
+use Rattle.dots.proofs.JoinedKnowledge.{member-some}
+use Rattle.dots.proofs.VisibleLaws.{visible-dot}
+use Rattle.site_totals.specs.Raising.{number_of}
+use Rattle.member_orset.specs.Members.{Holding, Members, condition_at, dot_view_of}
+use Rattle.delta.specs.DeltaStates.{DeltaState}
+use Rattle.delta.specs.Standing.{IsDeltaOf, IsReadAs}
+
+-- the visible dots of a set are the live ones
+visible-live : (s : Members) (dot : Dot) → set.contains (dot_view_of s).visible dot ≡ is_some (map.get s.live dot)
+visible-live s dot = set.contains-from_list dots_total (map.keys s.live) dot ∙ sym (map.contains_key-keys s.live dot)
+
+module _ (d : DeltaState) (k : Knowledge) (is : IsDeltaOf d k) where
+  -- what is live of a dot, by whether it is named and its member in the knowledge
+  live-by : (g : Option Holding) (known n : Bool) (m : Option Member) (f : DotFields) → condition_at g known ≡ (if n then Some Dead else option_map (λ x. Live x f) m)
+      → g ≡ (if n then None else option_map (λ x. (x, f)) m)
+  live-by (Some h) known true m f e = absurd (cc)
+  live-by (Some h) known false None f e = absurd (cc)
+  live-by (Some h) known false (Some x) f e = let a : h.0 ≡ x = cc in let b : h.1 ≡ f = cc in λ i. Some (a i, b i)
+  live-by None known true m f e = refl
+  live-by None true false (Some x) f e = absurd (cc)
+  live-by None false false (Some x) f e = absurd (cc)
+  live-by None known false None f e = refl
+
+  live-is : (dot : Dot) → map.get d.members.live dot ≡ (if is_named k dot then None else option_map (λ x. (x, fields_in k dot)) (member_of k dot))
+  live-is dot = live-by (map.get d.members.live dot) (set.contains d.members.known dot) (is_named k dot) (member_of k dot) (fields_in k dot) (is.conditions dot)
+
+  visible-is : (dot_view_of d.members).visible ≡ visible_dots k
+  visible-is = set.same_set dots_total dots_exact _ _ (λ dot.
+      visible-live d.members dot ∙ ap is_some (live-is dot) ∙ by (is_named k dot) (member_of k dot) (fields_in k dot)
+      ∙ ap (λ b. b && not (is_named k dot)) (member-some k dot) ∙ sym (visible-dot k dot))
+    where
+      by : (n : Bool) (m : Option Member) (f : DotFields) → is_some (if n then None else option_map (λ (x : Member). let p : Holding = (x, f) in p) m) ≡ (is_some m && not n)
+      by true None f = refl
+      by true (Some x) f = refl
+      by false None f = refl
+      by false (Some x) f = refl
+
+  -- of a visible dot member and fields are live
+  seen-live : (dot : Dot) → set.contains (dot_view_of d.members).visible dot ≡ true → (member : Member) × (map.get d.members.live dot ≡ Some (member, fields_in k dot)) × (member_of k dot ≡ Some member)
+  seen-live dot h = by (is_named k dot) (member_of k dot) refl (live-is dot) (sym (visible-live d.members dot) ∙ h)
+    where
+      by : (n : Bool) (m : Option Member) → member_of k dot ≡ m → map.get d.members.live dot ≡ (if n then None else option_map (λ x. (x, fields_in k dot)) m) → is_some (map.get d.members.live dot) ≡ true
+          → (member : Member) × (map.get d.members.live dot ≡ Some (member, fields_in k dot)) × (member_of k dot ≡ Some member)
+      by true m e l s = absurd (let no = sym (ap is_some l) ∙ s in cc)
+      by false None e l s = absurd (let no = sym (ap is_some l) ∙ s in cc)
+      by false (Some x) e l s = (x, l, e)
+
+  shows-alike : ShowAlike (dot_view_of d.members) (dot_view k)
+  shows-alike = record {
+    visible = visible-is;
+    member = λ dot h. let s = seen-live dot h in ap (option_map (λ x. x.0)) s.1 ∙ sym s.2;
+    penalty = λ dot h. let s = seen-live dot h in ap (option_and_then (λ x. x.1.penalty)) s.1;
+    pause = λ dot h. let s = seen-live dot h in ap (option_and_then (λ x. x.1.pause)) s.1;
+    label = λ dot h. let s = seen-live dot h in ap (option_and_then (λ x. x.1.label)) s.1;
+  }
+
+  totals-alike : (site queue : ℕ) (calls : Calls) → number_of calls (totals_of d.totals.entries site queue) ≡ site_total k site queue calls
+  totals-alike site queue Completed = ap (λ t. t.completed) (is.totals site queue)
+  totals-alike site queue Abandoned = ap (λ t. t.abandoned) (is.totals site queue)
+
+  pub read-as : IsReadAs d k
+  read-as = record { dots = shows-alike; totals = totals-alike }
