@@ -1,7 +1,9 @@
-//! Tests of the sets of members, and of deltas, by their public calls. This crate has no code of its own.
+//! Tests of the sets of members, of deltas and of frames, by their public calls. This crate has no code of its own.
 #![tactic(auto)]
 
 #[cfg(test)]
 mod deltas;
+#[cfg(test)]
+mod frames;
 #[cfg(test)]
 mod member_sets;

@@ -1,0 +1,64 @@
+-- The parts of a frame within the ranges of the format are within the limits, and in order.
+use Rattle.std.proofs.Common.{◌≡◌, ℕ, ◌<◌, ◌≤◌, List, length, get_or, Some, refl, sym, ap, ◌∙◌, arith}
+use Rattle.std.specs.FinMap as map
+use Rattle.std.specs.List.{All}
+use Rattle.std.proofs.lemmas.List.{get_or_default}
+use Rattle.dots.specs.declared.limits.TheConstants.{MOST_RUNS}
+use Rattle.dots.specs.DotSets.{IsRunsOf, Run}
+use Rattle.dots.specs.Orders.{dot_cmp}
+use Rattle.dots.specs.SortedEntries.{IsAt, IsRising}
+use Rattle.dots.specs.Totals.{IsTotal}
+use Rattle.dots.specs.Values.{IsSite}
+use Rattle.dots.proofs.DotOrder.{dots_total}
+use Rattle.dots.proofs.SortedEntries.{find_at}
+use Rattle.dots.proofs.TruthTables.{fact}
+use Rattle.causal_context.specs.Contexts.{IsRun}
+use Rattle.member_orset.specs.Members.{Holding, IsLiveIn, IsWithinLimits}
+use Rattle.delta_codec.specs.declared.frame.Frame.{Frame}
+use Rattle.delta_codec.specs.Encoding.{IsInRanges, parts_with}
+use Rattle.delta_codec.specs.Frames.{AreCells, Spells, frame_bytes}
+use Rattle.delta_codec.specs.Measures.{IsMeasured}
+use Rattle.delta_codec.specs.Parts.{CellParts}
+use Rattle.delta_codec.proofs.Counting.{few_totals}
+
+abbrev Live : Type 0
+Live = map.FinMap dot_cmp Holding
+
+rising : (live : Live) → IsRising dot_cmp (map.entries live)
+rising live = fact _ (map.entries_sorted live)
+
+-- an entry of a map is found there
+entry_found : (live : Live) (k : ℕ) (d : CellParts) → k < length (map.entries live) → map.get live (get_or (map.entries live) k d).0 ≡ Some (get_or (map.entries live) k d).1
+entry_found live k d lt =
+    let at : IsAt (map.entries live) (get_or (map.entries live) k d).0 k = record { in_range = lt; has_key = λ none. ap (λ (x : CellParts). x.0) (get_or_default (map.entries live) k none d lt) } in
+    map.get-entries live (get_or (map.entries live) k d).0 ∙ find_at dot_cmp dots_total (map.entries live) (rising live) (get_or (map.entries live) k d).0 k d at
+
+cells_are : (frame : Frame) (runs : List Run) → IsInRanges frame → IsRunsOf runs frame.delta.members.known → IsWithinLimits frame.delta.members → All IsMeasured (map.entries frame.delta.members.live) → AreCells runs (map.entries frame.delta.members.live)
+cells_are frame runs ranges are limits measured =
+    let live : Live = frame.delta.members.live in
+    let held : (k : ℕ) (d : CellParts) → k < length (map.entries live) → IsLiveIn frame.delta.members (get_or (map.entries live) k d).0 (get_or (map.entries live) k d).1 = λ k d lt. limits.held _ _ (entry_found live k d lt) in
+    record {
+      listed = record {
+        each = λ k d lt. record {
+          dot = (measured k d lt).dot;
+          member = record { queue = ranges.queues _ _ (entry_found live k d lt); interface = (measured k d lt).interface };
+          fields = record { penalty = (measured k d lt).penalty; pause = (measured k d lt).pause; label = (measured k d lt).label; some = (held k d lt).set };
+        };
+        order = rising live;
+        few = let same : map.len live ≡ length (map.entries live) = map.len-entries live in omega (arith, same, limits.cells);
+      };
+      known = λ k d lt. sym (are.same _) ∙ (held k d lt).known;
+    }
+
+pub frame_spelled : (frame : Frame) (runs : List Run) (bytes : List ℕ) → IsSite frame.maker → IsInRanges frame → IsRunsOf runs frame.delta.members.known → All IsRun runs → length runs ≤ MOST_RUNS → IsWithinLimits frame.delta.members → All IsMeasured (map.entries frame.delta.members.live) → All (λ total. IsTotal total.0 total.1) (map.entries frame.delta.totals.entries) → bytes ≡ frame_bytes (parts_with frame runs) → Spells frame bytes
+frame_spelled frame runs bytes site ranges are each few limits measured totals spelled = record {
+  parts = parts_with frame runs;
+  of_frame = record { maker = refl; number = refl; runs = are; cells = refl; totals = refl };
+  within = record {
+    heading = record { maker = site; number = ranges.number };
+    runs = record { each = each; order = are.apart; few = few };
+    cells = cells_are frame runs ranges are limits measured;
+    totals = record { each = totals; order = fact _ (map.entries_sorted frame.delta.totals.entries); few = few_totals frame.delta.totals.entries totals };
+  };
+  spelled = spelled;
+}

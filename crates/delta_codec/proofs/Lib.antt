@@ -1,0 +1,12 @@
+pub mod Appending
+pub mod Counting
+pub mod Encoded
+pub mod Measuring
+pub mod PartLaws
+pub mod ReadCells
+pub mod ReadLists
+pub mod FieldLaws
+pub mod CellLaws
+pub mod ListLaws
+pub mod ContentLaws
+pub mod FrameLaws

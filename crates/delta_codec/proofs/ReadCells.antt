@@ -1,0 +1,53 @@
+-- What a builder has been given lies before what is read next.
+use Rattle.std.proofs.Common.{◌≡◌, ℕ, ◌+◌, ◌≤◌, Bool, true, false, cond, Option, Some, None, IsSome, inl, inr, refl, ap, subst, ◌∙◌, arith}
+use Rattle.std.specs.declared.cmp.Ordering.{Ordering}
+use Rattle.std.specs.declared.cmp.Ordering.TheVariants.{Less, Equal, Greater}
+use Rattle.std.specs.FinMap as map
+use Rattle.std.specs.Ordering.{is_lt, eq_by_cmp}
+use Rattle.std.proofs.lemmas.Bool.{cases_Bool}
+use Rattle.dots.specs.Values.{Dot}
+use Rattle.dots.specs.Orders.{dot_cmp}
+use Rattle.dots.proofs.DotOrder.{dots_total, dots_exact}
+use Rattle.dots.proofs.TruthTables.{equal_of}
+use Rattle.member_orset.specs.Members.{Holding}
+use Rattle.delta_codec.specs.declared.decode_fault.DecodeFault.TheVariants.{BadOrder}
+use Rattle.delta_codec.specs.Reading.{is_dot_before, order_fault, unless}
+
+-- a dot that may stand behind the last one lies behind all live ones
+abbrev pub IsBehind : Option Dot → map.FinMap dot_cmp Holding → Type 0
+IsBehind last live = (q dot : Dot) → IsSome (map.get live q) → order_fault is_dot_before last dot ≡ None → dot_cmp q dot ≡ Less
+
+-- none is live
+pub behind_none : (last : Option Dot) (live : map.FinMap dot_cmp Holding) → live ≡ map.empty → IsBehind last live
+behind_none last live empty q dot there next = absurd (let none = ap (λ m. map.get m q) empty ∙ map.get-empty dot_cmp q in cc)
+
+less_unless : (o : Ordering) → unless (is_lt o) BadOrder ≡ None → o ≡ Less
+less_unless Less h = refl
+less_unless Equal h = absurd cc
+less_unless Greater h = absurd cc
+
+before_next : (last dot : Dot) → order_fault is_dot_before (Some last) dot ≡ None → dot_cmp last dot ≡ Less
+before_next last dot h = less_unless (dot_cmp last dot) h
+
+-- one more dot that stood behind the others
+pub behind_more : (last : Option Dot) (live : map.FinMap dot_cmp Holding) (d : Dot) (h : Holding) → order_fault is_dot_before last d ≡ None → IsBehind last live → IsBehind (Some d) (map.insert live d h)
+behind_more last live d h follows behind q dot there next =
+    let less : dot_cmp d dot ≡ Less = before_next d dot next in
+    let at : map.get (map.insert live d h) q ≡ cond (eq_by_cmp dot_cmp q d) (Some h) (map.get live q) = map.get-insert dots_total live d h q in
+    elim (cases_Bool (eq_by_cmp dot_cmp q d)) [
+      | inl same ↦ let q-is : q ≡ d = dots_exact q d (equal_of (dot_cmp q d) same) in ap (λ x. dot_cmp x dot) q-is ∙ less
+      | inr other ↦
+          let old : map.get (map.insert live d h) q ≡ map.get live q = at ∙ ap (λ b. cond b (Some h) (map.get live q)) other in
+          dots_total.trans q d dot (behind q d (subst (λ (o : Option Holding). IsSome o) old there) follows) less
+    ]
+
+one_more : (b : Bool) (n m : ℕ) → n ≤ m → cond b n (n + 1) ≤ m + 1
+one_more true n m le = omega arith
+one_more false n m le = omega arith
+
+-- at most one more is live
+pub few_more : (live : map.FinMap dot_cmp Holding) (d : Dot) (h : Holding) (n : ℕ) → map.len live ≤ n → map.len (map.insert live d h) ≤ n + 1
+few_more live d h n le = rw (map.len-insert dots_total live d h) (one_more (map.contains_key live d) (map.len live) n le)
+
+pub few_none : (live : map.FinMap dot_cmp Holding) → live ≡ map.empty → map.len live ≤ 0
+few_none live empty = rw (empty, map.len-empty dot_cmp) (omega arith)

@@ -1,0 +1,56 @@
+-- What decoding answers.
+use Rattle.std.specs.Prelude.{ℕ, ◌≡◌, ◌⊎◌, ◌≤◌, List, length, take, drop, Option, Some, None, Result, Ok, Err, IfOk}
+use Rattle.std.specs.Result.{IsOkAnd}
+use Rattle.delta.specs.DeltaStates.{IsSame}
+use Rattle.delta_codec.specs.declared.decode_fault.DecodeFault.{DecodeFault}
+use Rattle.delta_codec.specs.declared.decode_fault.DecodeFault.TheVariants.{Memory}
+use Rattle.delta_codec.specs.declared.frame.Frame.{Frame}
+use Rattle.delta_codec.specs.Frames.{Spells}
+use Rattle.delta_codec.specs.Reading.{Kept}
+
+-- two frames are of one maker, have one number, and say the same
+pub record IsSameFrame (x y : Frame) : Type 0 where
+  pub maker : x.maker ≡ y.maker
+  pub number : x.number ≡ y.number
+  pub delta : IsSame x.delta y.delta
+
+-- this holds, or an allocation was refused
+abbrev pub UnlessMemory : {T : Type 0} → Result T DecodeFault → Type 0 → Type 0
+UnlessMemory result fact = (result ≡ Err Memory) ⊎ fact
+
+-- what a frame keeps
+abbrev pub frame_kept : Frame → Kept
+frame_kept frame = (record { maker = frame.maker; number = frame.number }, (frame.delta.members.known, (frame.delta.members.live, frame.delta.totals.entries)))
+
+-- A result is the frame that bytes begin with, and how many bytes it has: it is such a frame; each such frame is the result,
+-- unless memory is refused.
+pub record IsFrontFrame (bytes : List ℕ) (result : Result (Frame × ℕ) DecodeFault) : Type 0 where
+  pub all_there : IfOk result (λ x. x.1 ≤ length bytes)
+  pub spelled : IfOk result (λ x. Spells x.0 (take x.1 bytes))
+  pub found : (frame : Frame) (n : ℕ) → n ≤ length bytes → Spells frame (take n bytes)
+      → UnlessMemory result (IsOkAnd result (λ x. IsSameFrame x.0 frame × (x.1 ≡ n)))
+
+-- there is a value, of which this holds
+abbrev pub IsSomeAnd : {T : Type 0} → Option T → (T → Type 0) → Type 0
+IsSomeAnd None P = ⊥
+IsSomeAnd (Some x) P = P x
+
+-- a frame was taken from the front of the bytes that were held
+pub record IsTaken (old new : List ℕ) (frame : Frame) : Type 0 where
+  pub len : ℕ
+  pub there : len ≤ length old
+  pub spelled : Spells frame (take len old)
+  pub left : new ≡ drop len old
+
+-- what is held then: the bytes behind the frame that was taken, or all
+abbrev pub Leaves : List ℕ → Result (Option Frame) DecodeFault → List ℕ → Type 0
+Leaves old (Ok (Some frame)) new = IsTaken old new frame
+Leaves old (Ok None) new = new ≡ old
+Leaves old (Err fault) new = new ≡ old
+
+-- What a splitter answers that held these bytes, and what it holds then. A frame that they begin with is taken, unless memory is
+-- refused.
+pub record IsNextFrame (old : List ℕ) (result : Result (Option Frame) DecodeFault) (new : List ℕ) : Type 0 where
+  pub leaves : Leaves old result new
+  pub found : (frame : Frame) (n : ℕ) → n ≤ length old → Spells frame (take n old)
+      → UnlessMemory result (IsOkAnd result (λ next. IsSomeAnd next (λ x. IsSameFrame x frame × (new ≡ drop n old))))

@@ -1,0 +1,221 @@
+-- Which fault bytes have: well-spelled parts stand at their front, and what must come next breaks the rule that gives the fault.
+use Rattle.std.specs.Prelude.{ℕ, ◌≡◌, ◌≢◌, ◌≤◌, ◌<◌, ◌^◌, ◌⊎◌, Bool, true, false, List, [], ◌∷◌, ◌++◌, length, take, Option, None, IfSome, IsTrue, is_some, nat_le, ◌/◌, ◌%◌, ◌==◌}
+use Rattle.std.specs.List.{flat_map, last_or, list_any}
+use Rattle.std.specs.Ordering.{is_lt}
+use Rattle.std.specs.Int.{w16, w32, to_be_bytes}
+use Rattle.dots.specs.declared.limits.TheConstants.{MOST_LIVE, MOST_RUNS, QUEUES, TEXT_BYTES}
+use Rattle.dots.specs.DotSets.{Run, in_runs, is_apart}
+use Rattle.dots.specs.Orders.{dot_cmp}
+use Rattle.dots.specs.Registers.{Entry}
+use Rattle.dots.specs.Totals.{IsTotal, key_cmp}
+use Rattle.dots.specs.Values.{Dot, IsName, IsPenalty, IsText, is_bad_byte}
+use Rattle.dots.specs.WithinLimits.{IsDot, IsPause, IsStamp}
+use Rattle.causal_context.specs.Contexts.{IsRun}
+use Rattle.delta_codec.specs.declared.decode_fault.DecodeFault.{DecodeFault}
+use Rattle.delta_codec.specs.declared.decode_fault.DecodeFault.TheVariants.{Truncated, BadMagic, BadVersion, BadRange, BadOrder, BadText, TooLarge}
+use Rattle.delta_codec.specs.declared.limits.TheConstants.{LEAST_LENGTH, MOST_LENGTH, MOST_TOTALS, VERSION}
+use Rattle.delta_codec.specs.Parts.{CellParts, IsCell, IsField, TotalParts, byte, cell_bytes, dot_bytes, field_bytes, list_bytes, pause_bytes, penalty_bytes, run_bytes, stamp_bytes, text_bytes, total_bytes}
+use Rattle.delta_codec.specs.Frames.{AreCells, AreRuns, AreTotals, IsHeading, heading_bytes, magic}
+
+-- a good part stands at the front of the bytes, and this holds of it and of what follows it
+pub record After {A : Type 0} (IsGood : A → Type 0) (spell : A → List ℕ) (Next : A → List ℕ → Type 0) (bytes : List ℕ) : Type 0 where
+  pub value : A
+  pub rest : List ℕ
+  pub good : IsGood value
+  pub spelled : bytes ≡ spell value ++ rest
+  pub next : Next value rest
+
+-- no good part stands at the front, which is this fault
+pub record Lacks {A : Type 0} (IsGood : A → Type 0) (spell : A → List ℕ) (rule fault : DecodeFault) (bytes : List ℕ) : Type 0 where
+  pub none : (value : A) (rest : List ℕ) → IsGood value → bytes ≢ spell value ++ rest
+  pub fault_is : fault ≡ rule
+
+-- ---- texts
+
+-- A text is at fault: its length is missing, or it is too short or too long; it isn't all there; or it has a bad byte.
+abbrev pub TextFails : ℕ → DecodeFault → List ℕ → Type 0
+TextFails least fault [] = fault ≡ BadRange
+TextFails least fault (len ∷ rest) =
+    (((len < least) ⊎ (TEXT_BYTES < len)) × (fault ≡ BadText))
+    ⊎ ((least ≤ len) × (len ≤ TEXT_BYTES) × (length rest < len) × (fault ≡ BadRange))
+    ⊎ ((least ≤ len) × (len ≤ TEXT_BYTES) × (len ≤ length rest) × IsTrue (list_any is_bad_byte (take len rest)) × (fault ≡ BadText))
+
+-- The reason of what isn't a pause is at fault: its length is missing, or isn't 0.
+abbrev pub NoReasonFails : DecodeFault → List ℕ → Type 0
+NoReasonFails fault [] = fault ≡ BadRange
+NoReasonFails fault (len ∷ rest) = ((TEXT_BYTES < len) × (fault ≡ BadText)) ⊎ ((0 < len) × (len ≤ TEXT_BYTES) × (fault ≡ BadRange))
+
+-- ---- fields
+
+-- 0 or 1
+abbrev pub IsBit : ℕ → Type 0
+IsBit n = n < 2
+
+-- the reason that follows the byte of a pause
+abbrev pub ReasonFails : DecodeFault → ℕ → List ℕ → Type 0
+ReasonFails fault paused bytes = ((paused ≡ 0) × NoReasonFails fault bytes) ⊎ ((paused ≡ 1) × TextFails 0 fault bytes)
+
+-- a penalty is at fault
+abbrev pub PenaltyFails : DecodeFault → List ℕ → Type 0
+PenaltyFails fault = Lacks IsPenalty penalty_bytes BadRange fault
+
+-- a pause is at fault: its byte, or its reason
+abbrev pub PauseFails : DecodeFault → List ℕ → Type 0
+PauseFails fault bytes = Lacks IsBit byte BadRange fault bytes ⊎ After IsBit byte (ReasonFails fault) bytes
+
+-- a label is at fault: its first text, or its second
+abbrev pub LabelFails : DecodeFault → List ℕ → Type 0
+LabelFails fault bytes = TextFails 0 fault bytes ⊎ After IsText text_bytes (λ name rest. TextFails 0 fault rest) bytes
+
+-- a field that is set is at fault: its stamp, or its value
+abbrev pub FieldFails : (DecodeFault → List ℕ → Type 0) → DecodeFault → Bool → List ℕ → Type 0
+FieldFails ValueFails fault false bytes = ⊥
+FieldFails ValueFails fault true bytes = Lacks IsStamp stamp_bytes BadRange fault bytes ⊎ After IsStamp stamp_bytes (λ stamp rest. ValueFails fault rest) bytes
+
+-- the flags of fields of which at least one is set
+abbrev pub IsFlags : ℕ → Type 0
+IsFlags flags = (1 ≤ flags) × (flags ≤ 7)
+
+-- whether flags say that the penalty is set, the pause, the label
+abbrev pub penalty_flag : ℕ → Bool
+penalty_flag flags = flags % 2 == 1
+
+abbrev pub pause_flag : ℕ → Bool
+pause_flag flags = flags / 2 % 2 == 1
+
+abbrev pub label_flag : ℕ → Bool
+label_flag flags = nat_le 4 flags
+
+-- a field is set where its flag is, and within its limits
+pub record IsFlagged {T : Type 0} (IsValue : T → Type 0) (flag : Bool) (field : Option (Entry T)) : Type 0 where
+  pub set : is_some field ≡ flag
+  pub value : IsField IsValue field
+
+-- the fields behind their flags are at fault: the penalty, or the pause behind it, or the label behind both
+abbrev pub FieldsFail : DecodeFault → ℕ → List ℕ → Type 0
+FieldsFail fault flags bytes =
+    FieldFails PenaltyFails fault (penalty_flag flags) bytes
+    ⊎ After (IsFlagged IsPenalty (penalty_flag flags)) (field_bytes penalty_bytes) (λ penalty pause.
+    FieldFails PauseFails fault (pause_flag flags) pause
+    ⊎ After (IsFlagged IsPause (pause_flag flags)) (field_bytes pause_bytes) (λ _ label.
+    FieldFails LabelFails fault (label_flag flags) label) pause) bytes
+
+-- ---- runs, cells, totals
+
+-- a dot in one of the queues
+pub record Place : Type 0 where
+  pub dot : Dot
+  pub queue : ℕ
+
+-- a dot and a queue, two bytes
+abbrev pub place_bytes : Place → List ℕ
+place_bytes place = dot_bytes place.dot ++ to_be_bytes w16 place.queue
+
+-- both are within their limits
+pub record IsPlace (place : Place) : Type 0 where
+  pub dot : IsDot place.dot
+  pub queue : place.queue < QUEUES
+
+-- what a cell has is at fault: dot or queue, or the interface, or the flags, or a field
+abbrev pub CellFails : DecodeFault → List ℕ → Type 0
+CellFails fault bytes =
+    Lacks IsPlace place_bytes BadRange fault bytes
+    ⊎ After IsPlace place_bytes (λ _ interface.
+    TextFails 1 fault interface
+    ⊎ After IsName text_bytes (λ _ flags.
+    Lacks IsFlags byte BadRange fault flags
+    ⊎ After IsFlags byte (FieldsFail fault) flags) interface) bytes
+
+-- an element follows the last one of those before it, by this test; the first follows nothing
+abbrev pub Follows : {A : Type 0} → (A → A → Bool) → List A → A → Type 0
+Follows follows before x = IfSome (last_or None before) (λ last. IsTrue (follows last x))
+
+-- one cell's dot lies before another's, and one total's key before another's
+abbrev pub is_cell_before : CellParts → CellParts → Bool
+is_cell_before cell next = is_lt (dot_cmp cell.0 next.0)
+
+abbrev pub is_total_before : TotalParts → TotalParts → Bool
+is_total_before total next = is_lt (key_cmp total.0 next.0)
+
+-- The next run is at fault, after those before: itself, or it doesn't follow the last one.
+abbrev pub RunFails : DecodeFault → List Run → List ℕ → Type 0
+RunFails fault before bytes =
+    Lacks IsRun run_bytes BadRange fault bytes
+    ⊎ After IsRun run_bytes (λ run _. ¬ Follows is_apart before run × (fault ≡ BadOrder)) bytes
+
+-- The next cell is at fault: itself, or it doesn't follow the last one, or its dot is in no run.
+abbrev pub NextCellFails : List Run → DecodeFault → List CellParts → List ℕ → Type 0
+NextCellFails runs fault before bytes =
+    CellFails fault bytes
+    ⊎ After IsCell cell_bytes (λ cell _.
+    (¬ Follows is_cell_before before cell × (fault ≡ BadOrder))
+    ⊎ (Follows is_cell_before before cell × (in_runs runs cell.0 ≡ false) × (fault ≡ BadRange))) bytes
+
+-- The next total is at fault: itself, or it doesn't follow the last one.
+abbrev pub TotalFails : DecodeFault → List TotalParts → List ℕ → Type 0
+TotalFails fault before bytes =
+    Lacks (λ total. IsTotal total.0 total.1) total_bytes BadRange fault bytes
+    ⊎ After (λ total. IsTotal total.0 total.1) total_bytes (λ total _. ¬ Follows is_total_before before total × (fault ≡ BadOrder)) bytes
+
+-- Of so many elements some stand there in order, and the next is at fault.
+pub record ElementsFail {A : Type 0} (IsGood : List A → Type 0) (spell : A → List ℕ) (NextFails : List A → List ℕ → Type 0) (count : ℕ) (bytes : List ℕ) : Type 0 where
+  pub before : List A
+  pub rest : List ℕ
+  pub fewer : length before < count
+  pub good : IsGood before
+  pub spelled : bytes ≡ flat_map spell before ++ rest
+  pub next : NextFails before rest
+
+-- four bytes of a number
+abbrev pub IsNumber4 : ℕ → Type 0
+IsNumber4 n = n < 2 ^ 32
+
+abbrev pub number4 : ℕ → List ℕ
+number4 = to_be_bytes w32
+
+-- a list is at fault: its count is missing, or too great, or one of its elements is at fault
+abbrev pub ListFails : {A : Type 0} → (List A → Type 0) → (A → List ℕ) → ℕ → (DecodeFault → List A → List ℕ → Type 0) → DecodeFault → List ℕ → Type 0
+ListFails IsGood spell most NextFails fault bytes =
+    Lacks IsNumber4 number4 BadRange fault bytes
+    ⊎ After IsNumber4 number4 (λ count rest.
+    ((most < count) × (fault ≡ TooLarge))
+    ⊎ ((count ≤ most) × ElementsFail IsGood spell (NextFails fault) count rest)) bytes
+
+-- the list of runs is at fault, that of cells, that of totals
+abbrev pub RunsFail : DecodeFault → List ℕ → Type 0
+RunsFail = ListFails AreRuns run_bytes MOST_RUNS RunFails
+
+abbrev pub CellsFail : List Run → DecodeFault → List ℕ → Type 0
+CellsFail runs = ListFails (AreCells runs) cell_bytes MOST_LIVE (NextCellFails runs)
+
+abbrev pub TotalsFail : DecodeFault → List ℕ → Type 0
+TotalsFail = ListFails AreTotals total_bytes MOST_TOTALS TotalFails
+
+-- ---- the whole
+
+-- What stands behind the length is at fault: the magic; or the version behind it; or the heading; or the runs; or the cells, of which each is of a dot in a run; or the totals; or bytes follow these.
+abbrev pub ContentFails : DecodeFault → List ℕ → Type 0
+ContentFails fault bytes =
+    Lacks (λ letters. letters ≡ magic) (λ letters. letters) BadMagic fault bytes
+    ⊎ After (λ letters. letters ≡ magic) (λ letters. letters) (λ _ version.
+    Lacks (λ number. number ≡ VERSION) byte BadVersion fault version
+    ⊎ After (λ number. number ≡ VERSION) byte (λ _ heading.
+    Lacks IsHeading heading_bytes BadRange fault heading
+    ⊎ After IsHeading heading_bytes (λ _ runs.
+    RunsFail fault runs
+    ⊎ After AreRuns (list_bytes run_bytes) (λ known cells.
+    CellsFail known fault cells
+    ⊎ After (AreCells known) (list_bytes cell_bytes) (λ _ totals.
+    TotalsFail fault totals
+    ⊎ After AreTotals (list_bytes total_bytes) (λ _ rest.
+    (rest ≢ []) × (fault ≡ BadRange)) totals) cells) runs) heading) version) bytes
+
+-- Bytes have a fault: the length is missing; or it is too great, or too small; or fewer bytes follow; or what follows, so many bytes of it, is at fault.
+abbrev pub HasFault : List ℕ → DecodeFault → Type 0
+HasFault bytes fault =
+    Lacks IsNumber4 number4 Truncated fault bytes
+    ⊎ After IsNumber4 number4 (λ len rest.
+    ((MOST_LENGTH < len) × (fault ≡ TooLarge))
+    ⊎ ((len < LEAST_LENGTH) × (fault ≡ BadRange))
+    ⊎ ((LEAST_LENGTH ≤ len) × (len ≤ MOST_LENGTH) × (length rest < len) × (fault ≡ Truncated))
+    ⊎ ((LEAST_LENGTH ≤ len) × (len ≤ MOST_LENGTH) × (len ≤ length rest) × ContentFails fault (take len rest))) bytes

@@ -1,0 +1,311 @@
+-- Reading from left to right: the part that stands at the front and the bytes behind it, or the first fault.
+use Rattle.std.specs.Prelude.{◌≡◌, ℕ, zero, suc, Bool, true, false, not, ◌&&◌, ◌==◌, ◌+◌, List, [], ◌∷◌, length, take, drop, Option, Some, None, Result, Ok, Err, nat_le, nat_lt, fold, if◌then◌else◌}
+use Rattle.std.specs.FinMap as map
+use Rattle.std.specs.FinSet as set
+use Rattle.std.specs.Int.{Width, w16, w32, w64, byte_len, from_be_bytes}
+use Rattle.std.specs.List.{list_any}
+use Rattle.std.specs.Ordering.{is_lt}
+use Rattle.dots.specs.declared.label.Label.{Label}
+use Rattle.dots.specs.declared.limits.TheConstants.{MOST_CALLS, MOST_COUNT, MOST_LIVE, MOST_PENALTY, MOST_RUNS, QUEUES, SITES, TEXT_BYTES}
+use Rattle.dots.specs.Conditions.{DotFields}
+use Rattle.dots.specs.DotSets.{Run, dots_between, is_apart}
+use Rattle.dots.specs.Orders.{dot_cmp}
+use Rattle.dots.specs.Registers.{Entry}
+use Rattle.dots.specs.Totals.{Entries, Key, is_zero, join_of, key_cmp, single}
+use Rattle.dots.specs.Values.{Dot, PauseState, Stamp, is_bad_byte}
+use Rattle.member_orset.specs.Members.{Holding}
+use Rattle.delta_codec.specs.declared.decode_fault.DecodeFault.{DecodeFault}
+use Rattle.delta_codec.specs.declared.decode_fault.DecodeFault.TheVariants.{Truncated, BadMagic, BadVersion, BadRange, BadOrder, BadText, TooLarge, Memory}
+use Rattle.delta_codec.specs.declared.limits.TheConstants.{LEAST_LENGTH, MOST_LENGTH, MOST_TOTALS, VERSION}
+use Rattle.delta_codec.specs.Parts.{CellParts, TotalParts}
+use Rattle.delta_codec.specs.Frames.{Heading, magic}
+use Rattle.delta_codec.specs.Faults.{Place, label_flag, pause_flag, penalty_flag}
+
+-- what is read: a part and the bytes behind it, or a fault
+abbrev pub Read : Type 0 → Type 0
+Read A = Result (A × List ℕ) DecodeFault
+
+-- ---- how reading goes on
+
+infixl 10 ◌>>=◌
+abbrev pub ◌>>=◌ : {A B : Type 0} → Result A DecodeFault → (A → Result B DecodeFault) → Result B DecodeFault
+(Ok x) >>= f = f x
+(Err e) >>= f = Err e
+
+-- a part that must pass a test
+abbrev pub tested : {A : Type 0} → (A → Bool) → DecodeFault → Read A → Read A
+tested test rule read = read >>= λ x. if test x.0 then Ok x else Err rule
+
+-- a part, and what is made of it
+abbrev pub made : {A B : Type 0} → (A → B) → Read A → Read B
+made f read = read >>= λ x. Ok (f x.0, x.1)
+
+-- a part, and then another
+abbrev pub both : {A B : Type 0} → Read A → (A → List ℕ → Read B) → Read (A × B)
+both first next = first >>= λ x. next x.0 x.1 >>= λ y. Ok ((x.0, y.0), y.1)
+
+-- ---- numbers
+
+abbrev pub byte_at : List ℕ → Read ℕ
+byte_at [] = Err BadRange
+byte_at (b ∷ rest) = Ok (b, rest)
+
+abbrev pub number_at : Width → List ℕ → Read ℕ
+number_at w bytes = if nat_lt (length bytes) (byte_len w) then Err BadRange else Ok (from_be_bytes w (take (byte_len w) bytes), drop (byte_len w) bytes)
+
+-- whether a number is from 1 to 2 ^ 40
+abbrev pub is_count : ℕ → Bool
+is_count n = nat_le 1 n && nat_le n MOST_COUNT
+
+unfoldable pub site_at : List ℕ → Read ℕ
+site_at bytes = tested (λ n. nat_lt n SITES) BadRange (byte_at bytes)
+
+unfoldable pub count_at : List ℕ → Read ℕ
+count_at bytes = tested is_count BadRange (number_at w64 bytes)
+
+unfoldable pub last_at : ℕ → List ℕ → Read ℕ
+last_at first bytes = tested (λ n. nat_le first n && nat_le n MOST_COUNT) BadRange (number_at w64 bytes)
+
+unfoldable pub queue_at : List ℕ → Read ℕ
+queue_at bytes = tested (λ n. nat_lt n QUEUES) BadRange (number_at w16 bytes)
+
+unfoldable pub penalty_at : List ℕ → Read ℕ
+penalty_at bytes = tested (λ n. nat_le n MOST_PENALTY) BadRange (number_at w32 bytes)
+
+unfoldable pub calls_at : List ℕ → Read ℕ
+calls_at bytes = tested (λ n. nat_le n MOST_CALLS) BadRange (number_at w64 bytes)
+
+unfoldable pub bit_at : List ℕ → Read ℕ
+bit_at bytes = tested (λ n. nat_lt n 2) BadRange (byte_at bytes)
+
+unfoldable pub flags_at : List ℕ → Read ℕ
+flags_at bytes = tested (λ n. nat_le 1 n && nat_le n 7) BadRange (byte_at bytes)
+
+-- ---- texts
+
+-- so many bytes that make a text
+unfoldable pub text_of : ℕ → List ℕ → Read (List ℕ)
+text_of len rest =
+    if nat_lt (length rest) len then Err BadRange
+    else if list_any is_bad_byte (take len rest) then Err BadText
+    else Ok (take len rest, drop len rest)
+
+-- a text of at least so many bytes
+unfoldable pub text_at : ℕ → List ℕ → Read (List ℕ)
+text_at least bytes = tested (λ len. nat_le least len && nat_le len TEXT_BYTES) BadText (byte_at bytes) >>= λ len. text_of len.0 len.1
+
+-- no reason
+unfoldable pub no_reason_at : List ℕ → Read (List ℕ)
+no_reason_at bytes = made (λ _. []) (tested (λ len. len == 0) BadRange (tested (λ len. nat_le len TEXT_BYTES) BadText (byte_at bytes)))
+
+-- ---- fields
+
+unfoldable pub stamp_at : List ℕ → Read Stamp
+stamp_at bytes = made (λ p. record { time = p.0; site = p.1 }) (both (count_at bytes) (λ _. site_at))
+
+unfoldable pub reason_at : ℕ → List ℕ → Read (List ℕ)
+reason_at zero rest = no_reason_at rest
+reason_at (suc n) rest = text_at 0 rest
+
+unfoldable pub pause_at : List ℕ → Read PauseState
+pause_at bytes = made (λ p. record { paused = p.0 == 1; reason = p.1 }) (both (bit_at bytes) reason_at)
+
+unfoldable pub label_at : List ℕ → Read Label
+label_at bytes = made (λ p. record { name = p.0; state = p.1 }) (both (text_at 0 bytes) (λ _. text_at 0))
+
+unfoldable pub entry_at : {T : Type 0} → (List ℕ → Read T) → List ℕ → Read (Entry T)
+entry_at value_at bytes = made (λ p. record { stamp = p.0; value = p.1 }) (both (stamp_at bytes) (λ _. value_at))
+
+-- a field, if its flag says that it is set
+unfoldable pub field_at : {T : Type 0} → Bool → (List ℕ → Read T) → List ℕ → Read (Option (Entry T))
+field_at false value_at bytes = Ok (None, bytes)
+field_at true value_at bytes = made Some (entry_at value_at bytes)
+
+-- the fields behind their flags
+unfoldable pub set_fields_at : ℕ → List ℕ → Read DotFields
+set_fields_at flags bytes =
+    made (λ p. record { penalty = p.0; pause = p.1.0; label = p.1.1 })
+    (both (field_at (penalty_flag flags) penalty_at bytes) (λ _ rest.
+    both (field_at (pause_flag flags) pause_at rest) (λ _. field_at (label_flag flags) label_at)))
+
+unfoldable pub fields_at : List ℕ → Read DotFields
+fields_at bytes = made (λ p. p.1) (both (flags_at bytes) set_fields_at)
+
+-- ---- runs, cells, totals
+
+unfoldable pub run_at : List ℕ → Read Run
+run_at bytes = made (λ p. record { site = p.0; first = p.1.0; last = p.1.1 }) (both (site_at bytes) (λ _ rest. both (count_at rest) last_at))
+
+unfoldable pub dot_at : List ℕ → Read Dot
+dot_at bytes = made (λ p. record { site = p.0; count = p.1 }) (both (site_at bytes) (λ _. count_at))
+
+unfoldable pub place_at : List ℕ → Read Place
+place_at bytes = made (λ p. record { dot = p.0; queue = p.1 }) (both (dot_at bytes) (λ _. queue_at))
+
+unfoldable pub cell_at : List ℕ → Read CellParts
+cell_at bytes =
+    made (λ p. (p.0.dot, (record { queue = p.0.queue; interface = p.1.0 }, p.1.1)))
+    (both (place_at bytes) (λ _ rest. both (text_at 1 rest) (λ _. fields_at)))
+
+unfoldable pub total_at : List ℕ → Read TotalParts
+total_at bytes =
+    tested (λ total. not (is_zero total.1)) BadRange
+    (made (λ p. (record { site = p.0; queue = p.1.0 }, record { completed = p.1.1.0; abandoned = p.1.1.1 }))
+    (both (site_at bytes) (λ _ rest. both (queue_at rest) (λ _ rest. both (calls_at rest) (λ _. calls_at)))))
+
+-- ---- lists
+
+-- why an element can't stand behind another, if it can't
+abbrev pub unless : Bool → DecodeFault → Option DecodeFault
+unless true fault = None
+unless false fault = Some fault
+
+abbrev pub order_fault : {K : Type 0} → (K → K → Bool) → Option K → K → Option DecodeFault
+order_fault follows None key = None
+order_fault follows (Some last) key = unless (follows last key) BadOrder
+
+abbrev pub or_else : Option DecodeFault → Option DecodeFault → Option DecodeFault
+or_else None fault = fault
+or_else (Some first) fault = Some first
+
+-- whether a dot lies before another, a key before another
+abbrev pub is_dot_before : Dot → Dot → Bool
+is_dot_before dot next = is_lt (dot_cmp dot next)
+
+abbrev pub is_key_before : Key → Key → Bool
+is_key_before key next = is_lt (key_cmp key next)
+
+-- a dot follows the last one, and is known
+abbrev pub dot_fault : (Dot → Bool) → Option Dot → Dot → Option DecodeFault
+dot_fault is_known last dot = or_else (order_fault is_dot_before last dot) (unless (is_known dot) BadRange)
+
+-- an element for which there is no fault
+abbrev pub accepted : {A : Type 0} → Option DecodeFault → A → Result A DecodeFault
+accepted None x = Ok x
+accepted (Some fault) x = Err fault
+
+-- how elements are read: one of them, its key, and why a key can't stand behind another
+pub record Elements (A K : Type 0) : Type 0 where
+  pub at : List ℕ → Read A
+  pub key : A → K
+  pub fault_of : Option K → K → Option DecodeFault
+
+abbrev pub run_elements : Elements Run Run
+run_elements = record { at = run_at; key = λ run. run; fault_of = order_fault is_apart }
+
+abbrev pub cell_elements : (Dot → Bool) → Elements CellParts Dot
+cell_elements is_known = record { at = cell_at; key = λ cell. cell.0; fault_of = dot_fault is_known }
+
+abbrev pub total_elements : Elements TotalParts Key
+total_elements = record { at = total_at; key = λ total. total.0; fault_of = order_fault is_key_before }
+
+-- the next element, behind the last one
+abbrev pub next_at : {A K : Type 0} → Elements A K → Option K → List ℕ → Read A
+next_at e last bytes = e.at bytes >>= λ x. accepted (e.fault_of last (e.key x.0)) x
+
+-- so many elements, each behind the one before
+unfoldable pub elements_at : {A K : Type 0} → Elements A K → ℕ → Option K → List ℕ → Read (List A)
+elements_at e zero last bytes = Ok ([], bytes)
+elements_at e (suc n) last bytes = next_at e last bytes >>= λ x. elements_at e n (Some (e.key x.0)) x.1 >>= λ xs. Ok (x.0 ∷ xs.0, xs.1)
+
+-- how many, at most so many
+unfoldable pub size_at : ℕ → List ℕ → Read ℕ
+size_at most bytes = tested (λ n. nat_le n most) TooLarge (number_at w32 bytes)
+
+unfoldable pub list_at : {A K : Type 0} → Elements A K → ℕ → List ℕ → Read (List A)
+list_at e most bytes = size_at most bytes >>= λ n. elements_at e n.0 None n.1
+
+-- what is kept of the elements of a list, one by one
+abbrev pub with_run : set.FinSet dot_cmp → Run → set.FinSet dot_cmp
+with_run dots run = set.union dots (dots_between run.site run.first run.last)
+
+abbrev pub with_cell : map.FinMap dot_cmp Holding → CellParts → map.FinMap dot_cmp Holding
+with_cell live cell = map.insert live cell.0 cell.1
+
+abbrev pub with_total : Entries → TotalParts → Entries
+with_total entries total = join_of entries (single total.0 total.1)
+
+abbrev pub known_of : List Run → set.FinSet dot_cmp
+known_of = fold with_run set.empty
+
+abbrev pub live_of : List CellParts → map.FinMap dot_cmp Holding
+live_of = fold with_cell map.empty
+
+abbrev pub totals_of : List TotalParts → Entries
+totals_of = fold with_total map.empty
+
+abbrev pub runs_at : List ℕ → Read (List Run)
+runs_at = list_at run_elements MOST_RUNS
+
+abbrev pub cells_at : (Dot → Bool) → List ℕ → Read (List CellParts)
+cells_at is_known = list_at (cell_elements is_known) MOST_LIVE
+
+abbrev pub totals_at : List ℕ → Read (List TotalParts)
+totals_at = list_at total_elements MOST_TOTALS
+
+-- ---- the whole
+
+unfoldable pub magic_at : List ℕ → Read (List ℕ)
+magic_at [] = Err BadMagic
+magic_at (q ∷ []) = Err BadMagic
+magic_at (q ∷ d ∷ rest) = if (q == 81) && (d == 68) then Ok (magic, rest) else Err BadMagic
+
+unfoldable pub version_at : List ℕ → Read ℕ
+version_at [] = Err BadVersion
+version_at (n ∷ rest) = if n == VERSION then Ok (n, rest) else Err BadVersion
+
+unfoldable pub heading_at : List ℕ → Read Heading
+heading_at bytes = made (λ p. record { maker = p.0; number = p.1 }) (both (site_at bytes) (λ _. count_at))
+
+-- nothing is left
+abbrev pub ended : {A : Type 0} → A × List ℕ → Result A DecodeFault
+ended x = if length x.1 == 0 then Ok x.0 else Err BadRange
+
+-- the bytes that a length says, which stand behind it
+unfoldable pub within_at : ℕ → List ℕ → Result (List ℕ) DecodeFault
+within_at len rest =
+    if nat_lt MOST_LENGTH len then Err TooLarge
+    else if nat_lt len LEAST_LENGTH then Err BadRange
+    else if nat_lt (length rest) len then Err Truncated
+    else Ok (take len rest)
+
+unfoldable pub content_in : List ℕ → Result (List ℕ) DecodeFault
+content_in bytes = if nat_lt (length bytes) 4 then Err Truncated else within_at (from_be_bytes w32 (take 4 bytes)) (drop 4 bytes)
+
+-- what is kept of a frame: heading, known dots, live dots and totals
+abbrev pub Kept : Type 0
+Kept = Heading × (set.FinSet dot_cmp × (map.FinMap dot_cmp Holding × Entries))
+
+-- what is kept of the parts of a frame, which are all of the bytes
+unfoldable pub kept_at : List ℕ → Result Kept DecodeFault
+kept_at bytes =
+    magic_at bytes >>= λ letters. version_at letters.1 >>= λ version. heading_at version.1 >>= λ heading.
+    made known_of (runs_at heading.1) >>= λ known. made live_of (cells_at (set.contains known.0) known.1) >>= λ live. made totals_of (totals_at live.1) >>= λ totals.
+    ended ((heading.0, (known.0, (live.0, totals.0))), totals.1)
+
+-- what is kept of the frame that bytes begin with, and how many bytes it has
+unfoldable pub kept_in : List ℕ → Result (Kept × ℕ) DecodeFault
+kept_in bytes = content_in bytes >>= λ content. kept_at content >>= λ kept. Ok (kept, 4 + length content)
+
+-- ---- what functions return
+
+-- What a function returned, seen by view, is what reading gives.
+abbrev pub Gives : {X Y : Type 0} → (X → Y) → Result X DecodeFault → Result Y DecodeFault → Type 0
+Gives view (Ok x) read = read ≡ Ok (view x)
+Gives view (Err fault) read = read ≡ Err fault
+
+-- It is the fault that reading gives, or want of memory.
+abbrev pub Fails : {Y : Type 0} → DecodeFault → Result Y DecodeFault → Type 0
+Fails Memory read = Unit {0}
+Fails Truncated read = read ≡ Err Truncated
+Fails BadMagic read = read ≡ Err BadMagic
+Fails BadVersion read = read ≡ Err BadVersion
+Fails BadRange read = read ≡ Err BadRange
+Fails BadOrder read = read ≡ Err BadOrder
+Fails BadText read = read ≡ Err BadText
+Fails TooLarge read = read ≡ Err TooLarge
+
+-- What a function returned that takes memory, seen by view, is what reading gives, unless memory ran out.
+abbrev pub GivesWithMemory : {X Y : Type 0} → (X → Y) → Result X DecodeFault → Result Y DecodeFault → Type 0
+GivesWithMemory view (Ok x) read = read ≡ Ok (view x)
+GivesWithMemory view (Err fault) read = Fails fault read

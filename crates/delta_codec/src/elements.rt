@@ -1,0 +1,324 @@
+//! The runs, the cells and the totals of a frame at the front of bytes, each kept as it is read.
+ghost use Rattle.std.specs.Prelude.{◌≡◌, ◌↔◌, ◌≤◌, ◌<◌, IfErr, IfOk, IsSome, IsTrue, None, OnOk, true};
+ghost use Rattle.std.specs.declared.cmp.Ordering.TheVariants.{Less};
+ghost use Rattle.std.specs.FinMap as map;
+ghost use Rattle.std.specs.FinSet as set;
+ghost use Rattle.dots.specs.declared.limits.TheConstants.{MOST_CALLS, MOST_LIVE, QUEUES};
+ghost use Rattle.dots.specs.DotSets.{is_apart};
+ghost use Rattle.dots.specs.Orders.{dot_cmp};
+ghost use Rattle.dots.specs.Values.{Dot};
+ghost use Rattle.member_orset.specs.Members.{HasField};
+ghost use Rattle.delta_codec.specs.Elements.{cell_read, total_read};
+ghost use Rattle.delta_codec.specs.Reading.{Gives, GivesWithMemory, run_at, dot_at, place_at, cell_at, total_at, next_at, elements_at, runs_at, cells_at, totals_at, made, order_fault, is_dot_before, run_elements, cell_elements, total_elements, known_of, live_of, totals_of, with_run, with_cell, with_total};
+
+use crate::fields::{read_fields, read_interface};
+use crate::numbers::{read_calls, read_count, read_last, read_queue, read_site, read_size};
+use crate::reader::Reader;
+use crate::{DecodeFault, MOST_TOTALS};
+use causal_context::{Context, Run};
+use dots::{CallTotals, Dot, MOST_LIVE, MOST_RUNS, Member};
+use lww_registers::Fields;
+use member_orset::{MemberSet, SetBuilder};
+use site_totals::{TotalKey, Totals};
+use std::alloc::Global;
+
+// A live dot with its member and fields.
+#[derive(Drop)]
+pub(crate) struct CellRead {
+    dot: Dot,
+    member: Member,
+    fields: Fields,
+}
+
+// Whose totals, and how many calls.
+#[derive(Drop)]
+pub(crate) struct TotalRead {
+    key: TotalKey,
+    totals: CallTotals,
+}
+
+// ---- runs
+
+// A run.
+#[tactic(auto, unfolding(crate::specs::Reading::run_at))]
+fn read_run(reader: &mut Reader<'_>) -> Result<Run, DecodeFault>
+    ensures { Gives (λ x. (x, reader.new)) result (run_at reader.old) }
+{
+    let site = read_site(reader)?;
+    let first = read_count(reader)?;
+    let last = read_last(first, reader)?;
+    Ok(Run { site, first, last })
+}
+
+// Whether a run may stand behind another: it is of a later site, or a missing count lies between them.
+fn is_before(last: Run, run: Run) -> bool
+    ensures { result ≡ is_apart last run }
+{
+    last.site < run.site
+        || last.site == run.site && last.last < run.first && run.first - last.last > 1
+}
+
+// A run that may stand behind the last one.
+fn read_next_run(last: Option<Run>, reader: &mut Reader<'_>) -> Result<Run, DecodeFault>
+    ensures { Gives (λ x. (x, reader.new)) result (next_at run_elements last reader.old) }
+{
+    let run = read_run(reader)?;
+    match last {
+        Some(last) if !is_before(last, run) => Err(DecodeFault::BadOrder),
+        _ => Ok(run),
+    }
+}
+
+// Adds a run to a context. So few runs that are apart are never too many for it.
+fn keep_run(context: &mut Context, run: Run) -> Result<(), DecodeFault>
+    ensures ok { OnOk result (context.new.dots ≡ with_run context.old.dots run) }
+    ensures err { IfErr result (λ fault. fault ≡ DecodeFault.Memory) }
+{
+    match context.insert_run(run.site, run.first, run.last) {
+        Ok(()) => Ok(()),
+        Err(_) => Err(DecodeFault::Memory),
+    }
+}
+
+// So many runs.
+fn read_counted_runs(
+    alloc: Global,
+    count: u32,
+    reader: &mut Reader<'_>,
+) -> Result<Context, DecodeFault>
+    ensures { GivesWithMemory (λ x. (x.dots, reader.new)) result
+        (made known_of (elements_at run_elements count None reader.old)) }
+{
+    let mut context = Context::new(alloc);
+    let mut last = None;
+    for _ in 0..count {
+        let run = read_next_run(last, reader)?;
+        keep_run(&mut context, run)?;
+        last = Some(run);
+    }
+    Ok(context)
+}
+
+// The runs, as the context of their dots.
+#[tactic(auto, unfolding(crate::specs::Reading::list_at))]
+pub(crate) fn read_runs(alloc: Global, reader: &mut Reader<'_>) -> Result<Context, DecodeFault>
+    ensures { GivesWithMemory (λ x. (x.dots, reader.new)) result (made known_of (runs_at reader.old)) }
+{
+    let count = read_size(MOST_RUNS, reader)?;
+    read_counted_runs(alloc, count, reader)
+}
+
+// ---- cells
+
+// A dot.
+#[tactic(auto, unfolding(crate::specs::Reading::dot_at))]
+fn read_dot(reader: &mut Reader<'_>) -> Result<Dot, DecodeFault>
+    ensures { Gives (λ x. (x, reader.new)) result (dot_at reader.old) }
+{
+    let site = read_site(reader)?;
+    let count = read_count(reader)?;
+    match Dot::new(site, count) {
+        Some(dot) => Ok(dot),
+        None => Err(DecodeFault::BadRange),
+    }
+}
+
+// A dot and the number of its queue.
+#[tactic(auto, unfolding(crate::specs::Reading::place_at))]
+fn read_place(reader: &mut Reader<'_>) -> Result<(Dot, u16), DecodeFault>
+    ensures { Gives (λ x. (record { dot = x.0; queue = x.1 }, reader.new)) result (place_at reader.old) }
+{
+    let dot = read_dot(reader)?;
+    let queue = read_queue(reader)?;
+    Ok((dot, queue))
+}
+
+// A cell.
+#[tactic(auto, unfolding(crate::specs::Reading::cell_at))]
+fn read_cell(reader: &mut Reader<'_>) -> Result<CellRead, DecodeFault>
+    ensures value { Gives (λ x. (cell_read x, reader.new)) result (cell_at reader.old) }
+    ensures some { IfOk result (λ x. HasField x.fields) }
+{
+    let (dot, queue) = read_place(reader)?;
+    let interface = read_interface(reader)?;
+    let fields = read_fields(reader)?;
+    let member = Member { queue, interface };
+    let cell = CellRead {
+        dot,
+        member,
+        fields,
+    };
+    Ok(cell)
+}
+
+// Whether a dot may stand behind the last one.
+fn follows(last: Option<Dot>, dot: Dot) -> bool
+    ensures { IsTrue result ↔ (order_fault is_dot_before last dot ≡ None) }
+{
+    match last {
+        Some(last) => last < dot,
+        None => true,
+    }
+}
+
+// A cell whose dot may stand behind the last one, and is known.
+fn read_next_cell(
+    known: &Context,
+    last: Option<Dot>,
+    reader: &mut Reader<'_>,
+) -> Result<CellRead, DecodeFault>
+    ensures value { Gives (λ x. (cell_read x, reader.new)) result
+        (next_at (cell_elements (set.contains known.now.dots)) last reader.old) }
+    ensures some { IfOk result (λ x. HasField x.fields) }
+    ensures order { IfOk result (λ x. order_fault is_dot_before last x.dot ≡ None) }
+    ensures is_known { IfOk result (λ x. set.contains known.now.dots x.dot ≡ true) }
+{
+    let cell = read_cell(reader)?;
+    if !follows(last, cell.dot) {
+        return Err(DecodeFault::BadOrder);
+    }
+    if !known.contains(cell.dot) {
+        return Err(DecodeFault::BadRange);
+    }
+    Ok(cell)
+}
+
+// Gives a cell to a builder.
+fn keep_cell(builder: &mut SetBuilder, cell: &CellRead) -> Result<(), DecodeFault>
+    requires known { set.contains builder.old.known cell.now.dot ≡ true }
+    requires greater { (q : Dot) → IsSome (map.get builder.old.live q) → dot_cmp q cell.now.dot ≡ Less }
+    requires some { HasField cell.now.fields }
+    requires room { map.len builder.old.live < MOST_LIVE }
+    ensures ok { OnOk result (builder.new.live ≡ with_cell builder.old.live (cell_read cell.now)) }
+    ensures known { builder.new.known ≡ builder.old.known }
+    ensures err { IfErr result (λ fault. fault ≡ DecodeFault.Memory) }
+{
+    match builder.cell(cell.dot, &cell.member, &cell.fields) {
+        Ok(()) => Ok(()),
+        Err(_) => Err(DecodeFault::Memory),
+    }
+}
+
+// So many cells, given to a builder.
+fn read_counted_cells(
+    builder: &mut SetBuilder,
+    count: u32,
+    reader: &mut Reader<'_>,
+) -> Result<(), DecodeFault>
+    requires few { count ≤ MOST_LIVE }
+    requires fresh { builder.old.live ≡ map.empty }
+    ensures known { builder.new.known ≡ builder.old.known }
+    ensures cells { GivesWithMemory (λ _. (builder.new.live, reader.new)) result
+        (made live_of (elements_at (cell_elements (set.contains builder.old.known)) count None reader.old)) }
+{
+    let mut last = None;
+    for _ in 0..count {
+        let cell = read_next_cell(builder.context(), last, reader)?;
+        keep_cell(builder, &cell)?;
+        last = Some(cell.dot);
+    }
+    Ok(())
+}
+
+// The cells, as the set that knows the dots of a context.
+#[tactic(auto, unfolding(crate::specs::Reading::list_at))]
+pub(crate) fn read_cells(
+    alloc: Global,
+    context: Context,
+    reader: &mut Reader<'_>,
+) -> Result<MemberSet, DecodeFault>
+    ensures known { IfOk result (λ x. x.known ≡ context.dots) }
+    ensures cells { GivesWithMemory (λ x. (x.live, reader.new)) result
+        (made live_of (cells_at (set.contains context.dots) reader.old)) }
+{
+    let count = read_size(MOST_LIVE, reader)?;
+    let mut builder = SetBuilder::new(alloc, context);
+    read_counted_cells(&mut builder, count, reader)?;
+    Ok(builder.finish())
+}
+
+// ---- totals
+
+// Totals, of which one isn't zero.
+#[tactic(auto, unfolding(crate::specs::Reading::total_at))]
+fn read_total(reader: &mut Reader<'_>) -> Result<TotalRead, DecodeFault>
+    ensures value { Gives (λ x. (total_read x, reader.new)) result (total_at reader.old) }
+    ensures queue { IfOk result (λ x. x.key.queue < QUEUES) }
+    ensures completed { IfOk result (λ x. x.totals.completed ≤ MOST_CALLS) }
+    ensures abandoned { IfOk result (λ x. x.totals.abandoned ≤ MOST_CALLS) }
+{
+    let site = read_site(reader)?;
+    let queue = read_queue(reader)?;
+    let completed = read_calls(reader)?;
+    let abandoned = read_calls(reader)?;
+    let totals = CallTotals {
+        completed,
+        abandoned,
+    };
+    if totals.is_zero() {
+        return Err(DecodeFault::BadRange);
+    }
+    let key = TotalKey::new(site, queue);
+    Ok(TotalRead { key, totals })
+}
+
+// Totals whose key may stand behind the last one.
+fn read_next_total(
+    last: Option<TotalKey>,
+    reader: &mut Reader<'_>,
+) -> Result<TotalRead, DecodeFault>
+    ensures value { Gives (λ x. (total_read x, reader.new)) result
+        (next_at total_elements last reader.old) }
+    ensures queue { IfOk result (λ x. x.key.queue < QUEUES) }
+    ensures completed { IfOk result (λ x. x.totals.completed ≤ MOST_CALLS) }
+    ensures abandoned { IfOk result (λ x. x.totals.abandoned ≤ MOST_CALLS) }
+{
+    let total = read_total(reader)?;
+    match last {
+        Some(last) if last >= total.key => Err(DecodeFault::BadOrder),
+        _ => Ok(total),
+    }
+}
+
+// Joins totals into those before.
+fn keep_total(totals: &mut Totals, total: &TotalRead) -> Result<(), DecodeFault>
+    requires queue { total.now.key.queue < QUEUES }
+    requires completed { total.now.totals.completed ≤ MOST_CALLS }
+    requires abandoned { total.now.totals.abandoned ≤ MOST_CALLS }
+    ensures ok { OnOk result (totals.new.entries ≡ with_total totals.old.entries (total_read total.now)) }
+    ensures err { IfErr result (λ fault. fault ≡ DecodeFault.Memory) }
+{
+    match totals.reach(total.key.site(), total.key.queue(), total.totals) {
+        Ok(()) => Ok(()),
+        Err(_) => Err(DecodeFault::Memory),
+    }
+}
+
+// So many totals.
+fn read_counted_totals(
+    alloc: Global,
+    count: u32,
+    reader: &mut Reader<'_>,
+) -> Result<Totals, DecodeFault>
+    ensures { GivesWithMemory (λ x. (x.entries, reader.new)) result
+        (made totals_of (elements_at total_elements count None reader.old)) }
+{
+    let mut totals = Totals::new(alloc);
+    let mut last = None;
+    for _ in 0..count {
+        let total = read_next_total(last, reader)?;
+        keep_total(&mut totals, &total)?;
+        last = Some(total.key);
+    }
+    Ok(totals)
+}
+
+// The totals.
+#[tactic(auto, unfolding(crate::specs::Reading::list_at))]
+pub(crate) fn read_totals(alloc: Global, reader: &mut Reader<'_>) -> Result<Totals, DecodeFault>
+    ensures { GivesWithMemory (λ x. (x.entries, reader.new)) result
+        (made totals_of (totals_at reader.old)) }
+{
+    let count = read_size(MOST_TOTALS, reader)?;
+    read_counted_totals(alloc, count, reader)
+}

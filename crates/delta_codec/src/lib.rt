@@ -1,0 +1,24 @@
+//! Frames: how a delta is sent from one site to another, as bytes. Each frame has one spelling, and none begins another.
+#![tactic(auto)]
+
+mod decode_fault;
+mod decoding;
+mod elements;
+mod encoding;
+mod fields;
+mod frame;
+pub mod laws;
+mod limits;
+mod numbers;
+mod reader;
+mod sizes;
+mod splitter;
+mod writing;
+
+pub use decode_fault::DecodeFault;
+pub use decoding::decode;
+pub use dots::Memory;
+pub use encoding::encode;
+pub use frame::Frame;
+pub use limits::{LEAST_LENGTH, MOST_LENGTH, MOST_TOTALS, VERSION};
+pub use splitter::Splitter;

@@ -1,0 +1,13 @@
+//! The limits of the format, each with its name (this project's own). Contracts and definitions cite these.
+
+/// The version of the format.
+pub const VERSION: u8 = 1;
+
+/// The least number that a frame's length field may have.
+pub const LEAST_LENGTH: usize = 24;
+
+/// The greatest.
+pub const MOST_LENGTH: usize = 8_388_608;
+
+/// How many totals a frame may have: one for each site and queue.
+pub const MOST_TOTALS: usize = 16_384;

@@ -1,0 +1,125 @@
+//! Numbers at the front of bytes: each within its limits.
+ghost use Rattle.std.specs.Prelude.{◌≡◌, ◌≤◌, ◌<◌, IfOk};
+ghost use Rattle.dots.specs.declared.limits.TheConstants.{MOST_CALLS, MOST_COUNT, QUEUES};
+ghost use Rattle.dots.specs.Values.{IsCount};
+ghost use Rattle.delta_codec.specs.Faults.{IsFlags};
+ghost use Rattle.delta_codec.specs.Reading.{Gives, site_at, count_at, last_at, queue_at, penalty_at, calls_at, bit_at, flags_at, size_at};
+
+use crate::DecodeFault;
+use crate::reader::Reader;
+use dots::{MOST_CALLS, MOST_COUNT, Penalty, QUEUES, SiteId};
+
+// A site.
+#[tactic(auto, unfolding(crate::specs::Reading::site_at))]
+pub(crate) fn read_site(reader: &mut Reader<'_>) -> Result<SiteId, DecodeFault>
+    ensures { Gives (λ x. (x, reader.new)) result (site_at reader.old) }
+{
+    let number = reader.byte()?;
+    match SiteId::new(u16::from(number)) {
+        Some(site) => Ok(site),
+        None => Err(DecodeFault::BadRange),
+    }
+}
+
+// A count of a dot, a time of a stamp or a number of a frame: 1 to 2^40.
+#[tactic(auto, unfolding(crate::specs::Reading::count_at))]
+pub(crate) fn read_count(reader: &mut Reader<'_>) -> Result<u64, DecodeFault>
+    ensures value { Gives (λ x. (x, reader.new)) result (count_at reader.old) }
+    ensures limit { IfOk result (λ x. IsCount x) }
+{
+    let number = reader.number8()?;
+    if number < 1 || number > MOST_COUNT {
+        return Err(DecodeFault::BadRange);
+    }
+    Ok(number)
+}
+
+// The last count of a run that has this first one.
+#[tactic(auto, unfolding(crate::specs::Reading::last_at))]
+pub(crate) fn read_last(first: u64, reader: &mut Reader<'_>) -> Result<u64, DecodeFault>
+    ensures value { Gives (λ x. (x, reader.new)) result (last_at first reader.old) }
+    ensures limit { IfOk result (λ x. (first ≤ x) × (x ≤ MOST_COUNT)) }
+{
+    let number = reader.number8()?;
+    if number < first || number > MOST_COUNT {
+        return Err(DecodeFault::BadRange);
+    }
+    Ok(number)
+}
+
+// The number of a queue.
+#[tactic(auto, unfolding(crate::specs::Reading::queue_at))]
+pub(crate) fn read_queue(reader: &mut Reader<'_>) -> Result<u16, DecodeFault>
+    ensures value { Gives (λ x. (x, reader.new)) result (queue_at reader.old) }
+    ensures limit { IfOk result (λ x. x < QUEUES) }
+{
+    let number = reader.number2()?;
+    if usize::from(number) >= QUEUES {
+        return Err(DecodeFault::BadRange);
+    }
+    Ok(number)
+}
+
+// A penalty.
+#[tactic(auto, unfolding(crate::specs::Reading::penalty_at))]
+pub(crate) fn read_penalty(reader: &mut Reader<'_>) -> Result<Penalty, DecodeFault>
+    ensures { Gives (λ x. (x, reader.new)) result (penalty_at reader.old) }
+{
+    let number = reader.number4()?;
+    match Penalty::new(number) {
+        Some(penalty) => Ok(penalty),
+        None => Err(DecodeFault::BadRange),
+    }
+}
+
+// How many calls a site has counted.
+#[tactic(auto, unfolding(crate::specs::Reading::calls_at))]
+pub(crate) fn read_calls(reader: &mut Reader<'_>) -> Result<u64, DecodeFault>
+    ensures value { Gives (λ x. (x, reader.new)) result (calls_at reader.old) }
+    ensures limit { IfOk result (λ x. x ≤ MOST_CALLS) }
+{
+    let number = reader.number8()?;
+    if number > MOST_CALLS {
+        return Err(DecodeFault::BadRange);
+    }
+    Ok(number)
+}
+
+// The byte 0 or 1.
+#[tactic(auto, unfolding(crate::specs::Reading::bit_at))]
+pub(crate) fn read_bit(reader: &mut Reader<'_>) -> Result<u8, DecodeFault>
+    ensures value { Gives (λ x. (x, reader.new)) result (bit_at reader.old) }
+    ensures limit { IfOk result (λ x. x < 2) }
+{
+    let number = reader.byte()?;
+    if number >= 2 {
+        return Err(DecodeFault::BadRange);
+    }
+    Ok(number)
+}
+
+// The flags of a cell.
+#[tactic(auto, unfolding(crate::specs::Reading::flags_at))]
+pub(crate) fn read_flags(reader: &mut Reader<'_>) -> Result<u8, DecodeFault>
+    ensures value { Gives (λ x. (x, reader.new)) result (flags_at reader.old) }
+    ensures limit { IfOk result (λ x. IsFlags x) }
+{
+    let number = reader.byte()?;
+    if number < 1 || number > 7 {
+        return Err(DecodeFault::BadRange);
+    }
+    Ok(number)
+}
+
+// How many elements a list has, at most so many.
+#[tactic(auto, unfolding(crate::specs::Reading::size_at))]
+pub(crate) fn read_size(most: usize, reader: &mut Reader<'_>) -> Result<u32, DecodeFault>
+    ensures value { Gives (λ x. (x, reader.new)) result (size_at most reader.old) }
+    ensures limit { IfOk result (λ x. x ≤ most) }
+{
+    let number = reader.number4()?;
+    if number as usize > most {
+        return Err(DecodeFault::TooLarge);
+    }
+    Ok(number)
+}
