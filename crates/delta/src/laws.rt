@@ -11,8 +11,8 @@ ghost use Rattle.delta.specs.Joining.{Agree, IsJoinOf};
 ghost use Rattle.delta.specs.Standing.{IsDeltaOf, IsReadAs};
 
 /// Deltas are joined in any order (RR-7506: states form a join semilattice). It is all the same which of two that agree is joined
-/// into the other, since what is the join one way is so the other way too, how three are grouped, and how often one is joined; what agrees with two that agree, agrees with their join;
-/// and an empty one changes nothing, whichever of both it is.
+/// into the other, since what is the join one way is so the other way too, how three are grouped, and how often one is joined;
+/// what agrees with two that agree, agrees with their join; and an empty one changes nothing, whichever of both it is.
 pub fn deltas_are_joined_in_any_order()
     ensures commutative { (x y joint turned : DeltaState) → Agree x y
         → IsJoinOf x y joint → IsJoinOf y x turned → IsSame joint turned }

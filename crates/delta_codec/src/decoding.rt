@@ -93,10 +93,10 @@ fn read_frame(alloc: Global, bytes: &[u8]) -> Result<(Frame, usize), DecodeFault
 /// `TooLarge`: a length over 8,388,608; then `BadRange`: one under 24; then `Truncated`: fewer bytes than the length says. From
 /// there on only these are looked at. 2 `BadMagic`, then `BadVersion`. 3 `BadRange`: a part that would reach past the end, a
 /// number out of its range, a reason of what isn't a pause, totals of two zeros, a dot in no run, bytes behind the totals.
-/// 4 `TooLarge`: a count over its limit. 5 `BadText`: a text of more than 80 bytes, an interface of none, a CR, LF or NUL in a text.
-/// 6 `BadOrder`: a run, a cell or totals that don't follow the one before. 7 `Memory`. Of these faults it is proved that none comes
-/// where a frame is there, and for each function that reads a part which fault it gives first, by definitions that read from left
-/// to right as it does; that these faults are those of `HasFault` is not proved yet.
+/// 4 `TooLarge`: a count over its limit. 5 `BadText`: a text of more than 80 bytes, an interface of none, a CR, LF or NUL in a
+/// text. 6 `BadOrder`: a run, a cell or totals that don't follow the one before. 7 `Memory`. Of these faults it is proved that none
+/// but `Memory` comes where a frame is there, and for each function that reads a part which fault it gives first, by definitions
+/// that read from left to right as it does; that these faults are those of `HasFault` is not proved yet.
 pub fn decode(alloc: Global, bytes: &[u8]) -> Result<(Frame, usize), DecodeFault>
     ensures front { IsFrontFrame bytes.now result }
 {

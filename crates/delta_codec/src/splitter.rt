@@ -77,9 +77,10 @@ impl Splitter {
         append(&mut self.bytes, &mut self.taken, piece)
     }
 
-    /// The next frame of the stream, taken from the front of the bytes that are held; `None` where they are no whole frame yet, and
-    /// show no fault. The faults are those of `decode`, but for `Truncated`. A fault changes nothing, so that a front that is at
-    /// fault answers the same from then on; after `Memory` the call may be made again.
+    /// The next frame of the stream, taken from the front of the bytes that are held. `None` where they are no whole frame yet, and
+    /// show no fault; the faults are those of `decode`, but for `Truncated` (this project's own). None and a fault change nothing,
+    /// and after `Memory` the call may be made again. Not proved yet: that `None` comes exactly there, and `Truncated` never, and that
+    /// a front that is at fault answers the same from then on.
     pub fn next_frame(&mut self) -> Result<Option<Frame>, DecodeFault>
         ensures { IsNextFrame self.old result self.new }
     {
