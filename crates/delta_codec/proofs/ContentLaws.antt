@@ -16,11 +16,11 @@ use Rattle.dots.proofs.Runs.{contains-set_of}
 use Rattle.delta_codec.specs.declared.decode_fault.DecodeFault.{DecodeFault}
 use Rattle.delta_codec.specs.declared.decode_fault.DecodeFault.TheVariants.{BadMagic, BadRange, BadVersion}
 use Rattle.delta_codec.specs.declared.limits.TheConstants.{VERSION}
-use Rattle.delta_codec.specs.Frames.{AreParts, FrameParts, Heading, content_bytes, heading_bytes, magic}
-use Rattle.delta_codec.specs.Parts.{byte, cell_bytes, list_bytes, run_bytes, total_bytes}
+use Rattle.delta_codec.specs.Frames.{AreCells, AreParts, FrameParts, Heading, content_bytes, heading_bytes, magic}
+use Rattle.delta_codec.specs.Parts.{CellParts, byte, cell_bytes, list_bytes, run_bytes, total_bytes}
 use Rattle.delta_codec.specs.Reading.{◌>>=◌, Kept, cells_at, ended, heading_at, kept_at, known_of, live_of, made, magic_at, runs_at, totals_at, totals_of, version_at, with_run}
 use Rattle.delta_codec.proofs.CellLaws.{heading_reads}
-use Rattle.delta_codec.proofs.ListLaws.{cells_reads, runs_reads, totals_reads}
+use Rattle.delta_codec.proofs.ListLaws.{AreCellsOf, cells_reads, runs_reads, totals_reads}
 use Rattle.delta_codec.proofs.PartLaws.{IsBytes, Reads, Takes, bind_ok, ok_is, test_ok}
 
 -- ---- magic and version
@@ -42,7 +42,7 @@ magic_again : (x rest : List ℕ) → x ≡ magic → magic_at (x ++ rest) ≡ O
 unfolding magic_at
 magic_again x rest h = rw h refl
 
-magic_reads : Reads magic_at (λ letters. letters ≡ magic) (λ letters. letters)
+pub magic_reads : Reads magic_at (λ letters. letters ≡ magic) (λ letters. letters)
 magic_reads = record { takes = magic_takes; again = magic_again }
 
 version_is : (n : ℕ) → (n == VERSION) ≡ true → n ≡ VERSION
@@ -60,7 +60,7 @@ version_again : (x : ℕ) (rest : List ℕ) → x ≡ VERSION → version_at (by
 unfolding version_at
 version_again x rest h = rw h refl
 
-version_reads : Reads version_at (λ n. n ≡ VERSION) byte
+pub version_reads : Reads version_at (λ n. n ≡ VERSION) byte
 version_reads = record { takes = version_takes; again = version_again }
 
 -- ---- the known dots
@@ -78,6 +78,13 @@ known_from dots (r ∷ runs) q =
 
 pub contains-known_of : (runs : List Run) (q : Dot) → set.contains (known_of runs) q ≡ in_runs runs q
 contains-known_of runs q = known_from set.empty runs q ∙ ap (λ (b : Bool). b || in_runs runs q) (set.contains-empty dot_cmp q)
+
+-- cells of known dots are cells of dots in the runs
+pub known_cells : (runs : List Run) (cells : List CellParts) → AreCellsOf (set.contains (known_of runs)) cells → AreCells runs cells
+known_cells runs cells good = record { listed = good.listed; known = λ k d lt. sym (contains-known_of runs _) ∙ good.known k d lt }
+
+pub cells_known : (runs : List Run) (cells : List CellParts) → AreCells runs cells → AreCellsOf (set.contains (known_of runs)) cells
+cells_known runs cells good = record { listed = good.listed; known = λ k d lt. contains-known_of runs _ ∙ good.known k d lt }
 
 -- ---- the parts behind the length
 
@@ -111,7 +118,7 @@ content_spelled bytes parts fits r =
     let p = runs_reads.takes r.runs parts.runs r.cells h.rest_fits r.runs_are in
     let c = (cells_reads (set.contains (known_of parts.runs))).takes r.cells parts.cells r.totals p.rest_fits r.cells_are in
     let t = totals_reads.takes r.totals parts.totals [] c.rest_fits r.totals_are in (
-      record { heading = h.good; runs = p.good; cells = record { listed = c.good.listed; known = λ k d lt. sym (contains-known_of parts.runs _) ∙ c.good.known k d lt }; totals = t.good },
+      record { heading = h.good; runs = p.good; cells = known_cells parts.runs parts.cells c.good; totals = t.good },
       m.parts ∙ ap (λ (x : List ℕ). magic ++ x) (v.parts ∙ ap (λ (x : List ℕ). byte VERSION ++ x) (h.parts ∙ ap (λ (x : List ℕ). heading_bytes parts.heading ++ x) (p.parts ∙ ap (λ (x : List ℕ). list_bytes run_bytes parts.runs ++ x) (c.parts ∙ ap (λ (x : List ℕ). list_bytes cell_bytes parts.cells ++ x) (t.parts ∙ append-nil (list_bytes total_bytes parts.totals)))))),
     )
 
@@ -126,7 +133,7 @@ content_read parts good = record {
   version_is = version_reads.again VERSION (heading_bytes parts.heading ++ (list_bytes run_bytes parts.runs ++ (list_bytes cell_bytes parts.cells ++ list_bytes total_bytes parts.totals))) refl;
   heading_is = heading_reads.again parts.heading (list_bytes run_bytes parts.runs ++ (list_bytes cell_bytes parts.cells ++ list_bytes total_bytes parts.totals)) good.heading;
   runs_are = runs_reads.again parts.runs (list_bytes cell_bytes parts.cells ++ list_bytes total_bytes parts.totals) good.runs;
-  cells_are = (cells_reads (set.contains (known_of parts.runs))).again parts.cells (list_bytes total_bytes parts.totals) (record { listed = good.cells.listed; known = λ k d lt. contains-known_of parts.runs _ ∙ good.cells.known k d lt });
+  cells_are = (cells_reads (set.contains (known_of parts.runs))).again parts.cells (list_bytes total_bytes parts.totals) (cells_known parts.runs parts.cells good.cells);
   totals_are = ap totals_at (sym (append-nil (list_bytes total_bytes parts.totals))) ∙ totals_reads.again parts.totals [] good.totals;
 }
 

@@ -10,3 +10,11 @@ pub mod CellLaws
 pub mod ListLaws
 pub mod ContentLaws
 pub mod FrameLaws
+pub mod PartFaults
+pub mod FieldFaults
+pub mod CellFaults
+pub mod ListFaults
+pub mod FrameFaults
+pub mod InnerFaults
+pub mod FaultAnswers
+pub mod FaultLaws

@@ -28,7 +28,7 @@ use Rattle.delta_codec.specs.Frames.{AreRuns, AreTotals}
 use Rattle.delta_codec.specs.Parts.{CellParts, IsCell, IsListOf, TotalParts, cell_bytes, list_bytes, run_bytes, total_bytes}
 use Rattle.delta_codec.specs.Reading.{◌>>=◌, Elements, accepted, cell_elements, cells_at, elements_at, is_dot_before, is_key_before, list_at, next_at, number_at, or_else, order_fault, run_elements, runs_at, size_at, total_elements, totals_at, unless}
 use Rattle.delta_codec.proofs.CellLaws.{cell_reads, run_reads, total_reads}
-use Rattle.delta_codec.proofs.PartLaws.{IsBytes, Reads, bind_ok, number4_reads, ok_is, reads_good, reads_tested}
+use Rattle.delta_codec.proofs.PartLaws.{IsBytes, Reads, Takes, bind_ok, number4_reads, ok_is, reads_good, reads_tested}
 
 -- each element can stand behind the one before
 abbrev pub Chain : {A K : Type 0} → Elements A K → Option K → List A → Type 0
@@ -47,6 +47,13 @@ accepted_ok : {A : Type 0} (o : Option DecodeFault) (x y : A) → accepted o x �
 accepted_ok None x y e = (refl, ok_is x y e)
 accepted_ok (Some fault) x y e = absurd cc
 
+-- the next element was taken, and it can stand behind the last one
+pub next_takes : {A K : Type 0} (e : Elements A K) (G : A → Type 0) (s : A → List ℕ) → Reads e.at G s → (last : Option K) (bytes : List ℕ) (x : A) (rest : List ℕ) → IsBytes bytes → next_at e last bytes ≡ Ok (x, rest) → Takes G s bytes x rest × (e.fault_of last (e.key x) ≡ None)
+next_takes {A = A} e G s r last bytes x rest fits h =
+    let a = bind_ok (e.at bytes) (λ y. accepted (e.fault_of last (e.key y.0)) y) (x, rest) h in
+    let b = accepted_ok (e.fault_of last (e.key a.0.0)) a.0 (x, rest) a.2 in
+    (r.takes bytes x rest fits (a.1 ∙ ap (λ (z : A × List ℕ). Ok z) b.1), ap (λ (z : A × List ℕ). e.fault_of last (e.key z.0)) (sym b.1) ∙ b.0)
+
 elements_take : {A K : Type 0} (e : Elements A K) (G : A → Type 0) (s : A → List ℕ) → Reads e.at G s → (n : ℕ) (last : Option K) (bytes : List ℕ) (xs : List A) (rest : List ℕ) → IsBytes bytes → elements_at e n last bytes ≡ Ok (xs, rest) → Taken e G s n last bytes xs rest
 unfolding elements_at
 elements_take {A = A} e G s r zero last bytes xs rest fits h =
@@ -55,14 +62,11 @@ elements_take {A = A} e G s r zero last bytes xs rest fits h =
 elements_take {A = A} e G s r (suc n) last bytes xs rest fits h =
     let a = bind_ok (next_at e last bytes) (λ x. elements_at e n (Some (e.key x.0)) x.1 >>= λ ys. Ok (x.0 ∷ ys.0, ys.1)) (xs, rest) h in
     let b = bind_ok (elements_at e n (Some (e.key a.0.0)) a.0.1) (λ ys. Ok (a.0.0 ∷ ys.0, ys.1)) (xs, rest) a.2 in
-    let c = bind_ok (e.at bytes) (λ x. accepted (e.fault_of last (e.key x.0)) x) a.0 a.1 in
-    let d = accepted_ok (e.fault_of last (e.key c.0.0)) c.0 a.0 c.2 in
-    let first = r.takes bytes a.0.0 a.0.1 fits (c.1 ∙ ap (λ (z : A × List ℕ). Ok z) d.1) in
-    let good : e.fault_of last (e.key a.0.0) ≡ None = ap (λ (z : A × List ℕ). e.fault_of last (e.key z.0)) (sym d.1) ∙ d.0 in
-    let others = elements_take e G s r n (Some (e.key a.0.0)) a.0.1 b.0.0 b.0.1 first.rest_fits b.1 in
+    let first = next_takes e G s r last bytes a.0.0 a.0.1 fits a.1 in
+    let others = elements_take e G s r n (Some (e.key a.0.0)) a.0.1 b.0.0 b.0.1 first.0.rest_fits b.1 in
     let all : List A × List ℕ = (a.0.0 ∷ b.0.0, b.0.1) in
     subst (λ (z : List A × List ℕ). Taken e G s (suc n) last bytes z.0 z.1) (ok_is all (xs, rest) b.2)
-    (record { parts = first.parts ∙ ap (λ (x : List ℕ). s a.0.0 ++ x) others.parts ∙ sym (append_assoc (s a.0.0) (flat_map s b.0.0) b.0.1); rest_fits = others.rest_fits; count = ap suc others.count; each = (first.good, others.each); chain = (good, others.chain) })
+    (record { parts = first.0.parts ∙ ap (λ (x : List ℕ). s a.0.0 ++ x) others.parts ∙ sym (append_assoc (s a.0.0) (flat_map s b.0.0) b.0.1); rest_fits = others.rest_fits; count = ap suc others.count; each = (first.0.good, others.each); chain = (first.1, others.chain) })
 
 elements_again : {A K : Type 0} (e : Elements A K) (G : A → Type 0) (s : A → List ℕ) → Reads e.at G s → (last : Option K) (xs : List A) (rest : List ℕ) → AllByRecursion G xs → Chain e last xs → elements_at e (length xs) last (flat_map s xs ++ rest) ≡ Ok (xs, rest)
 unfolding elements_at
@@ -74,7 +78,7 @@ elements_again e G s r last (x ∷ xs) rest each chain =
     rw (one, chain.0, others) refl
 
 -- the elements of a list of the format
-abbrev AreElements : {A K : Type 0} → Elements A K → (A → Type 0) → ℕ → List A → Type 0
+abbrev pub AreElements : {A K : Type 0} → Elements A K → (A → Type 0) → ℕ → List A → Type 0
 AreElements e G most xs = (length xs ≤ most) × (AllByRecursion G xs × Chain e None xs)
 
 abbrev IsSize : ℕ → ℕ → Type 0
@@ -145,10 +149,14 @@ run_chain : (xs : List Run) → AreApart xs → Chain run_elements None xs
 run_chain [] h = tt
 run_chain (x ∷ xs) h = (refl, chain_from x xs h)
 
+pub read_are_runs : (xs : List Run) → AreElements run_elements IsRun MOST_RUNS xs → AreRuns xs
+read_are_runs xs g = record { each = All-from_recursion IsRun xs g.1.0; order = are_apart xs g.1.0 g.1.1; few = g.0 }
+
+pub runs_are_read : (xs : List Run) → AreRuns xs → AreElements run_elements IsRun MOST_RUNS xs
+runs_are_read xs g = (g.few, (by_recursion IsRun xs g.each, run_chain xs g.order))
+
 pub runs_reads : Reads runs_at AreRuns (list_bytes run_bytes)
-runs_reads = reads_good runs_at (AreElements run_elements IsRun MOST_RUNS) AreRuns (list_bytes run_bytes) (list_reads run_elements IsRun run_bytes MOST_RUNS (omega arith) run_reads)
-    (λ xs g. record { each = All-from_recursion IsRun xs g.1.0; order = are_apart xs g.1.0 g.1.1; few = g.0 })
-    (λ xs g. (g.few, (by_recursion IsRun xs g.each, run_chain xs g.order)))
+runs_reads = reads_good runs_at (AreElements run_elements IsRun MOST_RUNS) AreRuns (list_bytes run_bytes) (list_reads run_elements IsRun run_bytes MOST_RUNS (omega arith) run_reads) read_are_runs runs_are_read
 
 -- ---- entries in the order of their keys
 
@@ -185,10 +193,14 @@ totals_chain : (xs : List TotalParts) → IsRising key_cmp xs → Chain total_el
 totals_chain [] h = tt
 totals_chain (x ∷ xs) h = (refl, total_chain x.0 xs (ascends key_cmp keys_total x xs h))
 
+pub read_are_totals : (xs : List TotalParts) → AreElements total_elements (λ t. IsTotal t.0 t.1) MOST_TOTALS xs → AreTotals xs
+read_are_totals xs g = record { each = All-from_recursion (λ t. IsTotal t.0 t.1) xs g.1.0; order = totals_rise xs g.1.1; few = g.0 }
+
+pub totals_are_read : (xs : List TotalParts) → AreTotals xs → AreElements total_elements (λ t. IsTotal t.0 t.1) MOST_TOTALS xs
+totals_are_read xs g = (g.few, (by_recursion (λ t. IsTotal t.0 t.1) xs g.each, totals_chain xs g.order))
+
 pub totals_reads : Reads totals_at AreTotals (list_bytes total_bytes)
-totals_reads = reads_good totals_at (AreElements total_elements (λ t. IsTotal t.0 t.1) MOST_TOTALS) AreTotals (list_bytes total_bytes) (list_reads total_elements (λ t. IsTotal t.0 t.1) total_bytes MOST_TOTALS (omega arith) total_reads)
-    (λ xs g. record { each = All-from_recursion (λ t. IsTotal t.0 t.1) xs g.1.0; order = totals_rise xs g.1.1; few = g.0 })
-    (λ xs g. (g.few, (by_recursion (λ t. IsTotal t.0 t.1) xs g.each, totals_chain xs g.order)))
+totals_reads = reads_good totals_at (AreElements total_elements (λ t. IsTotal t.0 t.1) MOST_TOTALS) AreTotals (list_bytes total_bytes) (list_reads total_elements (λ t. IsTotal t.0 t.1) total_bytes MOST_TOTALS (omega arith) total_reads) read_are_totals totals_are_read
 
 -- ---- cells
 
@@ -220,7 +232,11 @@ pub record AreCellsOf (k : Dot → Bool) (xs : List CellParts) : Type 0 where
   pub listed : IsListOf IsCell (IsRising dot_cmp) MOST_LIVE xs
   pub known : All (λ cell. IsTrue (k cell.0)) xs
 
+pub read_are_cells : (k : Dot → Bool) (xs : List CellParts) → AreElements (cell_elements k) IsCell MOST_LIVE xs → AreCellsOf k xs
+read_are_cells k xs g = let order = cells_rise k xs g.1.1 in record { listed = record { each = All-from_recursion IsCell xs g.1.0; order = order.0; few = g.0 }; known = All-from_recursion (λ c. IsTrue (k c.0)) xs order.1 }
+
+pub cells_are_read : (k : Dot → Bool) (xs : List CellParts) → AreCellsOf k xs → AreElements (cell_elements k) IsCell MOST_LIVE xs
+cells_are_read k xs g = (g.listed.few, (by_recursion IsCell xs g.listed.each, cells_chain k xs g.listed.order (by_recursion (λ c. IsTrue (k c.0)) xs g.known)))
+
 pub cells_reads : (k : Dot → Bool) → Reads (cells_at k) (AreCellsOf k) (list_bytes cell_bytes)
-cells_reads k = reads_good (cells_at k) (AreElements (cell_elements k) IsCell MOST_LIVE) (AreCellsOf k) (list_bytes cell_bytes) (list_reads (cell_elements k) IsCell cell_bytes MOST_LIVE (omega arith) cell_reads)
-    (λ xs g. let order = cells_rise k xs g.1.1 in record { listed = record { each = All-from_recursion IsCell xs g.1.0; order = order.0; few = g.0 }; known = All-from_recursion (λ c. IsTrue (k c.0)) xs order.1 })
-    (λ xs g. (g.listed.few, (by_recursion IsCell xs g.listed.each, cells_chain k xs g.listed.order (by_recursion (λ c. IsTrue (k c.0)) xs g.known))))
+cells_reads k = reads_good (cells_at k) (AreElements (cell_elements k) IsCell MOST_LIVE) (AreCellsOf k) (list_bytes cell_bytes) (list_reads (cell_elements k) IsCell cell_bytes MOST_LIVE (omega arith) cell_reads) (read_are_cells k) (cells_are_read k)

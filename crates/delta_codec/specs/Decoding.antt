@@ -1,11 +1,14 @@
 -- What decoding answers.
-use Rattle.std.specs.Prelude.{ℕ, ◌≡◌, ◌⊎◌, ◌≤◌, List, length, take, drop, Option, Some, None, Result, Ok, Err, IfOk}
+use Rattle.std.specs.Prelude.{ℕ, ◌≡◌, ◌≢◌, ◌⊎◌, ◌↔◌, ◌≤◌, List, ◌++◌, length, take, drop, Option, Some, None, Result, Ok, Err, IfErr, IfOk}
 use Rattle.std.specs.Result.{IsOkAnd}
 use Rattle.delta.specs.DeltaStates.{IsSame}
 use Rattle.delta_codec.specs.declared.decode_fault.DecodeFault.{DecodeFault}
-use Rattle.delta_codec.specs.declared.decode_fault.DecodeFault.TheVariants.{Memory}
+use Rattle.delta_codec.specs.declared.decode_fault.DecodeFault.TheVariants.{Memory, Truncated}
 use Rattle.delta_codec.specs.declared.frame.Frame.{Frame}
-use Rattle.delta_codec.specs.Frames.{Spells}
+use Rattle.delta_codec.specs.declared.limits.TheConstants.{LEAST_LENGTH, MOST_LENGTH}
+use Rattle.delta_codec.specs.Encoding.{opening_bytes}
+use Rattle.delta_codec.specs.Faults.{HasFault, number4}
+use Rattle.delta_codec.specs.Frames.{Heading, IsHeading, Spells}
 use Rattle.delta_codec.specs.Reading.{Kept}
 
 -- two frames are of one maker, have one number, and say the same
@@ -22,6 +25,18 @@ UnlessMemory result fact = (result ≡ Err Memory) ⊎ fact
 abbrev pub frame_kept : Frame → Kept
 frame_kept frame = (record { maker = frame.maker; number = frame.number }, (frame.delta.members.known, (frame.delta.members.live, frame.delta.totals.entries)))
 
+-- bytes begin with a frame
+pub record BeginsWithFrame (bytes : List ℕ) : Type 0 where
+  pub frame : Frame
+  pub len : ℕ
+  pub there : len ≤ length bytes
+  pub spelled : Spells frame (take len bytes)
+
+-- they have a fault
+pub record IsAtFault (bytes : List ℕ) : Type 0 where
+  pub fault : DecodeFault
+  pub has : HasFault bytes fault
+
 -- A result is the frame that bytes begin with, and how many bytes it has: it is such a frame; each such frame is the result,
 -- unless memory is refused.
 pub record IsFrontFrame (bytes : List ℕ) (result : Result (Frame × ℕ) DecodeFault) : Type 0 where
@@ -29,6 +44,27 @@ pub record IsFrontFrame (bytes : List ℕ) (result : Result (Frame × ℕ) Decod
   pub spelled : IfOk result (λ x. Spells x.0 (take x.1 bytes))
   pub found : (frame : Frame) (n : ℕ) → n ≤ length bytes → Spells frame (take n bytes)
       → UnlessMemory result (IsOkAnd result (λ x. IsSameFrame x.0 frame × (x.1 ≡ n)))
+
+-- A frame has begun: a length within its limits, so many bytes behind it, and at the front of these the magic, the version and a
+-- heading.
+pub record HasOpening (bytes : List ℕ) : Type 0 where
+  pub heading : Heading
+  pub content : List ℕ
+  pub more : List ℕ
+  pub rest : List ℕ
+  pub good : IsHeading heading
+  pub least : LEAST_LENGTH ≤ length content
+  pub most : length content ≤ MOST_LENGTH
+  pub opens : content ≡ opening_bytes heading ++ more
+  pub spelled : bytes ≡ (number4 (length content) ++ content) ++ rest
+
+-- A result is the fault that bytes have: it is one of theirs, or memory was refused; theirs is the result, unless memory is
+-- refused; where they are too short it is so told whatever memory there is; and memory is wanted only where a frame has begun.
+pub record IsFrontFault (bytes : List ℕ) (result : Result (Frame × ℕ) DecodeFault) : Type 0 where
+  pub had : IfErr result (λ fault. (fault ≡ Memory) ⊎ HasFault bytes fault)
+  pub told : (fault : DecodeFault) → HasFault bytes fault → UnlessMemory result (result ≡ Err fault)
+  pub truncated : HasFault bytes Truncated → result ≡ Err Truncated
+  pub memory : result ≡ Err Memory → HasOpening bytes
 
 -- there is a value, of which this holds
 abbrev pub IsSomeAnd : {T : Type 0} → Option T → (T → Type 0) → Type 0
@@ -54,3 +90,11 @@ pub record IsNextFrame (old : List ℕ) (result : Result (Option Frame) DecodeFa
   pub leaves : Leaves old result new
   pub found : (frame : Frame) (n : ℕ) → n ≤ length old → Spells frame (take n old)
       → UnlessMemory result (IsOkAnd result (λ next. IsSomeAnd next (λ x. IsSameFrame x frame × (new ≡ drop n old))))
+
+-- Which fault a splitter answers that held these bytes: none, exactly where they are no whole frame yet; or one that they have, or
+-- memory was refused, and that only where a frame has begun; and one that they have is answered, unless memory is refused.
+pub record IsNextFault (old : List ℕ) (result : Result (Option Frame) DecodeFault) : Type 0 where
+  pub none : (result ≡ Ok None) ↔ HasFault old Truncated
+  pub had : IfErr result (λ fault. (fault ≡ Memory) ⊎ (HasFault old fault × (fault ≢ Truncated)))
+  pub told : (fault : DecodeFault) → HasFault old fault → fault ≢ Truncated → UnlessMemory result (result ≡ Err fault)
+  pub memory : result ≡ Err Memory → HasOpening old

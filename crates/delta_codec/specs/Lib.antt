@@ -3,6 +3,6 @@ pub mod Frames
 pub mod Faults
 pub mod Reading
 pub mod Elements
+pub mod Encoding
 pub mod Decoding
 pub mod Measures
-pub mod Encoding

@@ -283,6 +283,14 @@ kept_at bytes =
     made known_of (runs_at heading.1) >>= λ known. made live_of (cells_at (set.contains known.0) known.1) >>= λ live. made totals_of (totals_at live.1) >>= λ totals.
     ended ((heading.0, (known.0, (live.0, totals.0))), totals.1)
 
+-- the heading, with what stands before it
+unfoldable pub opening_at : List ℕ → Read Heading
+opening_at bytes = magic_at bytes >>= λ letters. version_at letters.1 >>= λ version. heading_at version.1
+
+-- the heading of the frame that bytes begin with
+unfoldable pub opening_in : List ℕ → Read Heading
+opening_in bytes = content_in bytes >>= opening_at
+
 -- what is kept of the frame that bytes begin with, and how many bytes it has
 unfoldable pub kept_in : List ℕ → Result (Kept × ℕ) DecodeFault
 kept_in bytes = content_in bytes >>= λ content. kept_at content >>= λ kept. Ok (kept, 4 + length content)

@@ -1,7 +1,8 @@
-ghost use Rattle.std.specs.Prelude.{◌≡◌, ◌≤◌, IfOk, length};
+ghost use Rattle.std.specs.Prelude.{◌≡◌, ◌≤◌, Err, IfOk, length};
 ghost use Rattle.delta_codec.specs.declared.limits.TheConstants.{MOST_LENGTH};
-ghost use Rattle.delta_codec.specs.Decoding.{IsFrontFrame, frame_kept};
-ghost use Rattle.delta_codec.specs.Reading.{Gives, GivesWithMemory, content_in, heading_at, kept_at, kept_in, within_at};
+ghost use Rattle.delta_codec.specs.declared.decode_fault.DecodeFault.{DecodeFault};
+ghost use Rattle.delta_codec.specs.Decoding.{IsFrontFault, IsFrontFrame, frame_kept};
+ghost use Rattle.delta_codec.specs.Reading.{Gives, GivesWithMemory, content_in, heading_at, kept_at, kept_in, opening_at, opening_in, within_at};
 
 use crate::elements::{read_cells, read_runs, read_totals};
 use crate::numbers::{read_count, read_site};
@@ -22,9 +23,10 @@ fn read_heading(reader: &mut Reader<'_>) -> Result<(SiteId, u64), DecodeFault>
 }
 
 // The frame that stands behind its length.
-#[tactic(auto, unfolding(crate::specs::Reading::kept_at))]
+#[tactic(auto, unfolding(crate::specs::Reading::kept_at, crate::specs::Reading::opening_at))]
 fn read_content(alloc: Global, bytes: &[u8]) -> Result<Frame, DecodeFault>
-    ensures { GivesWithMemory frame_kept result (kept_at bytes.now) }
+    ensures value { GivesWithMemory frame_kept result (kept_at bytes.now) }
+    ensures early { (fault : DecodeFault) → opening_at bytes.now ≡ Err fault → result ≡ Err fault }
 {
     let mut reader = Reader::new(bytes);
     reader.magic()?;
@@ -77,9 +79,10 @@ fn content_of(bytes: &[u8]) -> Result<&[u8], DecodeFault>
 }
 
 // The frame at the front of the bytes, and how many bytes it has.
-#[tactic(auto, unfolding(crate::specs::Reading::kept_in))]
+#[tactic(auto, unfolding(crate::specs::Reading::kept_in, crate::specs::Reading::opening_in))]
 fn read_frame(alloc: Global, bytes: &[u8]) -> Result<(Frame, usize), DecodeFault>
-    ensures { GivesWithMemory (λ x. (frame_kept x.0, x.1)) result (kept_in bytes.now) }
+    ensures value { GivesWithMemory (λ x. (frame_kept x.0, x.1)) result (kept_in bytes.now) }
+    ensures early { (fault : DecodeFault) → opening_in bytes.now ≡ Err fault → result ≡ Err fault }
 {
     let content = content_of(bytes)?;
     let frame = read_content(alloc, content)?;
@@ -94,11 +97,14 @@ fn read_frame(alloc: Global, bytes: &[u8]) -> Result<(Frame, usize), DecodeFault
 /// there on only these are looked at. 2 `BadMagic`, then `BadVersion`. 3 `BadRange`: a part that would reach past the end, a
 /// number out of its range, a reason of what isn't a pause, totals of two zeros, a dot in no run, bytes behind the totals.
 /// 4 `TooLarge`: a count over its limit. 5 `BadText`: a text of more than 80 bytes, an interface of none, a CR, LF or NUL in a
-/// text. 6 `BadOrder`: a run, a cell or totals that don't follow the one before. 7 `Memory`. Of these faults it is proved that none
-/// but `Memory` comes where a frame is there, and for each function that reads a part which fault it gives first, by definitions
-/// that read from left to right as it does; that these faults are those of `HasFault` is not proved yet.
+/// text. 6 `BadOrder`: a run, a cell or totals that don't follow the one before. 7 `Memory`.
+///
+/// Each of these comes exactly where the bytes have it (`HasFault`), and all bytes have a frame or one fault
+/// (`bytes_have_a_frame_or_a_fault`); but since what is read is kept at once, `Memory` may stand in place of a frame or of a fault that
+/// stands behind the heading. It never stands in place of what comes up to there: of 1, of 2, and of a bad maker or number.
 pub fn decode(alloc: Global, bytes: &[u8]) -> Result<(Frame, usize), DecodeFault>
     ensures front { IsFrontFrame bytes.now result }
+    ensures fault { IsFrontFault bytes.now result }
 {
     read_frame(alloc, bytes)
 }

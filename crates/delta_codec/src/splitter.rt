@@ -1,5 +1,5 @@
 ghost use Rattle.std.specs.Prelude.{◌≡◌, ◌≤◌, ◌++◌, [], drop, vec_len, OnErr, OnOk};
-ghost use Rattle.delta_codec.specs.Decoding.{IsNextFrame};
+ghost use Rattle.delta_codec.specs.Decoding.{IsNextFault, IsNextFrame};
 
 use crate::{DecodeFault, Frame, Memory, decode};
 use std::alloc::Global;
@@ -77,20 +77,22 @@ impl Splitter {
         append(&mut self.bytes, &mut self.taken, piece)
     }
 
-    /// The next frame of the stream, taken from the front of the bytes that are held. `None` where they are no whole frame yet, and
-    /// show no fault; the faults are those of `decode`, but for `Truncated` (this project's own). None and a fault change nothing,
-    /// and after `Memory` the call may be made again. Not proved yet: that `None` comes exactly there, and `Truncated` never, and that
-    /// a front that is at fault answers the same from then on.
+    /// The next frame of the stream, taken from the front of the bytes that are held. `None` exactly where they are no whole frame
+    /// yet, and show no fault; the faults are those of `decode`, but for `Truncated` (this project's own). None and a fault change
+    /// nothing, so that a front that is at fault stays so, whatever is fed; after `Memory` the call may be made again.
     pub fn next_frame(&mut self) -> Result<Option<Frame>, DecodeFault>
-        ensures { IsNextFrame self.old result self.new }
+        ensures frame { IsNextFrame self.old result self.new }
+        ensures fault { IsNextFault self.old result }
     {
         match decode(self.alloc, self.held()) {
             Ok((frame, len)) => {
                 self.taken += len;
                 Ok(Some(frame))
             }
-            Err(DecodeFault::Truncated) => Ok(None),
-            Err(fault) => Err(fault),
+            Err(fault) => match fault {
+                DecodeFault::Truncated => Ok(None),
+                _ => Err(fault),
+            },
         }
     }
 }

@@ -1,0 +1,78 @@
+-- Bytes begin with a frame, or have one fault.
+use Rattle.std.proofs.Common.{◌≡◌, ◌≢◌, ◌⊎◌, ℕ, ◌<◌, ◌≤◌, List, ◌++◌, length, take, sym, ap, ◌∙◌, append_assoc, inl, inr, arith}
+use Rattle.std.specs.List.{All}
+use Rattle.std.proofs.lemmas.Bool.{cases_lt}
+use Rattle.std.proofs.lemmas.List.{get_or_past, length-append, take-append-le}
+use Rattle.delta_codec.specs.declared.decode_fault.DecodeFault.{DecodeFault}
+use Rattle.delta_codec.specs.declared.decode_fault.DecodeFault.TheVariants.{Truncated}
+use Rattle.delta_codec.specs.declared.frame.Frame.{Frame}
+use Rattle.delta_codec.specs.Decoding.{BeginsWithFrame, IsAtFault}
+use Rattle.delta_codec.specs.Faults.{HasFault, number4}
+use Rattle.delta_codec.specs.Reading.{Kept, kept_in}
+use Rattle.delta_codec.proofs.ContentLaws.{kept_of}
+use Rattle.delta_codec.proofs.FrameFaults.{frame_tells}
+use Rattle.delta_codec.proofs.FrameLaws.{frame_found, frame_spelled}
+use Rattle.delta_codec.proofs.PartFaults.{fault_is, not_both, outcome}
+use Rattle.delta_codec.proofs.PartLaws.{IsBytes}
+
+-- each of them is a byte, also of those past the end
+all_bytes : (bytes : List ℕ) → All (λ b. b < 256) bytes → IsBytes bytes
+all_bytes bytes all i =
+    elim (cases_lt i (length bytes)) [
+      | inl lt ↦ all i 0 lt
+      | inr past ↦ rw (get_or_past bytes i 0 past) (omega arith)
+    ]
+
+-- a frame that keeps this, with no room to spare
+abbrev frame_of : Kept → Frame
+frame_of kept = record {
+  maker = kept.0.maker;
+  number = kept.0.number;
+  delta = record {
+    members = record { known = kept.1.0; live = kept.1.1.0; retired = 0; cell_room = 0; run_room = 0 };
+    totals = record { entries = kept.1.1.1; room = 0 };
+  };
+}
+
+pub either : (bytes : List ℕ) → All (λ b. b < 256) bytes → BeginsWithFrame bytes ⊎ IsAtFault bytes
+either bytes all =
+    let fits = all_bytes bytes all in
+    elim (outcome (kept_in bytes)) [
+      | inl found ↦
+          let front = frame_spelled bytes (frame_of found.0.0) found.0.1 fits found.1 in
+          inl (record { frame = frame_of found.0.0; len = found.0.1; there = front.there; spelled = front.spells })
+      | inr stopped ↦ inr (record { fault = stopped.0; has = frame_tells.only bytes stopped.0 fits stopped.1 })
+    ]
+
+pub not_both_of : (bytes : List ℕ) → All (λ b. b < 256) bytes → BeginsWithFrame bytes → IsAtFault bytes → ⊥
+not_both_of bytes all begins at_fault =
+    let found : Kept × ℕ = (kept_of begins.spelled.parts, begins.len) in
+    not_both (kept_in bytes) found at_fault.fault (frame_found bytes begins.frame begins.len begins.there begins.spelled) (frame_tells.always bytes at_fault.fault (all_bytes bytes all) at_fault.has)
+
+pub one_fault : (bytes : List ℕ) (f g : DecodeFault) → All (λ b. b < 256) bytes → HasFault bytes f → HasFault bytes g → f ≡ g
+one_fault bytes f g all has also =
+    let fits = all_bytes bytes all in
+    fault_is {A = Kept × ℕ} f g (sym (frame_tells.always bytes f fits has) ∙ frame_tells.always bytes g fits also)
+
+pub stays : (bytes more : List ℕ) (fault : DecodeFault) → fault ≢ Truncated → HasFault bytes fault → HasFault (bytes ++ more) fault
+stays bytes more fault not has =
+    elim has [
+      | inl lacks ↦ absurd (not lacks.fault_is)
+      | inr after ↦
+          let len = after.value in
+          let rest = after.rest in
+          let spelled : bytes ++ more ≡ number4 len ++ (rest ++ more) = ap (λ (x : List ℕ). x ++ more) after.spelled ∙ append_assoc (number4 len) rest more in
+          elim after.next [
+            | inl large ↦ inr (record { value = len; rest = rest ++ more; good = after.good; spelled = spelled; next = inl large })
+            | inr next ↦ elim next [
+              | inl small ↦ inr (record { value = len; rest = rest ++ more; good = after.good; spelled = spelled; next = inr (inl small) })
+              | inr next ↦ elim next [
+                | inl short ↦ absurd (not short.3)
+                | inr there ↦
+                    let longer : len ≤ length (rest ++ more) = omega (arith, length-append rest more, there.2) in
+                    let same : take len (rest ++ more) ≡ take len rest = take-append-le len rest more there.2 in
+                    inr (record { value = len; rest = rest ++ more; good = after.good; spelled = spelled; next = inr (inr (inr (there.0, there.1, longer, rw same there.3))) })
+              ]
+            ]
+          ]
+    ]
