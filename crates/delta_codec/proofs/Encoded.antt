@@ -15,8 +15,7 @@ use Rattle.dots.proofs.TruthTables.{fact}
 use Rattle.causal_context.specs.Contexts.{IsRun}
 use Rattle.member_orset.specs.Members.{Holding, IsLiveIn, IsWithinLimits}
 use Rattle.delta_codec.specs.declared.frame.Frame.{Frame}
-use Rattle.delta_codec.specs.Encoding.{IsInRanges, parts_with}
-use Rattle.delta_codec.specs.Frames.{AreCells, Spells, frame_bytes}
+use Rattle.delta_codec.specs.Frames.{AreCells, Spells, frame_bytes, IsInRanges, parts_with}
 use Rattle.delta_codec.specs.Measures.{IsMeasured}
 use Rattle.delta_codec.specs.Parts.{CellParts}
 use Rattle.delta_codec.proofs.Counting.{few_totals}

@@ -234,6 +234,13 @@ lengths parts good =
     let cells = cells_length parts.cells (by_recursion IsCell parts.cells good.cells.listed.each) in
     (omega (arith, size), omega (arith, size, cells, good.runs.few, good.cells.listed.few, good.totals.few))
 
+-- nor is a frame greater than the greatest of its parts make it
+pub whole_length : (parts : FrameParts) → AreParts parts → length (frame_bytes parts) ≤ 7454748
+whole_length parts good =
+    let size = content_size parts (length (flat_map cell_bytes parts.cells)) (length parts.totals) refl refl in
+    let cells = cells_length parts.cells (by_recursion IsCell parts.cells good.cells.listed.each) in
+    omega (arith, size, cells, good.runs.few, good.cells.listed.few, good.totals.few)
+
 -- ---- a frame that is there is found
 
 pub frame_found : (bytes : List ℕ) (frame : Frame) (n : ℕ) → n ≤ length bytes → (s : Spells frame (take n bytes)) → kept_in bytes ≡ Ok (kept_of s.parts, n)

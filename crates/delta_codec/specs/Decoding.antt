@@ -6,9 +6,8 @@ use Rattle.delta_codec.specs.declared.decode_fault.DecodeFault.{DecodeFault}
 use Rattle.delta_codec.specs.declared.decode_fault.DecodeFault.TheVariants.{Memory, Truncated}
 use Rattle.delta_codec.specs.declared.frame.Frame.{Frame}
 use Rattle.delta_codec.specs.declared.limits.TheConstants.{LEAST_LENGTH, MOST_LENGTH}
-use Rattle.delta_codec.specs.Encoding.{opening_bytes}
 use Rattle.delta_codec.specs.Faults.{HasFault, number4}
-use Rattle.delta_codec.specs.Frames.{Heading, IsHeading, Spells}
+use Rattle.delta_codec.specs.Frames.{Heading, IsHeading, Spells, opening_bytes}
 use Rattle.delta_codec.specs.Reading.{Kept}
 
 -- two frames are of one maker, have one number, and say the same

@@ -25,10 +25,10 @@ pub record After {A : Type 0} (IsGood : A → Type 0) (spell : A → List ℕ) (
   pub spelled : bytes ≡ spell value ++ rest
   pub next : Next value rest
 
--- no good part stands at the front, which is this fault
-pub record Lacks {A : Type 0} (IsGood : A → Type 0) (spell : A → List ℕ) (rule fault : DecodeFault) (bytes : List ℕ) : Type 0 where
+-- no good part stands at the front, and the fault is that of a missing one
+pub record Lacks {A : Type 0} (IsGood : A → Type 0) (spell : A → List ℕ) (missing fault : DecodeFault) (bytes : List ℕ) : Type 0 where
   pub none : (value : A) (rest : List ℕ) → IsGood value → bytes ≢ spell value ++ rest
-  pub fault_is : fault ≡ rule
+  pub fault_is : fault ≡ missing
 
 -- ---- texts
 

@@ -1,15 +1,16 @@
 -- Which bytes spell a frame.
-use Rattle.std.specs.Prelude.{ℕ, ◌≡◌, List, [], ◌∷◌, ◌++◌, length, IsTrue}
+use Rattle.std.specs.Prelude.{ℕ, ◌≡◌, ◌<◌, List, [], ◌∷◌, ◌++◌, length, IsTrue, Some}
 use Rattle.std.specs.FinMap as map
 use Rattle.std.specs.Int.{w32, w64, to_be_bytes}
 use Rattle.std.specs.List.{All}
-use Rattle.dots.specs.declared.limits.TheConstants.{MOST_LIVE, MOST_RUNS}
+use Rattle.dots.specs.declared.limits.TheConstants.{MOST_LIVE, MOST_RUNS, QUEUES}
 use Rattle.dots.specs.DotSets.{Run, AreApart, IsRunsOf, in_runs}
 use Rattle.dots.specs.Orders.{dot_cmp}
 use Rattle.dots.specs.SortedEntries.{IsRising}
 use Rattle.dots.specs.Totals.{IsTotal, key_cmp}
-use Rattle.dots.specs.Values.{IsCount, IsSite}
+use Rattle.dots.specs.Values.{Dot, IsCount, IsSite}
 use Rattle.causal_context.specs.Contexts.{IsRun}
+use Rattle.member_orset.specs.Members.{Holding}
 use Rattle.delta_codec.specs.declared.frame.Frame.{Frame}
 use Rattle.delta_codec.specs.declared.limits.TheConstants.{MOST_TOTALS, VERSION}
 use Rattle.delta_codec.specs.Parts.{CellParts, IsCell, IsListOf, TotalParts, byte, cell_bytes, list_bytes, run_bytes, total_bytes}
@@ -33,6 +34,10 @@ magic = 81 ∷ 68 ∷ []
 -- a heading: maker, one byte, and number, eight
 abbrev pub heading_bytes : Heading → List ℕ
 heading_bytes heading = heading.maker ∷ to_be_bytes w64 heading.number
+
+-- what stands between the length and the runs: magic, version, heading
+abbrev pub opening_bytes : Heading → List ℕ
+opening_bytes heading = magic ++ (byte VERSION ++ heading_bytes heading)
 
 -- what stands behind the length: magic, version, heading, runs, cells, totals
 abbrev pub content_bytes : FrameParts → List ℕ
@@ -82,3 +87,18 @@ pub record Spells (frame : Frame) (bytes : List ℕ) : Type 0 where
   pub of_frame : ArePartsOf frame parts
   pub within : AreParts parts
   pub spelled : bytes ≡ frame_bytes parts
+
+-- the parts of a frame whose context has these runs
+abbrev pub parts_with : Frame → List Run → FrameParts
+parts_with frame runs = record {
+  heading = record { maker = frame.maker; number = frame.number };
+  runs = runs;
+  cells = map.entries frame.delta.members.live;
+  totals = map.entries frame.delta.totals.entries;
+}
+
+-- A frame is within the ranges of the format: its number is one, and each live dot is of one of the queues. All else is so for
+-- every frame, by the types of its parts.
+pub record IsInRanges (frame : Frame) : Type 0 where
+  pub number : IsCount frame.number
+  pub queues : (dot : Dot) (held : Holding) → map.get frame.delta.members.live dot ≡ Some held → held.0.queue < QUEUES

@@ -3,6 +3,5 @@ pub mod Frames
 pub mod Faults
 pub mod Reading
 pub mod Elements
-pub mod Encoding
 pub mod Decoding
 pub mod Measures

@@ -2,8 +2,7 @@ ghost use Rattle.std.specs.Prelude.{◌≡◌, ◌++◌, ◌≤◌, IfOk, OnOk, 
 ghost use Rattle.std.specs.FinMap as map;
 ghost use Rattle.std.specs.List.{All};
 ghost use Rattle.dots.specs.declared.limits.TheConstants.{MOST_RUNS};
-ghost use Rattle.delta_codec.specs.Encoding.{IsInRanges, parts_with};
-ghost use Rattle.delta_codec.specs.Frames.{Spells, content_bytes, frame_bytes};
+ghost use Rattle.delta_codec.specs.Frames.{Spells, content_bytes, frame_bytes, IsInRanges, parts_with};
 ghost use Rattle.delta_codec.specs.Measures.{IsMeasured};
 
 use crate::sizes::content_size;

@@ -7,7 +7,7 @@ ghost use Rattle.delta_codec.specs.declared.frame.Frame.{Frame};
 ghost use Rattle.delta_codec.specs.declared.limits.TheConstants.{LEAST_LENGTH, MOST_LENGTH};
 ghost use Rattle.delta_codec.specs.Decoding.{BeginsWithFrame, IsAtFault, IsSameFrame};
 ghost use Rattle.delta_codec.specs.Faults.{HasFault};
-ghost use Rattle.delta_codec.specs.Frames.{AreParts, FrameParts, Spells, content_bytes};
+ghost use Rattle.delta_codec.specs.Frames.{AreParts, FrameParts, Spells, content_bytes, frame_bytes};
 
 /// Each frame has one spelling: frames of one maker and number whose deltas say the same have equal bytes.
 pub fn each_frame_has_one_spelling()
@@ -20,10 +20,11 @@ pub fn bytes_spell_one_frame()
     ensures no_prefix { (x y : Frame) (bytes rest : List ℕ) → Spells x bytes → Spells y (bytes ++ rest) → rest ≡ [] }
 {}
 
-/// A frame is never too long, nor too short, for its length field.
+/// A frame is never too long, nor too short, for its length field. It has at most 7,454,748 bytes.
 pub fn a_frame_has_a_length()
     ensures least { (parts : FrameParts) → AreParts parts → LEAST_LENGTH ≤ length (content_bytes parts) }
     ensures most { (parts : FrameParts) → AreParts parts → length (content_bytes parts) ≤ MOST_LENGTH }
+    ensures whole { (parts : FrameParts) → AreParts parts → length (frame_bytes parts) ≤ 7454748 }
 {}
 
 /// Bytes begin with a frame or have a fault, and never both. They have one fault at most, and it isn't `Memory`.

@@ -4,7 +4,7 @@ ghost use Rattle.std.specs.List.{flat_map};
 ghost use Rattle.std.specs.FinMap as map;
 ghost use Rattle.std.specs.Int.{w16, w32, w64, to_be_bytes};
 ghost use Rattle.dots.specs.declared.limits.TheConstants.{MOST_RUNS};
-ghost use Rattle.delta_codec.specs.Encoding.{opening_bytes};
+ghost use Rattle.delta_codec.specs.Frames.{opening_bytes};
 ghost use Rattle.delta_codec.specs.Parts.{byte, cell_bytes, dot_bytes, field_bytes, fields_bytes, flags_of, label_bytes, list_bytes, pause_bytes, penalty_bytes, run_bytes, stamp_bytes, text_bytes, total_bytes};
 
 use crate::sizes::count_of;

@@ -1,6 +1,7 @@
 //! Frames: bytes that spell one, and bytes that have a fault.
 use delta_codec::{DecodeFault, Frame, Splitter, decode, encode};
-use dots::SiteId;
+use dots::{Calls, SiteId};
+use site_totals::TotalFault;
 use std::alloc::Global;
 use std::process::Abort;
 
@@ -47,6 +48,13 @@ const GREATEST: [u8; 98] = [
     0x00, 0x00,
 ];
 
+// A frame of no dots, and of 1,000,000,000 completed calls of site 0 in queue 0.
+const COUNTED: [u8; 47] = [
+    0x00, 0x00, 0x00, 0x2b, 0x51, 0x44, 0x01, 0x00, 0x00, 0x00, 0x00, 0x00, 0x00, 0x00, 0x00, 0x01,
+    0x00, 0x00, 0x00, 0x00, 0x00, 0x00, 0x00, 0x00, 0x00, 0x00, 0x00, 0x01, 0x00, 0x00, 0x00, 0x00,
+    0x00, 0x00, 0x00, 0x3b, 0x9a, 0xca, 0x00, 0x00, 0x00, 0x00, 0x00, 0x00, 0x00, 0x00, 0x00,
+];
+
 // The bytes with one of them replaced.
 fn replaced(bytes: &mut [u8], place: usize, byte: u8) {
     if place < bytes.len() {
@@ -86,6 +94,7 @@ fn frames_are_spelled_again(rt: HostRuntime) {
         NEW.as_slice(),
         REMOVED.as_slice(),
         GREATEST.as_slice(),
+        COUNTED.as_slice(),
     ] {
         assert!(rt; is_spelled_again(&rt, rt.alloc(), bytes));
     }
@@ -101,12 +110,22 @@ fn a_frame_says_what_it_is_of(rt: HostRuntime) {
 }
 
 #[test]
+fn a_total_of_a_frame_may_be_full(rt: HostRuntime) {
+    let frame = decoded(&rt, rt.alloc(), &COUNTED);
+    let (_, mut totals) = frame.delta.into_parts();
+    assert!(rt; totals.sum(0).completed == 1_000_000_000);
+    let site = SiteId::new(0).expect(&rt, "a site");
+    let raised = totals.raise(site, 0, Calls::Completed);
+    assert!(rt; raised == Err(TotalFault::TotalFull));
+}
+
+#[test]
 fn runs_that_touch_are_out_of_order(rt: HostRuntime) {
     assert!(rt; has_fault(rt.alloc(), &TOUCHING, DecodeFault::BadOrder));
 }
 
 // A byte of the first frame of site 0, what it is replaced by, and the fault then.
-const REPLACED: [(usize, u8, DecodeFault); 27] = [
+const REPLACED: [(usize, u8, DecodeFault); 32] = [
     (3, 0x17, DecodeFault::BadRange),
     (3, 0x5d, DecodeFault::BadRange),
     (1, 0x80, DecodeFault::TooLarge),
@@ -117,11 +136,13 @@ const REPLACED: [(usize, u8, DecodeFault); 27] = [
     (8, 1, DecodeFault::BadRange),
     (17, 1, DecodeFault::TooLarge),
     (28, 0, DecodeFault::BadRange),
+    (36, 0, DecodeFault::BadRange),
     (39, 0x40, DecodeFault::TooLarge),
     (49, 0, DecodeFault::BadRange),
     (49, 2, DecodeFault::BadRange),
     (50, 1, DecodeFault::BadRange),
     (52, 0, DecodeFault::BadText),
+    (52, 80, DecodeFault::BadRange),
     (52, 81, DecodeFault::BadText),
     (53, 0x0a, DecodeFault::BadText),
     (58, 0, DecodeFault::BadRange),
@@ -131,7 +152,10 @@ const REPLACED: [(usize, u8, DecodeFault); 27] = [
     (68, 0x80, DecodeFault::BadRange),
     (81, 2, DecodeFault::BadRange),
     (82, 1, DecodeFault::BadRange),
+    (82, 80, DecodeFault::BadRange),
     (82, 81, DecodeFault::BadText),
+    (92, 81, DecodeFault::BadText),
+    (93, 80, DecodeFault::BadRange),
     (93, 81, DecodeFault::BadText),
     (97, 1, DecodeFault::BadRange),
 ];
@@ -155,6 +179,100 @@ fn allowed_bytes_are_spelled_again(rt: HostRuntime) {
         replaced(&mut bytes, place, byte);
         assert!(rt; is_spelled_again(&rt, rt.alloc(), &bytes));
     }
+}
+
+// The bytes with eight of them overwritten.
+fn overwritten(bytes: &mut [u8], place: usize, eight: [u8; 8]) {
+    if place < bytes.len() && bytes.len() - place >= 8 {
+        bytes[place..place + 8].copy_from_slice(&eight);
+    }
+}
+
+// Eight bytes of the same frame, what they are overwritten by, and the fault then: the length 8,388,608 and one more; the number 0
+// and 2^40 + 1; 65,536 runs, of which the second is none, and 65,537; a last count of 2^40 + 1; 16,384 cells, of which the second
+// is none, and 16,385; a time of 2^40 + 1; the penalty 2,147,483,648.
+const OVERWRITTEN: [(usize, [u8; 8], DecodeFault); 11] = [
+    (0, [0, 0x80, 0, 0, 0x51, 0x44, 1, 0], DecodeFault::Truncated),
+    (0, [0, 0x80, 0, 1, 0x51, 0x44, 1, 0], DecodeFault::TooLarge),
+    (8, [0, 0, 0, 0, 0, 0, 0, 0], DecodeFault::BadRange),
+    (8, [0, 0, 1, 0, 0, 0, 0, 1], DecodeFault::BadRange),
+    (16, [0, 1, 0, 0, 0, 0, 0, 0], DecodeFault::BadRange),
+    (16, [0, 1, 0, 1, 0, 0, 0, 0], DecodeFault::TooLarge),
+    (29, [0, 0, 1, 0, 0, 0, 0, 1], DecodeFault::BadRange),
+    (37, [0, 0, 0x40, 0, 0, 0, 0, 0], DecodeFault::BadRange),
+    (37, [0, 0, 0x40, 1, 0, 0, 0, 0], DecodeFault::TooLarge),
+    (59, [0, 0, 1, 0, 0, 0, 0, 1], DecodeFault::BadRange),
+    (68, [0x80, 0, 0, 0, 0, 0, 0, 0], DecodeFault::BadRange),
+];
+
+#[test]
+fn overwritten_bytes_have_their_faults(rt: HostRuntime) {
+    for (place, eight, fault) in OVERWRITTEN {
+        let mut bytes = ADDED;
+        overwritten(&mut bytes, place, eight);
+        assert!(rt; has_fault(rt.alloc(), &bytes, fault));
+    }
+}
+
+// Eight bytes of the same frame, and others that they may be as well: the number 2^40, a last count and a time of 2^40, and the
+// penalty 2,147,483,647.
+const GREAT: [(usize, [u8; 8]); 4] = [
+    (8, [0, 0, 1, 0, 0, 0, 0, 0]),
+    (29, [0, 0, 1, 0, 0, 0, 0, 0]),
+    (59, [0, 0, 1, 0, 0, 0, 0, 0]),
+    (68, [0x7f, 0xff, 0xff, 0xff, 0, 0, 0, 0]),
+];
+
+#[test]
+fn great_numbers_are_spelled_again(rt: HostRuntime) {
+    for (place, eight) in GREAT {
+        let mut bytes = ADDED;
+        overwritten(&mut bytes, place, eight);
+        assert!(rt; is_spelled_again(&rt, rt.alloc(), &bytes));
+    }
+}
+
+// Eight bytes of the frame of calls, what they are overwritten by, and the fault then: site 64, queue 256, 16,384 totals and one
+// more, no calls, and 1,000,000,001 of each kind.
+const MISCOUNTED: [(usize, [u8; 8], DecodeFault); 7] = [
+    (24, [0, 0, 0, 1, 64, 0, 0, 0], DecodeFault::BadRange),
+    (24, [0, 0, 0, 1, 0, 1, 0, 0], DecodeFault::BadRange),
+    (24, [0, 0, 0x40, 0, 0, 0, 0, 0], DecodeFault::BadRange),
+    (24, [0, 0, 0x40, 1, 0, 0, 0, 0], DecodeFault::TooLarge),
+    (31, [0, 0, 0, 0, 0, 0, 0, 0], DecodeFault::BadRange),
+    (31, [0, 0, 0, 0, 0x3b, 0x9a, 0xca, 1], DecodeFault::BadRange),
+    (39, [0, 0, 0, 0, 0x3b, 0x9a, 0xca, 1], DecodeFault::BadRange),
+];
+
+#[test]
+fn miscounted_calls_have_their_faults(rt: HostRuntime) {
+    for (place, eight, fault) in MISCOUNTED {
+        let mut bytes = COUNTED;
+        overwritten(&mut bytes, place, eight);
+        assert!(rt; has_fault(rt.alloc(), &bytes, fault));
+    }
+}
+
+// A byte of the frame of a new replica, and what it is replaced by: the length 23, maker 64, number 0.
+const UNHEADED: [(usize, u8); 3] = [(3, 0x17), (7, 64), (15, 0)];
+
+#[test]
+fn a_bad_heading_is_out_of_range(rt: HostRuntime) {
+    for (place, byte) in UNHEADED {
+        let mut bytes = NEW;
+        replaced(&mut bytes, place, byte);
+        assert!(rt; has_fault(rt.alloc(), &bytes, DecodeFault::BadRange));
+    }
+}
+
+#[test]
+fn an_interface_of_80_bytes_is_spelled_again(rt: HostRuntime) {
+    let mut bytes = [b'a'; 173];
+    bytes[..52].copy_from_slice(&ADDED[..52]);
+    bytes[3] = 0xa9;
+    bytes[52] = 80;
+    bytes[133..].copy_from_slice(&ADDED[58..]);
+    assert!(rt; is_spelled_again(&rt, rt.alloc(), &bytes));
 }
 
 // Whether all proper fronts of the bytes are too short.
@@ -210,11 +328,38 @@ fn place_of_frame(rt: &impl Abort, splitter: &mut Splitter, bytes: &[u8]) -> Opt
     None
 }
 
+// Behind two frames come bytes that are a length only with the fourth of them, and then one that is too large.
 #[test]
 fn frames_come_out_of_single_bytes(rt: HostRuntime) {
     let mut splitter = Splitter::new(rt.alloc());
     assert!(rt; place_of_frame(&rt, &mut splitter, &ADDED) == Some(97));
     assert!(rt; place_of_frame(&rt, &mut splitter, &ADDED) == Some(97));
+    assert!(rt; place_of_frame(&rt, &mut splitter, &[0xff; 3]).is_none());
+    assert!(rt; matches!(splitter.next_frame(), Ok(None)));
+    splitter.feed(&[0xff]).expect(&rt, "memory");
+    assert!(rt; matches!(splitter.next_frame(), Err(DecodeFault::TooLarge)));
+}
+
+// The first frame with one byte behind it: outside its length no part of it, and inside its length one too many.
+#[test]
+fn a_byte_behind_the_totals_is_looked_at_by_the_length(rt: HostRuntime) {
+    let mut bytes = [0xff; 99];
+    bytes[..98].copy_from_slice(&ADDED);
+    assert!(rt; decode(rt.alloc(), &bytes).is_ok_and(|found| found.1 == 98));
+    bytes[3] = 0x5f;
+    assert!(rt; has_fault(rt.alloc(), &bytes, DecodeFault::BadRange));
+}
+
+// A frame that is there is read, or memory is wanted; and what is at fault up to the heading is told whatever memory there is. So
+// it is also where each allocation of this test is refused in turn.
+#[test]
+fn only_memory_is_told_of_a_frame(rt: HostRuntime) {
+    let read = match decode(rt.alloc(), &ADDED) {
+        Ok((frame, len)) => frame.number == 1 && len == 98,
+        Err(fault) => fault == DecodeFault::Memory,
+    };
+    assert!(rt; read);
+    assert!(rt; has_fault(rt.alloc(), &ADDED[..97], DecodeFault::Truncated));
 }
 
 #[test]

@@ -1,7 +1,6 @@
 use Rattle.std.proofs.Common.{◌≡◌, ap, ◌∙◌}
 use Rattle.std.proofs.lemmas.Result.{IfOk-weaker}
-use Rattle.delta_codec.specs.Encoding.{parts_with}
-use Rattle.delta_codec.specs.Frames.{Spells, frame_bytes}
+use Rattle.delta_codec.specs.Frames.{Spells, frame_bytes, parts_with}
 use Rattle.member_orset.specs.Members.{Members}
 use Rattle.delta_codec.proofs.Encoded.{frame_spelled}
 use Rattle.delta_codec.proofs.encoding.encode.Goals as goal

@@ -1,4 +1,4 @@
-use Rattle.delta_codec.specs.Encoding.{parts_with}
+use Rattle.delta_codec.specs.Frames.{parts_with}
 use Rattle.delta_codec.proofs.Measuring.{content_size}
 use Rattle.delta_codec.proofs.sizes.content_size.Goals as goal
 
