@@ -7,7 +7,7 @@ use site_totals::Totals;
 use std::alloc::Global;
 
 // The delta of a set of members, without totals.
-fn delta_of(alloc: Global, members: MemberSet) -> Delta {
+pub(crate) fn delta_of(alloc: Global, members: MemberSet) -> Delta {
     Delta::of(members, Totals::new(alloc))
 }
 

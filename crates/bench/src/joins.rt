@@ -5,7 +5,12 @@ use dots::{Dot, SiteId};
 use std::alloc::Global;
 
 // Every second count of a site from a first one on: so many runs.
-fn every_second(alloc: Global, site: SiteId, first: u64, runs: u64) -> Result<Context, ContextFault>
+pub(crate) fn every_second(
+    alloc: Global,
+    site: SiteId,
+    first: u64,
+    runs: u64,
+) -> Result<Context, ContextFault>
     requires few { runs ≤ 65536 }
     requires start { first ≤ 2 }
 {

@@ -3,11 +3,13 @@
 #![tactic(auto)]
 
 mod deltas;
+mod frames;
 mod joins;
 mod sets;
 mod totals;
 
 use deltas::{dot_taken_often, halves_joined_often};
+use frames::{cells_decoded_often, cells_encoded_often, runs_decoded_often, runs_encoded_often};
 use joins::joined_often;
 use sets::{dead_told_often, rows_read, sets_copied_often, sets_joined_often};
 use std::alloc::Global;
@@ -20,7 +22,9 @@ const TIMES: u32 = 100;
 // What a workload computed, or why it has no checksum. The small ones, done twice, are seen by hand: the counts 1 to 6 of
 // a site are one run, so each join adds 6 and 1; three live dots of each of two sites are six in two runs, and of one
 // site three in one; deltas join as their sets do, and a dot that is known adds none; four members have the penalties
-// 1 to 4; three dots are dead, each a run; two copies have three live dots each; three entries have the totals 1 to 3.
+// 1 to 4; three dots are dead, each a run; two copies have three live dots each; three entries have the totals 1 to 3; a frame of
+// three cells of 31 bytes, in a run of 17, has 138 bytes, of which 28 are always there, and one of three runs has 79; a frame that is
+// decoded adds its live dots and runs.
 fn checksum(alloc: Global, word: &str) -> Result<u64, &'static str> {
     match word {
         "join_3_runs" => joined_often(alloc, 3, 2),
@@ -32,6 +36,10 @@ fn checksum(alloc: Global, word: &str) -> Result<u64, &'static str> {
         "dead_beside_3_live_dots" => dead_told_often(alloc, 3, 2),
         "copy_3_cells_twice" => sets_copied_often(alloc, 3, 2),
         "join_3_totals" => totals_joined_often(alloc, 3, 2),
+        "encode_3_cells" => cells_encoded_often(alloc, 3, 2),
+        "decode_3_cells" => cells_decoded_often(alloc, 3, 2),
+        "encode_3_runs" => runs_encoded_often(alloc, 3, 2),
+        "decode_3_runs" => runs_decoded_often(alloc, 3, 2),
         "join_65536_runs" => joined_often(alloc, 65_536, TIMES),
         "join_32768_runs" => joined_often(alloc, 32_768, TIMES),
         "join_16384_cells" => sets_joined_often(alloc, (0, 0), 16_384, TIMES),
@@ -43,6 +51,10 @@ fn checksum(alloc: Global, word: &str) -> Result<u64, &'static str> {
         "dead_beside_16384_live_dots" => dead_told_often(alloc, 16_384, TIMES),
         "copy_16384_cells_twice" => sets_copied_often(alloc, 16_384, TIMES),
         "join_16384_totals" => totals_joined_often(alloc, 16_384, TIMES),
+        "encode_16384_cells" => cells_encoded_often(alloc, 16_384, TIMES),
+        "decode_16384_cells" => cells_decoded_often(alloc, 16_384, TIMES),
+        "encode_65536_runs" => runs_encoded_often(alloc, 65_536, TIMES),
+        "decode_65536_runs" => runs_decoded_often(alloc, 65_536, TIMES),
         _ => Err("no such workload"),
     }
 }
