@@ -14,7 +14,7 @@ use Rattle.delta_codec.specs.Faults.{FieldFails, FieldsFail, IsBit, IsFlagged, L
 use Rattle.delta_codec.specs.Parts.{byte, field_bytes, pause_bytes, penalty_bytes, stamp_bytes, text_bytes}
 use Rattle.delta_codec.specs.Reading.{Read, bit_at, both, byte_at, count_at, entry_at, field_at, is_count, label_at, no_reason_at, number_at, pause_at, penalty_at, reason_at, set_fields_at, site_at, stamp_at, tested, text_at, text_of}
 use Rattle.delta_codec.proofs.FieldLaws.{IsTextOf, bit_reads, field_reads, pause_reads, penalty_reads, stamp_reads, text_reads}
-use Rattle.delta_codec.proofs.PartFaults.{HasOneFault, Tells, fault_is, guard_err, last_err, one_both, one_byte, one_made, one_number, one_tested, tells_both, tells_lacks, tells_made, tells_same, test_err}
+use Rattle.delta_codec.proofs.PartFaults.{HasOneFault, Tells, fault_is, guard_err, is_over, is_under, last_err, one_both, one_byte, one_made, one_number, one_tested, over, tells_both, tells_lacks, tells_made, tells_same, test_err, under}
 use Rattle.delta_codec.proofs.PartLaws.{Reads, reads_good}
 
 -- ---- numbers
@@ -118,18 +118,6 @@ text_tells least = record { only = λ bytes fault fits e. text_only least bytes 
 -- the length of no reason
 abbrev no_length_at : List ℕ → Read ℕ
 no_length_at bytes = tested (λ len. len == 0) BadRange (tested (λ len. nat_le len TEXT_BYTES) BadText (byte_at bytes))
-
-over : (n most : ℕ) → nat_le n most ≡ false → most < n
-over n most h = grind (arith, nat_tests)
-
-under : (n most : ℕ) → nat_le n most ≡ true → n ≤ most
-under n most h = grind (arith, nat_tests)
-
-is_over : (n most : ℕ) → most < n → nat_le n most ≡ false
-is_over n most h = grind (arith, nat_tests)
-
-is_under : (n most : ℕ) → n ≤ most → nat_le n most ≡ true
-is_under n most h = grind (arith, nat_tests)
 
 some_of : (n : ℕ) → (n == 0) ≡ false → 0 < n
 some_of n h = grind (arith, nat_tests)

@@ -9,6 +9,7 @@ pub mod FieldLaws
 pub mod CellLaws
 pub mod ListLaws
 pub mod ContentLaws
+pub mod ReadRuns
 pub mod FrameLaws
 pub mod PartFaults
 pub mod FieldFaults

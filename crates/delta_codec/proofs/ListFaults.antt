@@ -5,7 +5,6 @@ use Rattle.std.specs.List.{AllByRecursion, flat_map, last_or}
 use Rattle.std.specs.FinSet as set
 use Rattle.std.specs.Option.{option_map}
 use Rattle.std.specs.Int.{w32}
-use Rattle.std.proofs.lemmas.Bool.Decides.{nat_tests}
 use Rattle.dots.specs.declared.limits.TheConstants.{MOST_LIVE, MOST_RUNS}
 use Rattle.dots.specs.DotSets.{Run, in_runs, is_apart}
 use Rattle.dots.specs.Totals.{IsTotal, Key}
@@ -21,16 +20,11 @@ use Rattle.delta_codec.specs.Reading.{◌>>=◌, Elements, accepted, cell_elemen
 use Rattle.delta_codec.proofs.CellFaults.{cell_tells, run_tells, total_tells}
 use Rattle.delta_codec.proofs.CellLaws.{cell_reads, run_reads, total_reads}
 use Rattle.delta_codec.proofs.ContentLaws.{cells_known, contains-known_of, known_cells}
-use Rattle.delta_codec.proofs.ListLaws.{AreElements, Chain, cells_are_read, next_takes, read_are_cells, read_are_runs, read_are_totals, runs_are_read, totals_are_read}
-use Rattle.delta_codec.proofs.PartFaults.{IsBytes-behind, Tells, bind_err, one_number, tells_by, tells_lacks, tells_then, test_err}
+use Rattle.delta_codec.proofs.ListLaws.{AreElements, Chain, last_key, cells_are_read, next_takes, read_are_cells, read_are_runs, read_are_totals, runs_are_read, totals_are_read}
+use Rattle.delta_codec.proofs.PartFaults.{IsBytes-behind, Tells, bind_err, is_over, is_under, one_number, over, tells_by, tells_lacks, tells_then, test_err, under}
 use Rattle.delta_codec.proofs.PartLaws.{IsBytes, Reads, number4_reads}
 
 -- ---- elements
-
--- the key of the last of them, if there is one
-abbrev last_key : {A K : Type 0} → Elements A K → Option K → List A → Option K
-last_key e last [] = last
-last_key e last (x ∷ xs) = last_key e (Some (e.key x)) xs
 
 -- some elements were read, and then one could not be
 record Stopped {A K : Type 0} (e : Elements A K) (G : A → Type 0) (s : A → List ℕ) (n : ℕ) (last : Option K) (bytes : List ℕ) (fault : DecodeFault) : Type 0 where
@@ -103,18 +97,6 @@ next_tells e G s F Breaks r t there back before =
     })
 
 -- ---- lists
-
-over : (n most : ℕ) → nat_le n most ≡ false → most < n
-over n most h = grind (arith, nat_tests)
-
-under : (n most : ℕ) → nat_le n most ≡ true → n ≤ most
-under n most h = grind (arith, nat_tests)
-
-is_over : (n most : ℕ) → most < n → nat_le n most ≡ false
-is_over n most h = grind (arith, nat_tests)
-
-is_under : (n most : ℕ) → n ≤ most → nat_le n most ≡ true
-is_under n most h = grind (arith, nat_tests)
 
 regrouped : {A B D : Type 0} (r : Result A DecodeFault) (f : A → Result B DecodeFault) (g : B → Result D DecodeFault) → ((r >>= f) >>= g) ≡ (r >>= λ x. f x >>= g)
 regrouped (Ok x) f g = refl

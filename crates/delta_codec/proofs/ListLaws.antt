@@ -35,6 +35,11 @@ abbrev pub Chain : {A K : Type 0} → Elements A K → Option K → List A → T
 Chain e last [] = Unit {0}
 Chain e last (x ∷ xs) = (e.fault_of last (e.key x) ≡ None) × Chain e (Some (e.key x)) xs
 
+-- the key of the last of some elements, if there is one
+abbrev pub last_key : {A K : Type 0} → Elements A K → Option K → List A → Option K
+last_key e last [] = last
+last_key e last (x ∷ xs) = last_key e (Some (e.key x)) xs
+
 -- what was taken of a list
 record Taken {A K : Type 0} (e : Elements A K) (G : A → Type 0) (s : A → List ℕ) (n : ℕ) (last : Option K) (bytes : List ℕ) (xs : List A) (rest : List ℕ) : Type 0 where
   pub parts : bytes ≡ flat_map s xs ++ rest
@@ -137,7 +142,7 @@ apart_from r (x ∷ xs) each chain =
     let here : IsTrue (is_apart r x) = unless_none (is_apart r x) BadOrder chain.0 in
     (All-cons (λ y. IsTrue (is_apart r y)) x xs here (All-weaker (λ y. IsTrue (is_apart x y)) (λ y. IsTrue (is_apart r y)) (λ y h. apart_after r x y each.0.ordered here h) xs rest.0), (each.0.ordered, rest.0, rest.1))
 
-are_apart : (xs : List Run) → AllByRecursion IsRun xs → Chain run_elements None xs → AreApart xs
+pub are_apart : (xs : List Run) → AllByRecursion IsRun xs → Chain run_elements None xs → AreApart xs
 are_apart [] each chain = tt
 are_apart (x ∷ xs) each chain = let rest = apart_from x xs each.1 chain.1 in (each.0.ordered, rest.0, rest.1)
 

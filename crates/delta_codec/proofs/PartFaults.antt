@@ -1,6 +1,8 @@
 -- Which fault is read, and where: for parts, and for parts of parts.
-use Rattle.std.proofs.Common.{◌≡◌, ◌⊎◌, ℕ, Bool, true, false, cond, ltb, List, [], ◌∷◌, ◌++◌, length, take, drop, Result, Ok, Err, refl, sym, ap, subst, ◌∙◌, inl, inr}
+use Rattle.std.proofs.Common.{◌≡◌, ◌⊎◌, ℕ, ◌<◌, ◌≤◌, Bool, true, false, cond, ltb, List, [], ◌∷◌, ◌++◌, length, take, drop, Result, Ok, Err, refl, sym, ap, subst, ◌∙◌, inl, inr, arith}
+use Rattle.std.specs.Prelude.{nat_le}
 use Rattle.std.specs.Int.{Width, byte_len, from_be_bytes}
+use Rattle.std.proofs.lemmas.Bool.Decides.{nat_tests}
 use Rattle.std.proofs.lemmas.List.{drop_at}
 use Rattle.delta_codec.specs.declared.decode_fault.DecodeFault.{DecodeFault}
 use Rattle.delta_codec.specs.declared.decode_fault.DecodeFault.TheVariants.{BadRange}
@@ -46,6 +48,19 @@ guard_err false rule fault r e = inr (refl, e)
 pub last_err : {A : Type 0} (b : Bool) (x : A) (rule fault : DecodeFault) → cond b (Ok x) (Err rule) ≡ Err fault → (b ≡ false) × (fault ≡ rule)
 last_err true x rule fault e = absurd cc
 last_err {A = A} false x rule fault e = (refl, sym (fault_is {A = A} rule fault e))
+
+-- whether a number is over its limit
+pub over : (n most : ℕ) → nat_le n most ≡ false → most < n
+over n most h = grind (arith, nat_tests)
+
+pub under : (n most : ℕ) → nat_le n most ≡ true → n ≤ most
+under n most h = grind (arith, nat_tests)
+
+pub is_over : (n most : ℕ) → most < n → nat_le n most ≡ false
+is_over n most h = grind (arith, nat_tests)
+
+pub is_under : (n most : ℕ) → n ≤ most → nat_le n most ≡ true
+is_under n most h = grind (arith, nat_tests)
 
 -- what stands behind bytes is bytes
 pub IsBytes-behind : (front rest : List ℕ) → IsBytes (front ++ rest) → IsBytes rest

@@ -27,6 +27,7 @@ fn read_heading(reader: &mut Reader<'_>) -> Result<(SiteId, u64), DecodeFault>
 fn read_content(alloc: Global, bytes: &[u8]) -> Result<Frame, DecodeFault>
     ensures value { GivesWithMemory frame_kept result (kept_at bytes.now) }
     ensures early { (fault : DecodeFault) → opening_at bytes.now ≡ Err fault → result ≡ Err fault }
+    ensures retired { IfOk result (λ x. x.delta.members.retired ≡ 0) }
 {
     let mut reader = Reader::new(bytes);
     reader.magic()?;
@@ -83,6 +84,7 @@ fn content_of(bytes: &[u8]) -> Result<&[u8], DecodeFault>
 fn read_frame(alloc: Global, bytes: &[u8]) -> Result<(Frame, usize), DecodeFault>
     ensures value { GivesWithMemory (λ x. (frame_kept x.0, x.1)) result (kept_in bytes.now) }
     ensures early { (fault : DecodeFault) → opening_in bytes.now ≡ Err fault → result ≡ Err fault }
+    ensures retired { IfOk result (λ x. x.0.delta.members.retired ≡ 0) }
 {
     let content = content_of(bytes)?;
     let frame = read_content(alloc, content)?;
@@ -105,6 +107,8 @@ fn read_frame(alloc: Global, bytes: &[u8]) -> Result<(Frame, usize), DecodeFault
 pub fn decode(alloc: Global, bytes: &[u8]) -> Result<(Frame, usize), DecodeFault>
     ensures front { IsFrontFrame bytes.now result }
     ensures fault { IsFrontFault bytes.now result }
+    // All places of dead dots are used again.
+    ensures retired { IfOk result (λ x. x.0.delta.members.retired ≡ 0) }
 {
     read_frame(alloc, bytes)
 }

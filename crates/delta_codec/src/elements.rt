@@ -3,10 +3,11 @@ ghost use Rattle.std.specs.Prelude.{◌≡◌, ◌↔◌, ◌≤◌, ◌<◌, If
 ghost use Rattle.std.specs.declared.cmp.Ordering.TheVariants.{Less};
 ghost use Rattle.std.specs.FinMap as map;
 ghost use Rattle.std.specs.FinSet as set;
-ghost use Rattle.dots.specs.declared.limits.TheConstants.{MOST_CALLS, MOST_LIVE, QUEUES};
-ghost use Rattle.dots.specs.DotSets.{is_apart};
+ghost use Rattle.dots.specs.declared.limits.TheConstants.{MOST_CALLS, MOST_LIVE, MOST_RUNS, QUEUES};
+ghost use Rattle.dots.specs.DotSets.{is_apart, run_count};
 ghost use Rattle.dots.specs.Orders.{dot_cmp};
 ghost use Rattle.dots.specs.Values.{Dot};
+ghost use Rattle.causal_context.specs.Contexts.{IsRun};
 ghost use Rattle.member_orset.specs.Members.{HasField};
 ghost use Rattle.delta_codec.specs.Elements.{cell_read, total_read};
 ghost use Rattle.delta_codec.specs.Reading.{Gives, GivesWithMemory, run_at, dot_at, place_at, cell_at, total_at, next_at, elements_at, runs_at, cells_at, totals_at, made, order_fault, is_dot_before, run_elements, cell_elements, total_elements, known_of, live_of, totals_of, with_run, with_cell, with_total};
@@ -15,7 +16,7 @@ use crate::fields::{read_fields, read_interface};
 use crate::numbers::{read_calls, read_count, read_last, read_queue, read_site, read_size};
 use crate::reader::Reader;
 use crate::{DecodeFault, MOST_TOTALS};
-use causal_context::{Context, Run};
+use causal_context::{Context, ContextFault, Run};
 use dots::{CallTotals, Dot, MOST_LIVE, MOST_RUNS, Member};
 use lww_registers::Fields;
 use member_orset::{MemberSet, SetBuilder};
@@ -42,7 +43,8 @@ pub(crate) struct TotalRead {
 // A run.
 #[tactic(auto, unfolding(crate::specs::Reading::run_at))]
 fn read_run(reader: &mut Reader<'_>) -> Result<Run, DecodeFault>
-    ensures { Gives (λ x. (x, reader.new)) result (run_at reader.old) }
+    ensures value { Gives (λ x. (x, reader.new)) result (run_at reader.old) }
+    ensures within { IfOk result (λ x. IsRun x) }
 {
     let site = read_site(reader)?;
     let first = read_count(reader)?;
@@ -60,7 +62,9 @@ fn is_before(last: Run, run: Run) -> bool
 
 // A run that may stand behind the last one.
 fn read_next_run(last: Option<Run>, reader: &mut Reader<'_>) -> Result<Run, DecodeFault>
-    ensures { Gives (λ x. (x, reader.new)) result (next_at run_elements last reader.old) }
+    ensures value { Gives (λ x. (x, reader.new)) result (next_at run_elements last reader.old) }
+    ensures within { IfOk result (λ x. IsRun x) }
+    ensures order { IfOk result (λ x. order_fault is_apart last x ≡ None) }
 {
     let run = read_run(reader)?;
     match last {
@@ -69,14 +73,18 @@ fn read_next_run(last: Option<Run>, reader: &mut Reader<'_>) -> Result<Run, Deco
     }
 }
 
-// Adds a run to a context. So few runs that are apart are never too many for it.
+// Adds a run to a context, which doesn't have too many then.
 fn keep_run(context: &mut Context, run: Run) -> Result<(), DecodeFault>
+    requires few { run_count (with_run context.old.dots run) ≤ MOST_RUNS }
     ensures ok { OnOk result (context.new.dots ≡ with_run context.old.dots run) }
     ensures err { IfErr result (λ fault. fault ≡ DecodeFault.Memory) }
 {
     match context.insert_run(run.site, run.first, run.last) {
         Ok(()) => Ok(()),
-        Err(_) => Err(DecodeFault::Memory),
+        Err(fault) => {
+            prove!(fault != ContextFault::RunsFull);
+            Err(DecodeFault::Memory)
+        }
     }
 }
 
@@ -86,6 +94,7 @@ fn read_counted_runs(
     count: u32,
     reader: &mut Reader<'_>,
 ) -> Result<Context, DecodeFault>
+    requires { count ≤ MOST_RUNS }
     ensures { GivesWithMemory (λ x. (x.dots, reader.new)) result
         (made known_of (elements_at run_elements count None reader.old)) }
 {
@@ -228,6 +237,7 @@ pub(crate) fn read_cells(
     reader: &mut Reader<'_>,
 ) -> Result<MemberSet, DecodeFault>
     ensures known { IfOk result (λ x. x.known ≡ context.dots) }
+    ensures retired { IfOk result (λ x. x.retired ≡ 0) }
     ensures cells { GivesWithMemory (λ x. (x.live, reader.new)) result
         (made live_of (cells_at (set.contains context.dots) reader.old)) }
 {

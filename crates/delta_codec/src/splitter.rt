@@ -1,4 +1,4 @@
-ghost use Rattle.std.specs.Prelude.{◌≡◌, ◌≤◌, ◌++◌, [], drop, vec_len, OnErr, OnOk};
+ghost use Rattle.std.specs.Prelude.{◌≡◌, ◌≤◌, ◌++◌, [], drop, vec_len, IfOk, IfSome, OnErr, OnOk};
 ghost use Rattle.delta_codec.specs.Decoding.{IsNextFault, IsNextFrame};
 
 use crate::{DecodeFault, Frame, Memory, decode};
@@ -83,6 +83,7 @@ impl Splitter {
     pub fn next_frame(&mut self) -> Result<Option<Frame>, DecodeFault>
         ensures frame { IsNextFrame self.old result self.new }
         ensures fault { IsNextFault self.old result }
+        ensures retired { IfOk result (λ x. IfSome x (λ frame. frame.delta.members.retired ≡ 0)) }
     {
         match decode(self.alloc, self.held()) {
             Ok((frame, len)) => {

@@ -9,4 +9,5 @@ returns c =
     record {
       front = front_frame c.args.bytes.now c.read_frame.result fits c.read_frame.ensures.value;
       fault = front_fault c.args.bytes.now c.read_frame.result fits c.read_frame.ensures.value c.read_frame.ensures.early;
+      retired = c.read_frame.ensures.retired;
     }

@@ -14,6 +14,7 @@ returns-in-Ok c =
     record {
       frame = next_found c.args.self.now (drop (c.self.inside.taken + c.in-Ok.len) c.self.inside.bytes.items) c.in-Ok.frame c.in-Ok.len front (new ∙ ap (drop c.in-Ok.len) old);
       fault = next_taken c.args.self.now c.in-Ok.frame c.in-Ok.len fault;
+      retired = c.in-Ok.ensures.retired;
     }
 
 pub returns-after-fault : goal.returns-after-fault
@@ -24,6 +25,6 @@ returns-after-fault c =
       | in-Truncated w ↦
           let missing = rw w.in-Truncated.is at front in
           let short = rw w.in-Truncated.is at fault in
-          rw w.result-is (record { frame = none_found c.args.self.now missing; fault = next_missing c.args.self.now short })
-      | in_default w ↦ rw w.result-is (record { frame = fault_found c.args.self.now c.in-Err.fault front; fault = next_fails c.args.self.now c.in-Err.fault w.in_default.not-Truncated fault })
+          rw w.result-is (record { frame = none_found c.args.self.now missing; fault = next_missing c.args.self.now short; retired = tt })
+      | in_default w ↦ rw w.result-is (record { frame = fault_found c.args.self.now c.in-Err.fault front; fault = next_fails c.args.self.now c.in-Err.fault w.in_default.not-Truncated fault; retired = tt })
     ]
