@@ -1,12 +1,11 @@
 -- Bytes begin with a frame, or have one fault.
 use Rattle.std.proofs.Common.{◌≡◌, ◌≢◌, ◌⊎◌, ℕ, ◌<◌, ◌≤◌, List, ◌++◌, length, take, sym, ap, ◌∙◌, append_assoc, inl, inr, arith}
-use Rattle.std.specs.List.{All}
 use Rattle.std.proofs.lemmas.Bool.{cases_lt}
 use Rattle.std.proofs.lemmas.List.{get_or_past, length-append, take-append-le}
 use Rattle.delta_codec.specs.declared.decode_fault.DecodeFault.{DecodeFault}
 use Rattle.delta_codec.specs.declared.decode_fault.DecodeFault.TheVariants.{Truncated}
 use Rattle.delta_codec.specs.declared.frame.Frame.{Frame}
-use Rattle.delta_codec.specs.Decoding.{BeginsWithFrame, IsAtFault}
+use Rattle.delta_codec.specs.Decoding.{AreBytes, BeginsWithFrame, IsAtFault}
 use Rattle.delta_codec.specs.Faults.{HasFault, number4}
 use Rattle.delta_codec.specs.Reading.{Kept, kept_in}
 use Rattle.delta_codec.proofs.ContentLaws.{kept_of}
@@ -16,7 +15,7 @@ use Rattle.delta_codec.proofs.PartFaults.{fault_is, not_both, outcome}
 use Rattle.delta_codec.proofs.PartLaws.{IsBytes}
 
 -- each of them is a byte, also of those past the end
-all_bytes : (bytes : List ℕ) → All (λ b. b < 256) bytes → IsBytes bytes
+all_bytes : (bytes : List ℕ) → AreBytes bytes → IsBytes bytes
 all_bytes bytes all i =
     elim (cases_lt i (length bytes)) [
       | inl lt ↦ all i 0 lt
@@ -34,7 +33,7 @@ frame_of kept = record {
   };
 }
 
-pub either : (bytes : List ℕ) → All (λ b. b < 256) bytes → BeginsWithFrame bytes ⊎ IsAtFault bytes
+pub either : (bytes : List ℕ) → AreBytes bytes → BeginsWithFrame bytes ⊎ IsAtFault bytes
 either bytes all =
     let fits = all_bytes bytes all in
     elim (outcome (kept_in bytes)) [
@@ -44,12 +43,12 @@ either bytes all =
       | inr stopped ↦ inr (record { fault = stopped.0; has = frame_tells.only bytes stopped.0 fits stopped.1 })
     ]
 
-pub not_both_of : (bytes : List ℕ) → All (λ b. b < 256) bytes → BeginsWithFrame bytes → IsAtFault bytes → ⊥
+pub not_both_of : (bytes : List ℕ) → AreBytes bytes → BeginsWithFrame bytes → IsAtFault bytes → ⊥
 not_both_of bytes all begins at_fault =
     let found : Kept × ℕ = (kept_of begins.spelled.parts, begins.len) in
     not_both (kept_in bytes) found at_fault.fault (frame_found bytes begins.frame begins.len begins.there begins.spelled) (frame_tells.always bytes at_fault.fault (all_bytes bytes all) at_fault.has)
 
-pub one_fault : (bytes : List ℕ) (f g : DecodeFault) → All (λ b. b < 256) bytes → HasFault bytes f → HasFault bytes g → f ≡ g
+pub one_fault : (bytes : List ℕ) (f g : DecodeFault) → AreBytes bytes → HasFault bytes f → HasFault bytes g → f ≡ g
 one_fault bytes f g all has also =
     let fits = all_bytes bytes all in
     fault_is {A = Kept × ℕ} f g (sym (frame_tells.always bytes f fits has) ∙ frame_tells.always bytes g fits also)

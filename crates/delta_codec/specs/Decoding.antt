@@ -1,5 +1,6 @@
 -- What decoding answers.
-use Rattle.std.specs.Prelude.{ℕ, ◌≡◌, ◌≢◌, ◌⊎◌, ◌↔◌, ◌≤◌, List, ◌++◌, length, take, drop, Option, Some, None, Result, Ok, Err, IfErr, IfOk}
+use Rattle.std.specs.Prelude.{ℕ, ◌≡◌, ◌≢◌, ◌⊎◌, ◌↔◌, ◌<◌, ◌≤◌, List, ◌++◌, length, take, drop, Option, Some, None, Result, Ok, Err, IfErr, IfOk}
+use Rattle.std.specs.List.{All}
 use Rattle.std.specs.Result.{IsOkAnd}
 use Rattle.delta.specs.DeltaStates.{IsSame}
 use Rattle.delta_codec.specs.declared.decode_fault.DecodeFault.{DecodeFault}
@@ -23,6 +24,10 @@ UnlessMemory result fact = (result ≡ Err Memory) ⊎ fact
 -- what a frame keeps
 abbrev pub frame_kept : Frame → Kept
 frame_kept frame = (record { maker = frame.maker; number = frame.number }, (frame.delta.members.known, (frame.delta.members.live, frame.delta.totals.entries)))
+
+-- each of them is a byte
+abbrev pub AreBytes : List ℕ → Type 0
+AreBytes bytes = All (λ b. b < 256) bytes
 
 -- bytes begin with a frame
 pub record BeginsWithFrame (bytes : List ℕ) : Type 0 where

@@ -1,11 +1,10 @@
 //! Laws of the spelling of frames. The functions have no body: their contracts are the laws.
-ghost use Rattle.std.specs.Prelude.{◌≡◌, ◌≢◌, ◌⊎◌, ◌<◌, ◌≤◌, ◌++◌, ℕ, List, [], length};
-ghost use Rattle.std.specs.List.{All};
+ghost use Rattle.std.specs.Prelude.{◌≡◌, ◌≢◌, ◌⊎◌, ◌≤◌, ◌++◌, ℕ, List, [], length};
 ghost use Rattle.delta_codec.specs.declared.decode_fault.DecodeFault.{DecodeFault};
 ghost use Rattle.delta_codec.specs.declared.decode_fault.DecodeFault.TheVariants.{Memory, Truncated};
 ghost use Rattle.delta_codec.specs.declared.frame.Frame.{Frame};
 ghost use Rattle.delta_codec.specs.declared.limits.TheConstants.{LEAST_LENGTH, MOST_LENGTH};
-ghost use Rattle.delta_codec.specs.Decoding.{BeginsWithFrame, IsAtFault, IsSameFrame};
+ghost use Rattle.delta_codec.specs.Decoding.{AreBytes, BeginsWithFrame, IsAtFault, IsSameFrame};
 ghost use Rattle.delta_codec.specs.Faults.{HasFault};
 ghost use Rattle.delta_codec.specs.Frames.{AreParts, FrameParts, Spells, content_bytes, frame_bytes};
 
@@ -16,28 +15,35 @@ pub fn each_frame_has_one_spelling()
 
 /// Bytes spell at most one frame, and no spelling begins another.
 pub fn bytes_spell_one_frame()
-    ensures one { (x y : Frame) (bytes : List ℕ) → Spells x bytes → Spells y bytes → IsSameFrame x y }
-    ensures no_prefix { (x y : Frame) (bytes rest : List ℕ) → Spells x bytes → Spells y (bytes ++ rest) → rest ≡ [] }
+    ensures one { (x y : Frame) (bytes : List ℕ)
+        → Spells x bytes → Spells y bytes → IsSameFrame x y }
+    ensures no_prefix { (x y : Frame) (bytes rest : List ℕ)
+        → Spells x bytes → Spells y (bytes ++ rest) → rest ≡ [] }
 {}
 
 /// A frame is never too long, nor too short, for its length field. It has at most 7,454,748 bytes.
 pub fn a_frame_has_a_length()
-    ensures least { (parts : FrameParts) → AreParts parts → LEAST_LENGTH ≤ length (content_bytes parts) }
-    ensures most { (parts : FrameParts) → AreParts parts → length (content_bytes parts) ≤ MOST_LENGTH }
-    ensures whole { (parts : FrameParts) → AreParts parts → length (frame_bytes parts) ≤ 7454748 }
+    ensures least { (parts : FrameParts)
+        → AreParts parts → LEAST_LENGTH ≤ length (content_bytes parts) }
+    ensures most { (parts : FrameParts)
+        → AreParts parts → length (content_bytes parts) ≤ MOST_LENGTH }
+    ensures whole { (parts : FrameParts)
+        → AreParts parts → length (frame_bytes parts) ≤ 7454748 }
 {}
 
 /// Bytes begin with a frame or have a fault, and never both. They have one fault at most, and it isn't `Memory`.
 pub fn bytes_have_a_frame_or_a_fault()
-    ensures either { (bytes : List ℕ) → All (λ b. b < 256) bytes → BeginsWithFrame bytes ⊎ IsAtFault bytes }
-    ensures not_both { (bytes : List ℕ) → All (λ b. b < 256) bytes → BeginsWithFrame bytes → IsAtFault bytes → ⊥ }
-    ensures one { (bytes : List ℕ) (f g : DecodeFault) → All (λ b. b < 256) bytes
-        → HasFault bytes f → HasFault bytes g → f ≡ g }
-    ensures not_memory { (bytes : List ℕ) (fault : DecodeFault) → HasFault bytes fault → fault ≢ Memory }
+    ensures either { (bytes : List ℕ) → AreBytes bytes → BeginsWithFrame bytes ⊎ IsAtFault bytes }
+    ensures not_both { (bytes : List ℕ)
+        → AreBytes bytes → BeginsWithFrame bytes → IsAtFault bytes → ⊥ }
+    ensures one { (bytes : List ℕ) (f g : DecodeFault)
+        → AreBytes bytes → HasFault bytes f → HasFault bytes g → f ≡ g }
+    ensures not_memory { (bytes : List ℕ) (fault : DecodeFault)
+        → HasFault bytes fault → fault ≢ Memory }
 {}
 
 /// A fault of the front of a stream is that of the whole, unless it is that bytes are missing.
 pub fn a_fault_stays()
-    ensures { (bytes more : List ℕ) (fault : DecodeFault) → fault ≢ Truncated
-        → HasFault bytes fault → HasFault (bytes ++ more) fault }
+    ensures { (bytes more : List ℕ) (fault : DecodeFault)
+        → fault ≢ Truncated → HasFault bytes fault → HasFault (bytes ++ more) fault }
 {}
