@@ -1,16 +1,17 @@
 -- Which fault is answered, of bytes and of what a splitter holds.
 use Rattle.std.proofs.Common.{◌≡◌, ◌≢◌, ◌⊎◌, ℕ, List, ◌++◌, Option, Some, None, Result, Ok, Err, refl, sym, ap, ◌∙◌, inl, inr}
 use Rattle.delta_codec.specs.declared.decode_fault.DecodeFault.{DecodeFault}
-use Rattle.delta_codec.specs.declared.decode_fault.DecodeFault.TheVariants.{Truncated, BadMagic, BadVersion, BadRange, BadOrder, BadText, TooLarge, Memory}
+use Rattle.delta_codec.specs.declared.decode_fault.DecodeFault.TheVariants.{Truncated, Memory}
 use Rattle.delta_codec.specs.declared.frame.Frame.{Frame}
 use Rattle.delta_codec.specs.declared.limits.TheConstants.{VERSION}
-use Rattle.delta_codec.specs.Decoding.{HasOpening, IsFrontFault, IsNextFault, UnlessMemory, frame_kept}
+use Rattle.delta_codec.specs.Decoding.{HasOpening, IsFrontFault, IsNextFault, UnlessMemory}
 use Rattle.delta_codec.specs.Faults.{HasFault}
 use Rattle.delta_codec.specs.Frames.{Heading, magic}
 use Rattle.delta_codec.specs.Parts.{byte}
 use Rattle.delta_codec.specs.Reading.{◌>>=◌, Fails, GivesWithMemory, Kept, content_in, heading_at, kept_at, kept_in, magic_at, opening_at, opening_in, version_at}
 use Rattle.delta_codec.proofs.CellLaws.{heading_reads}
 use Rattle.delta_codec.proofs.ContentLaws.{magic_reads, version_reads}
+use Rattle.delta_codec.proofs.FrameAnswers.{fails_is, seen}
 use Rattle.delta_codec.proofs.FrameFaults.{content_tells, counted, counted_fails, frame_tells}
 use Rattle.delta_codec.proofs.FrameLaws.{content_found}
 use Rattle.delta_codec.proofs.InnerFaults.{never_memory, never_truncated}
@@ -60,24 +61,11 @@ opening_found bytes heading more fits e =
 
 -- ---- bytes
 
-fails_is : {B : Type 0} (fault : DecodeFault) (read : Result B DecodeFault) → Fails fault read → (fault ≡ Memory) ⊎ (read ≡ Err fault)
-fails_is Memory read h = inl refl
-fails_is Truncated read h = inr h
-fails_is BadMagic read h = inr h
-fails_is BadVersion read h = inr h
-fails_is BadRange read h = inr h
-fails_is BadOrder read h = inr h
-fails_is BadText read h = inr h
-fails_is TooLarge read h = inr h
-
 abbrev Answer : Type 0
 Answer = Result (Frame × ℕ) DecodeFault
 
 abbrev fault_of : DecodeFault → Answer
 fault_of fault = Err fault
-
-abbrev seen : Frame × ℕ → Kept × ℕ
-seen x = (frame_kept x.0, x.1)
 
 abbrev IsEarly : List ℕ → Answer → Type 0
 IsEarly bytes result = (fault : DecodeFault) → opening_in bytes ≡ Err fault → result ≡ Err fault

@@ -1,5 +1,5 @@
 -- Bytes begin with a frame, or have one fault.
-use Rattle.std.proofs.Common.{◌≡◌, ◌≢◌, ◌⊎◌, ℕ, ◌<◌, ◌≤◌, List, ◌++◌, length, take, sym, ap, ◌∙◌, append_assoc, inl, inr, arith}
+use Rattle.std.proofs.Common.{◌≡◌, ◌≢◌, ◌⊎◌, ℕ, ◌≤◌, List, ◌++◌, length, take, sym, ap, subst, ◌∙◌, append_assoc, inl, inr, arith}
 use Rattle.std.proofs.lemmas.Bool.{cases_lt}
 use Rattle.std.proofs.lemmas.List.{get_or_past, length-append, take-append-le}
 use Rattle.delta_codec.specs.declared.decode_fault.DecodeFault.{DecodeFault}
@@ -7,6 +7,7 @@ use Rattle.delta_codec.specs.declared.decode_fault.DecodeFault.TheVariants.{Trun
 use Rattle.delta_codec.specs.declared.frame.Frame.{Frame}
 use Rattle.delta_codec.specs.Decoding.{AreBytes, BeginsWithFrame, IsAtFault}
 use Rattle.delta_codec.specs.Faults.{HasFault, number4}
+use Rattle.delta_codec.specs.Frames.{Spells}
 use Rattle.delta_codec.specs.Reading.{Kept, kept_in}
 use Rattle.delta_codec.proofs.ContentLaws.{kept_of}
 use Rattle.delta_codec.proofs.FrameFaults.{frame_tells}
@@ -52,6 +53,11 @@ pub one_fault : (bytes : List ℕ) (f g : DecodeFault) → AreBytes bytes → Ha
 one_fault bytes f g all has also =
     let fits = all_bytes bytes all in
     fault_is {A = Kept × ℕ} f g (sym (frame_tells.always bytes f fits has) ∙ frame_tells.always bytes g fits also)
+
+-- ---- what follows bytes
+
+pub frame_stays : (bytes more : List ℕ) (frame : Frame) (n : ℕ) → n ≤ length bytes → Spells frame (take n bytes) → Spells frame (take n (bytes ++ more))
+frame_stays bytes more frame n there spelled = subst (λ (x : List ℕ). Spells frame x) (sym (take-append-le n bytes more there)) spelled
 
 pub stays : (bytes more : List ℕ) (fault : DecodeFault) → fault ≢ Truncated → HasFault bytes fault → HasFault (bytes ++ more) fault
 stays bytes more fault not has =

@@ -1,5 +1,5 @@
 -- What a frame at the front of bytes is, and which bytes spell one.
-use Rattle.std.proofs.Common.{◌≡◌, ℕ, ◌+◌, ◌*◌, ◌<◌, ◌≤◌, Bool, true, false, cond, ltb, List, [], ◌∷◌, ◌++◌, length, take, drop, Option, Some, None, Result, Ok, Err, refl, sym, ap, subst, ◌∙◌, append_assoc, arith, inl, inr}
+use Rattle.std.proofs.Common.{◌≡◌, ℕ, ◌+◌, ◌*◌, ◌<◌, ◌≤◌, Bool, true, false, cond, ltb, List, [], ◌∷◌, ◌++◌, length, take, drop, Option, Some, None, Result, Ok, Err, refl, sym, ap, subst, ◌∙◌, append_assoc, arith}
 use Rattle.std.specs.Prelude.{fold}
 use Rattle.std.specs.FinMap as map
 use Rattle.std.specs.FinSet as set
@@ -32,13 +32,13 @@ use Rattle.dots.specs.Values.{Dot, PauseState}
 use Rattle.dots.specs.WithinLimits.{IsLabel, IsPause}
 use Rattle.member_orset.specs.Members.{Holding, condition_at}
 use Rattle.delta_codec.specs.declared.decode_fault.DecodeFault.{DecodeFault}
-use Rattle.delta_codec.specs.declared.decode_fault.DecodeFault.TheVariants.{BadMagic, BadOrder, BadRange, BadText, BadVersion, Memory, TooLarge, Truncated}
+use Rattle.delta_codec.specs.declared.decode_fault.DecodeFault.TheVariants.{BadRange, TooLarge, Truncated}
 use Rattle.delta_codec.specs.declared.frame.Frame.{Frame}
 use Rattle.delta_codec.specs.declared.limits.TheConstants.{LEAST_LENGTH, MOST_LENGTH}
-use Rattle.delta_codec.specs.Decoding.{IsFrontFrame, IsNextFrame, IsSameFrame, frame_kept}
+use Rattle.delta_codec.specs.Decoding.{IsSameFrame, frame_kept}
 use Rattle.delta_codec.specs.Frames.{AreParts, FrameParts, Spells, content_bytes, frame_bytes}
 use Rattle.delta_codec.specs.Parts.{CellParts, IsCell, IsField, TotalParts, cell_bytes, field_bytes, fields_bytes, label_bytes, pause_bytes, penalty_bytes, text_bytes}
-use Rattle.delta_codec.specs.Reading.{◌>>=◌, Fails, GivesWithMemory, Kept, content_in, kept_at, kept_in, known_of, live_of, number_at, totals_of, with_cell, with_total, within_at}
+use Rattle.delta_codec.specs.Reading.{◌>>=◌, Kept, content_in, kept_at, kept_in, known_of, live_of, number_at, totals_of, with_cell, with_total, within_at}
 use Rattle.delta_codec.proofs.ContentLaws.{contains-known_of, content_read, content_spelled, kept_of, kept_of_read, read_of_kept}
 use Rattle.delta_codec.proofs.PartLaws.{IsBytes, IsBytes-take, bind_ok, number4_reads, ok_is}
 
@@ -279,69 +279,6 @@ same_frame x frame bytes s same =
         totals = totals_by x.delta.totals.entries frame.delta.totals.entries (ap (λ (k : Kept). map.entries k.1.1.1) same ∙ totals_entries s.parts.totals s.within.totals.order (by_recursion (λ t. IsTotal t.0 t.1) s.parts.totals s.within.totals.each) ∙ s.of_frame.totals);
       };
     }
-
--- ---- what decoding answers
-
-memory_only : {A B : Type 0} (fault : DecodeFault) (read : Result B DecodeFault) (y : B) → Fails fault read → read ≡ Ok y → ◌≡◌ {A = Result A DecodeFault} (Err fault) (Err Memory)
-memory_only Memory read y h e = refl
-memory_only Truncated read y h e = absurd cc
-memory_only BadMagic read y h e = absurd cc
-memory_only BadVersion read y h e = absurd cc
-memory_only BadRange read y h e = absurd cc
-memory_only BadOrder read y h e = absurd cc
-memory_only BadText read y h e = absurd cc
-memory_only TooLarge read y h e = absurd cc
-
-abbrev seen : Frame × ℕ → Kept × ℕ
-seen x = (frame_kept x.0, x.1)
-
-pub front_frame : (bytes : List ℕ) (result : Result (Frame × ℕ) DecodeFault) → IsBytes bytes → GivesWithMemory seen result (kept_in bytes) → IsFrontFrame bytes result
-front_frame bytes (Ok x) fits h =
-    let f = frame_spelled bytes x.0 x.1 fits h in
-    record {
-      all_there = f.there;
-      spelled = f.spells;
-      found = λ frame n there s.
-          let other : Kept × ℕ = (kept_of s.parts, n) in
-          let same = ok_is (seen x) other (sym h ∙ frame_found bytes frame n there s) in
-          inr (same_frame x.0 frame (take n bytes) s (ap (λ (k : Kept × ℕ). k.0) same), ap (λ (k : Kept × ℕ). k.1) same);
-    }
-front_frame bytes (Err fault) fits h = record {
-  all_there = tt;
-  spelled = tt;
-  found = λ frame n there s. inl (memory_only fault (kept_in bytes) (kept_of s.parts, n) h (frame_found bytes frame n there s));
-}
-
--- what a splitter answers, by what decoding answers
-pub next_found : (old new : List ℕ) (frame : Frame) (len : ℕ) → IsFrontFrame old (Ok (frame, len)) → new ≡ drop len old → IsNextFrame old (Ok (Some frame)) new
-next_found old new frame len h left = record {
-  leaves = record { len = len; there = h.all_there; spelled = h.spelled; left = left };
-  found = λ other n there s. elim (h.found other n there s) [
-    | inl memory ↦ absurd cc
-    | inr same ↦ inr (same.0, left ∙ ap (λ (k : ℕ). drop k old) same.1)
-  ];
-}
-
-pub none_found : (old : List ℕ) → IsFrontFrame old (Err Truncated) → IsNextFrame old (Ok None) old
-none_found old h = record {
-  leaves = refl;
-  found = λ other n there s. elim (h.found other n there s) [
-    | inl memory ↦ absurd cc
-    | inr same ↦ absurd same
-  ];
-}
-
-err_is : {A B : Type 0} (x y : DecodeFault) → ◌≡◌ {A = Result A DecodeFault} (Err x) (Err y) → ◌≡◌ {A = Result B DecodeFault} (Err x) (Err y)
-err_is x y e = let same : x ≡ y = cc in ap (λ (f : DecodeFault). Err f) same
-
-pub fault_found : (old : List ℕ) (fault : DecodeFault) → IsFrontFrame old (Err fault) → IsNextFrame old (Err fault) old
-fault_found old fault h = record {
-  leaves = refl;
-  found = λ other n there s. elim (h.found other n there s) [
-    | inl memory ↦ inl (err_is {A = Frame × ℕ} {B = Option Frame} fault Memory memory)
-    | inr same ↦ absurd same
-  ];
-}
 
 -- ---- one frame, one spelling
 

@@ -16,6 +16,7 @@ pub mod FieldFaults
 pub mod CellFaults
 pub mod ListFaults
 pub mod FrameFaults
+pub mod FrameAnswers
 pub mod InnerFaults
 pub mod FaultAnswers
 pub mod FaultLaws

@@ -1,5 +1,5 @@
 //! Laws of the spelling of frames. The functions have no body: their contracts are the laws.
-ghost use Rattle.std.specs.Prelude.{◌≡◌, ◌≢◌, ◌⊎◌, ◌≤◌, ◌++◌, ℕ, List, [], length};
+ghost use Rattle.std.specs.Prelude.{◌≡◌, ◌≢◌, ◌⊎◌, ◌≤◌, ◌++◌, ℕ, List, [], length, take};
 ghost use Rattle.delta_codec.specs.declared.decode_fault.DecodeFault.{DecodeFault};
 ghost use Rattle.delta_codec.specs.declared.decode_fault.DecodeFault.TheVariants.{Memory, Truncated};
 ghost use Rattle.delta_codec.specs.declared.frame.Frame.{Frame};
@@ -42,8 +42,10 @@ pub fn bytes_have_a_frame_or_a_fault()
         → HasFault bytes fault → fault ≢ Memory }
 {}
 
-/// A fault of the front of a stream is that of the whole, unless it is that bytes are missing.
-pub fn a_fault_stays()
-    ensures { (bytes more : List ℕ) (fault : DecodeFault)
+/// Whatever follows bytes: the frame that they begin with stays, and so does their fault, unless it is that bytes are missing.
+pub fn a_front_stays()
+    ensures frame { (bytes more : List ℕ) (frame : Frame) (n : ℕ) → n ≤ length bytes
+        → Spells frame (take n bytes) → Spells frame (take n (bytes ++ more)) }
+    ensures fault { (bytes more : List ℕ) (fault : DecodeFault)
         → fault ≢ Truncated → HasFault bytes fault → HasFault (bytes ++ more) fault }
 {}

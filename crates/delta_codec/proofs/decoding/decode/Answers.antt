@@ -1,6 +1,6 @@
 use Rattle.std.proofs.Common.{ℕ, ◌<◌, get_or, arith}
 use Rattle.delta_codec.proofs.FaultAnswers.{front_fault}
-use Rattle.delta_codec.proofs.FrameLaws.{front_frame}
+use Rattle.delta_codec.proofs.FrameAnswers.{front_frame}
 use Rattle.delta_codec.proofs.decoding.decode.Goals as goal
 
 pub returns : goal.returns

@@ -1,7 +1,7 @@
 use Rattle.std.proofs.Common.{◌≡◌, ◌+◌, drop, sym, ap, ◌∙◌}
 use Rattle.std.proofs.lemmas.List.{drop-drop}
 use Rattle.delta_codec.proofs.FaultAnswers.{next_fails, next_missing, next_taken}
-use Rattle.delta_codec.proofs.FrameLaws.{fault_found, next_found, none_found}
+use Rattle.delta_codec.proofs.FrameAnswers.{fault_found, next_found, none_found}
 use Rattle.delta_codec.proofs.splitter.Splitter.next_frame.Goals as goal
 use Rattle.delta_codec.proofs.splitter.Splitter.next_frame.Goals.{in-Truncated, in_default}
 
