@@ -130,15 +130,11 @@ pub tells_kept : {A B D : Type 0} (first : List ℕ → Read A) (f : A → D) (n
     → Reads first G s → Tells first F → ((x : A) → G x → Tells (next (f x)) (λ fault rest. H fault x rest)) → Tells (λ bytes. made f (first bytes) >>= λ x. next x.0 x.1) (λ fault bytes. F fault bytes ⊎ After G s (H fault) bytes)
 tells_kept first f next G s F H r t u = tells_by (λ bytes. made f (first bytes) >>= λ x. next x.0 x.1) (λ bytes. first bytes >>= λ x. next (f x.0) x.1) (λ fault bytes. F fault bytes ⊎ After G s (H fault) bytes) (λ bytes. kept_then f (first bytes) (λ x. next x.0 x.1)) (tells_then first (λ x. next (f x)) G s F H r t u)
 
--- ---- the faults that a part may have
+-- ---- parts that have one fault
 
--- whatever is wrong, the fault is one of these
-abbrev pub HasFaultsOf : {B : Type 0} → (DecodeFault → Type 0) → (List ℕ → Result B DecodeFault) → Type 0
-HasFaultsOf P read = (bytes : List ℕ) (fault : DecodeFault) → read bytes ≡ Err fault → P fault
-
--- it is this one
+-- whatever is wrong, this is the fault
 abbrev pub HasOneFault : {B : Type 0} → DecodeFault → (List ℕ → Result B DecodeFault) → Type 0
-HasOneFault rule read = HasFaultsOf (λ fault. fault ≡ rule) read
+HasOneFault rule read = (bytes : List ℕ) (fault : DecodeFault) → read bytes ≡ Err fault → fault ≡ rule
 
 pub one_byte : HasOneFault BadRange byte_at
 one_byte [] fault e = sym (fault_is {A = ℕ × List ℕ} BadRange fault e)
@@ -152,37 +148,28 @@ one_number w bytes fault e =
       | inr there ↦ absurd (let never = there.1 in cc)
     ]
 
-pub of_one : {B : Type 0} (P : DecodeFault → Type 0) (read : List ℕ → Result B DecodeFault) (rule : DecodeFault) → HasOneFault rule read → P rule → HasFaultsOf P read
-of_one P read rule one p bytes fault e = subst P (sym (one bytes fault e)) p
-
-pub of_then : {A B : Type 0} (P : DecodeFault → Type 0) (first : List ℕ → Read A) (next : A → List ℕ → Result B DecodeFault) → HasFaultsOf P first → ((x : A) → HasFaultsOf P (next x)) → HasFaultsOf P (λ bytes. first bytes >>= λ x. next x.0 x.1)
-of_then P first next f g bytes fault e =
+one_then : {A B : Type 0} (first : List ℕ → Read A) (next : A → List ℕ → Result B DecodeFault) (rule : DecodeFault) → HasOneFault rule first → ((x : A) → HasOneFault rule (next x)) → HasOneFault rule (λ bytes. first bytes >>= λ x. next x.0 x.1)
+one_then first next rule f g bytes fault e =
     elim (bind_err (first bytes) (λ x. next x.0 x.1) fault e) [
       | inl here ↦ f bytes fault here
       | inr later ↦ g later.0.0 later.0.1 fault later.2
     ]
 
-pub of_mapped : {A B : Type 0} (P : DecodeFault → Type 0) (read : List ℕ → Result A DecodeFault) (f : A → B) → HasFaultsOf P read → HasFaultsOf P (λ bytes. read bytes >>= λ x. Ok (f x))
-of_mapped P read f g bytes fault e =
+one_mapped : {A B : Type 0} (read : List ℕ → Result A DecodeFault) (f : A → B) (rule : DecodeFault) → HasOneFault rule read → HasOneFault rule (λ bytes. read bytes >>= λ x. Ok (f x))
+one_mapped read f rule g bytes fault e =
     elim (bind_err (read bytes) (λ x. Ok (f x)) fault e) [
       | inl here ↦ g bytes fault here
       | inr later ↦ absurd (let never = later.2 in cc)
     ]
 
-pub of_made : {A B : Type 0} (P : DecodeFault → Type 0) (f : A → B) (at : List ℕ → Read A) → HasFaultsOf P at → HasFaultsOf P (λ bytes. made f (at bytes))
-of_made P f at g = of_mapped P at (λ x. (f x.0, x.1)) g
-
-pub of_both : {A B : Type 0} (P : DecodeFault → Type 0) (first : List ℕ → Read A) (next : A → List ℕ → Read B) → HasFaultsOf P first → ((x : A) → HasFaultsOf P (next x)) → HasFaultsOf P (λ bytes. both (first bytes) next)
-of_both P first next f g = of_then P first (λ x rest. next x rest >>= λ y. Ok ((x, y.0), y.1)) f (λ x. of_mapped P (next x) (λ y. ((x, y.0), y.1)) (g x))
-
 pub one_tested : {A : Type 0} (at : List ℕ → Read A) (test : A → Bool) (rule : DecodeFault) → HasOneFault rule at → HasOneFault rule (λ bytes. tested test rule (at bytes))
-one_tested {A = A} at test rule f = of_then (λ fault. fault ≡ rule) at (λ x rest. cond (test x) (Ok (x, rest)) (Err rule)) f (λ x rest fault e. let found : A × List ℕ = (x, rest) in (last_err (test x) found rule fault e).1)
+one_tested {A = A} at test rule f = one_then at (λ x rest. cond (test x) (Ok (x, rest)) (Err rule)) rule f (λ x rest fault e. let found : A × List ℕ = (x, rest) in (last_err (test x) found rule fault e).1)
 
 pub one_made : {A B : Type 0} (f : A → B) (at : List ℕ → Read A) (rule : DecodeFault) → HasOneFault rule at → HasOneFault rule (λ bytes. made f (at bytes))
-one_made f at rule g = of_made (λ fault. fault ≡ rule) f at g
+one_made f at rule g = one_mapped at (λ x. (f x.0, x.1)) rule g
 
 pub one_both : {A B : Type 0} (first : List ℕ → Read A) (next : A → List ℕ → Read B) (rule : DecodeFault) → HasOneFault rule first → ((x : A) → HasOneFault rule (next x)) → HasOneFault rule (λ bytes. both (first bytes) next)
-one_both first next rule f g = of_both (λ fault. fault ≡ rule) first next f g
+one_both first next rule f g = one_then first (λ x rest. next x rest >>= λ y. Ok ((x, y.0), y.1)) rule f (λ x. one_mapped (next x) (λ y. ((x, y.0), y.1)) rule (g x))
 
 -- such a part is at fault where no good one stands
 pub tells_lacks : {A : Type 0} (read : List ℕ → Read A) (G : A → Type 0) (s : A → List ℕ) (rule : DecodeFault) → Reads read G s → HasOneFault rule read → Tells read (Lacks G s rule)
