@@ -1,6 +1,7 @@
 ghost use Rattle.std.specs.Prelude.{◌≡◌, ◌↔◌, Err, IfErr, IfOk, IsFalse, IsOk, IsTrue, OnErr, OnOk};
 ghost use Rattle.std.specs.FinMap as map;
 ghost use Rattle.std.specs.FinSet as set;
+ghost use Rattle.member_orset.specs.Members.{KeepsIds};
 ghost use Rattle.delta.specs.DeltaStates.{IsEmpty, IsSame, IsUnchanged, KeepsRoom};
 ghost use Rattle.delta.specs.Joining.{Agree, Disagree, IsJoinOf, IsPrepared, IsRefusedFor, IsRefusedJoin};
 
@@ -128,7 +129,7 @@ impl Delta {
     pub fn absorb(&mut self, other: Delta)
         requires { IsPrepared self.old other }
         ensures joined { IsJoinOf self.old other self.new }
-        ensures retired { self.new.members.retired ≡ self.old.members.retired }
+        ensures ids { KeepsIds self.old.members self.new.members }
     {
         let (members, totals) = other.into_parts();
         absorb_members(&mut self.members, members);
@@ -144,7 +145,7 @@ impl Delta {
         ensures prepared { IsPrepared self.old other → IsOk result }
         ensures back { IfErr result (λ refused. refused.1 ≡ other) }
         ensures err { OnErr result (IsUnchanged self.old self.new) }
-        ensures retired { self.new.members.retired ≡ self.old.members.retired }
+        ensures ids { KeepsIds self.old.members self.new.members }
     {
         if let Err(fault) = self.prepare(&other) {
             return Err((fault, other));
@@ -156,7 +157,7 @@ impl Delta {
     /// Another delta that says the same. The one fault is want of memory.
     pub fn copy(&self) -> Result<Delta, Memory>
         ensures same { IfOk result (λ copy. IsSame self.now copy) }
-        ensures retired { IfOk result (λ copy. copy.members.retired ≡ self.now.members.retired) }
+        ensures retired { IfOk result (λ copy. copy.members.retired ≡ 0) }
     {
         let members = self.members.copy()?;
         let totals = self.totals.copy()?;

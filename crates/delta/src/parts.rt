@@ -3,7 +3,7 @@ ghost use Rattle.std.specs.Prelude.{◌≡◌, ◌≢◌, ◌↔◌, ◌≤◌, 
 ghost use Rattle.std.specs.FinMap as map;
 ghost use Rattle.std.specs.FinSet as set;
 ghost use Rattle.dots.specs.Totals.{join_of};
-ghost use Rattle.member_orset.specs.Members.{IsJoinOf, IsPrepared, IsUnchanged, IsWithinLimits};
+ghost use Rattle.member_orset.specs.Members.{IsJoinOf, IsPrepared, IsUnchanged, IsWithinLimits, KeepsIds};
 ghost use Rattle.member_orset.specs.Refusals.{IsRefusedJoin};
 ghost use Rattle.site_totals.specs.Tally.{HasRoomFor};
 
@@ -55,7 +55,7 @@ pub(crate) fn has_prepared_members(members: &MemberSet, other: &MemberSet) -> bo
 pub(crate) fn absorb_members(members: &mut MemberSet, other: MemberSet)
     requires { other.known ≢ set.empty → IsPrepared members.old other }
     ensures joined { IsJoinOf members.old other members.new }
-    ensures retired { members.new.retired ≡ members.old.retired }
+    ensures ids { KeepsIds members.old members.new }
 {
     let _ = members.cells(); // so that its limits are known
     if !knows_nothing(&other) {

@@ -1,5 +1,7 @@
 -- Bytes begin with a frame, or have one fault.
 use Rattle.std.proofs.Common.{◌≡◌, ◌≢◌, ◌⊎◌, ℕ, ◌≤◌, List, ◌++◌, length, take, sym, ap, subst, ◌∙◌, append_assoc, inl, inr, arith}
+use Rattle.std.specs.FinMap as map
+use Rattle.std.specs.FinSet as set
 use Rattle.std.proofs.lemmas.Bool.{cases_lt}
 use Rattle.std.proofs.lemmas.List.{get_or_past, length-append, take-append-le}
 use Rattle.delta_codec.specs.declared.decode_fault.DecodeFault.{DecodeFault}
@@ -29,7 +31,7 @@ frame_of kept = record {
   maker = kept.0.maker;
   number = kept.0.number;
   delta = record {
-    members = record { known = kept.1.0; live = kept.1.1.0; retired = 0; cell_room = 0; run_room = 0 };
+    members = record { known = kept.1.0; live = kept.1.1.0; ids = map.empty; spent = set.empty; retired = 0; cell_room = 0; run_room = 0 };
     totals = record { entries = kept.1.1.1; room = 0 };
   };
 }

@@ -203,7 +203,7 @@ fn keep_cell(builder: &mut SetBuilder, cell: &CellRead) -> Result<(), DecodeFaul
     ensures err { IfErr result (λ fault. fault ≡ DecodeFault.Memory) }
 {
     match builder.cell(cell.dot, &cell.member, &cell.fields) {
-        Ok(()) => Ok(()),
+        Ok(_) => Ok(()),
         Err(_) => Err(DecodeFault::Memory),
     }
 }

@@ -1,5 +1,5 @@
 -- What a set says after one more dot is dead, or live.
-use Rattle.std.proofs.Common.{◌≡◌, ℕ, suc, zero, ◌≤◌, ◌<◌, Bool, true, false, not, cond, ◌&&◌, ◌||◌, List, [], ◌∷◌, length, get_or, set, take, drop, Option, Some, None, refl, sym, ap, ◌∙◌, subst, inl, inr, arith}
+use Rattle.std.proofs.Common.{◌≡◌, ℕ, suc, zero, ◌<◌, Bool, true, false, not, cond, ◌&&◌, ◌||◌, List, [], ◌∷◌, length, get_or, set, take, drop, Option, Some, None, refl, sym, ap, ◌∙◌, subst, inl, inr, arith}
 use Rattle.std.specs.Prelude.{T, if◌then◌else◌}
 use Rattle.std.specs.declared.cmp.Ordering.TheVariants.{Equal}
 use Rattle.std.proofs.lemmas.Cmp.{eq_by_cmp_equiv}
@@ -10,24 +10,21 @@ use Rattle.std.specs.FinMap as maps
 use Rattle.std.specs.FinSet as sets
 use Rattle.std.specs.FinMap.Entries.{find, find-where_key, find-put, is_sorted-where_key, is_sorted-put, below_all}
 use Rattle.std.proofs.lemmas.Bool.{cases_Bool}
-use Rattle.std.proofs.lemmas.List.Elements.{All-weaker, All-append, All-take, All-drop, All-cons, All-set, All-get_or}
-use Rattle.std.proofs.lemmas.List.Edits.{length-insert, length-remove}
-use Rattle.dots.specs.declared.limits.TheConstants.{MOST_LIVE}
+use Rattle.std.proofs.lemmas.List.Elements.{All-append, All-take, All-drop, All-cons}
+use Rattle.std.proofs.lemmas.List.Edits.{length-remove}
 use Rattle.dots.specs.Values.{Dot}
 use Rattle.dots.specs.Orders.{dot_cmp}
 use Rattle.dots.specs.DotSets.{run_count}
-use Rattle.dots.specs.Conditions.{DotFields, Condition, Live, Dead, condition_joined, fields_joined}
+use Rattle.dots.specs.Conditions.{Condition, Live, Dead, condition_joined}
 use Rattle.dots.proofs.DotOrder.{dots_total, dots_exact}
 use Rattle.dots.proofs.TruthTables.{truth, fact}
 use Rattle.member_orset.specs.declared.live_dot.LiveDot.{LiveDot}
 use Rattle.member_orset.specs.Members.{Holding, HasField, condition_at, condition_of}
 use Rattle.member_orset.specs.LiveLists.{IsAt, IsGap, AreCells, holding, entries_of, live_of, members_of}
-use Rattle.member_orset.proofs.DotTests.{one_dot, same_itself}
+use Rattle.member_orset.proofs.DotTests.{one_dot}
 use Rattle.member_orset.proofs.CellLists.{Rise, missed_at, found_at, removed_at, put_at, set_at}
 use Rattle.member_orset.proofs.Views.{get-live_of}
-use Rattle.member_orset.proofs.FieldReadings.{joined_field}
-use Rattle.std.proofs.Math.ListN.{length-set}
-use Rattle.std.proofs.Math.Bool.{or-true, or_self}
+use Rattle.std.proofs.Math.Bool.{or_self}
 
 -- a cell that is taken out
 pub taken_sorted : (cs : List LiveDot) (d : Dot) (i : ℕ) (e : LiveDot) → Rise cs → IsAt cs d i → Rise (remove cs i)
@@ -72,15 +69,6 @@ missed_live cs d i s gap = maps.same_map dots_total dots_exact _ _ (λ q. elim (
       ∙ ap (λ b. cond b None (maps.get (live_of cs) q)) (sym t) ∙ sym (maps.get-remove dots_total (live_of cs) d q)
   | inr f ↦ ap (λ b. cond b None (maps.get (live_of cs) q)) (sym f) ∙ sym (maps.get-remove dots_total (live_of cs) d q)
 ])
-
--- more dots are known
-pub known_more : (cs : List LiveDot) (known : sets.FinSet dot_cmp) (d : Dot) → AreCells cs known → AreCells cs (sets.insert known d)
-known_more cs known d a = record {
-  sorted = a.sorted;
-  few = a.few;
-  in_context = All-weaker (λ c. sets.contains known c.dot ≡ true) (λ c. sets.contains (sets.insert known d) c.dot ≡ true) (λ c h. sets.contains-insert dots_total known d c.dot ∙ ap (λ b. eq_by_cmp dot_cmp c.dot d || b) h ∙ or-true (eq_by_cmp dot_cmp c.dot d)) cs a.in_context;
-  have_field = a.have_field;
-}
 
 dead_second : (x : Option Condition) → Some Dead ≡ condition_joined x (Some Dead)
 dead_second None = refl
@@ -135,30 +123,11 @@ pub met_members : (cs : List LiveDot) (i : ℕ) (x j : LiveDot) (q : Dot) → Ri
 met_members cs i x j q s l at e m =
     ap (option_map (λ h. h.0)) (get-live_of (set cs i j) q (sorted-set cs i x j l at e ∙ s)) ∙ members-set cs i x j q l at e m ∙ ap (option_map (λ h. h.0)) (sym (get-live_of cs q s))
 
--- a cell that is joined with fields
-pub met_cells : (cs : List LiveDot) (i : ℕ) (x j : LiveDot) (fields : DotFields) (known : sets.FinSet dot_cmp) → i < length cs → x ≡ get_or cs i x → j.dot ≡ x.dot → j.fields ≡ fields_joined x.fields fields
-    → AreCells cs known → AreCells (set cs i j) known
-met_cells cs i x j fields known l at e f a = record {
-  sorted = sorted-set cs i x j l at e ∙ a.sorted;
-  few = subst (λ n. n ≤ MOST_LIVE) (sym (length-set cs i j)) a.few;
-  in_context = All-set (λ c. sets.contains known c.dot ≡ true) cs i j (ap (sets.contains known) (e ∙ ap (λ y. y.dot) at) ∙ All-get_or (λ c. sets.contains known c.dot ≡ true) cs i x l a.in_context) a.in_context;
-  have_field = All-set (λ c. HasField c.fields) cs i j (subst HasField (sym f) (joined_field x.fields fields (subst (λ y. HasField y.fields) (sym at) (All-get_or (λ c. HasField c.fields) cs i x l a.have_field)))) a.have_field;
-}
-
 All-insert : (P : LiveDot → Type 0) (cs : List LiveDot) (i : ℕ) (c : LiveDot) → P c → All P cs → All P (insert cs i c)
 All-insert P cs i c p a = All-append P (take i cs) (c ∷ drop i cs) (All-take P i cs a) (All-cons P c (drop i cs) p (All-drop P i cs a))
 
 brought_sorted : (cs : List LiveDot) (i : ℕ) (c : LiveDot) → Rise cs → IsGap cs c.dot i → Rise (insert cs i c)
 brought_sorted cs i c s gap = fact _ (subst (λ es. T (maps.is_sorted dot_cmp es)) (sym (put_at cs i c s gap.within gap.before gap.after)) (is_sorted-put dot_cmp dots_total c.dot (holding c) (entries_of cs) (truth _ s)))
-
--- a cell that is put in
-pub brought_cells : (cs : List LiveDot) (i : ℕ) (c : LiveDot) (known : sets.FinSet dot_cmp) → IsGap cs c.dot i → HasField c.fields → length cs < MOST_LIVE → AreCells cs known → AreCells (insert cs i c) (sets.insert known c.dot)
-brought_cells cs i c known gap field room a = record {
-  sorted = brought_sorted cs i c a.sorted gap;
-  few = let more = length-insert cs i c gap.within in omega arith;
-  in_context = All-insert (λ x. sets.contains (sets.insert known c.dot) x.dot ≡ true) cs i c (sets.contains-insert dots_total known c.dot c.dot ∙ ap (λ b. b || sets.contains known c.dot) (same_itself c.dot)) (known_more cs known c.dot a).in_context;
-  have_field = All-insert (λ x. HasField x.fields) cs i c field a.have_field;
-}
 
 pub brought_live : (cs : List LiveDot) (i : ℕ) (c : LiveDot) (q : Dot) → Rise cs → IsGap cs c.dot i → maps.get (live_of (insert cs i c)) q ≡ cond (eq_by_cmp dot_cmp q c.dot) (Some (holding c)) (maps.get (live_of cs) q)
 brought_live cs i c q s gap =
@@ -170,17 +139,6 @@ pub met_live : (cs : List LiveDot) (i : ℕ) (x j : LiveDot) (q : Dot) → Rise 
 met_live cs i x j q s at is =
     get-live_of (set cs i j) q (sorted-set cs i x j at.within is (at.here x ∙ ap (λ y. y.dot) (sym is)) ∙ s) ∙ ap (find dot_cmp q) (set_at cs i j x s at.within (at.here x))
     ∙ find-put dot_cmp dots_total q j.dot (holding j) (entries_of cs) ∙ ap (cond (eq_by_cmp dot_cmp q j.dot) (Some (holding j))) (sym (get-live_of cs q s))
-
--- the conditions where one dot is live with what it and one more condition make
-pub raised : (before after : maps.FinMap dot_cmp Holding) (known more : sets.FinSet dot_cmp) (d q : Dot) (h : Holding) (c : Condition)
-    → maps.get after q ≡ cond (eq_by_cmp dot_cmp q d) (Some h) (maps.get before q) → sets.contains more q ≡ (eq_by_cmp dot_cmp q d || sets.contains known q)
-    → Some (Live h.0 h.1) ≡ condition_joined (condition_at (maps.get before d) (sets.contains known d)) (Some c)
-    → condition_at (maps.get after q) (sets.contains more q) ≡ (if eq_by_cmp dot_cmp q d then condition_joined (condition_at (maps.get before q) (sets.contains known q)) (Some c) else condition_at (maps.get before q) (sets.contains known q))
-raised before after known more d q h c g k j = (λ i. condition_at (g i) (k i)) ∙ split (eq_by_cmp dot_cmp q d) (one_dot q d)
-  where
-    split : (b : Bool) → (b ≡ true → q ≡ d) → condition_at (cond b (Some h) (maps.get before q)) (b || sets.contains known q) ≡ (if b then condition_joined (condition_at (maps.get before q) (sets.contains known q)) (Some c) else condition_at (maps.get before q) (sets.contains known q))
-    split true same = j ∙ ap (λ x. condition_joined (condition_at (maps.get before x) (sets.contains known x)) (Some c)) (sym (same refl))
-    split false same = refl
 
 -- what is known of an absent dot
 -- a dot that has a gap isn't live
@@ -194,6 +152,3 @@ absent cs d i known b s gap e = λ k. condition_at (gap_live cs d i s gap k) (sy
 pub present : (cs : List LiveDot) (d : Dot) (i : ℕ) (x : LiveDot) (known : sets.FinSet dot_cmp) → Rise cs → IsAt cs d i → x ≡ get_or cs i x → condition_of (members_of cs known) d ≡ Some (Live x.member x.fields)
 present cs d i x known s at is =
     ap (λ o. condition_at o (sets.contains known d)) (get-live_of cs d s ∙ found_at d cs i x s at.within (at.here x) ∙ ap (λ y. Some (holding y)) (sym is))
-
-pub present_known : (cs : List LiveDot) (d : Dot) (i : ℕ) (x : LiveDot) (known : sets.FinSet dot_cmp) → AreCells cs known → IsAt cs d i → x ≡ get_or cs i x → sets.contains known d ≡ true
-present_known cs d i x known a at is = ap (sets.contains known) (at.here x) ∙ All-get_or (λ c. sets.contains known c.dot ≡ true) cs i x at.within a.in_context

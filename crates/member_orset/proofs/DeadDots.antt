@@ -2,7 +2,6 @@
 use Rattle.std.proofs.Common.{◌≡◌, ℕ, ◌+◌, ◌≤◌, ◌<◌, ◌^◌, [], Bool, true, false, not, ◌&&◌, ◌||◌, nat_eq, sym, ap, ◌∙◌, arith}
 use Rattle.std.specs.Prelude.{nat_lt, nat_le, List}
 use Rattle.std.specs.List.{All}
-use Rattle.std.specs.FinMap as maps
 use Rattle.std.specs.FinSet as sets
 use Rattle.std.proofs.lemmas.Bool.{and_parts}
 use Rattle.std.proofs.lemmas.Bool.Decides.{nat_tests}
@@ -14,7 +13,6 @@ use Rattle.dots.specs.Orders.{dot_cmp}
 use Rattle.dots.specs.DotSets.{IsRunsOf, Run, in_run}
 use Rattle.dots.proofs.DotOrder.{dots_total, dots_exact}
 use Rattle.causal_context.specs.Contexts.{IsRun}
-use Rattle.member_orset.specs.Members.{Holding}
 use Rattle.member_orset.specs.LiveDots.{dead_dots}
 use Rattle.member_orset.specs.Gathering.{AreToName, part_before}
 use Rattle.member_orset.proofs.SeenDots.{contains-part, known_zero, under}
@@ -39,25 +37,25 @@ known_past : (runs : List Run) (known : sets.FinSet dot_cmp) (site n : ℕ) → 
 known_past runs known site n is limits h =
     is.same (at site n) ∙ list_any_none (in_run (at site n)) runs (All-weaker IsRun (λ r. in_run (at site n) r ≡ false) (λ r l. past_end r.site site r.first r.last n (let most = l.most in omega arith)) runs limits)
 
-module _ (known : sets.FinSet dot_cmp) (live : maps.FinMap dot_cmp Holding) (site : ℕ) where
+module _ (known : sets.FinSet dot_cmp) (live : Dot → Bool) (site : ℕ) where
   abbrev dead : sets.FinSet dot_cmp
   dead = dead_dots known live site
 
   abbrev is_dead : Dot → Bool
-  is_dead q = nat_eq q.site site && not (maps.contains_key live q)
+  is_dead q = nat_eq q.site site && not (live q)
 
   contains-dead : (q : Dot) → sets.contains dead q ≡ (sets.contains known q && is_dead q)
   unfolding dead_dots
   contains-dead q = sets.contains-retain known is_dead q (λ x h. ap is_dead (sym (dots_exact q x h)))
 
-  dead_at : (n : ℕ) → sets.contains dead (at site n) ≡ (sets.contains known (at site n) && not (maps.contains_key live (at site n)))
-  dead_at n = contains-dead (at site n) ∙ ap (λ b. sets.contains known (at site n) && (b && not (maps.contains_key live (at site n)))) (own_site site)
+  dead_at : (n : ℕ) → sets.contains dead (at site n) ≡ (sets.contains known (at site n) && not (live (at site n)))
+  dead_at n = contains-dead (at site n) ∙ ap (λ b. sets.contains known (at site n) && (b && not (live (at site n)))) (own_site site)
 
   dead_site : (q : Dot) → sets.contains dead q ≡ true → nat_eq q.site site ≡ true
-  dead_site q h = (and_parts (nat_eq q.site site) (not (maps.contains_key live q)) (and_parts (sets.contains known q) (is_dead q) (sym (contains-dead q) ∙ h)).1).0
+  dead_site q h = (and_parts (nat_eq q.site site) (not (live q)) (and_parts (sets.contains known q) (is_dead q) (sym (contains-dead q) ∙ h)).1).0
 
   dead_unknown : (n : ℕ) → sets.contains known (at site n) ≡ false → sets.contains dead (at site n) ≡ false
-  dead_unknown n h = dead_at n ∙ ap (λ b. b && not (maps.contains_key live (at site n))) h
+  dead_unknown n h = dead_at n ∙ ap (λ b. b && not (live (at site n))) h
 
   dead_past : (runs : List Run) (n : ℕ) → IsRunsOf runs known → All IsRun runs → 2 ^ 40 < n → sets.contains dead (at site n) ≡ false
   dead_past runs n is limits h = dead_unknown n (known_past runs known site n is limits h)

@@ -13,7 +13,7 @@ use Rattle.dots.specs.declared.member.Member.{Member}
 use Rattle.dots.specs.Orders.{member_cmp}
 use Rattle.dots.proofs.MemberOrder.{members_total}
 use Rattle.dots.proofs.TruthTables.{less_of}
-use Rattle.member_orset.specs.declared.listed.Listed.{Listed}
+use Rattle.member_orset.specs.Index.{Listed}
 use Rattle.member_orset.specs.Index.{Rises}
 use Rattle.member_orset.specs.ShownRows.{group, is_own}
 use Rattle.member_orset.proofs.Indexes.{partitioned_by}
@@ -40,7 +40,7 @@ not_lesser ls i j e r l w = elim (cases_Bool (is_lt (member_cmp (get_or ls j e).
 ]
 
 -- what a filter keeps, where the elements that pass stand between two places
-kept_between : {X : Type 0} (p : X → Bool) (xs : List X) (i n : ℕ) → AllWithin (λ x. p x ≡ false) xs 0 i → AllWithin (λ x. p x ≡ true) xs i (i + n) → AllWithin (λ x. p x ≡ false) xs (i + n) (length xs)
+pub kept_between : {X : Type 0} (p : X → Bool) (xs : List X) (i n : ℕ) → AllWithin (λ x. p x ≡ false) xs 0 i → AllWithin (λ x. p x ≡ true) xs i (i + n) → AllWithin (λ x. p x ≡ false) xs (i + n) (length xs)
     → i + n ≤ length xs → filter p xs ≡ take n (drop i xs)
 kept_between p [] zero zero a b c w = refl
 kept_between p [] zero (suc n) a b c w = refl

@@ -18,7 +18,7 @@ use Rattle.dots.specs.declared.member.Member.{Member}
 use Rattle.dots.proofs.DotOrder.{dots_total, dots_exact}
 use Rattle.dots.proofs.MemberOrder.{members_total, exact_members}
 use Rattle.dots.proofs.TruthTables.{first_alone, third_alone, truth, fact}
-use Rattle.member_orset.specs.declared.listed.Listed.{Listed}
+use Rattle.member_orset.specs.Index.{Listed}
 use Rattle.member_orset.specs.Members.{Holding}
 use Rattle.member_orset.specs.Index.{IsBelow, IsIndex, IsPlaceFor, Rises, is_held, is_listed, listed_cmp, listings}
 use Rattle.member_orset.proofs.DotTests.{one_dot}
@@ -98,7 +98,7 @@ later l c (x ∷ index) below any =
       | inr f ↦ later l c index p.1 (ap (λ b. b || list_any (eq_by_cmp listed_cmp l) index) (sym f) ∙ any)
     ]
 
-stands : (l : Listed) (index : List Listed) (i : ℕ) → Rises index → i ≤ length index → AllWithin (λ x. is_lt (listed_cmp x l) ≡ true) index 0 i → AllWithin (λ x. is_lt (listed_cmp x l) ≡ false) index i (length index)
+pub stands : (l : Listed) (index : List Listed) (i : ℕ) → Rises index → i ≤ length index → AllWithin (λ x. is_lt (listed_cmp x l) ≡ true) index 0 i → AllWithin (λ x. is_lt (listed_cmp x l) ≡ false) index i (length index)
     → list_any (eq_by_cmp listed_cmp l) index ≡ true → (i < length index) × ((e : Listed) → l ≡ get_or index i e)
 stands l [] i rise within before past any = absurd (cc)
 stands l (c ∷ index) zero rise within before past any = elim (cases_Bool (eq_by_cmp listed_cmp l c)) [

@@ -18,7 +18,7 @@ use Rattle.dots.specs.SetItems.{in_order}
 use Rattle.dots.proofs.DotOrder.{dots_total, dots_exact}
 use Rattle.dots.proofs.ItemOrder.{in_order-keys, in_order-list, units}
 use Rattle.dots.proofs.TruthTables.{truth, fact}
-use Rattle.member_orset.specs.declared.listed.Listed.{Listed}
+use Rattle.member_orset.specs.Index.{Listed}
 use Rattle.member_orset.specs.declared.live_dot.LiveDot.{LiveDot}
 use Rattle.member_orset.specs.Members.{Holding}
 use Rattle.member_orset.specs.LiveLists.{entries_of, live_of}

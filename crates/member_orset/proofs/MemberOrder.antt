@@ -1,5 +1,5 @@
 -- The order of members, and of listed dots by their members.
-use Rattle.std.proofs.Common.{◌≡◌, ◌↔◌, ◌⊎◌, inl, inr, ◌<◌, ◌≤◌, Bool, true, false, cond, nat_eq, refl, sym, ap, ◌∙◌, arith}
+use Rattle.std.proofs.Common.{◌≡◌, ◌⊎◌, inl, inr, ◌<◌, ◌≤◌, Bool, true, false, cond, nat_eq, refl, sym, ap, ◌∙◌, arith}
 use Rattle.std.specs.Prelude.{nat_lt}
 use Rattle.std.specs.Ordering.{eq_by_cmp, is_eq, is_le, is_lt, nat_cmp, ordering_reverse, ordering_then}
 use Rattle.std.specs.declared.cmp.Ordering.{Ordering}
@@ -11,7 +11,7 @@ use Rattle.dots.specs.declared.member.Member.{Member}
 use Rattle.dots.specs.Orders.{dot_cmp, member_cmp, text_cmp}
 use Rattle.dots.proofs.MemberOrder.{members_total, exact_members}
 use Rattle.dots.proofs.TruthTables.{less_of, equal_of}
-use Rattle.member_orset.specs.declared.listed.Listed.{Listed}
+use Rattle.member_orset.specs.Index.{Listed}
 use Rattle.member_orset.specs.Index.{listed_cmp}
 use Rattle.member_orset.specs.ShownRows.{is_own}
 
@@ -20,14 +20,6 @@ one_member m n h = exact_members m n (equal_of _ h)
 
 pub member_itself : (m : Member) → eq_by_cmp member_cmp m m ≡ true
 member_itself m = ap is_eq (tied_itself members_total m)
-
--- what the program's test of two members tells
-pub told_member : (m n : Member) (b : Bool) → (b ≡ true) ↔ (m ≡ n) → b ≡ eq_by_cmp member_cmp m n
-told_member m n true told = sym (ap (eq_by_cmp member_cmp m) (sym (told.0 refl)) ∙ member_itself m)
-told_member m n false told = elim (cases_Bool (eq_by_cmp member_cmp m n)) [
-  | inl t ↦ absurd (let x = told.1 (one_member m n t) in cc)
-  | inr f ↦ sym f
-]
 
 -- one that lies before another that doesn't lie past a third lies before the third
 pub less_upto : (a b m : Member) → member_cmp a b ≡ Less → is_le (member_cmp b m) ≡ true → member_cmp a m ≡ Less

@@ -1,12 +1,11 @@
--- How far a test goes on, by a list of runs, of cells or of given dots.
-use Rattle.std.proofs.Common.{◌≡◌, ℕ, ◌+◌, ◌≤◌, ◌<◌, Bool, true, false, not, cond, ◌&&◌, ◌||◌, nat_eq, List, [], ◌∷◌, length, get_or, take, is_some, refl, sym, ap, ◌∙◌, arith}
+-- How far a test goes on, by a list of runs, of live dots or of given dots.
+use Rattle.std.proofs.Common.{◌≡◌, ◌≢◌, ℕ, ◌+◌, ◌≤◌, ◌<◌, Bool, true, false, not, cond, ◌&&◌, ◌||◌, nat_eq, List, [], ◌∷◌, length, get_or, take, is_some, refl, sym, ap, ◌∙◌, arith}
 use Rattle.std.specs.Prelude.{nat_lt}
 use Rattle.std.specs.List.{AllWithin, list_any}
 use Rattle.std.specs.Ordering.{eq_by_cmp, is_lt, ordering_then}
 use Rattle.std.specs.declared.cmp.Ordering.TheVariants.{Less, Equal, Greater}
 use Rattle.std.proofs.lemmas.List.{take_more}
 use Rattle.std.proofs.lemmas.List.Folds.{list_any-append}
-use Rattle.std.specs.FinMap as maps
 use Rattle.std.proofs.lemmas.Bool.Decides.{nat_tests}
 use Rattle.std.proofs.Math.Bool.{or-true}
 use Rattle.dots.specs.Values.{Dot}
@@ -14,12 +13,11 @@ use Rattle.dots.specs.Orders.{dot_cmp}
 use Rattle.dots.specs.DotSets.{AreApart, Run, in_run, in_runs}
 use Rattle.causal_context.specs.RunLists.{is_below}
 use Rattle.causal_context.proofs.Places.{apart_whole, at_place, at_no_place}
-use Rattle.member_orset.specs.declared.live_dot.LiveDot.{LiveDot}
-use Rattle.member_orset.specs.LiveLists.{IsAt, IsGap, live_of}
+use Rattle.member_orset.specs.declared.placed.Placed.{Placed}
+use Rattle.member_orset.specs.PlacedLists.{is_placed}
 use Rattle.member_orset.specs.Gathering.{is_given}
 use Rattle.member_orset.proofs.DotTests.{same_itself}
-use Rattle.member_orset.proofs.CellLists.{Rise, found_at, missed_at, same_place}
-use Rattle.member_orset.proofs.Views.{get-live_of}
+use Rattle.member_orset.proofs.PlacedOrder.{Ahead, Rise, found_at, lies_after, missed_at, placed_found, same_place}
 
 abbrev at : ℕ → ℕ → Dot
 at site count = record { site = site; count = count }
@@ -40,9 +38,6 @@ not_below d n r h l = grind (arith, nat_tests)
 not_yet : (d : Dot) (n : ℕ) (r : Run) → n < r.first → in_run (at d.site n) r ≡ false
 not_yet d n r l = grind (arith, nat_tests)
 
-within_it : (d : Dot) (n : ℕ) (r : Run) → r.site ≡ d.site → r.first ≤ n → n ≤ r.last → in_run (at d.site n) r ≡ true
-within_it d n r h l m = grind (arith, nat_tests)
-
 pub past_runs : (runs : List Run) (d : Dot) → AllWithin (λ r. is_below d r ≡ true) runs 0 (length runs) → (n : ℕ) → d.count ≤ n → in_runs runs (at d.site n) ≡ false
 past_runs runs d before n h = at_no_place (at d.site n) runs (λ k e lo hi. still_below d n (get_or runs k e) h (before k e lo hi))
 
@@ -58,11 +53,8 @@ module _ (runs : List Run) (d : Dot) (i : ℕ) (x : Run) (apart : AreApart runs)
       let whole = apart_whole runs apart i x l in
       at_place (at d.site n) runs i x apart l (below_all n h) (not_below d n (get_or runs i x) same (omega arith)) ∙ not_yet d n (get_or runs i x) m
 
-  pub runs_here : (get_or runs i x).site ≡ d.site → (n : ℕ) → d.count ≤ n → (get_or runs i x).first ≤ d.count → n ≤ (get_or runs i x).last → in_runs runs (at d.site n) ≡ true
-  runs_here same n h m k = at_place (at d.site n) runs i x apart l (below_all n h) (not_below d n (get_or runs i x) same k) ∙ within_it d n (get_or runs i x) same (omega arith) k
-
 -- whether a dot lies before another, by numbers
-lt_dots : (a b : Dot) → is_lt (dot_cmp a b) ≡ (nat_lt a.site b.site || (nat_eq a.site b.site && nat_lt a.count b.count))
+pub lt_dots : (a b : Dot) → is_lt (dot_cmp a b) ≡ (nat_lt a.site b.site || (nat_eq a.site b.site && nat_lt a.count b.count))
 lt_dots a b = split (nat_lt a.site b.site) (nat_eq a.site b.site) (nat_lt a.count b.count) (nat_eq a.count b.count)
   where
     split : (p q r e : Bool) → is_lt (ordering_then (cond p Less (cond q Equal Greater)) (cond r Less (cond e Equal Greater))) ≡ (p || (q && r))
@@ -87,31 +79,37 @@ more_on s t c m h l = grind (arith, nat_tests)
 no_less : (d : Dot) (n : ℕ) → d.count ≤ n → (x : Dot) → is_lt (dot_cmp x d) ≡ true → is_lt (dot_cmp x (at d.site n)) ≡ true
 no_less d n h x l = lt_dots x (at d.site n) ∙ later_on d.site x.site x.count d.count n h (sym (lt_dots x d) ∙ l)
 
--- cells
-pub cell_here : (cells : List LiveDot) (d : Dot) (i : ℕ) → Rise cells → IsAt cells d i → maps.contains_key (live_of cells) (at d.site d.count) ≡ true
-cell_here [] d i s is = absurd (let l = is.within in omega arith)
-cell_here (x ∷ cells) d i s is = ap is_some (get-live_of (x ∷ cells) d s ∙ found_at d (x ∷ cells) i x s is.within (is.here x))
+-- live dots
+no_dot : (dots : List Placed) (d : Dot) (i n : ℕ) → Rise dots → i ≤ length dots → Ahead d dots i → d.count ≤ n → ((e : Placed) → i < length dots → is_lt (dot_cmp (at d.site n) (get_or dots i e).dot) ≡ true) → is_placed dots (at d.site n) ≡ false
+no_dot dots d i n s within before h past =
+    placed_found dots (at d.site n) ∙ ap is_some (missed_at (at d.site n) dots i s (λ k e lo hi. no_less d n h (get_or dots k e).dot (before k e lo hi)) within past)
 
-no_cell : (cells : List LiveDot) (d : Dot) (i n : ℕ) → Rise cells → IsGap cells d i → d.count ≤ n → ((e : LiveDot) → i < length cells → is_lt (dot_cmp (at d.site n) (get_or cells i e).dot) ≡ true) → maps.contains_key (live_of cells) (at d.site n) ≡ false
-no_cell cells d i n s gap h past =
-    ap is_some (get-live_of cells (at d.site n) s ∙ missed_at (at d.site n) cells i s (λ k e lo hi. no_less d n h (get_or cells k e).dot (gap.before k e lo hi)) gap.within past)
+pub past_dots : (dots : List Placed) (d : Dot) (i n : ℕ) → Rise dots → Ahead d dots i → i ≡ length dots → d.count ≤ n → is_placed dots (at d.site n) ≡ false
+past_dots dots d i n s before e h = no_dot dots d i n s (omega arith) before h (λ x l. absurd (omega arith))
 
-pub past_cells : (cells : List LiveDot) (d : Dot) (i n : ℕ) → Rise cells → IsGap cells d i → i ≡ length cells → d.count ≤ n → maps.contains_key (live_of cells) (at d.site n) ≡ false
-past_cells cells d i n s gap e h = no_cell cells d i n s gap h (λ x l. absurd (omega arith))
+-- the one at a place lies after a dot, where it doesn't lie before it and isn't it
+pub beyond : (dots : List Placed) (d : Dot) (i : ℕ) (x : Placed) → i < length dots → x ≡ get_or dots i x → AllWithin (λ p. is_lt (dot_cmp p.dot d) ≡ false) dots i (length dots) → d ≢ x.dot → is_lt (dot_cmp d x.dot) ≡ true
+beyond dots d i x l at_x after other = ap (λ y. is_lt (dot_cmp d y.dot)) at_x ∙ lies_after d dots i x l at_x other after x l
 
-pub cells_elsewhere : (cells : List LiveDot) (d : Dot) (i n : ℕ) (x : LiveDot) → Rise cells → IsGap cells d i → x ≡ get_or cells i x → (x.dot.site ≡ d.site → ⊥) → d.count ≤ n → maps.contains_key (live_of cells) (at d.site n) ≡ false
-cells_elsewhere cells d i n x s gap at_x other h = no_cell cells d i n s gap h (λ e l.
-    let is : (get_or cells i e) ≡ x = same_place cells i e x l ∙ sym at_x in
-    let after = sym (lt_dots d (get_or cells i e).dot) ∙ gap.after e l in
-    lt_dots (at d.site n) (get_or cells i e).dot ∙ other_site d.site (get_or cells i e).dot.site (get_or cells i e).dot.count d.count n (λ q. other (ap (λ y. y.dot.site) (sym is) ∙ q)) after)
+module _ (dots : List Placed) (d : Dot) (i : ℕ) (x : Placed) (s : Rise dots) (l : i < length dots) (before : Ahead d dots i) (at_x : x ≡ get_or dots i x) where
+  -- the dot itself
+  pub dot_here : x.dot ≡ d → is_placed dots (at d.site d.count) ≡ true
+  dot_here same = placed_found dots d ∙ ap is_some (found_at d dots i x s l (sym same ∙ ap (λ y. y.dot) at_x))
 
-pub cells_later : (cells : List LiveDot) (d : Dot) (i n : ℕ) (x : LiveDot) → Rise cells → IsGap cells d i → x ≡ get_or cells i x → x.dot.site ≡ d.site → d.count ≤ n → n < x.dot.count → maps.contains_key (live_of cells) (at d.site n) ≡ false
-cells_later cells d i n x s gap at_x same h m = no_cell cells d i n s gap h (λ e l.
-    let is : (get_or cells i e) ≡ x = same_place cells i e x l ∙ sym at_x in
-    lt_dots (at d.site n) (get_or cells i e).dot ∙ one_site d.site (get_or cells i e).dot.site (get_or cells i e).dot.count n (ap (λ y. y.dot.site) is ∙ same) (let k = ap (λ y. y.dot.count) is in omega arith))
+  module _ (after : is_lt (dot_cmp d x.dot) ≡ true) where
+    pub dots_elsewhere : (x.dot.site ≡ d.site → ⊥) → (n : ℕ) → d.count ≤ n → is_placed dots (at d.site n) ≡ false
+    dots_elsewhere other n h = no_dot dots d i n s (omega arith) before h (λ e m.
+        let is : (get_or dots i e) ≡ x = same_place dots i e x l ∙ sym at_x in
+        let past = sym (lt_dots d x.dot) ∙ after in
+        ap (λ y. is_lt (dot_cmp (at d.site n) y.dot)) is ∙ lt_dots (at d.site n) x.dot ∙ other_site d.site x.dot.site x.dot.count d.count n other past)
 
-pub next_cell : (cells : List LiveDot) (d : Dot) (i : ℕ) (x : LiveDot) → IsGap cells d i → i < length cells → x ≡ get_or cells i x → x.dot.site ≡ d.site → d.count < x.dot.count
-next_cell cells d i x gap l at_x same = more_on d.site x.dot.site x.dot.count d.count same (sym (lt_dots d x.dot) ∙ ap (λ y. is_lt (dot_cmp d y.dot)) at_x ∙ gap.after x l)
+    pub dots_later : x.dot.site ≡ d.site → (n : ℕ) → d.count ≤ n → n < x.dot.count → is_placed dots (at d.site n) ≡ false
+    dots_later same n h m = no_dot dots d i n s (omega arith) before h (λ e k.
+        let is : (get_or dots i e) ≡ x = same_place dots i e x l ∙ sym at_x in
+        ap (λ y. is_lt (dot_cmp (at d.site n) y.dot)) is ∙ lt_dots (at d.site n) x.dot ∙ one_site d.site x.dot.site x.dot.count n same m)
+
+    pub next_dot : x.dot.site ≡ d.site → d.count < x.dot.count
+    next_dot same = more_on d.site x.dot.site x.dot.count d.count same (sym (lt_dots d x.dot) ∙ after)
 
 -- what a test of two sites tells
 pub differs : (a b : ℕ) → not (nat_eq a b) ≡ true → a ≡ b → ⊥
@@ -135,5 +133,5 @@ given_now given i x l e =
 pub runs_ahead : (d : Dot) (site n : ℕ) (runs : List Run) (i : ℕ) → d.site ≡ site → d.count ≤ n → AllWithin (λ r. is_below d r ≡ true) runs 0 i → AllWithin (λ r. is_below (at site n) r ≡ true) runs 0 i
 runs_ahead d site n runs i same h before k e lo hi = ap (λ s. is_below (at s n) (get_or runs k e)) (sym same) ∙ still_below d n (get_or runs k e) h (before k e lo hi)
 
-pub cells_ahead : (d : Dot) (site n : ℕ) (cells : List LiveDot) (i : ℕ) → d.site ≡ site → d.count ≤ n → AllWithin (λ c. is_lt (dot_cmp c.dot d) ≡ true) cells 0 i → AllWithin (λ c. is_lt (dot_cmp c.dot (at site n)) ≡ true) cells 0 i
-cells_ahead d site n cells i same h before k e lo hi = ap (λ s. is_lt (dot_cmp (get_or cells k e).dot (at s n))) (sym same) ∙ no_less d n h (get_or cells k e).dot (before k e lo hi)
+pub dots_ahead : (d : Dot) (site n : ℕ) (dots : List Placed) (i : ℕ) → d.site ≡ site → d.count ≤ n → Ahead d dots i → Ahead (at site n) dots i
+dots_ahead d site n dots i same h before k e lo hi = ap (λ s. is_lt (dot_cmp (get_or dots k e).dot (at s n))) (sym same) ∙ no_less d n h (get_or dots k e).dot (before k e lo hi)

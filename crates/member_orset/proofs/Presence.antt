@@ -12,7 +12,7 @@ use Rattle.dots.specs.declared.member.Member.{Member}
 use Rattle.dots.specs.Conditions.{DotFields}
 use Rattle.dots.specs.Orders.{dot_cmp, member_cmp}
 use Rattle.dots.proofs.Membership.{any-in, in-any}
-use Rattle.member_orset.specs.declared.listed.Listed.{Listed}
+use Rattle.member_orset.specs.Index.{Listed}
 use Rattle.member_orset.specs.Members.{Members, Holding, IsPresent}
 use Rattle.member_orset.specs.Index.{IsIndex, listed_cmp}
 use Rattle.member_orset.specs.ShownRows.{group, is_own}

@@ -1,35 +1,29 @@
--- The index that is made anew of all cells.
-use Rattle.std.proofs.Common.{◌≡◌, ℕ, suc, ◌+◌, add-one, ◌<◌, true, false, cond, ◌&&◌, ◌||◌, List, [], ◌∷◌, length, get_or, map as each, Some, refl, sym, ap, ◌∙◌, subst, inl, inr, arith}
-use Rattle.std.specs.FinMap.Entries.{below_all, find, is_sorted}
+-- The index of cells: what it lists, and how many.
+use Rattle.std.proofs.Common.{◌≡◌, true, false, cond, ◌&&◌, ◌||◌, List, [], ◌∷◌, length, map as each, Some, refl, sym, ap, ◌∙◌, subst, inl, inr, arith}
+use Rattle.std.specs.FinMap.Entries.{below_all, find}
 use Rattle.std.specs.FinSet as sets
 use Rattle.std.specs.List.{AllByRecursion, IsDistinct, list_any}
-use Rattle.std.specs.List.Sorted.{IsPermutation, IsSorted}
 use Rattle.std.specs.Option.{option_map, option_map_or}
 use Rattle.std.specs.Ordering.{eq_by_cmp, is_lt}
-use Rattle.std.proofs.lemmas.Bool.{and_from, and_parts, cases_Bool, true≢false}
+use Rattle.std.proofs.lemmas.Bool.{and_parts, cases_Bool}
 use Rattle.std.proofs.lemmas.Cmp.{eq_by_cmp_equiv}
+use Rattle.std.proofs.lemmas.List.{length-map}
+use Rattle.std.proofs.lemmas.Map.Made.{length-from_same_keys}
 use Rattle.std.proofs.lemmas.List.Elements.{All-nil}
-use Rattle.std.proofs.lemmas.List.Sorted.{list_any-IsPermutation, ranks_by, sorted_far}
-use Rattle.std.proofs.lemmas.Map.Keys.{IsDistinct-IsPermutation}
 use Rattle.std.proofs.Math.Bool.{and-false}
 use Rattle.dots.specs.Values.{Dot}
 use Rattle.dots.specs.Orders.{dot_cmp, member_cmp}
 use Rattle.dots.specs.declared.member.Member.{Member}
 use Rattle.dots.proofs.TruthTables.{first_alone, third_alone}
-use Rattle.member_orset.specs.declared.listed.Listed.{Listed}
 use Rattle.member_orset.specs.declared.live_dot.LiveDot.{LiveDot}
 use Rattle.member_orset.specs.LiveLists.{entries_of, holding, live_of}
 use Rattle.member_orset.specs.Members.{HasField}
-use Rattle.member_orset.specs.Index.{AreListed, IsIndex, Rises, listed_cmp, listings}
+use Rattle.member_orset.specs.Index.{AreListed, IsBelow, IsIndex, Listed, Rises, listed_cmp, listing, listings}
 use Rattle.member_orset.proofs.CellLists.{Rise, rise-head, rise-tail}
 use Rattle.member_orset.proofs.DotTests.{apart_after, one_dot}
-use Rattle.member_orset.proofs.Indexes.{entry, listed_exact, listed_total, same_parts}
+use Rattle.member_orset.proofs.Indexes.{entry, listed_exact, listed_total, rises-head, rises-tail, same_parts}
 use Rattle.member_orset.proofs.Rising as rising
 use Rattle.member_orset.proofs.Views.{get-live_of}
-
--- a cell's entry
-abbrev pub listing : LiveDot → Listed
-listing c = record { member = c.member; dot = c.dot }
 
 -- a dot before those of all cells is none of theirs
 apart_from : (m : Member) (d : Dot) (c : LiveDot) → is_lt (dot_cmp d c.dot) ≡ true → eq_by_cmp listed_cmp (entry m d) (listing c) ≡ false
@@ -67,39 +61,28 @@ unfolding IsDistinct
 distinct [] s = tt
 distinct (c ∷ cs) s = (apart_all c.member c.dot cs (rise-head c cs s), distinct cs (rise-tail c cs s))
 
--- entries that are sorted and differ rise
-below : (y : Listed) (ys : List Listed) → ((k : ℕ) (d : Listed) → k < length ys → is_lt (listed_cmp (get_or ys k d) y) ≡ false) → AllByRecursion (λ z. eq_by_cmp listed_cmp y z ≡ false) ys → below_all listed_cmp y (listings ys) ≡ true
-below y [] past apart = refl
-below y (z ∷ ys) past apart =
-    and_from (is_lt (listed_cmp y z)) (below_all listed_cmp y (listings ys))
-    (rising.after listed_cmp listed_total listed_exact z y (λ same. true≢false (sym (rising.same_tied listed_cmp listed_total listed_exact y z (sym same)) ∙ apart.0)) (past 0 z (omega arith)))
-    (below y ys (λ k d l. past (suc k) d (omega arith)) apart.1)
-
-rises : (ys : List Listed) → IsSorted listed_cmp ys → IsDistinct (eq_by_cmp listed_cmp) ys → Rises ys
-unfolding IsDistinct
-rises [] s u = refl
-rises (y ∷ ys) s u =
-    and_from (below_all listed_cmp y (listings ys)) (is_sorted listed_cmp (listings ys))
-    (below y ys (λ k d l. sorted_far (λ a b. is_lt (listed_cmp a b)) (ranks_by listed_total (λ a. a)) (y ∷ ys) s 0 (suc k) d (omega arith) (omega arith)) u.0)
-    (rises ys (λ k d lo hi. next k d (s (suc k) d (omega arith) (omega arith))) u.1)
-  where
-    next : (k : ℕ) (d : Listed) → is_lt (listed_cmp (get_or (y ∷ ys) (suc k + 1) d) (get_or ys k d)) ≡ false → is_lt (listed_cmp (get_or ys (k + 1) d) (get_or ys k d)) ≡ false
-    next k d h =
-        subst (λ n. is_lt (listed_cmp (get_or ys n d) (get_or ys k d)) ≡ false) (sym (add-one k))
-        (subst (λ n. is_lt (listed_cmp (get_or (y ∷ ys) n d) (get_or ys k d)) ≡ false) (add-one (suc k)) h)
-
--- the entries of cells, sorted, are their index
-pub sorted_index : (cs : List LiveDot) (index : List Listed) → Rise cs → IsPermutation (each listing cs) index → IsSorted listed_cmp index → IsIndex index (live_of cs)
-sorted_index cs index s same sorted = record {
-  rises = rises index sorted (IsDistinct-IsPermutation (eq_by_cmp listed_cmp) ((eq_by_cmp_equiv listed_total).symm) (each listing cs) index same (distinct cs s));
-  lists = λ m d.
-      sym (list_any-IsPermutation (eq_by_cmp listed_cmp (entry m d)) (each listing cs) index same) ∙ held_by cs m d s
-      ∙ ap (λ o. option_map_or (eq_by_cmp member_cmp m) (option_map (λ h. h.0) o) false) (sym (get-live_of cs d s));
-}
-
 -- where there is no cell, the index is empty
 pub nothing_listed : (cs : List LiveDot) (index : List Listed) (known : sets.FinSet dot_cmp) → cs ≡ [] → index ≡ [] → AreListed cs index known
 nothing_listed cs index known none empty = subst (λ xs. AreListed xs index known) (sym none) (subst (λ ys. AreListed [] ys known) (sym empty) (record {
   are_cells = record { sorted = refl; few = omega arith; in_context = All-nil (λ c. sets.contains known c.dot ≡ true); have_field = All-nil (λ c. HasField c.fields) };
   is_index = record { rises = refl; lists = λ m d. sym (ap (λ o. option_map_or (eq_by_cmp member_cmp m) (option_map (λ h. h.0) o) false) (get-live_of [] d refl)) };
 }))
+
+-- entries that rise differ
+all_apart : (l : Listed) (ls : List Listed) → IsBelow l ls → AllByRecursion (λ y. eq_by_cmp listed_cmp l y ≡ false) ls
+all_apart l [] h = tt
+all_apart l (x ∷ ls) h =
+    let p = and_parts (is_lt (listed_cmp l x)) (below_all listed_cmp l (listings ls)) h in
+    (rising.apart_after listed_cmp listed_total listed_exact l x p.0, all_apart l ls p.1)
+
+rising_distinct : (ls : List Listed) → Rises ls → IsDistinct (eq_by_cmp listed_cmp) ls
+unfolding IsDistinct
+rising_distinct [] r = tt
+rising_distinct (l ∷ ls) r = (all_apart l ls (rises-head l ls r), rising_distinct ls (rises-tail l ls r))
+
+-- the index has as many entries as there are cells
+pub as_many : (cs : List LiveDot) (index : List Listed) → Rise cs → IsIndex index (live_of cs) → length index ≡ length cs
+as_many cs index s is =
+    length-from_same_keys (eq_by_cmp_equiv listed_total) index (each listing cs) (rising_distinct index is.rises) (distinct cs s) (λ q.
+    is.lists q.member q.dot ∙ ap (λ o. option_map_or (eq_by_cmp member_cmp q.member) (option_map (λ h. h.0) o) false) (get-live_of cs q.dot s) ∙ sym (held_by cs q.member q.dot s))
+    ∙ length-map cs listing

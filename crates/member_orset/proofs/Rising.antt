@@ -189,3 +189,16 @@ module _ {X K V : Type 0} (R : K → K → Ordering) (o : IsTotalOrder R) (exact
   pub lies_after : (d : K) (cs : List X) (i : ℕ) (x : X) → i < length cs → x ≡ get_or cs i x → d ≢ key x
       → AllWithin (λ c. is_lt (R (key c) d) ≡ false) cs i (length cs) → (e : X) → i < length cs → is_lt (R d (key (get_or cs i e))) ≡ true
   lies_after d cs i x l at other past e k = after R o exact (key (get_or cs i e)) d (λ same. other (sym same ∙ ap key (same_place cs i e x l ∙ sym at))) (past i e (omega arith) l)
+
+  -- a key lies before those that stand later
+  pub earlier : (cs : List X) (i j : ℕ) (e f : X) → Rise cs → i < j → j < length cs → is_lt (R (key (get_or cs i e)) (key (get_or cs j f))) ≡ true
+  earlier cs i j e f s lt l =
+      let n : K × V = (key e, value e) in
+      ap is_lt ((λ k. R (sym (ap (λ y. y.0) (entry_at cs i e n (omega arith))) k) (sym (ap (λ y. y.0) (entry_at cs j f n l)) k)) ∙ rising_at R o (entries cs) s i j n lt (omega (arith, count cs)))
+
+  -- so the keys at two places differ
+  pub keys_differ : (cs : List X) (i j : ℕ) (e f : X) → Rise cs → i < j → j < length cs → key (get_or cs i e) ≢ key (get_or cs j f)
+  keys_differ cs i j e f s lt l same =
+      let apart = apart_after R o exact (key (get_or cs i e)) (key (get_or cs j f)) (earlier cs i j e f s lt l) in
+      let tied = same_tied R o exact (key (get_or cs i e)) (key (get_or cs j f)) same in
+      cc

@@ -2,7 +2,6 @@
 use Rattle.std.proofs.Common.{◌≡◌, ℕ, suc, zero, ◌+◌, ◌-◌, ◌≤◌, ◌<◌, Bool, true, false, not, cond, ◌&&◌, ◌||◌, nat_eq, List, [], ◌∷◌, refl, sym, ap, ◌∙◌, subst, inl, inr, arith}
 use Rattle.std.specs.Prelude.{nat_lt, nat_le}
 use Rattle.std.specs.List.{All, list_any}
-use Rattle.std.specs.FinMap as maps
 use Rattle.std.specs.FinSet as sets
 use Rattle.std.specs.Ordering.{eq_by_cmp}
 use Rattle.std.proofs.lemmas.Bool.{and_parts, cases_Bool, cases_eq, cases_lt, false_from_ne_true, or_from, or_right}
@@ -18,7 +17,6 @@ use Rattle.dots.proofs.OneMoreDot.{dot_before, run_count-insert}
 use Rattle.dots.proofs.Runs.{contains-set_of}
 use Rattle.dots.proofs.TruthTables.{or_swap}
 use Rattle.causal_context.specs.Contexts.{IsRun}
-use Rattle.member_orset.specs.Members.{Holding}
 use Rattle.member_orset.proofs.DotTests.{one_dot}
 use Rattle.member_orset.specs.Reads.{seen_dots}
 use Rattle.member_orset.specs.Gathering.{AreToName, IsGreatest, is_given, is_to_name, part_before, runs_after}
@@ -192,12 +190,12 @@ whole_part dots few = sets.same_set dots_total dots_exact _ _ (λ q.
     contains-part dots 64 0 q ∙ under (sets.contains dots q) _ true (λ t. all_sites q.site q.count (few q t)) ∙ and-true (sets.contains dots q))
 
 -- whether a dot was seen
-contains-seen : (known : Dots) (live : maps.FinMap dot_cmp Holding) (given : List Dot) (q : Dot)
-    → sets.contains (seen_dots known live given) q ≡ (is_given given q || (sets.contains known q && (not (maps.contains_key live q) && is_older given q)))
+contains-seen : (known : Dots) (live : Dot → Bool) (given : List Dot) (q : Dot)
+    → sets.contains (seen_dots known live given) q ≡ (is_given given q || (sets.contains known q && (not (live q) && is_older given q)))
 unfolding seen_dots
 contains-seen known live given q =
-    sets.contains-union dots_total (sets.from_list given) (sets.retain known (λ d. not (maps.contains_key live d) && is_older given d)) q
-    ∙ (λ i. sets.contains-from_list dots_total given q i || sets.contains-retain known (λ d. not (maps.contains_key live d) && is_older given d) q (λ x h. ap (λ d. not (maps.contains_key live d) && is_older given d) (sym (dots_exact q x h))) i)
+    sets.contains-union dots_total (sets.from_list given) (sets.retain known (λ d. not (live d) && is_older given d)) q
+    ∙ (λ i. sets.contains-from_list dots_total given q i || sets.contains-retain known (λ d. not (live d) && is_older given d) q (λ x h. ap (λ d. not (live d) && is_older given d) (sym (dots_exact q x h))) i)
 
 pub not_this : (site n : ℕ) (d : Dot) → (d.site ≡ site → d.count ≡ n → ⊥) → eq_by_cmp dot_cmp (at site n) d ≡ false
 not_this site n d h = false_from_ne_true (eq_by_cmp dot_cmp (at site n) d) (λ t. let e = one_dot (at site n) d t in h (sym (ap (λ x. x.site) e)) (sym (ap (λ x. x.count) e)))
@@ -232,12 +230,12 @@ no_zero s t f l h = grind (arith, nat_tests)
 pub known_zero : (runs : List Run) (known : Dots) (site : ℕ) → IsRunsOf runs known → All IsRun runs → sets.contains known (at site 0) ≡ false
 known_zero runs known site is limits = is.same (at site 0) ∙ list_any_none (in_run (at site 0)) runs (All-weaker IsRun (λ r. in_run (at site 0) r ≡ false) (λ r l. no_zero r.site site r.first r.last l.least) runs limits)
 
-module _ (known : Dots) (live : maps.FinMap dot_cmp Holding) (given : List Dot) (site last : ℕ) (g : IsGreatest given site last) where
+module _ (known : Dots) (live : Dot → Bool) (given : List Dot) (site last : ℕ) (g : IsGreatest given site last) where
   abbrev seen : Dots
   seen = seen_dots known live given
 
   abbrev dead_below : Dot → Bool
-  dead_below q = sets.contains known q && (not (maps.contains_key live q) && is_older given q)
+  dead_below q = sets.contains known q && (not (live q) && is_older given q)
 
   older_past : (n : ℕ) → last ≤ n → is_older given (at site n) ≡ false
   older_past n h = list_any_none (λ d. nat_eq d.site site && nat_lt n d.count) given (All-weaker (λ d. d.site ≡ site → d.count ≤ last) (λ d. (nat_eq d.site site && nat_lt n d.count) ≡ false) (λ d m. not_older d.site d.count site n last m h) given g.most)
@@ -251,7 +249,7 @@ module _ (known : Dots) (live : maps.FinMap dot_cmp Holding) (given : List Dot) 
   seen_past n h =
       contains-seen known live given (at site n)
       ∙ or_from _ _ (list_any_none (eq_by_cmp dot_cmp (at site n)) given (All-weaker (λ d. d.site ≡ site → d.count ≤ last) (λ d. eq_by_cmp dot_cmp (at site n) d ≡ false) (λ d m. not_this site n d (λ s c. let k = m s in omega arith)) given g.most))
-      (ap (λ b. sets.contains known (at site n) && (not (maps.contains_key live (at site n)) && b)) (older_past n (omega arith)) ∙ none (sets.contains known (at site n)) (not (maps.contains_key live (at site n))))
+      (ap (λ b. sets.contains known (at site n) && (not (live (at site n)) && b)) (older_past n (omega arith)) ∙ none (sets.contains known (at site n)) (not (live (at site n))))
     where
       none : (a b : Bool) → (a && (b && false)) ≡ false
       none true true = refl
@@ -262,16 +260,16 @@ module _ (known : Dots) (live : maps.FinMap dot_cmp Holding) (given : List Dot) 
   seen_zero k =
       contains-seen known live given (at site 0)
       ∙ or_from _ _ (list_any_none (eq_by_cmp dot_cmp (at site 0)) given (All-weaker (λ d. d.site ≡ site → 1 ≤ d.count) (λ d. eq_by_cmp dot_cmp (at site 0) d ≡ false) (λ d m. not_this site 0 d (λ s c. let k = m s in omega arith)) given g.least))
-      (ap (λ b. b && (not (maps.contains_key live (at site 0)) && is_older given (at site 0))) k)
+      (ap (λ b. b && (not (live (at site 0)) && is_older given (at site 0))) k)
 
   -- so those of the site are the given and the dead ones up to there
   up_to : (n : ℕ) → 1 ≤ n → n ≤ last → (is_given given (at site n) || dead_below (at site n)) ≡ is_to_name known live given (at site n)
   up_to n lo hi = elim (cases_lt n last) [
-    | inl m ↦ ap (λ b. is_given given (at site n) || (sets.contains known (at site n) && b)) (ap (λ b. not (maps.contains_key live (at site n)) && b) (older_below n m) ∙ and-true (not (maps.contains_key live (at site n))))
+    | inl m ↦ ap (λ b. is_given given (at site n) || (sets.contains known (at site n) && b)) (ap (λ b. not (live (at site n)) && b) (older_below n m) ∙ and-true (not (live (at site n))))
     | inr m ↦
         let e : n ≡ last = omega arith in
         let t : is_given given (at site n) ≡ true = ap (λ x. is_given given (at site x)) e ∙ g.reached (omega arith) in
-        ap (λ b. b || dead_below (at site n)) t ∙ sym (ap (λ b. b || (sets.contains known (at site n) && not (maps.contains_key live (at site n)))) t)
+        ap (λ b. b || dead_below (at site n)) t ∙ sym (ap (λ b. b || (sets.contains known (at site n) && not (live (at site n)))) t)
   ]
 
   pub seen_to_name : sets.contains known (at site 0) ≡ false → AreToName known live given site last seen
@@ -282,12 +280,12 @@ module _ (known : Dots) (live : maps.FinMap dot_cmp Holding) (given : List Dot) 
   }
 
 -- what was seen is of sites of given dots
-pub seen_sites : (known : Dots) (live : maps.FinMap dot_cmp Holding) (given : List Dot) → All (λ d. IsSite d.site) given → (q : Dot) → sets.contains (seen_dots known live given) q ≡ true → q.site < 64
+pub seen_sites : (known : Dots) (live : Dot → Bool) (given : List Dot) → All (λ d. IsSite d.site) given → (q : Dot) → sets.contains (seen_dots known live given) q ≡ true → q.site < 64
 seen_sites known live given sites q h = elim (cases_Bool (is_given given q)) [
   | inl t ↦ let f = any_has (λ d. IsSite d.site) (eq_by_cmp dot_cmp q) given sites t in subst (λ (d : Dot). d.site < 64) (sym (one_dot q f.0 f.2)) f.1
   | inr n ↦
-      let all = ap (λ b. b || (sets.contains known q && (not (maps.contains_key live q) && is_older given q))) (sym n) ∙ sym (contains-seen known live given q) ∙ h in
-      let older = (and_parts (not (maps.contains_key live q)) (is_older given q) (and_parts (sets.contains known q) (not (maps.contains_key live q) && is_older given q) all).1).1 in
+      let all = ap (λ b. b || (sets.contains known q && (not (live q) && is_older given q))) (sym n) ∙ sym (contains-seen known live given q) ∙ h in
+      let older = (and_parts (not (live q)) (is_older given q) (and_parts (sets.contains known q) (not (live q) && is_older given q) all).1).1 in
       let f = any_has (λ d. IsSite d.site) (λ g. nat_eq g.site q.site && nat_lt q.count g.count) given sites older in
       let same = and_parts (nat_eq f.0.site q.site) (nat_lt q.count f.0.count) f.2 in
       let e : f.0.site ≡ q.site = grind (arith, nat_tests) in

@@ -4,7 +4,7 @@ use Rattle.std.specs.List.{All, filter_map, cons_option}
 use Rattle.std.specs.Option.{option_map, option_map_or, option_and_then}
 use Rattle.std.specs.FinMap as maps
 use Rattle.std.specs.Ordering.{eq_by_cmp}
-use Rattle.std.proofs.lemmas.List.{append-nil, take_more}
+use Rattle.std.proofs.lemmas.List.{take_more}
 use Rattle.std.proofs.lemmas.List.Elements.{All-head, All-weaker, filter_passes}
 use Rattle.dots.specs.declared.member.Member.{Member}
 use Rattle.dots.specs.Values.{Dot}
@@ -15,7 +15,7 @@ use Rattle.dots.specs.Knowledge.{latest_of}
 use Rattle.dots.specs.Rows.{is_of, dots_of, row_if, row_of, row_of_fields}
 use Rattle.dots.specs.SetItems.{in_order}
 use Rattle.dots.proofs.RegisterLaws.{joined_assoc}
-use Rattle.member_orset.specs.declared.listed.Listed.{Listed}
+use Rattle.member_orset.specs.Index.{Listed}
 use Rattle.member_orset.specs.declared.live_dot.LiveDot.{LiveDot}
 use Rattle.member_orset.specs.Members.{Holding}
 use Rattle.member_orset.specs.LiveLists.{live_of}
@@ -38,7 +38,7 @@ latest-push {T} f (y ∷ xs) x = front (f y) (latest-push f xs x)
     front None h = h
     front (Some e) h = ap (join_of (Some e)) h ∙ sym (joined_assoc (Some e) (latest_of (filter_map f xs)) (f x))
 
-shown-push : (xs : List DotFields) (x : DotFields) → fields_shown (xs ++ x ∷ []) ≡ Some (fields_after (fields_shown xs) x)
+pub shown-push : (xs : List DotFields) (x : DotFields) → fields_shown (xs ++ x ∷ []) ≡ Some (fields_after (fields_shown xs) x)
 shown-push [] x = λ i. Some (record { penalty = one_latest x.penalty i; pause = one_latest x.pause i; label = one_latest x.label i })
 shown-push (y ∷ xs) x = λ i. Some (record {
   penalty = latest-push (λ f. f.penalty) (y ∷ xs) x i;
@@ -61,17 +61,6 @@ held_more : (live : maps.FinMap dot_cmp Holding) (ls : List Listed) (i : ℕ) (x
 held_more live ls i x o w e is =
     ap (λ ys. fields_held live (dots_listed ys)) (take_more ls i x w ∙ ap (λ y. take i ls ++ y ∷ []) (sym e)) ∙ held-push live (take i ls) x
     ∙ ap (λ y. fields_held live (dots_listed (take i ls)) ++ cons_option (option_map (λ h. h.1) y) []) (sym is)
-
--- what is shown after one more dot that is live
-pub shown_live : (live : maps.FinMap dot_cmp Holding) (ls : List Listed) (i : ℕ) (x : Listed) (h : Holding) (o : Option DotFields) → i < length ls → x ≡ get_or ls i x → Some h ≡ maps.get live x.dot
-    → o ≡ fields_shown (fields_held live (dots_listed (take i ls))) → Some (fields_after o h.1) ≡ fields_shown (fields_held live (dots_listed (take (i + 1) ls)))
-shown_live live ls i x h o w e is so =
-    ap (λ p. Some (fields_after p h.1)) so ∙ sym (shown-push (fields_held live (dots_listed (take i ls))) h.1) ∙ ap fields_shown (sym (held_more live ls i x (Some h) w e is))
-
--- and after one that isn't
-pub shown_missed : (live : maps.FinMap dot_cmp Holding) (ls : List Listed) (i : ℕ) (x : Listed) (o : Option DotFields) → i < length ls → x ≡ get_or ls i x → None ≡ maps.get live x.dot
-    → o ≡ fields_shown (fields_held live (dots_listed (take i ls))) → o ≡ fields_shown (fields_held live (dots_listed (take (i + 1) ls)))
-shown_missed live ls i x o w e is so = so ∙ ap fields_shown (sym (append-nil (fields_held live (dots_listed (take i ls)))) ∙ sym (held_more live ls i x None w e is))
 
 -- a field of dots, by what is held of them
 fields_are : {X : Type 0} (g : DotFields → Option X) (live : maps.FinMap dot_cmp Holding) (ds : List Dot) → filter_map (λ dot. option_and_then (λ h. g h.1) (maps.get live dot)) ds ≡ filter_map g (fields_held live ds)

@@ -21,7 +21,7 @@ use Rattle.dots.specs.SetItems.{in_order}
 use Rattle.dots.specs.Rows.{MemberRow, interface_in, interfaces_of, is_of, dots_of, row_if, row_of, rows_of}
 use Rattle.dots.proofs.ItemOrder.{in_order-has}
 use Rattle.dots.proofs.Membership.{any-in, in-any}
-use Rattle.member_orset.specs.declared.listed.Listed.{Listed}
+use Rattle.member_orset.specs.Index.{Listed}
 use Rattle.member_orset.specs.declared.live_dot.LiveDot.{LiveDot}
 use Rattle.member_orset.specs.LiveLists.{live_of}
 use Rattle.member_orset.specs.Index.{IsIndex, Rises}

@@ -1,17 +1,14 @@
 -- The walk over the dots of a site: what is passed, and how far dots are given or dead.
-use Rattle.std.proofs.Common.{◌≡◌, ℕ, ◌+◌, ◌≤◌, ◌<◌, Bool, true, false, not, ◌&&◌, ◌||◌, List, length, get_or, sym, ap, subst, ◌∙◌, arith}
+use Rattle.std.proofs.Common.{◌≡◌, ℕ, ◌≤◌, ◌<◌, Bool, true, false, not, ◌&&◌, ◌||◌, List, length, get_or, sym, ap, subst, ◌∙◌, arith}
 use Rattle.std.specs.List.{AllWithin}
 use Rattle.std.specs.List.Sorted.{IsPartitionedBy}
-use Rattle.std.specs.FinMap as maps
 use Rattle.std.specs.FinSet as sets
 use Rattle.std.proofs.lemmas.Bool.{false_from_ne_true}
 use Rattle.std.proofs.lemmas.List.{get_or_default}
-use Rattle.std.proofs.lemmas.List.Elements.{AllWithin-more}
 use Rattle.dots.specs.Values.{Dot}
 use Rattle.dots.specs.Orders.{dot_cmp}
 use Rattle.dots.specs.DotSets.{IsRunsOf, Run, in_runs}
 use Rattle.member_orset.specs.declared.piece.Piece.{Piece}
-use Rattle.member_orset.specs.Members.{Holding}
 use Rattle.member_orset.specs.Gathering.{AreToName, IsPiece, is_given, is_to_name}
 
 abbrev at : ℕ → ℕ → Dot
@@ -19,20 +16,16 @@ at site count = record { site = site; count = count }
 
 -- a list of which the elements that pass a test come first
 module _ {X : Type 0} (p : X → Bool) (xs : List X) where
-  -- one more that passes it
-  pub passed_more : (i : ℕ) (x : X) → AllWithin (λ y. p y ≡ true) xs 0 i → i < length xs → x ≡ get_or xs i x → p x ≡ true → AllWithin (λ y. p y ≡ true) xs 0 (i + 1)
-  passed_more i x before l is h = AllWithin-more (λ y. p y ≡ true) xs 0 i before (λ d. subst (λ y. p y ≡ true) (is ∙ get_or_default xs i x d l) h)
-
   -- one that doesn't: none does from there on
   pub passed_all : (i : ℕ) (x : X) → IsPartitionedBy p xs → i < length xs → x ≡ get_or xs i x → p x ≡ false → AllWithin (λ y. p y ≡ false) xs i (length xs)
   passed_all i x parted l is h k d lo hi =
       let here : p (get_or xs i d) ≡ false = subst (λ y. p y ≡ false) (is ∙ get_or_default xs i x d l) h in
       false_from_ne_true (p (get_or xs k d)) (λ t. let early = parted i k d lo hi t in absurd (cc))
 
-module _ (known : sets.FinSet dot_cmp) (live : maps.FinMap dot_cmp Holding) (given : List Dot) (site first last : ℕ) (p : Piece)
+module _ (known : sets.FinSet dot_cmp) (live : Dot → Bool) (given : List Dot) (site first last : ℕ) (p : Piece)
     (given_is : IsPiece (λ n. is_given given (at site n)) first last p) where
   abbrev dead : Dot → Bool
-  dead q = sets.contains known q && not (maps.contains_key live q)
+  dead q = sets.contains known q && not (live q)
 
   -- a piece where all are given
   pub all_given : p.inside ≡ true → IsPiece (λ n. is_to_name known live given (at site n)) first last p
@@ -49,12 +42,12 @@ module _ (known : sets.FinSet dot_cmp) (live : maps.FinMap dot_cmp Holding) (giv
       some = known_is.some;
       within = let a = known_is.within in let b = given_is.within in omega arith;
       same = λ n lo hi.
-          (λ i. (given_is.same n lo (let a = known_is.within in omega arith) ∙ ungiven) i || ((are.same (at site n) ∙ known_is.same n lo hi ∙ y) i && not (maps.contains_key live (at site n))))
+          (λ i. (given_is.same n lo (let a = known_is.within in omega arith) ∙ ungiven) i || ((are.same (at site n) ∙ known_is.same n lo hi ∙ y) i && not (live (at site n))))
           ∙ sym y;
     }
 
     -- one where none is given and all are known
-    pub all_known : (l r : Piece) → k.inside ≡ true → IsPiece (λ n. maps.contains_key live (at site n)) first k.last l → r.inside ≡ not l.inside → r.last ≡ l.last → IsPiece (λ n. is_to_name known live given (at site n)) first last r
+    pub all_known : (l r : Piece) → k.inside ≡ true → IsPiece (λ n. live (at site n)) first k.last l → r.inside ≡ not l.inside → r.last ≡ l.last → IsPiece (λ n. is_to_name known live given (at site n)) first last r
     all_known l r y live_is inside end = record {
       some = let a = live_is.some in omega arith;
       within = let a = live_is.within in let b = known_is.within in let d = given_is.within in omega arith;
@@ -67,7 +60,7 @@ module _ (known : sets.FinSet dot_cmp) (live : maps.FinMap dot_cmp Holding) (giv
     }
 
 -- a piece of the given and the dead ones is one of the dots to be named
-pub piece_of : (known : sets.FinSet dot_cmp) (live : maps.FinMap dot_cmp Holding) (given : List Dot) (site first last : ℕ) (dots : sets.FinSet dot_cmp) (p : Piece)
+pub piece_of : (known : sets.FinSet dot_cmp) (live : Dot → Bool) (given : List Dot) (site first last : ℕ) (dots : sets.FinSet dot_cmp) (p : Piece)
     → AreToName known live given site last dots → 1 ≤ first → IsPiece (λ n. is_to_name known live given (at site n)) first last p
     → IsPiece (λ n. sets.contains dots (at site n)) first last p
 piece_of known live given site first last dots p are least is = record {

@@ -1,5 +1,5 @@
 -- What a set shows of its cells.
-use Rattle.std.proofs.Common.{◌≡◌, suc, ◌≤◌, arith, true, cond, List, [], ◌∷◌, length, Some, refl, sym, ap, ◌∙◌, subst, inl, inr}
+use Rattle.std.proofs.Common.{◌≡◌, suc, true, cond, List, [], ◌∷◌, length, Some, refl, sym, ap, ◌∙◌, subst, inl, inr}
 use Rattle.std.specs.List.{All}
 use Rattle.std.specs.Ordering.{eq_by_cmp}
 use Rattle.std.specs.FinMap as maps
@@ -7,13 +7,11 @@ use Rattle.std.specs.FinSet as sets
 use Rattle.std.specs.FinMap.Entries.{find}
 use Rattle.std.proofs.lemmas.Bool.{cases_Bool}
 use Rattle.std.proofs.lemmas.List.Elements.{All-head, All-tail}
-use Rattle.dots.specs.declared.limits.TheConstants.{MOST_LIVE, MOST_RUNS}
 use Rattle.dots.specs.Values.{Dot}
 use Rattle.dots.specs.Orders.{dot_cmp}
-use Rattle.dots.specs.DotSets.{run_count}
 use Rattle.member_orset.specs.declared.live_dot.LiveDot.{LiveDot}
-use Rattle.member_orset.specs.Members.{Members, Holding, HasField, IsWithinLimits}
-use Rattle.member_orset.specs.LiveLists.{holding, entries_of, live_of, AreCells}
+use Rattle.member_orset.specs.Members.{Holding, HasField}
+use Rattle.member_orset.specs.LiveLists.{holding, entries_of, live_of}
 use Rattle.member_orset.proofs.DotTests.{one_dot}
 use Rattle.dots.proofs.TruthTables.{truth}
 use Rattle.member_orset.proofs.CellLists.{Rise}
@@ -55,19 +53,3 @@ found_field (c ∷ cs) q h a e = elim (cases_Bool (eq_by_cmp dot_cmp q c.dot)) [
   where
     same_some : (x y : Holding) → Some x ≡ Some y → x ≡ y
     same_some x y e = cc
-
--- what holds of every set
-pub within_limits : (s : Members) (cs : List LiveDot) (known : sets.FinSet dot_cmp) → AreCells cs known → live_of cs ≡ s.live → known ≡ s.known → s.retired ≡ 0 → run_count known ≤ MOST_RUNS → IsWithinLimits s
-within_limits s cs known a live same unused runs = record {
-  cells = cells_few;
-  places = omega (arith, cells_few, unused);
-  runs = subst (λ k. run_count k ≤ MOST_RUNS) same runs;
-  held = λ q h e. let f = sym (get-live_of cs q a.sorted) ∙ ap (λ m. maps.get m q) live ∙ e in
-      record {
-        known = ap (λ k. sets.contains k q) (sym same) ∙ found_known cs known q h a.in_context f;
-        set = found_field cs q h a.have_field f;
-      };
-}
-  where
-    cells_few : maps.len s.live ≤ MOST_LIVE
-    cells_few = subst (λ n. n ≤ MOST_LIVE) (sym (len-live_of cs a.sorted) ∙ ap maps.len live) a.few

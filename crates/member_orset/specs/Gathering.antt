@@ -1,7 +1,6 @@
 -- How the dots that given ones stand for are gathered, piece by piece.
 use Rattle.std.specs.Prelude.{ℕ, ◌≡◌, ◌<◌, ◌≤◌, ◌+◌, Bool, true, false, not, ◌&&◌, ◌||◌, nat_eq, nat_lt, List, Some, None, if◌then◌else◌}
 use Rattle.std.specs.List.{All, list_any}
-use Rattle.std.specs.FinMap as map
 use Rattle.std.specs.FinSet as set
 use Rattle.std.specs.Ordering.{eq_by_cmp}
 use Rattle.dots.specs.declared.limits.TheConstants.{MOST_RUNS}
@@ -11,7 +10,6 @@ use Rattle.dots.specs.DotSets.{run_count}
 use Rattle.causal_context.specs.declared.context_fault.ContextFault.TheVariants.{RunsFull}
 use Rattle.member_orset.specs.declared.gathered.Gathered.{Gathered}
 use Rattle.member_orset.specs.declared.piece.Piece.{Piece}
-use Rattle.member_orset.specs.Members.{Holding}
 
 -- whether a dot is given
 abbrev pub is_given : List Dot → Dot → Bool
@@ -30,11 +28,11 @@ pub record IsPiece (test : ℕ → Bool) (first last : ℕ) (piece : Piece) : Ty
   pub same : (n : ℕ) → first ≤ n → n ≤ piece.last → test n ≡ piece.inside
 
 -- whether a dot is given or dead: known, and not live
-abbrev pub is_to_name : set.FinSet dot_cmp → map.FinMap dot_cmp Holding → List Dot → Dot → Bool
-is_to_name known live given dot = is_given given dot || (set.contains known dot && not (map.contains_key live dot))
+abbrev pub is_to_name : set.FinSet dot_cmp → (Dot → Bool) → List Dot → Dot → Bool
+is_to_name known live given dot = is_given given dot || (set.contains known dot && not (live dot))
 
 -- dots of which those of a site are the given and the dead ones, from the count 1 up to a last one
-pub record AreToName (known : set.FinSet dot_cmp) (live : map.FinMap dot_cmp Holding) (given : List Dot) (site last : ℕ)
+pub record AreToName (known : set.FinSet dot_cmp) (live : Dot → Bool) (given : List Dot) (site last : ℕ)
     (dots : set.FinSet dot_cmp) : Type 0 where
   pub not_zero : set.contains dots (record { site = site; count = 0 }) ≡ false
   pub same : (n : ℕ) → 1 ≤ n → n ≤ last → set.contains dots (record { site = site; count = n }) ≡ is_to_name known live given (record { site = site; count = n })

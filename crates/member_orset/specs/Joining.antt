@@ -1,18 +1,18 @@
--- What is live where two lists of cells are joined.
-use Rattle.std.specs.Prelude.{◌≡◌, Bool, not, Option, Some, None, List, [], ◌∷◌, filter, if◌then◌else◌}
+-- What is live where two sets are joined.
+use Rattle.std.specs.Prelude.{ℕ, ◌≡◌, ◌≤◌, ◌<◌, ◌+◌, Bool, true, false, not, ◌&&◌, Option, Some, None, List, Contains, if◌then◌else◌}
 use Rattle.std.specs.List.{All}
-use Rattle.std.specs.Borrow.{Bor}
-use Rattle.std.specs.FinMap.Entries.{by_order}
-use Rattle.std.specs.Ordering.{on}
-use Rattle.std.specs.declared.cmp.Ordering.{Ordering}
+use Rattle.std.specs.FinMap as map
+use Rattle.std.specs.Ordering.{eq_by_cmp}
 use Rattle.dots.specs.Values.{Dot}
+use Rattle.dots.specs.DotSets.{Run, in_run, in_runs}
 use Rattle.dots.specs.Orders.{dot_cmp}
-use Rattle.dots.specs.Conditions.{DotFields, FieldsAgree, fields_joined}
-use Rattle.member_orset.specs.declared.kept.Kept.{Kept}
+use Rattle.dots.specs.Conditions.{fields_joined}
+use Rattle.op_arena.specs.Ids.{Id}
 use Rattle.member_orset.specs.declared.live_dot.LiveDot.{LiveDot}
+use Rattle.member_orset.specs.CellIds.{IdsFollow, IsNew}
 use Rattle.member_orset.specs.Members.{Holding}
-use Rattle.member_orset.specs.LiveLists.{entry_of, entries_of}
-use Rattle.dots.specs.Fronts.{next_by}
+use Rattle.member_orset.specs.LiveLists.{HoldingsAgree, HoldingsConflict, holding}
+use Rattle.member_orset.specs.LiveStates.{LiveState}
 
 -- what stays live of a dot that one side knows or not, and the other: live on both sides it is joined, and live on one it
 -- stays where the other doesn't know it
@@ -21,56 +21,69 @@ holding_joined (Some h) known (Some g) known_there = Some (h.0, fields_joined h.
 holding_joined (Some h) known None known_there = if known_there then None else Some h
 holding_joined None known live_there known_there = if known then None else live_there
 
--- cells of one dot have one member, and fields that agree
-abbrev pub CellsAgree : LiveDot → LiveDot → Type 0
-CellsAgree c d = c.dot ≡ d.dot → (c.member ≡ d.member) × FieldsAgree c.fields d.fields
+-- what is live of each dot agrees with an entry of it
+abbrev pub AgreeWith : map.FinMap dot_cmp Holding → List (Dot × Holding) → Type 0
+AgreeWith live entries = All (λ e. HoldingsAgree (map.get live e.0) e.1) entries
 
--- each cell of one list agrees with each of the other
-abbrev pub AgreeInPairs : List LiveDot → List LiveDot → Type 0
-AgreeInPairs cells others = All (λ c. All (CellsAgree c) others) cells
+-- an entry is in conflict with what is live of its dot
+pub record Clash (live : map.FinMap dot_cmp Holding) (entries : List (Dot × Holding)) : Type 0 where
+  pub entry : Dot × Holding
+  pub here : Contains entries entry
+  pub conflict : HoldingsConflict (map.get live entry.0) entry.1
 
--- the cells that a side doesn't know, as entries
-abbrev pub unknown_to : (Dot → Bool) → List LiveDot → List (Dot × Holding)
-unknown_to knows cells = filter (λ e. not (knows e.0)) (entries_of cells)
+-- the answer whether all entries agree with what is live of their dots
+abbrev pub IsTold : map.FinMap dot_cmp Holding → List (Dot × Holding) → Bool → Type 0
+IsTold live entries true = AgreeWith live entries
+IsTold live entries false = Clash live entries
 
--- a cell in front of entries, where the other side doesn't know it
-abbrev pub in_front : Bool → LiveDot → List (Dot × Holding) → List (Dot × Holding)
-in_front known c entries = if not known then entry_of c ∷ entries else entries
+-- whether a dot is in a run and not live there
+abbrev pub dead_in_run : Run → map.FinMap dot_cmp Holding → Dot → Bool
+dead_in_run run there dot = in_run dot run && not (map.contains_key there dot)
 
--- a cell of both sides
-abbrev pub entry_joined : LiveDot → LiveDot → Dot × Holding
-entry_joined c d = (c.dot, (c.member, fields_joined c.fields d.fields))
+-- whether a dot is in runs and not live there
+abbrev pub dead_in_runs : List Run → map.FinMap dot_cmp Holding → Dot → Bool
+dead_in_runs runs there dot = in_runs runs dot && not (map.contains_key there dot)
 
--- the join of a cell and what follows it with others, by the join of what follows it with any
-abbrev pub joined_from : (Dot → Bool) → (Dot → Bool) → LiveDot → (List LiveDot → List (Dot × Holding)) → List LiveDot → List (Dot × Holding)
-joined_from ours theirs c rest [] = in_front (theirs c.dot) c (rest [])
-joined_from ours theirs c rest (d ∷ others) =
-    by_order (dot_cmp c.dot d.dot) (in_front (theirs c.dot) c (rest (d ∷ others))) (entry_joined c d ∷ rest others) (in_front (ours d.dot) d (joined_from ours theirs c rest others))
+-- a dot of a run that is live here and not there, with a count from a given one on, and none before it is so
+pub record IsFirstDead (run : Run) (there : map.FinMap dot_cmp Holding) (first : ℕ) (live : map.FinMap dot_cmp Holding) (dot : Dot) : Type 0 where
+  pub site_is : dot.site ≡ run.site
+  pub least : first ≤ dot.count
+  pub most : dot.count ≤ run.last
+  pub here : map.contains_key live dot ≡ true
+  pub gone : map.contains_key there dot ≡ false
+  pub none : (n : ℕ) → first ≤ n → n < dot.count → (map.contains_key live (record { site = run.site; count = n }) && not (map.contains_key there (record { site = run.site; count = n }))) ≡ false
 
--- the entries of the join of two lists of cells that rise, with the tests of what each side knows
-abbrev pub joined_entries : (Dot → Bool) → (Dot → Bool) → List LiveDot → List LiveDot → List (Dot × Holding)
-joined_entries ours theirs [] others = unknown_to ours others
-joined_entries ours theirs (c ∷ cells) others = joined_from ours theirs c (joined_entries ours theirs cells) others
+-- the first of the dots of a run, from a count on, that are live here and not there, or none where none is so
+abbrev pub IsNextDead : Run → map.FinMap dot_cmp Holding → ℕ → map.FinMap dot_cmp Holding → Option Dot → Type 0
+IsNextDead run there first live None = (n : ℕ) → first ≤ n → n ≤ run.last → (map.contains_key live (record { site = run.site; count = n }) && not (map.contains_key there (record { site = run.site; count = n }))) ≡ false
+IsNextDead run there first live (Some dot) = IsFirstDead run there first live dot
 
--- which side has the least dot that is left: `Less` where the first has it, `Equal` where both have it
-abbrev pub next_order : List LiveDot → List LiveDot → Ordering
-next_order = next_by (on (λ c. c.dot) dot_cmp)
+-- the dots that pass a test are live no more, and nothing else has changed
+pub record IsThinned (dead : Dot → Bool) (old new : LiveState) : Type 0 where
+  pub live : (q : Dot) → map.get new.live q ≡ (if dead q then None else map.get old.live q)
+  pub ids : (q : Dot) → map.get new.ids q ≡ (if dead q then None else map.get old.ids q)
+  pub follow : IdsFollow old.ids old.spent new.ids new.spent
+  pub room : old.room + map.len new.live ≤ new.room + map.len old.live
 
--- fields with those that they are joined with, if any
-abbrev pub fields_with : DotFields → Option (Bor DotFields) → DotFields
-fields_with fields None = fields
-fields_with fields (Some other) = fields_joined fields other.now
+-- dots have become live, with ids that no dot had before, and the others have theirs as before
+pub record HaveGrown (old new : LiveState) : Type 0 where
+  pub kept : (q : Dot) (id : Id) → map.get old.ids q ≡ Some id → map.get new.ids q ≡ Some id
+  pub fresh : (q : Dot) (id : Id) → map.get old.ids q ≡ None → map.get new.ids q ≡ Some id → IsNew old.ids old.spent old.spent id
+  pub spent : new.spent ≡ old.spent
 
--- what is kept of one dot, as an entry
-abbrev pub kept_entry : Kept → Dot × Holding
-kept_entry k = (k.cell.now.dot, (k.cell.now.member, fields_with k.cell.now.fields k.other))
+-- what is live of a dot once what is live of it there, if anything, was taken in
+abbrev pub holding_with : Option Holding → Bool → Option Holding → Option Holding
+holding_with live known None = live
+holding_with live known (Some h) = holding_joined live known (Some h) true
 
--- and as a list, of one entry or none
-abbrev pub kept_entries : Option Kept → List (Dot × Holding)
-kept_entries None = []
-kept_entries (Some k) = kept_entry k ∷ []
+-- a cell was taken in
+pub record IsTakenIn (known : Dot → Bool) (old : LiveState) (cell : LiveDot) (new : LiveState) : Type 0 where
+  pub live : (q : Dot) → map.get new.live q ≡ (if eq_by_cmp dot_cmp q cell.dot then holding_with (map.get old.live q) (known q) (Some (holding cell)) else map.get old.live q)
+  pub ids : HaveGrown old new
+  pub few : map.len new.live ≤ map.len old.live + 1
+  pub room : old.room ≤ new.room
 
--- fields agree with those that they are joined with, if any
-abbrev pub FieldsAgreeWith : DotFields → Option (Bor DotFields) → Type 0
-FieldsAgreeWith fields None = Unit {0}
-FieldsAgreeWith fields (Some other) = FieldsAgree fields other.now
+-- all that is live there was taken in
+pub record IsJoinedWith (known : Dot → Bool) (old : LiveState) (there : map.FinMap dot_cmp Holding) (new : LiveState) : Type 0 where
+  pub live : (q : Dot) → map.get new.live q ≡ holding_with (map.get old.live q) (known q) (map.get there q)
+  pub ids : HaveGrown old new

@@ -4,12 +4,16 @@ pub use Rattle.dots.specs.DotSets
 pub use Rattle.dots.specs.Registers
 pub use Rattle.dots.specs.Conditions
 pub use Rattle.dots.specs.Rows
+pub mod CellIds
 pub mod Members
+pub mod LiveStates
+pub mod PlacedLists
 pub mod Reads
 pub mod Refusals
 pub mod LiveDots
 pub mod LiveLists
 pub mod Index
+pub mod PlacedStates
 pub mod Joining
 pub mod ShownRows
 pub mod Gathering

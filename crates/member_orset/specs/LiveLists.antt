@@ -1,5 +1,5 @@
 -- The cells of a set, and what contracts see of them.
-use Rattle.std.specs.Prelude.{ℕ, ◌≡◌, ◌≢◌, ◌⊎◌, ◌≤◌, ◌<◌, Bool, true, false, Option, Some, None, List, length, map, slice_index_or, slice_set, IsTrue}
+use Rattle.std.specs.Prelude.{ℕ, ◌≡◌, ◌≢◌, ◌⊎◌, ◌≤◌, ◌<◌, true, Option, Some, None, List, length, map, slice_index_or, IsTrue}
 use Rattle.std.specs.List.{All, AllWithin}
 use Rattle.std.specs.Ordering.{is_lt}
 use Rattle.std.specs.FinMap as maps
@@ -7,8 +7,7 @@ use Rattle.std.specs.FinSet as set
 use Rattle.dots.specs.declared.limits.TheConstants.{MOST_LIVE}
 use Rattle.dots.specs.Values.{Dot}
 use Rattle.dots.specs.Orders.{dot_cmp}
-use Rattle.dots.specs.declared.member.Member.{Member}
-use Rattle.dots.specs.Conditions.{DotFields, FieldsAgree, fields_joined, FieldsInConflict}
+use Rattle.dots.specs.Conditions.{FieldsAgree, FieldsInConflict}
 use Rattle.member_orset.specs.declared.live_dot.LiveDot.{LiveDot}
 use Rattle.member_orset.specs.Members.{Members, Holding, HasField}
 
@@ -37,7 +36,7 @@ pub record AreCells (cells : List LiveDot) (known : set.FinSet dot_cmp) : Type 0
 
 -- the set of cells and of the dots that are known, whatever room there is
 abbrev pub members_of : List LiveDot → set.FinSet dot_cmp → Members
-members_of cells known = record { known = known; live = live_of cells; retired = 0; cell_room = 0; run_room = 0 }
+members_of cells known = record { known = known; live = live_of cells; ids = maps.empty; spent = set.empty; retired = 0; cell_room = 0; run_room = 0 }
 
 -- a dot's cell stands at a place
 pub record IsAt (cells : List LiveDot) (dot : Dot) (place : ℕ) : Type 0 where
@@ -51,22 +50,6 @@ pub record IsGap (cells : List LiveDot) (dot : Dot) (place : ℕ) : Type 0 where
   pub before : AllWithin (λ c. is_lt (dot_cmp c.dot dot) ≡ true) cells 0 place
   pub after : (d : LiveDot) → place < length cells → is_lt (dot_cmp dot (slice_index_or cells place d).dot) ≡ true
 
--- the cell at a place is of another member, or has a field of one stamp and another value
-abbrev pub ConflictsAt : List LiveDot → ℕ → Member → DotFields → Type 0
-ConflictsAt cells place member fields = (d : LiveDot) → ((slice_index_or cells place d).member ≢ member) ⊎ FieldsInConflict (slice_index_or cells place d).fields fields
-
--- the cell at a place is of the member, agrees with the fields, and has been joined with them
-pub record Meets (cells : List LiveDot) (place : ℕ) (member : Member) (fields : DotFields) (after : List LiveDot) : Type 0 where
-  pub cell : LiveDot
-  pub here : (d : LiveDot) → slice_index_or cells place d ≡ cell
-  pub one_member : cell.member ≡ member
-  pub agree : FieldsAgree cell.fields fields
-  pub joined : LiveDot
-  pub dot_kept : joined.dot ≡ cell.dot
-  pub member_kept : joined.member ≡ cell.member
-  pub fields_are : joined.fields ≡ fields_joined cell.fields fields
-  pub after_is : after ≡ slice_set cells place joined
-
 -- what is live agrees with what a dot is to be joined with, in member and fields
 abbrev pub HoldingsAgree : Option Holding → Holding → Type 0
 HoldingsAgree None g = Unit {0}
@@ -76,16 +59,3 @@ HoldingsAgree (Some h) g = (h.0 ≡ g.0) × FieldsAgree h.1 g.1
 abbrev pub HoldingsConflict : Option Holding → Holding → Type 0
 HoldingsConflict None g = ⊥
 HoldingsConflict (Some h) g = (h.0 ≢ g.0) ⊎ FieldsInConflict h.1 g.1
-
--- a cell that is in conflict with what is live of its dot
-pub record Clash (live : maps.FinMap dot_cmp Holding) (others : List LiveDot) : Type 0 where
-  pub place : ℕ
-  pub within : place < length others
-  pub cell : LiveDot
-  pub here : (d : LiveDot) → slice_index_or others place d ≡ cell
-  pub conflict : HoldingsConflict (maps.get live cell.dot) (holding cell)
-
--- the answer whether all cells agree with what is live of their dots
-abbrev pub IsTold : maps.FinMap dot_cmp Holding → List LiveDot → Bool → Type 0
-IsTold live others true = All (λ c. HoldingsAgree (maps.get live c.dot) (holding c)) others
-IsTold live others false = Clash live others

@@ -13,18 +13,24 @@ use Rattle.dots.specs.Orders.{dot_cmp}
 use Rattle.dots.specs.DotSets.{dot_code, run_count}
 use Rattle.dots.specs.Conditions.{DotFields, Condition, Live, Dead, ConditionsAgree, FieldsInConflict, condition_joined, no_fields}
 use Rattle.dots.specs.Rows.{DotView}
-use Rattle.member_orset.specs.declared.join_fault.JoinFault.{JoinFault}
 use Rattle.dots.specs.Codes.{member_code, fields_code}
+use Rattle.op_arena.specs.Ids.{Id, id_code}
+use Rattle.member_orset.specs.declared.join_fault.JoinFault.{JoinFault}
+use Rattle.member_orset.specs.declared.places.TheConstants.{LAST_GENERATION}
+use Rattle.member_orset.specs.CellIds.{AreApart, IdMap, IdSet, IdsFollow, retired_of}
 
 -- the member and the fields of a live dot
 abbrev pub Holding : Type 0
 Holding = Member × DotFields
 
--- A set of members. A known dot that isn't live is dead; of the others nothing is known. `retired` and the rooms say
--- nothing of members: how many places of dead dots aren't used again, and for how many live dots and runs there is room.
+-- A set of members. A known dot that isn't live is dead; of the others nothing is known. The rest says nothing of members:
+-- the ids of the live dots, those of dots that are live no more, how many places of dead dots aren't used again, and for
+-- how many live dots and runs there is room.
 pub record Members : Type 0 where
   pub known : set.FinSet dot_cmp
   pub live : map.FinMap dot_cmp Holding
+  pub ids : IdMap
+  pub spent : IdSet
   pub retired : ℕ
   pub cell_room : ℕ
   pub run_room : ℕ
@@ -32,10 +38,10 @@ pub record Members : Type 0 where
 -- it is stored as the tuple of these
 abbrev pub members_code : Coded Members
 members_code =
-    code_by (set.FinSet dot_cmp × (map.FinMap dot_cmp Holding × (ℕ × (ℕ × ℕ))))
-    (coded× (set.code dot_code) (coded× (map.code dot_code (coded× member_code fields_code)) (coded× coded_ℕ (coded× coded_ℕ coded_ℕ))))
-    (λ s. (s.known, (s.live, (s.retired, (s.cell_room, s.run_room)))))
-    (λ p. record { known = p.0; live = p.1.0; retired = p.1.1.0; cell_room = p.1.1.1.0; run_room = p.1.1.1.1 }) (λ _. refl)
+    code_by (set.FinSet dot_cmp × (map.FinMap dot_cmp Holding × (IdMap × (IdSet × (ℕ × (ℕ × ℕ))))))
+    (coded× (set.code dot_code) (coded× (map.code dot_code (coded× member_code fields_code)) (coded× (map.code dot_code id_code) (coded× (set.code id_code) (coded× coded_ℕ (coded× coded_ℕ coded_ℕ))))))
+    (λ s. (s.known, (s.live, (s.ids, (s.spent, (s.retired, (s.cell_room, s.run_room)))))))
+    (λ p. record { known = p.0; live = p.1.0; ids = p.1.1.0; spent = p.1.1.1.0; retired = p.1.1.1.1.0; cell_room = p.1.1.1.1.1.0; run_room = p.1.1.1.1.1.1 }) (λ _. refl)
 
 -- what is said of a dot by what is live and by whether it is known
 abbrev pub condition_at : Option Holding → Bool → Option Condition
@@ -52,11 +58,17 @@ pub record SaysTheSame (s t : Members) : Type 0 where
   pub known : t.known ≡ s.known
   pub live : t.live ≡ s.live
 
--- a set says the same as before, and as many places aren't used again; its rooms may have grown
+-- a set says the same as before, and each id is as before; its rooms may have grown
 pub record IsUnchanged (old new : Members) : Type 0 where
   pub known : new.known ≡ old.known
   pub live : new.live ≡ old.live
+  pub ids : new.ids ≡ old.ids
+  pub spent : new.spent ≡ old.spent
   pub retired : new.retired ≡ old.retired
+
+-- the ids that a set gives follow those of the set before
+abbrev pub KeepsIds : Members → Members → Type 0
+KeepsIds old new = IdsFollow old.ids old.spent new.ids new.spent
 
 -- some field is set
 abbrev pub HasField : DotFields → Type 0
@@ -67,26 +79,46 @@ pub record IsLiveIn (s : Members) (dot : Dot) (h : Holding) : Type 0 where
   pub known : set.contains s.known dot ≡ true
   pub set : HasField h.1
 
+-- what a set keeps: few enough dots are live, each known and with a field
+pub record AreKept (known : set.FinSet dot_cmp) (live : map.FinMap dot_cmp Holding) : Type 0 where
+  pub few : map.len live ≤ MOST_LIVE
+  pub heard : (dot : Dot) (h : Holding) → map.get live dot ≡ Some h → set.contains known dot ≡ true
+  pub set : (dot : Dot) (h : Holding) → map.get live dot ≡ Some h → HasField h.1
+
+-- the live dot that has an id, with its member and fields
+pub record HasId (s : Members) (id : Id) (h : Holding) : Type 0 where
+  pub dot : Dot
+  pub named : map.get s.ids dot ≡ Some id
+  pub live : map.get s.live dot ≡ Some h
+
 -- the greatest number of places of cells
 abbrev pub most_places : ℕ
 most_places = 1048576
 
--- what holds of every set: few enough live dots, places and runs, and of each live dot
+-- what holds of every set: few enough live dots, places and runs; each live dot is known, has a field, and alone has an id,
+-- which isn't spent; and the places that aren't used again are those of the spent ids of the last generation
 pub record IsWithinLimits (s : Members) : Type 0 where
   pub cells : map.len s.live ≤ MOST_LIVE
   pub places : s.retired + map.len s.live ≤ most_places
   pub runs : run_count s.known ≤ MOST_RUNS
   pub held : (dot : Dot) (h : Holding) → map.get s.live dot ≡ Some h → IsLiveIn s dot h
+  pub named : (dot : Dot) → map.contains_key s.ids dot ≡ map.contains_key s.live dot
+  pub apart : AreApart s.ids s.spent
+  pub worn : s.retired ≡ retired_of LAST_GENERATION s.spent
 
--- what is read of a set: its live dots are the visible ones
-abbrev pub dot_view_of : Members → DotView
-dot_view_of s = record {
-  visible = set.from_list (map.keys s.live);
-  member = λ dot. option_map (λ h. h.0) (map.get s.live dot);
-  penalty = λ dot. option_and_then (λ h. h.1.penalty) (map.get s.live dot);
-  pause = λ dot. option_and_then (λ h. h.1.pause) (map.get s.live dot);
-  label = λ dot. option_and_then (λ h. h.1.label) (map.get s.live dot);
+-- what is read of live dots: they are the visible ones
+abbrev pub view_of : map.FinMap dot_cmp Holding → DotView
+view_of live = record {
+  visible = set.from_list (map.keys live);
+  member = λ dot. option_map (λ h. h.0) (map.get live dot);
+  penalty = λ dot. option_and_then (λ h. h.1.penalty) (map.get live dot);
+  pause = λ dot. option_and_then (λ h. h.1.pause) (map.get live dot);
+  label = λ dot. option_and_then (λ h. h.1.label) (map.get live dot);
 }
+
+-- what is read of a set
+abbrev pub dot_view_of : Members → DotView
+dot_view_of s = view_of s.live
 
 -- the conditions that are left where one dot is joined with one more condition
 abbrev pub joined_at : Members → Dot → Condition → Dot → Option Condition
@@ -101,19 +133,32 @@ ConditionsConflict (Some (Live m f)) None = ⊥
 ConditionsConflict (Some Dead) y = ⊥
 ConditionsConflict None y = ⊥
 
+-- how many live dots there are of so many with one more, which may be known already
+abbrev pub live_with : ℕ → Bool → ℕ
+live_with live known = if known then live else live + 1
+
 -- how many live dots there are once a dot is live that may be known already
 abbrev pub cells_with : Members → Dot → ℕ
-cells_with s dot = if set.contains s.known dot then map.len s.live else map.len s.live + 1
+cells_with s dot = live_with (map.len s.live) (set.contains s.known dot)
+
+-- a side with so many places in use, or not to be used again, can take what leaves so many live dots, of which the other
+-- side has so many
+pub record HasPlacesFor (used after other : ℕ) : Type 0 where
+  pub few : after ≤ MOST_LIVE
+  pub places : used + other ≤ most_places
+
+-- or it can't
+abbrev pub LacksPlacesFor : ℕ → ℕ → ℕ → Type 0
+LacksPlacesFor used after other = (MOST_LIVE < after) ⊎ (most_places < used + other)
 
 -- a set can take what leaves so many live dots, of which the other side has so many: they are few enough, and so are
 -- the places that aren't used again with the live dots of both sides
-pub record HasPlaces (s : Members) (after other : ℕ) : Type 0 where
-  pub few : after ≤ MOST_LIVE
-  pub places : s.retired + map.len s.live + other ≤ most_places
+abbrev pub HasPlaces : Members → ℕ → ℕ → Type 0
+HasPlaces s after other = HasPlacesFor (s.retired + map.len s.live) after other
 
 -- or it can't
 abbrev pub LacksPlaces : Members → ℕ → ℕ → Type 0
-LacksPlaces s after other = (MOST_LIVE < after) ⊎ (most_places < s.retired + map.len s.live + other)
+LacksPlaces s after other = LacksPlacesFor (s.retired + map.len s.live) after other
 
 -- a dot whose conditions in two sets are in conflict
 pub record Conflicts (s t : Members) : Type 0 where
@@ -121,10 +166,14 @@ pub record Conflicts (s t : Members) : Type 0 where
   pub conflict : ConditionsConflict (condition_of s dot) (condition_of t dot)
 
 -- a dot that is live with a member
-pub record IsPresent (s : Members) (member : Member) : Type 0 where
+pub record IsPresentIn (dots : map.FinMap dot_cmp Holding) (member : Member) : Type 0 where
   pub dot : Dot
   pub fields : DotFields
-  pub live : map.get s.live dot ≡ Some (member, fields)
+  pub live : map.get dots dot ≡ Some (member, fields)
+
+-- a set has such a dot
+abbrev pub IsPresent : Members → Member → Type 0
+IsPresent s member = IsPresentIn s.live member
 
 -- both can be joined: each dot's conditions agree
 abbrev pub CanBeJoined : Members → Members → Type 0

@@ -1,5 +1,5 @@
 -- What callers read of a set: cells and rows that are lent, and the dots that given ones stand for.
-use Rattle.std.specs.Prelude.{not, ◌&&◌, List}
+use Rattle.std.specs.Prelude.{Bool, not, ◌&&◌, List}
 use Rattle.std.specs.FinMap as map
 use Rattle.std.specs.FinSet as set
 use Rattle.dots.specs.Values.{Dot}
@@ -13,12 +13,11 @@ abbrev pub cell_read : Cell → Holding
 cell_read c = (c.member.now, c.fields.now)
 
 -- given dots, with the dead ones that are older: known, and not live
-unfoldable pub seen_dots : set.FinSet dot_cmp → map.FinMap dot_cmp Holding → List Dot
-    → set.FinSet dot_cmp
+unfoldable pub seen_dots : set.FinSet dot_cmp → (Dot → Bool) → List Dot → set.FinSet dot_cmp
 seen_dots known live given =
     set.union (set.from_list given)
-    (set.retain known (λ dot. not (map.contains_key live dot) && is_older given dot))
+    (set.retain known (λ dot. not (live dot) && is_older given dot))
 
 -- what a set has seen below given dots: these, with all dots that are dead in the set and older
 abbrev pub dots_seen_below : Members → List Dot → set.FinSet dot_cmp
-dots_seen_below s given = seen_dots s.known s.live given
+dots_seen_below s given = seen_dots s.known (map.contains_key s.live) given

@@ -12,7 +12,7 @@ use Rattle.dots.specs.Conditions.{DotFields, fields_joined}
 use Rattle.dots.specs.Knowledge.{latest_of}
 use Rattle.dots.specs.Rows.{DotView, MemberRow, rows_of}
 use Rattle.member_orset.specs.declared.latest.Latest.{Latest}
-use Rattle.member_orset.specs.declared.listed.Listed.{Listed}
+use Rattle.member_orset.specs.Index.{Listed}
 use Rattle.member_orset.specs.declared.live_dot.LiveDot.{LiveDot}
 use Rattle.member_orset.specs.Members.{Holding, dot_view_of}
 use Rattle.member_orset.specs.LiveLists.{members_of}

@@ -1,11 +1,13 @@
+//! Whether what is live in two sets can be joined.
 ghost use Rattle.std.specs.Prelude.{◌≡◌, ◌↔◌, IsTrue, IsFalse};
 ghost use Rattle.std.specs.FinMap as map;
-ghost use Rattle.dots.specs.Orders.{dot_cmp};
-ghost use Rattle.member_orset.specs.LiveLists.{HoldingsAgree, HoldingsConflict, IsTold, entries_of, holding, live_of};
+ghost use Rattle.member_orset.specs.LiveLists.{HoldingsAgree, HoldingsConflict};
+ghost use Rattle.member_orset.specs.Joining.{IsTold};
 
-use crate::live_dot::LiveDot;
-use crate::search::cell_at;
-use dots::Member;
+use crate::live_cells::LiveCells;
+use crate::places::LAST_GENERATION;
+use dots::{Dot, Member};
+use lww_registers::Fields;
 
 // Whether both are the same member.
 pub(crate) fn is_same_member(member: &Member, other: &Member) -> bool
@@ -14,31 +16,33 @@ pub(crate) fn is_same_member(member: &Member, other: &Member) -> bool
     *member == *other
 }
 
-// Whether a cell can be joined with the one of its dot, where there is one.
-fn agrees_with(cells: &[LiveDot], other: &LiveDot) -> bool
-    requires { IsTrue (map.is_sorted dot_cmp (entries_of cells.now)) }
+// Whether a dot can be live with a member and fields, beside what it is live with, if it is.
+pub(crate) fn agrees_with(
+    cells: &LiveCells<LAST_GENERATION>,
+    dot: Dot,
+    member: &Member,
+    fields: &Fields,
+) -> bool
     ensures agree { IsTrue result
-        ↔ HoldingsAgree (map.get (live_of cells.now) other.now.dot)
-        (holding other.now) }
+        ↔ HoldingsAgree (map.get cells.now.live dot) (member.now, fields.now) }
     ensures conflict { IsFalse result
-        ↔ HoldingsConflict (map.get (live_of cells.now) other.now.dot)
-        (holding other.now) }
+        ↔ HoldingsConflict (map.get cells.now.live dot) (member.now, fields.now) }
 {
-    match cell_at(cells, other.dot) {
-        Some(cell) => {
-            is_same_member(cell.member, &other.member) && cell.fields.agrees(&other.fields)
-        }
+    match cells.get(dot) {
+        Some(cell) => is_same_member(cell.member, member) && cell.fields.agrees(fields),
         None => true,
     }
 }
 
-// Whether all cells can be joined with those of their dots.
-pub(crate) fn cells_agree(cells: &[LiveDot], others: &[LiveDot]) -> bool
-    requires { IsTrue (map.is_sorted dot_cmp (entries_of cells.now)) }
-    ensures { IsTold (live_of cells.now) others.now result }
+// Whether all that is live here can be joined with all that is live there.
+pub(crate) fn cells_agree(
+    cells: &LiveCells<LAST_GENERATION>,
+    others: &LiveCells<LAST_GENERATION>,
+) -> bool
+    ensures { IsTold cells.now.live (map.entries others.now.live) result }
 {
-    for other in others {
-        if !agrees_with(cells, other) {
+    for (dot, cell) in others.iter() {
+        if !agrees_with(cells, dot, cell.member, cell.fields) {
             return false;
         }
     }

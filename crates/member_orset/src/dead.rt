@@ -4,30 +4,30 @@ ghost use Rattle.std.specs.FinMap as map;
 ghost use Rattle.dots.specs.Orders.{dot_cmp};
 ghost use Rattle.dots.specs.DotSets.{run_count};
 ghost use Rattle.member_orset.specs.LiveDots.{dead_dots};
-ghost use Rattle.member_orset.specs.LiveLists.{entries_of, live_of};
+ghost use Rattle.member_orset.specs.PlacedLists.{AreRising, is_placed};
 
 use crate::gathered::Gathered;
-use crate::live_dot::LiveDot;
+use crate::placed::Placed;
 use crate::site_walk::gather_site;
 use causal_context::{Context, ContextFault};
 use dots::{MOST_COUNT, MOST_RUNS, SiteId};
 use std::alloc::Global;
 
-// The dots of a site that a context has and that have no cell.
+// The dots of a site that a context has and that aren't live.
 pub(crate) fn gather_dead(
     alloc: Global,
     context: &Context,
-    cells: &[LiveDot],
+    dots: &[Placed],
     site: SiteId,
 ) -> Result<Context, ContextFault>
-    requires { IsTrue (map.is_sorted dot_cmp (entries_of cells.now)) }
+    requires { AreRising dots.now }
     ensures ok { IfOk result
-        (λ dead. dead.dots ≡ dead_dots context.now.dots (live_of cells.now) site) }
+        (λ dead. dead.dots ≡ dead_dots context.now.dots (is_placed dots.now) site) }
     ensures full { (result ≡ Err ContextFault.RunsFull)
-        ↔ (MOST_RUNS < run_count (dead_dots context.now.dots (live_of cells.now) site)) }
+        ↔ (MOST_RUNS < run_count (dead_dots context.now.dots (is_placed dots.now) site)) }
 {
     let runs = context.as_slice();
     let mut gathered = Gathered::none(alloc);
-    gather_site(&mut gathered, runs, cells, &[], site, MOST_COUNT);
+    gather_site(&mut gathered, runs, dots, &[], site, MOST_COUNT);
     gathered.finish()
 }

@@ -1,21 +1,13 @@
-ghost use Rattle.std.specs.Prelude.{◌≡◌, IsTrue};
-ghost use Rattle.std.specs.FinMap as map;
+ghost use Rattle.std.specs.Prelude.{◌≡◌};
 ghost use Rattle.std.specs.Option.{option_map};
 ghost use Rattle.dots.specs.Registers.{join_of};
 ghost use Rattle.dots.specs.Conditions.{fields_joined};
-ghost use Rattle.dots.specs.Orders.{dot_cmp};
-ghost use Rattle.dots.specs.Rows.{row_of, row_of_fields};
+ghost use Rattle.dots.specs.Rows.{row_of_fields};
 ghost use Rattle.dots.specs.Views.{row_view};
-ghost use Rattle.member_orset.specs.LiveLists.{entries_of, live_of};
-ghost use Rattle.member_orset.specs.Index.{IsIndex};
-ghost use Rattle.member_orset.specs.ShownRows.{cells_view, dots_listed, fields_after, fields_held, fields_shown, latest_fields};
+ghost use Rattle.member_orset.specs.ShownRows.{fields_after, latest_fields};
 
 use crate::Row;
-use crate::groups::group_of;
-use crate::listed::Listed;
-use crate::live_dot::LiveDot;
-use crate::search::cell_at;
-use dots::{Label, Member, Pause, Penalty};
+use dots::{Label, Pause, Penalty};
 use lww_registers::{Fields, Register};
 
 // The registers of the latest stamps over some cells, lent.
@@ -95,7 +87,7 @@ impl<'a> Latest<'a> {
 }
 
 // Those of the cells before, if any, with those of a cell that follows.
-fn after<'a>(latest: Option<Latest<'a>>, fields: &'a Fields) -> Latest<'a>
+pub(crate) fn after<'a>(latest: Option<Latest<'a>>, fields: &'a Fields) -> Latest<'a>
     ensures { latest_fields result
         ≡ fields_after (option_map latest_fields latest.entry) fields.now }
 {
@@ -103,29 +95,4 @@ fn after<'a>(latest: Option<Latest<'a>>, fields: &'a Fields) -> Latest<'a>
         Some(latest) => latest.and(fields),
         None => Latest::of(fields),
     }
-}
-
-// Those of the dots of some entries, where one is live.
-fn latest_in<'a>(cells: &'a [LiveDot], entries: &[Listed]) -> Option<Latest<'a>>
-    requires { IsTrue (map.is_sorted dot_cmp (entries_of cells.now)) }
-    ensures { option_map latest_fields result
-        ≡ fields_shown (fields_held (live_of cells.now) (dots_listed entries.now)) }
-{
-    let mut latest = None;
-    for entry in entries {
-        if let Some(cell) = cell_at(cells, entry.dot) {
-            latest = Some(after(latest, cell.fields));
-        }
-    }
-    latest
-}
-
-// The row of a member, where it has a live dot. The index is that of the cells.
-pub(crate) fn row_in<'a>(cells: &'a [LiveDot], index: &[Listed], member: &Member) -> Option<Row<'a>>
-    requires rise { IsTrue (map.is_sorted dot_cmp (entries_of cells.now)) }
-    requires index { IsIndex index.now (live_of cells.now) }
-    ensures { option_map row_view result ≡ row_of (cells_view cells.now) member.now }
-{
-    let latest = latest_in(cells, group_of(index, member))?;
-    Some(latest.row())
 }

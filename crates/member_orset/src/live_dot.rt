@@ -1,7 +1,10 @@
 ghost use Rattle.std.specs.Prelude.{◌≡◌};
+ghost use Rattle.std.specs.Ordering.{is_lt};
+ghost use Rattle.member_orset.specs.Index.{listed_cmp, listing};
+ghost use Rattle.member_orset.specs.LiveLists.{holding};
+ghost use Rattle.member_orset.specs.Reads.{cell_read};
 
-use crate::copies::Copies;
-use crate::listed::Listed;
+use crate::Cell;
 use dots::{Dot, Member};
 use lww_registers::Fields;
 
@@ -14,19 +17,28 @@ pub(crate) struct LiveDot {
 }
 
 impl LiveDot {
-    // The dot as the index of members has it.
-    pub(crate) fn listed(&self) -> Listed
-        ensures { result ≡ record { member = self.now.member; dot = self.now.dot } }
+    // Its member and fields, lent.
+    pub(crate) fn lent(&self) -> Cell<'_>
+        ensures { cell_read result ≡ holding self.now }
     {
-        Listed {
-            member: self.member.copy(),
-            dot: self.dot,
+        Cell {
+            member: &self.member,
+            fields: &self.fields,
         }
     }
-}
 
-impl Copies for LiveDot {
-    fn copy(&self) -> LiveDot {
+    // Whether it lies before another one in the index of members.
+    pub(crate) fn is_listed_before(&self, other: &LiveDot) -> bool
+        ensures { result ≡ is_lt (listed_cmp (listing self.now) (listing other.now)) }
+    {
+        let by_member = self.member.cmp(&other.member);
+        by_member.then(self.dot.cmp(&other.dot)).is_lt()
+    }
+
+    // The same once more.
+    pub(crate) fn copy(&self) -> LiveDot
+        ensures { result ≡ self.now }
+    {
         LiveDot {
             dot: self.dot,
             member: self.member.copy(),

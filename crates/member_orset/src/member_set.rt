@@ -1,4 +1,4 @@
-ghost use Rattle.std.specs.Prelude.{◌≡◌, ◌≢◌, ◌↔◌, ◌<◌, ◌≤◌, true, IfErr, IfOk, IsFalse, IsOk, IsTrue, OnOk, OnErr};
+ghost use Rattle.std.specs.Prelude.{◌≡◌, ◌≢◌, ◌↔◌, ◌<◌, ◌≤◌, Err, None, true, IfErr, IfOk, IfSome, IsFalse, IsOk, IsTrue, OnOk, OnErr};
 ghost use Rattle.std.specs.Option.{option_map};
 ghost use Rattle.std.specs.FinMap as map;
 ghost use Rattle.std.specs.FinSet as set;
@@ -6,73 +6,67 @@ ghost use Rattle.dots.specs.Values.{Dot};
 ghost use Rattle.dots.specs.DotSets.{run_count};
 ghost use Rattle.dots.specs.Rows.{dots_of, row_of, rows_of};
 ghost use Rattle.dots.specs.Conditions.{Live, Dead};
-ghost use Rattle.member_orset.specs.Members.{CanBeJoined, Conflicts, HasField};
-ghost use Rattle.member_orset.specs.Members.{IsJoinOf, IsPrepared, IsPresent, IsRefusedFor};
-ghost use Rattle.member_orset.specs.Members.{IsUnchanged, IsWithinLimits, SaysTheSame};
-ghost use Rattle.member_orset.specs.Members.{cells_joined, condition_of, joined_at, dot_view_of};
+ghost use Rattle.member_orset.specs.CellIds.{retired_of};
+ghost use Rattle.member_orset.specs.Members.{AreKept, CanBeJoined, Conflicts, HasField, HasId};
+ghost use Rattle.member_orset.specs.Members.{HasPlaces, IsJoinOf, IsPrepared, IsPresent};
+ghost use Rattle.member_orset.specs.Members.{IsRefusedFor, IsUnchanged, IsWithinLimits, KeepsIds};
+ghost use Rattle.member_orset.specs.Members.{LacksPlaces, SaysTheSame, cells_joined};
+ghost use Rattle.member_orset.specs.Members.{condition_of, dot_view_of, joined_at};
 ghost use Rattle.member_orset.specs.LiveDots.{dead_dots_of, live_dots_without};
 ghost use Rattle.member_orset.specs.Refusals.{IsRefusedAssert, IsRefusedJoin, IsRefusedKill};
 ghost use Rattle.dots.specs.Views.{row_view};
 ghost use Rattle.member_orset.specs.Reads.{cell_read, dots_seen_below};
-ghost use Rattle.member_orset.specs.LiveLists.{live_of};
-ghost use Rattle.member_orset.specs.Index.{AreListed};
 
-use crate::agreement::cells_agree;
-use crate::copies::copy_all;
-use crate::counting::count_without;
+use crate::agreement::{agrees_with, cells_agree};
 use crate::dead::gather_dead;
-use crate::edits::{assert_dot, kill_dot};
-use crate::groups::has_member;
-use crate::index_joining::absorb_index;
-use crate::joining::{absorb_cells, joined_count, make_room};
-use crate::latest::row_in;
-use crate::listed::Listed;
+use crate::edits::{bring, has_place, learn, meet};
+use crate::joining::{count_kept, count_unknown, drop_dead, make_room, take_all};
+use crate::live_cells::LiveCells;
 use crate::live_dot::LiveDot;
+use crate::placed_lists::count_outside;
+use crate::places::{LAST_GENERATION, MOST_PLACES};
 use crate::sameness::{are_same_cells, is_same_context};
-use crate::search::cell_at;
 use crate::seen::gather;
 use crate::{Cell, Cells, Dots, JoinFault, Row, Rows};
 use causal_context::{Context, ContextFault};
 use dots::{Dot, MOST_LIVE, MOST_RUNS, Member, Memory, SiteId};
 use lww_registers::Fields;
+use op_arena::CellId;
 use std::alloc::Global;
 use std::marker::Model;
-
-// No place is kept of a dead dot.
-const NONE_RETIRED: u32 = 0;
 
 /// A set of queue members that is joined with others in any order (the optimized observed-remove set of RR-8083): it
 /// knows dots, some of them live, each with its member and fields, and all others dead. Of an unknown dot nothing is
 /// said. At most 16,384 dots are live, the known ones make at most 65,536 runs, and each live dot is known and has a
-/// field that is set.
+/// field that is set. While a dot is live it has an id, which no other dot ever has.
 #[derive(Drop)]
 pub struct MemberSet {
     context: Context,
-    cells: Vec<LiveDot>,
-    index: Vec<Listed>,
+    cells: LiveCells<LAST_GENERATION>,
 }
 
 impl Model for MemberSet {
-    ghost use Rattle.std.specs.Vec.{vec_capacity};
     ghost use Rattle.member_orset.specs.Members.{Members, members_code};
 
     ghost Value = { Members };
 
     ghost coded = { members_code };
 
-    ghost use Rattle.std.specs.Prelude.{min};
-    ghost use Rattle.member_orset.specs.LiveLists.{live_of};
-    ghost use Rattle.member_orset.specs.Index.{AreListed};
+    ghost use Rattle.member_orset.specs.CellIds.{retired_of};
+    ghost use Rattle.member_orset.specs.Members.{AreKept};
+    ghost use Rattle.member_orset.specs.declared.places.TheConstants.{LAST_GENERATION};
 
     ghost view = { λ s. record {
       known = s.context.dots;
-      live = live_of s.cells.items;
-      retired = 0;
-      cell_room = min (vec_capacity s.cells) (vec_capacity s.index);
+      live = s.cells.live;
+      ids = s.cells.ids;
+      spent = s.cells.spent;
+      retired = retired_of LAST_GENERATION s.cells.spent;
+      cell_room = s.cells.room;
       run_room = s.context.room;
     } };
 
-    ghost invariant = { λ s. AreListed s.cells.items s.index.items s.context.dots };
+    ghost invariant = { λ s. AreKept s.context.dots s.cells.live };
 }
 
 impl MemberSet {
@@ -80,27 +74,25 @@ impl MemberSet {
     pub fn new(alloc: Global) -> MemberSet
         ensures known { result.known ≡ set.empty }
         ensures live { result.live ≡ map.empty }
+        ensures spent { result.spent ≡ set.empty }
         ensures retired { result.retired ≡ 0 }
     {
         MemberSet {
             context: Context::new(alloc),
-            cells: Vec::new(alloc),
-            index: Vec::new(alloc),
+            cells: LiveCells::new(alloc),
         }
     }
 
-    // The set of a context, of cells and of their index.
-    pub(crate) fn of(context: Context, cells: Vec<LiveDot>, index: Vec<Listed>) -> MemberSet
-        requires { AreListed cells.items index.items context.dots }
+    // The set of a context and of live dots.
+    pub(crate) fn of(context: Context, cells: LiveCells<LAST_GENERATION>) -> MemberSet
+        requires { AreKept context.dots cells.live }
         ensures known { result.known ≡ context.dots }
-        ensures live { result.live ≡ live_of cells.items }
-        ensures retired { result.retired ≡ 0 }
+        ensures live { result.live ≡ cells.live }
+        ensures ids { result.ids ≡ cells.ids }
+        ensures spent { result.spent ≡ cells.spent }
+        ensures retired { result.retired ≡ retired_of LAST_GENERATION cells.spent }
     {
-        MemberSet {
-            context,
-            cells,
-            index,
-        }
+        MemberSet { context, cells }
     }
 
     /// The dots that it knows. It takes no memory, like all that only reads.
@@ -116,14 +108,15 @@ impl MemberSet {
         ensures limits { IsWithinLimits self.now }
     {
         let _ = self.context.runs(); // so that their limit is known
-        cell_at(&self.cells, dot)
+        let _ = self.cells.len(); // so that it is known what holds of them
+        self.cells.get(dot)
     }
 
     /// Whether a member is there: some dot is live with it.
     pub fn contains(&self, member: &Member) -> bool
         ensures { IsTrue result ↔ IsPresent self.now member.now }
     {
-        has_member(&self.index, member)
+        self.cells.contains(member)
     }
 
     /// How many dots are live: at most 16,384.
@@ -139,21 +132,22 @@ impl MemberSet {
     pub fn live_without(&self, dead: &Context) -> usize
         ensures { result ≡ set.len (live_dots_without self.now dead.now.dots) }
     {
-        count_without(&self.cells, dead)
+        let _ = self.cells.len(); // so that it is known what holds of them
+        count_outside(self.cells.placed(), dead.as_slice())
     }
 
     /// The live dots in their order, each with its cell.
     pub fn iter(&self) -> Cells<'_>
         ensures value { result ≡ map.entries self.now.live }
     {
-        Cells::of(&self.cells)
+        self.cells.iter()
     }
 
     /// The live dots of a member, in their order.
     pub fn dots(&self, member: &Member) -> Dots<'_>
         ensures { result ≡ dots_of (dot_view_of self.now) member.now }
     {
-        Dots::of(&self.index, member)
+        self.cells.dots(member)
     }
 
     /// The row of a member, where it has a live dot: each field is that of the greatest stamp over its live dots, of equal
@@ -161,7 +155,7 @@ impl MemberSet {
     pub fn row(&self, member: &Member) -> Option<Row<'_>>
         ensures { option_map row_view result ≡ row_of (dot_view_of self.now) member.now }
     {
-        row_in(&self.cells, &self.index, member)
+        self.cells.row(member)
     }
 
     /// The rows of a queue, one by one: each interface that has a live dot there once, with its row, in the order of the
@@ -169,15 +163,29 @@ impl MemberSet {
     pub fn rows(&self, queue: u16) -> Rows<'_>
         ensures { result ≡ rows_of (dot_view_of self.now) queue }
     {
-        Rows::of(&self.cells, &self.index, queue)
+        self.cells.rows(queue)
     }
 
-    /// How many places of dead dots aren't used again: none.
+    /// The id of a dot, where it is live. It keeps it while it is live, and then no dot has it again.
+    pub fn id(&self, dot: Dot) -> Option<CellId>
+        ensures { result ≡ map.get self.now.ids dot }
+    {
+        self.cells.id(dot)
+    }
+
+    /// The member and the fields of the live dot that has an id, where one has it.
+    pub fn at(&self, id: CellId) -> Option<Cell<'_>>
+        ensures some { IfSome result (λ cell. HasId self.now id (cell_read cell)) }
+        ensures none { result ≡ None → (dot : Dot) → map.get self.now.ids dot ≢ Some id }
+    {
+        self.cells.at(id)
+    }
+
+    /// How many places of dead dots aren't used again.
     pub fn retired(&self) -> u32
         ensures { result ≡ self.now.retired }
     {
-        let _ = &self.context; // so that it is seen what the set keeps
-        NONE_RETIRED
+        self.cells.retired()
     }
 
     /// Joins what it says of a dot with that the dot is dead: it is known then, and not live. No fault changes what it
@@ -192,9 +200,11 @@ impl MemberSet {
         ensures with_room { run_count self.old.known < self.old.run_room
             → result ≢ Err JoinFault.Memory }
         ensures err { OnErr result (IsUnchanged self.old self.new) }
-        ensures retired { self.new.retired ≡ self.old.retired }
+        ensures ids { KeepsIds self.old self.new }
     {
-        kill_dot(&mut self.context, &mut self.cells, &mut self.index, dot)
+        learn(&mut self.context, dot)?;
+        self.cells.remove(dot);
+        Ok(())
     }
 
     /// Joins what it says of a dot with that the dot is live, with this member and these fields, of which one is set: an
@@ -218,17 +228,25 @@ impl MemberSet {
             → run_count self.old.known < self.old.run_room
             → result ≢ Err JoinFault.Memory }
         ensures err { OnErr result (IsUnchanged self.old self.new) }
-        ensures retired { self.new.retired ≡ self.old.retired }
+        ensures ids { KeepsIds self.old self.new }
     {
         let _ = self.context.runs(); // so that their limit is known
-        assert_dot(
-            &mut self.context,
-            &mut self.cells,
-            &mut self.index,
+        if !agrees_with(&self.cells, dot, member, fields) {
+            return Err(JoinFault::Conflict);
+        }
+        if !has_place(&self.context, &self.cells, dot) {
+            return Err(JoinFault::CellsFull);
+        }
+        if self.context.contains(dot) {
+            meet(&mut self.cells, dot, fields.copy());
+            return Ok(());
+        }
+        let cell = LiveDot {
             dot,
-            member,
-            fields,
-        )
+            member: member.copy(),
+            fields: fields.copy(),
+        };
+        bring(&mut self.context, &mut self.cells, cell)
     }
 
     /// Whether both can be joined: no dot is live in both with two members, or with a field of one stamp and two values.
@@ -261,13 +279,12 @@ impl MemberSet {
         if !self.agrees(other) {
             return Err(JoinFault::Conflict);
         }
-        if self.joined_cells(other) > MOST_LIVE {
+        if !self.has_places(other) {
             return Err(JoinFault::CellsFull);
         }
         make_room(
             &mut self.context,
             &mut self.cells,
-            &mut self.index,
             &other.context,
             other.cells.len(),
         )
@@ -280,13 +297,13 @@ impl MemberSet {
         if !self.agrees(other) {
             return false;
         }
-        if self.joined_cells(other) > MOST_LIVE {
+        if !self.has_places(other) {
             return false;
         }
         if !self.context.prepared(&other.context) {
             return false;
         }
-        self.cells() + other.cells() <= self.cells.capacity().min(self.index.capacity())
+        self.cells.len() + other.cells.len() <= self.cells.room()
     }
 
     /// Joins what another set says that was prepared: each dot has the join of its two conditions. It takes no memory
@@ -294,11 +311,13 @@ impl MemberSet {
     pub fn absorb(&mut self, other: MemberSet)
         requires { IsPrepared self.old other }
         ensures joined { IsJoinOf self.old other self.new }
-        ensures retired { self.new.retired ≡ self.old.retired }
+        ensures ids { KeepsIds self.old self.new }
     {
-        absorb_cells(&self.context, &mut self.cells, &other.context, &other.cells);
-        absorb_index(&mut self.index, &other.index, &self.cells);
-        self.context.absorb(&other.context);
+        let MemberSet { context, cells } = other;
+        drop_dead(&mut self.cells, context.as_slice(), &cells);
+        take_all(&self.context, &mut self.cells, cells);
+        self.context.absorb(&context);
+        let _ = self.cells.len(); // so that it is known what holds of them
     }
 
     /// Joins what another set says: each dot has the join of its two conditions. A refused set comes back as it was, and
@@ -311,7 +330,7 @@ impl MemberSet {
         ensures prepared { IsPrepared self.old other → IsOk result }
         ensures back { IfErr result (λ refused. refused.1 ≡ other) }
         ensures err { OnErr result (IsUnchanged self.old self.new) }
-        ensures retired { self.new.retired ≡ self.old.retired }
+        ensures ids { KeepsIds self.old self.new }
     {
         if let Err(fault) = self.prepare(&other) {
             return Err((fault, other));
@@ -328,7 +347,13 @@ impl MemberSet {
         ensures full { (result ≡ Err ContextFault.RunsFull)
             ↔ (MOST_RUNS < run_count (dots_seen_below self.now given.now)) }
     {
-        gather(*self.cells.allocator(), &self.context, &self.cells, given)
+        let _ = self.cells.len(); // so that it is known what holds of them
+        gather(
+            self.cells.allocator(),
+            &self.context,
+            self.cells.placed(),
+            given,
+        )
     }
 
     /// The dead dots of a site: those that are known and not live. 1 `RunsFull`, exactly where they make more than 65,536
@@ -338,29 +363,46 @@ impl MemberSet {
         ensures full { (result ≡ Err ContextFault.RunsFull)
             ↔ (MOST_RUNS < run_count (dead_dots_of self.now site)) }
     {
-        gather_dead(*self.cells.allocator(), &self.context, &self.cells, site)
+        let _ = self.cells.len(); // so that it is known what holds of them
+        gather_dead(
+            self.cells.allocator(),
+            &self.context,
+            self.cells.placed(),
+            site,
+        )
     }
 
     // How many dots are live in the join with another set.
     fn joined_cells(&self, other: &MemberSet) -> usize
         ensures { result ≡ cells_joined self.now other.now }
     {
-        joined_count(&self.context, &self.cells, &other.context, &other.cells)
+        let _ = self.cells.len(); // so that it is known what holds of them
+        let _ = other.cells.len();
+        let kept = count_kept(self.cells.placed(), other.context.as_slice(), &other.cells);
+        kept + count_unknown(&self.context, other.cells.placed())
     }
 
-    /// Another set that says the same of each dot. The one fault is want of memory.
+    // Whether there are places for the join with another set.
+    fn has_places(&self, other: &MemberSet) -> bool
+        ensures there { IsTrue result
+            ↔ HasPlaces self.now (cells_joined self.now other.now) (map.len other.now.live) }
+        ensures missing { IsFalse result
+            ↔ LacksPlaces self.now (cells_joined self.now other.now) (map.len other.now.live) }
+    {
+        let used = self.cells.retired() as usize + self.cells.len();
+        self.joined_cells(other) <= MOST_LIVE && used + other.cells.len() <= MOST_PLACES
+    }
+
+    /// Another set that says the same of each dot, with ids of its own, and no place that isn't used again. The one fault is
+    /// want of memory.
     pub fn copy(&self) -> Result<MemberSet, Memory>
         ensures same { IfOk result (λ copy. SaysTheSame self.now copy) }
-        ensures retired { IfOk result (λ copy. copy.retired ≡ self.now.retired) }
+        ensures spent { IfOk result (λ copy. copy.spent ≡ set.empty) }
+        ensures retired { IfOk result (λ copy. copy.retired ≡ 0) }
     {
-        let cells = copy_all(*self.cells.allocator(), &self.cells)?;
-        let index = copy_all(*self.index.allocator(), &self.index)?;
+        let cells = self.cells.copy()?;
         match self.context.copy() {
-            Ok(context) => Ok(MemberSet {
-                context,
-                cells,
-                index,
-            }),
+            Ok(context) => Ok(MemberSet { context, cells }),
             Err(_) => Err(Memory),
         }
     }

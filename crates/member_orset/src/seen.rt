@@ -5,12 +5,12 @@ ghost use Rattle.std.specs.FinMap as map;
 ghost use Rattle.dots.specs.Values.{IsSite};
 ghost use Rattle.dots.specs.Orders.{dot_cmp};
 ghost use Rattle.dots.specs.DotSets.{run_count};
-ghost use Rattle.member_orset.specs.LiveLists.{entries_of, live_of};
+ghost use Rattle.member_orset.specs.PlacedLists.{AreRising, is_placed};
 ghost use Rattle.member_orset.specs.Reads.{seen_dots};
 ghost use Rattle.member_orset.specs.Gathering.{IsGreatest};
 
 use crate::gathered::Gathered;
-use crate::live_dot::LiveDot;
+use crate::placed::Placed;
 use crate::site_walk::gather_site;
 use causal_context::{Context, ContextFault};
 use dots::{Dot, MOST_COUNT, MOST_RUNS, SITES, SiteId};
@@ -37,15 +37,15 @@ fn greatest_of(given: &[Dot], site: SiteId) -> u64
 pub(crate) fn gather(
     alloc: Global,
     context: &Context,
-    cells: &[LiveDot],
+    dots: &[Placed],
     given: &[Dot],
 ) -> Result<Context, ContextFault>
-    requires { IsTrue (map.is_sorted dot_cmp (entries_of cells.now)) }
+    requires { AreRising dots.now }
     ensures ok { IfOk result
-        (λ seen. seen.dots ≡ seen_dots context.now.dots (live_of cells.now) given.now) }
+        (λ seen. seen.dots ≡ seen_dots context.now.dots (is_placed dots.now) given.now) }
     ensures full { (result ≡ Err ContextFault.RunsFull)
         ↔ (MOST_RUNS
-        < run_count (seen_dots context.now.dots (live_of cells.now) given.now)) }
+        < run_count (seen_dots context.now.dots (is_placed dots.now) given.now)) }
 {
     let runs = context.as_slice();
     let mut gathered = Gathered::none(alloc);
@@ -54,7 +54,7 @@ pub(crate) fn gather(
             return gathered.finish();
         };
         let last = greatest_of(given, site);
-        gather_site(&mut gathered, runs, cells, given, site, last);
+        gather_site(&mut gathered, runs, dots, given, site, last);
     }
     gathered.finish()
 }

@@ -1,55 +1,54 @@
-ghost use Rattle.std.specs.Prelude.{◌≡◌, ◌<◌, IsOk, IsSome, OnErr, OnOk, true};
+ghost use Rattle.std.specs.Prelude.{◌≡◌, ◌<◌, IfOk, IsOk, IsSome, OnErr, OnOk, true};
 ghost use Rattle.std.specs.FinMap as map;
 ghost use Rattle.std.specs.FinSet as set;
 ghost use Rattle.std.specs.declared.cmp.Ordering.TheVariants.{Less};
 ghost use Rattle.dots.specs.Values.{Dot};
 ghost use Rattle.dots.specs.Orders.{dot_cmp};
-ghost use Rattle.member_orset.specs.Members.{HasField, SaysTheSame};
+ghost use Rattle.member_orset.specs.Members.{HasField, KeepsIds, SaysTheSame};
 
 use crate::MemberSet;
-use crate::index::list_cells;
-use crate::listed::Listed;
+use crate::live_cells::LiveCells;
 use crate::live_dot::LiveDot;
+use crate::places::LAST_GENERATION;
 use causal_context::Context;
 use dots::{Dot, MOST_LIVE, Member, Memory};
 use lww_registers::Fields;
+use op_arena::CellId;
 use std::alloc::Global;
 use std::marker::Model;
 
 /// A set that is being made of its known dots: they are dead, but for those that are given a cell, one by one in their
-/// order. Room for the index of members is made with each cell; it is filled at the end.
+/// order. Each cell stands at once where the finished set has it.
 #[derive(Drop)]
 pub struct SetBuilder {
     context: Context,
-    cells: Vec<LiveDot>,
-    index: Vec<Listed>,
+    cells: LiveCells<LAST_GENERATION>,
 }
 
 impl Model for SetBuilder {
-    ghost use Rattle.std.specs.Vec.{vec_capacity};
     ghost use Rattle.member_orset.specs.Members.{Members, members_code};
 
     ghost Value = { Members };
 
     ghost coded = { members_code };
 
-    ghost use Rattle.std.specs.Prelude.{min};
-    ghost use Rattle.member_orset.specs.LiveLists.{live_of, AreCells};
-
     ghost view = { λ b. record {
       known = b.context.dots;
-      live = live_of b.cells.items;
+      live = b.cells.live;
+      ids = b.cells.ids;
+      spent = b.cells.spent;
       retired = 0;
-      cell_room = min (vec_capacity b.cells) (vec_capacity b.index);
+      cell_room = b.cells.room;
       run_room = b.context.room;
     } };
 
-    ghost use Rattle.std.specs.Prelude.{◌≡◌, ◌≤◌, [], vec_len};
+    ghost use Rattle.std.specs.Prelude.{◌≡◌};
+    ghost use Rattle.std.specs.FinSet as set;
+    ghost use Rattle.member_orset.specs.Members.{AreKept};
 
     ghost invariant = { λ b.
-        AreCells b.cells.items b.context.dots
-        × (vec_len b.cells ≤ vec_capacity b.index)
-        × (b.index.items ≡ []) };
+        AreKept b.context.dots b.cells.live
+        × (b.cells.spent ≡ set.empty) };
 }
 
 impl SetBuilder {
@@ -57,12 +56,12 @@ impl SetBuilder {
     pub fn new(alloc: Global, context: Context) -> SetBuilder
         ensures known { result.known ≡ context.dots }
         ensures live { result.live ≡ map.empty }
+        ensures ids { result.ids ≡ map.empty }
         ensures retired { result.retired ≡ 0 }
     {
         SetBuilder {
             context,
-            cells: Vec::new(alloc),
-            index: Vec::new(alloc),
+            cells: LiveCells::new(alloc),
         }
     }
 
@@ -73,10 +72,10 @@ impl SetBuilder {
         &self.context
     }
 
-    /// Makes a dot live, with its member and fields. It is one of the context and greater than those before, a field is
-    /// set, and fewer than 16,384 dots are live so far. The one fault is want of memory, which changes nothing, and comes
-    /// only where there is no room for one more live dot.
-    pub fn cell(&mut self, dot: Dot, member: &Member, fields: &Fields) -> Result<(), Memory>
+    /// Makes a dot live, with its member and fields, and answers its id. It is one of the context and greater than those
+    /// before, a field is set, and fewer than 16,384 dots are live so far. The one fault is want of memory, which changes
+    /// nothing, and comes only where there is no room for one more live dot.
+    pub fn cell(&mut self, dot: Dot, member: &Member, fields: &Fields) -> Result<CellId, Memory>
         requires in_context { set.contains self.old.known dot ≡ true }
         requires greater { (q : Dot) → IsSome (map.get self.old.live q) → dot_cmp q dot ≡ Less }
         requires field { HasField fields.now }
@@ -84,31 +83,32 @@ impl SetBuilder {
         ensures ok { OnOk result (
             self.new.live ≡ map.insert self.old.live dot (member.now, fields.now)
             ) }
+        ensures id { IfOk result (λ id. self.new.ids ≡ map.insert self.old.ids dot id) }
         ensures with_room { map.len self.old.live < self.old.cell_room → IsOk result }
         ensures known { self.new.known ≡ self.old.known }
         ensures retired { self.new.retired ≡ self.old.retired }
         ensures err { OnErr result (self.new.live ≡ self.old.live) }
+        ensures err_ids { OnErr result (self.new.ids ≡ self.old.ids) }
     {
-        self.index.reserve(self.cells.len() + 1)?;
-        self.cells.push(LiveDot {
-            dot,
-            member: member.copy(),
-            fields: fields.copy(),
-        })?;
-        Ok(())
+        if self.cells.reserve(1).is_err() {
+            return Err(Memory);
+        }
+        Ok(
+            self.cells.insert(LiveDot {
+                dot,
+                member: member.copy(),
+                fields: fields.copy(),
+            }),
+        )
     }
 
-    /// The set: the given dots are live, and the others of the context dead.
+    /// The set: the given dots are live, with the ids that were answered, and the others of the context dead.
     pub fn finish(self) -> MemberSet
         ensures same { SaysTheSame self result }
+        ensures ids { result.ids ≡ self.ids }
         ensures retired { result.retired ≡ 0 }
     {
-        let SetBuilder {
-            context,
-            cells,
-            mut index,
-        } = self;
-        list_cells(&mut index, &cells);
-        MemberSet::of(context, cells, index)
+        let SetBuilder { context, cells } = self;
+        MemberSet::of(context, cells)
     }
 }

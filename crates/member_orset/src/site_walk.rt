@@ -8,13 +8,13 @@ ghost use Rattle.dots.specs.Orders.{dot_cmp};
 ghost use Rattle.dots.specs.DotSets.{AreApart, IsRunsOf, in_runs};
 ghost use Rattle.causal_context.specs.Contexts.{IsRun};
 ghost use Rattle.causal_context.specs.RunLists.{is_below};
-ghost use Rattle.member_orset.specs.LiveLists.{entries_of, live_of};
+ghost use Rattle.member_orset.specs.PlacedLists.{AreRising, is_placed};
 ghost use Rattle.member_orset.specs.Gathering.{AreToName, IsGathered, IsPiece, is_given, is_to_name, part_before};
 
 use crate::gathered::Gathered;
-use crate::live_dot::LiveDot;
 use crate::piece::Piece;
-use crate::search::{find_at, place};
+use crate::placed::Placed;
+use crate::placed_lists::place;
 use causal_context::Run;
 use dots::{Dot, MOST_COUNT, SiteId};
 
@@ -83,20 +83,19 @@ fn runs_passed(runs: &[Run], known: usize, dot: Dot) -> usize
     passed
 }
 
-// How many cells lie before a dot, of which some are known to.
-fn cells_passed(cells: &[LiveDot], known: usize, dot: Dot) -> usize
-    requires rise { IsTrue (map.is_sorted dot_cmp (entries_of cells.now)) }
-    requires within { known ≤ length cells.now }
-    requires before { AllWithin (λ c. is_lt (dot_cmp c.dot dot) ≡ true) cells.now 0 known }
-    ensures within { result ≤ length cells.now }
-    ensures before { AllWithin (λ c. is_lt (dot_cmp c.dot dot) ≡ true) cells.now 0 result }
-    ensures after { AllWithin (λ c. is_lt (dot_cmp c.dot dot) ≡ false) cells.now result
-        (length cells.now) }
+// How many live dots lie before a dot, of which some are known to.
+fn dots_passed(dots: &[Placed], known: usize, dot: Dot) -> usize
+    requires rise { AreRising dots.now }
+    requires within { known ≤ length dots.now }
+    requires before { AllWithin (λ c. is_lt (dot_cmp c.dot dot) ≡ true) dots.now 0 known }
+    ensures within { result ≤ length dots.now }
+    ensures before { AllWithin (λ c. is_lt (dot_cmp c.dot dot) ≡ true) dots.now 0 result }
+    ensures after { AllWithin (λ c. is_lt (dot_cmp c.dot dot) ≡ false) dots.now result
+        (length dots.now) }
 {
     let mut passed = known;
-    while passed < cells.len() {
-        let cell = &cells[passed];
-        if cell.dot >= dot {
+    while passed < dots.len() {
+        if dots[passed].dot >= dot {
             return passed;
         }
         passed += 1;
@@ -139,32 +138,31 @@ fn known_piece(runs: &[Run], place: usize, from: Dot, last: u64) -> Piece
     }
 }
 
-// Whether a dot is live, and how far this is so of the counts from its own on. So many cells lie before it.
-fn live_piece(cells: &[LiveDot], below: usize, from: Dot, last: u64) -> Piece
-    requires rise { IsTrue (map.is_sorted dot_cmp (entries_of cells.now)) }
-    requires within { below ≤ length cells.now }
-    requires before { AllWithin (λ c. is_lt (dot_cmp c.dot from) ≡ true) cells.now 0 below }
-    requires after { AllWithin (λ c. is_lt (dot_cmp c.dot from) ≡ false) cells.now below
-        (length cells.now) }
+// Whether a dot is live, and how far this is so of the counts from its own on. So many live dots lie before it.
+fn live_piece(dots: &[Placed], below: usize, from: Dot, last: u64) -> Piece
+    requires rise { AreRising dots.now }
+    requires within { below ≤ length dots.now }
+    requires before { AllWithin (λ c. is_lt (dot_cmp c.dot from) ≡ true) dots.now 0 below }
+    requires after { AllWithin (λ c. is_lt (dot_cmp c.dot from) ≡ false) dots.now below
+        (length dots.now) }
     requires order { from.count ≤ last }
     ensures { IsPiece
-        (λ n. map.contains_key (live_of cells.now)
-        (record { site = from.site; count = n }))
+        (λ n. is_placed dots.now (record { site = from.site; count = n }))
         from.count last result }
 {
-    let Err(place) = find_at(cells, below, from) else {
-        return Piece {
-            inside: true,
-            last: from.count(),
-        };
-    };
-    if place == cells.len() {
+    if below == dots.len() {
         return Piece {
             inside: false,
             last,
         };
     }
-    let next = cells[place].dot;
+    let next = dots[below].dot;
+    if next == from {
+        return Piece {
+            inside: true,
+            last: from.count(),
+        };
+    }
     if next.site() != from.site() {
         return Piece {
             inside: false,
@@ -178,12 +176,12 @@ fn live_piece(cells: &[LiveDot], below: usize, from: Dot, last: u64) -> Piece
 }
 
 // Whether a dot is given or dead, and how far this is so of the counts from its own on. So many runs end before it, and
-// so many cells lie before it.
+// so many live dots lie before it.
 fn piece_at(
     runs: &[Run],
     run: usize,
-    cells: &[LiveDot],
-    cell: usize,
+    dots: &[Placed],
+    live: usize,
     given: &[Dot],
     from: Dot,
     last: u64,
@@ -193,16 +191,16 @@ fn piece_at(
     requires run_before { AllWithin (λ r. is_below from r ≡ true) runs.now 0 run }
     requires run_after { AllWithin (λ r. is_below from r ≡ false) runs.now run
         (length runs.now) }
-    requires rise { IsTrue (map.is_sorted dot_cmp (entries_of cells.now)) }
-    requires cell { cell ≤ length cells.now }
-    requires cell_before { AllWithin (λ c. is_lt (dot_cmp c.dot from) ≡ true) cells.now 0 cell }
-    requires cell_after { AllWithin (λ c. is_lt (dot_cmp c.dot from) ≡ false) cells.now cell
-        (length cells.now) }
+    requires rise { AreRising dots.now }
+    requires live { live ≤ length dots.now }
+    requires live_before { AllWithin (λ c. is_lt (dot_cmp c.dot from) ≡ true) dots.now 0 live }
+    requires live_after { AllWithin (λ c. is_lt (dot_cmp c.dot from) ≡ false) dots.now live
+        (length dots.now) }
     requires order { from.count ≤ last }
     ensures { (known : set.FinSet dot_cmp)
         → IsRunsOf runs.now known
         → IsPiece
-        (λ n. is_to_name known (live_of cells.now) given.now
+        (λ n. is_to_name known (is_placed dots.now) given.now
         (record { site = from.site; count = n }))
         from.count last result }
 {
@@ -214,7 +212,7 @@ fn piece_at(
     if !known.inside {
         return known;
     }
-    let live = live_piece(cells, cell, from, known.last);
+    let live = live_piece(dots, live, from, known.last);
     Piece {
         inside: !live.inside,
         last: live.last,
@@ -246,21 +244,21 @@ fn gather_piece(gathered: &mut Gathered, from: Dot, piece: Piece, goes_on: bool)
 pub(crate) fn gather_site(
     gathered: &mut Gathered,
     runs: &[Run],
-    cells: &[LiveDot],
+    dots: &[Placed],
     given: &[Dot],
     site: SiteId,
     last: u64,
 )
     requires apart { AreApart runs.now }
     requires counts { All IsRun runs.now }
-    requires rise { IsTrue (map.is_sorted dot_cmp (entries_of cells.now)) }
+    requires rise { AreRising dots.now }
     requires limit { last ≤ MOST_COUNT }
     requires few { gathered.old.runs ≤ site * 2 ^ 41 }
-    ensures gathered { (known dots : set.FinSet dot_cmp)
+    ensures gathered { (known named : set.FinSet dot_cmp)
         → IsRunsOf runs.now known
-        → AreToName known (live_of cells.now) given.now site last dots
-        → IsGathered gathered.old (part_before dots site 0)
-        → IsGathered gathered.new (part_before dots (site + 1) 0) }
+        → AreToName known (is_placed dots.now) given.now site last named
+        → IsGathered gathered.old (part_before named site 0)
+        → IsGathered gathered.new (part_before named (site + 1) 0) }
     ensures few { gathered.new.runs ≤ (site + 1) * 2 ^ 41 }
 {
     let _ = site.number(); // so that its limit is known
@@ -268,7 +266,7 @@ pub(crate) fn gather_site(
         return;
     };
     let mut run = runs_below(runs, start);
-    let mut cell = place(cells, start);
+    let mut live = place(dots, start);
     let mut first = 1;
     let mut goes_on = false;
     while first <= last {
@@ -276,8 +274,8 @@ pub(crate) fn gather_site(
             return;
         };
         run = runs_passed(runs, run, from);
-        cell = cells_passed(cells, cell, from);
-        let piece = piece_at(runs, run, cells, cell, given, from, last);
+        live = dots_passed(dots, live, from);
+        let piece = piece_at(runs, run, dots, live, given, from, last);
         gather_piece(gathered, from, piece, goes_on);
         goes_on = piece.inside;
         first = piece.last + 1;

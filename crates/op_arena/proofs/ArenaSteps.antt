@@ -15,7 +15,8 @@ use Rattle.op_arena.proofs.Counts.{count_set, count_push, get_set_same, get_set_
 use Rattle.op_arena.proofs.FreeCells.{popped, aside, same_next}
 use Rattle.std.proofs.lemmas.Option.{slice_get_past}
 use Rattle.op_arena.proofs.Updates.{written, taken}
-use Rattle.op_arena.proofs.Views.{ids_total, ids_exact, value_at, count_at, get-held, contains-spent}
+use Rattle.op_arena.proofs.IdOrder.{ids_total, ids_exact}
+use Rattle.op_arena.proofs.Views.{value_at, count_at, get-held, contains-spent}
 use Rattle.std.specs.Ordering.{eq_by_cmp}
 use Rattle.std.specs.Cmp.{Equal-is}
 use Rattle.std.proofs.Common.{Bor}

@@ -8,4 +8,5 @@ pub mod Lending
 pub mod LeaseSteps
 pub mod RowSteps
 pub mod Updates
+pub mod IdOrder
 pub mod Views

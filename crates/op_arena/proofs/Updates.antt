@@ -11,7 +11,8 @@ use Rattle.op_arena.specs.declared.slot.Slot.{Slot}
 use Rattle.op_arena.specs.declared.slot.State.{State}
 use Rattle.op_arena.specs.declared.slot.State.TheVariants.{Free, Held, Retired}
 use Rattle.op_arena.proofs.Counts.{get_set_same, get_set_other, get_push_same, get_push_other, get_end}
-use Rattle.op_arena.proofs.Views.{ids_total, ids_exact, apart, together, below_next, value_at, count_at, get-held, contains-spent}
+use Rattle.op_arena.proofs.IdOrder.{ids_total, ids_exact}
+use Rattle.op_arena.proofs.Views.{apart, together, below_next, value_at, count_at, get-held, contains-spent}
 
 module _ {T : Type 0} where
   none_or : (b : Bool) (x : Option T) → x ≡ None → cond b x None ≡ None

@@ -12,17 +12,10 @@ use Rattle.std.proofs.lemmas.Cmp.{on_total, then_total}
 use Rattle.std.proofs.lemmas.Map.Lookups.{exact_pairs, exact_unsigned}
 use Rattle.op_arena.specs.Ids.{Id, id_of, id_cmp}
 use Rattle.op_arena.specs.Slots.{count, value_of, is_held, state_retired, is_retired, spent_at, with_value, entries_from, ids_before, spent_from, held_in, spent_in, KeepsLast}
+use Rattle.op_arena.proofs.IdOrder.{ids_exact, ids_total}
 use Rattle.op_arena.specs.declared.slot.Slot.{Slot}
 use Rattle.op_arena.specs.declared.slot.State.{State}
 use Rattle.op_arena.specs.declared.slot.State.TheVariants.{Free, Held, Retired}
-
--- the order of ids is total
-pub ids_total : IsTotalOrder id_cmp
-ids_total = then_total (on_total (λ (i : Id). i.index) nat_cmp_total) (on_total (λ (i : Id). i.generation) nat_cmp_total)
-
--- ids that compare as equal are one id
-pub ids_exact : set.IsAntisymmetric id_cmp
-ids_exact a b h = ap (λ (p : ℕ × ℕ). id_of p.0 p.1) (exact_pairs nat_cmp nat_cmp exact_unsigned exact_unsigned (a.index, a.generation) (b.index, b.generation) h)
 
 tie : (m n : ℕ) → is_eq (nat_cmp m n) ≡ nat_eq n m
 tie m n = unsigned_tied m n ∙ nat_eq_equiv.symm m n

@@ -2,6 +2,8 @@
 #![tactic(auto)]
 
 #[cfg(test)]
+mod cell_ids;
+#[cfg(test)]
 mod deltas;
 #[cfg(test)]
 mod frames;

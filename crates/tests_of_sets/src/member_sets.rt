@@ -4,7 +4,7 @@ ghost use Rattle.member_orset.specs.Members.{HasField};
 use causal_context::Context;
 use dots::{Dot, Interface, Member, Penalty, SiteId, Stamp};
 use lww_registers::{Fields, Register};
-use member_orset::{JoinFault, MemberSet, SetBuilder};
+use member_orset::{CellId, JoinFault, MemberSet, SetBuilder};
 use std::alloc::Global;
 use std::process::Abort;
 
@@ -13,7 +13,7 @@ pub(crate) type ToldDot = (u16, u64);
 
 pub(crate) const FIRST: ToldDot = (0, 1);
 
-const SECOND: ToldDot = (0, 2);
+pub(crate) const SECOND: ToldDot = (0, 2);
 
 const OTHER: ToldDot = (1, 1);
 
@@ -48,14 +48,14 @@ pub(crate) fn dot(rt: &impl Abort, told: ToldDot) -> Dot {
     Dot::new(site, told.1).expect(rt, "a dot")
 }
 
-fn member(rt: &impl Abort, told: ToldMember) -> Member {
+pub(crate) fn member(rt: &impl Abort, told: ToldMember) -> Member {
     Member {
         queue: told.0,
         interface: Interface::new(told.1.as_bytes()).expect(rt, "an interface"),
     }
 }
 
-fn penalty(rt: &impl Abort, time: u64, number: u32) -> Fields
+pub(crate) fn penalty(rt: &impl Abort, time: u64, number: u32) -> Fields
     ensures { HasField result }
 {
     let site = SiteId::new(0).expect(rt, "a site");
@@ -75,7 +75,7 @@ fn change(rt: &impl Abort, set: &mut MemberSet, told: Told) -> Result<(), JoinFa
 }
 
 // Does changes, of which none is refused.
-fn change_all(rt: &impl Abort, set: &mut MemberSet, changes: &[Told]) {
+pub(crate) fn change_all(rt: &impl Abort, set: &mut MemberSet, changes: &[Told]) {
     for told in changes {
         change(rt, set, *told).expect(rt, "a change");
     }
@@ -206,8 +206,9 @@ fn full_set(rt: &impl Abort, alloc: Global) -> MemberSet {
     set
 }
 
-// A set that was built of one live dot, the second of two dots of site 0 that are known.
-fn built(rt: &impl Abort, alloc: Global) -> MemberSet {
+// A set that was built of one live dot, the second of two dots of site 0 that are known, and the
+// id of that dot.
+pub(crate) fn built(rt: &impl Abort, alloc: Global) -> (MemberSet, CellId) {
     let second = dot(rt, SECOND);
     let mut context = Context::new(alloc);
     for known in [FIRST, SECOND] {
@@ -216,15 +217,15 @@ fn built(rt: &impl Abort, alloc: Global) -> MemberSet {
     assert!(rt; context.contains(second));
     let mut builder = SetBuilder::new(alloc, context);
     assert!(rt; builder.context().runs() == 1);
-    builder
+    let id = builder
         .cell(second, &member(rt, SIP_1), &penalty(rt, 5, 7))
         .expect(rt, "memory");
-    builder.finish()
+    (builder.finish(), id)
 }
 
 #[test]
 fn a_builder_kills_what_it_is_not_given(rt: HostRuntime) {
-    let set = built(&rt, rt.alloc());
+    let (set, _) = built(&rt, rt.alloc());
     assert_dots(
         &rt,
         &set,
@@ -503,7 +504,7 @@ fn assert_seen(
 
 #[test]
 fn older_dead_dots_are_seen_below_given_ones(rt: HostRuntime) {
-    let set = built(&rt, rt.alloc());
+    let (set, _) = built(&rt, rt.alloc());
     let given = dot(&rt, SECOND);
     assert_seen(&rt, &set, &[given], &[(FIRST, true), (SECOND, true)], 1);
     let given = dot(&rt, FIRST);
@@ -518,7 +519,7 @@ fn a_live_dot_is_not_seen_and_a_given_one_may_be_unknown(rt: HostRuntime) {
         ((0, 3), true),
         ((1, 9), true),
     ];
-    let set = built(&rt, rt.alloc());
+    let (set, _) = built(&rt, rt.alloc());
     let given = [dot(&rt, (0, 3)), dot(&rt, (1, 9))];
     assert_seen(&rt, &set, &given, WANTED, 3);
 }
@@ -536,7 +537,7 @@ fn dead_dots_are_seen_in_many_runs(rt: HostRuntime) {
 
 #[test]
 fn the_dead_dots_of_a_site_are_told(rt: HostRuntime) {
-    let set = built(&rt, rt.alloc());
+    let (set, _) = built(&rt, rt.alloc());
     let site = SiteId::new(0).expect(&rt, "a site");
     let dead = set.dead_of(site).expect(&rt, "memory");
     assert!(rt; dead.contains(dot(&rt, FIRST)) && !dead.contains(dot(&rt, SECOND)));

@@ -19,6 +19,13 @@ loop-dot-preserved c =
       within = within_more x c.loop-dot.dot-iterator c.next.new.self all step c.cell_size-size.ensures.within c.loop-dot.invariant.within;
     }
 
+pub overflow_add-size : goal.overflow_add-size
+overflow_add-size c =
+    let x : CellParts = (c.in-Some.dot, cell_read c.in-Some.cell) in
+    let all = map.entries c.args.members.now.live in
+    let more = limit_more x c.loop-dot.dot-iterator c.next.new.self c.loop-dot.size c.cell_size-size.result (most_cell * length all) c.in-Some.ensures.steps c.cell_size-size.ensures.limit c.loop-dot.invariant.limit in
+    omega (arith, more, map.len-entries c.args.members.now.live, c.cells.ensures.limits.cells)
+
 pub returns-clause-limit : goal.returns-clause-limit
 returns-clause-limit c = omega (arith, c.loop-dot.invariant.limit, map.len-entries c.args.members.now.live, c.cells.ensures.limits.cells)
 

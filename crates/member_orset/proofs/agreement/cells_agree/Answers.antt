@@ -1,17 +1,41 @@
-use Rattle.std.proofs.Common.{take, sym, subst}
-use Rattle.std.proofs.lemmas.List.Elements.{All-more, All-same}
-use Rattle.std.proofs.lemmas.List.{take_all}
+use Rattle.std.proofs.Common.{Contains, List, sym, subst, ◌∙◌, arith}
 use Rattle.std.specs.FinMap as map
-use Rattle.member_orset.specs.declared.live_dot.LiveDot.{LiveDot}
-use Rattle.member_orset.specs.LiveLists.{HoldingsAgree, holding, live_of}
+use Rattle.std.proofs.lemmas.List.Elements.{All-cons}
+use Rattle.dots.specs.Values.{Dot}
+use Rattle.dots.proofs.Membership.{first-in, later-in}
+use Rattle.member_orset.specs.Members.{Holding}
+use Rattle.member_orset.specs.LiveLists.{HoldingsAgree}
+use Rattle.member_orset.specs.Reads.{cell_read}
+use Rattle.member_orset.specs.Joining.{AgreeWith}
 use Rattle.member_orset.proofs.agreement.cells_agree.Goals as goal
 
-pub loop-other-preserved : goal.loop-other-preserved
-loop-other-preserved c =
-    All-more (λ (x : LiveDot). HoldingsAgree (map.get (live_of c.args.cells.now) x.dot) (holding x)) c.args.others.now c.loop-other.other-index c.other-item.result c.loop-other-test.true c.loop-other.invariant
-    (subst (λ (x : LiveDot). HoldingsAgree (map.get (live_of c.args.cells.now) x.dot) (holding x)) c.other-item.is (c.agrees_with.ensures.agree.0 c.if-not-agrees_with.false))
+pub loop-dot-init : goal.loop-dot-init
+loop-dot-init c =
+    let all = c.into_iter-dot-iterator.ensures.into_iter_gives ∙ c.iter-dot-items.ensures in
+    record {
+      agree = λ a. subst (AgreeWith c.args.cells.now.live) all a;
+      among = λ e h. subst (λ (es : List (Dot × Holding)). Contains es e) all h;
+    }
+
+pub loop-dot-preserved : goal.loop-dot-preserved
+loop-dot-preserved c =
+    let live = c.args.cells.now.live in
+    let x : Dot × Holding = (c.in-Some.dot, cell_read c.in-Some.cell) in
+    let rest = c.next.new.self in
+    let steps = c.in-Some.ensures.steps in
+    record {
+      agree = λ a. c.loop-dot.invariant.agree (subst (AgreeWith live) (sym steps) (All-cons (λ (e : Dot × Holding). HoldingsAgree (map.get live e.0) e.1) x rest (c.agrees_with.ensures.agree.0 c.if-not-agrees_with.false) a));
+      among = λ e h. c.loop-dot.invariant.among e (subst (λ (es : List (Dot × Holding)). Contains es e) (sym steps) (later-in x rest e h));
+    }
+
+pub returns-then-not-agrees_with : goal.returns-then-not-agrees_with
+returns-then-not-agrees_with c =
+    let x : Dot × Holding = (c.in-Some.dot, cell_read c.in-Some.cell) in
+    record {
+      entry = x;
+      here = c.loop-dot.invariant.among x (subst (λ (es : List (Dot × Holding)). Contains es x) (sym c.in-Some.ensures.steps) (first-in x c.next.new.self));
+      conflict = c.agrees_with.ensures.conflict.0 c.if-not-agrees_with.true;
+    }
 
 pub returns : goal.returns
-returns c =
-    All-same (λ (x : LiveDot). HoldingsAgree (map.get (live_of c.args.cells.now) x.dot) (holding x)) c.args.others.now (take c.loop-other.other-index c.args.others.now)
-    (sym (take_all c.loop-other.other-index c.args.others.now c.loop-other-test.false)) c.loop-other.invariant
+returns c = c.loop-dot.invariant.agree (subst (AgreeWith c.args.cells.now.live) (sym c.in-None.ensures.steps.0) (λ k d l. absurd (omega arith)))

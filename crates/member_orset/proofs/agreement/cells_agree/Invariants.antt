@@ -1,8 +1,13 @@
-use Rattle.std.proofs.Common.{take}
-use Rattle.std.specs.List.{All}
+-- All agree where those that are left do, and these are some of all.
+use Rattle.std.proofs.Common.{Contains}
 use Rattle.std.specs.FinMap as map
-use Rattle.member_orset.specs.LiveLists.{HoldingsAgree, holding, live_of}
+use Rattle.dots.specs.Values.{Dot}
+use Rattle.member_orset.specs.Members.{Holding}
+use Rattle.member_orset.specs.Joining.{AgreeWith}
 use Rattle.member_orset.proofs.agreement.cells_agree.Given as goal
 
-abbrev pub invariant-loop-other : goal.invariant-loop-other
-invariant-loop-other l = All (λ c. HoldingsAgree (map.get (live_of l.cells) c.dot) (holding c)) (take l.other-index l.others)
+abbrev pub invariant-loop-dot : goal.invariant-loop-dot
+invariant-loop-dot l = record {
+  agree : AgreeWith l.cells.live l.dot-iterator → AgreeWith l.cells.live (map.entries l.others.live);
+  among : (e : Dot × Holding) → Contains l.dot-iterator e → Contains (map.entries l.others.live) e;
+}

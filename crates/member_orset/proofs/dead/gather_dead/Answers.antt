@@ -1,6 +1,6 @@
 use Rattle.std.proofs.Common.{sym, subst, arith}
 use Rattle.member_orset.specs.LiveDots.{dead_dots}
-use Rattle.member_orset.specs.LiveLists.{live_of}
+use Rattle.member_orset.specs.PlacedLists.{is_placed}
 use Rattle.member_orset.specs.Gathering.{IsGathered}
 use Rattle.member_orset.proofs.DeadDots.{all_before_next, dead_to_name, none_earlier}
 use Rattle.member_orset.proofs.dead.gather_dead.Goals as goal
@@ -11,7 +11,7 @@ gather_site-requires-clause-few c = let none = c.none-gathered.ensures.runs in o
 pub returns-clause-ok : goal.returns-clause-ok
 returns-clause-ok c =
     let dots = c.args.context.now.dots in
-    let live = live_of c.args.cells.now in
+    let live = is_placed c.args.dots.now in
     let site = c.args.site in
     c.finish.ensures.ok (dead_dots dots live site) (subst (IsGathered c.gather_site.new.gathered) (all_before_next dots live site)
     (c.gather_site.ensures.gathered dots (dead_dots dots live site) c.as_slice-runs.ensures.value (dead_to_name dots live site c.as_slice-runs.result.now _ c.as_slice-runs.ensures.value c.as_slice-runs.ensures.limits (omega arith))
@@ -20,7 +20,7 @@ returns-clause-ok c =
 pub returns-clause-full : goal.returns-clause-full
 returns-clause-full c =
     let dots = c.args.context.now.dots in
-    let live = live_of c.args.cells.now in
+    let live = is_placed c.args.dots.now in
     let site = c.args.site in
     c.finish.ensures.full (dead_dots dots live site) (subst (IsGathered c.gather_site.new.gathered) (all_before_next dots live site)
     (c.gather_site.ensures.gathered dots (dead_dots dots live site) c.as_slice-runs.ensures.value (dead_to_name dots live site c.as_slice-runs.result.now _ c.as_slice-runs.ensures.value c.as_slice-runs.ensures.limits (omega arith))

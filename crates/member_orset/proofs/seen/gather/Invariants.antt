@@ -2,7 +2,7 @@
 use Rattle.std.proofs.Common.{◌≤◌, ◌<◌, ◌*◌, ◌^◌}
 use Rattle.std.specs.List.{All}
 use Rattle.dots.specs.Values.{IsSite}
-use Rattle.member_orset.specs.LiveLists.{live_of}
+use Rattle.member_orset.specs.PlacedLists.{is_placed}
 use Rattle.member_orset.specs.Reads.{seen_dots}
 use Rattle.member_orset.specs.Gathering.{IsGathered, part_before}
 use Rattle.member_orset.proofs.seen.gather.Given as goal
@@ -10,6 +10,6 @@ use Rattle.member_orset.proofs.seen.gather.Given as goal
 abbrev pub invariant-loop-number : goal.invariant-loop-number
 invariant-loop-number l = record {
   few : l.gathered.runs ≤ l.number * 2 ^ 41;
-  gathered : IsGathered l.gathered (part_before (seen_dots l.context.dots (live_of l.cells) l.given) l.number 0);
+  gathered : IsGathered l.gathered (part_before (seen_dots l.context.dots (is_placed l.dots) l.given) l.number 0);
   sites : 0 < l.number → All (λ d. IsSite d.site) l.given;
 }

@@ -2,9 +2,9 @@ use Rattle.std.proofs.Common.{◌≡◌, ◌+◌, ◌-◌, ap, sym, subst, ◌�
 use Rattle.std.specs.FinSet as set
 use Rattle.dots.specs.DotSets.{set_of}
 use Rattle.dots.proofs.Runs.{runs_of_set}
-use Rattle.member_orset.specs.LiveLists.{live_of}
+use Rattle.member_orset.specs.PlacedLists.{is_placed}
 use Rattle.member_orset.specs.Gathering.{AreToName, IsGathered, is_to_name, part_before}
-use Rattle.member_orset.proofs.Pieces.{cells_ahead, runs_ahead}
+use Rattle.member_orset.proofs.Pieces.{dots_ahead, runs_ahead}
 use Rattle.member_orset.proofs.SeenDots.{from_one, next_site}
 use Rattle.member_orset.proofs.SiteWalk.{piece_of}
 use Rattle.member_orset.proofs.site_walk.gather_site.Goals as goal
@@ -20,8 +20,8 @@ loop-first-init c =
       few = omega arith;
       run = c.runs_below-run.ensures.within;
       runs_before = runs_ahead c.in-Some.start c.args.site 1 c.args.runs.now c.runs_below-run.result site (omega arith) c.runs_below-run.ensures.before;
-      cell = c.place-cell.ensures.within;
-      cells_before = cells_ahead c.in-Some.start c.args.site 1 c.args.cells.now c.place-cell.result site (omega arith) c.place-cell.ensures.before;
+      live = c.place-live.ensures.within;
+      live_before = dots_ahead c.in-Some.start c.args.site 1 c.args.dots.now c.place-live.result site (omega arith) c.place-live.ensures.before;
       before = λ known dots are name. sym name.not_zero;
       gathered = λ known dots are name g. subst (IsGathered c.args.gathered.now) (sym (from_one dots c.args.site name.not_zero)) g;
     }
@@ -70,17 +70,17 @@ loop-first-preserved c =
       few = omega arith;
       run = c.runs_passed-run.ensures.within;
       runs_before = runs_ahead from c.args.site (piece.last + 1) c.args.runs.now c.runs_passed-run.result site (omega arith) c.runs_passed-run.ensures.before;
-      cell = c.cells_passed-cell.ensures.within;
-      cells_before = cells_ahead from c.args.site (piece.last + 1) c.args.cells.now c.cells_passed-cell.result site (omega arith) c.cells_passed-cell.ensures.before;
+      live = c.dots_passed-live.ensures.within;
+      live_before = dots_ahead from c.args.site (piece.last + 1) c.args.dots.now c.dots_passed-live.result site (omega arith) c.dots_passed-live.ensures.before;
       before = λ known dots are name.
           let is = c.piece_at-piece.ensures known are in
-          sym (is.same piece.last is.some (omega arith)) ∙ (λ i. is_to_name known (live_of c.args.cells.now) c.args.given.now (record { site = site i; count = end i }))
+          sym (is.same piece.last is.some (omega arith)) ∙ (λ i. is_to_name known (is_placed c.args.dots.now) c.args.given.now (record { site = site i; count = end i }))
           ∙ sym (name.same (piece.last + 1 - 1) (omega arith) (omega arith));
       gathered = λ known dots are name g.
-          let named = subst (λ s. AreToName known (live_of c.args.cells.now) c.args.given.now s c.args.last dots) (sym site) name in
+          let named = subst (λ s. AreToName known (is_placed c.args.dots.now) c.args.given.now s c.args.last dots) (sym site) name in
           let old = subst (IsGathered c.loop-first.gathered) (λ i. part_before dots (sym site i) (sym count i)) (c.loop-first.invariant.gathered known dots are name g) in
           let before = c.loop-first.invariant.before known dots are name ∙ (λ i. set.contains dots (record { site = sym site i; count = sym count i - 1 })) in
-          let is = piece_of known (live_of c.args.cells.now) c.args.given.now from.site from.count c.args.last dots piece named (omega arith) (c.piece_at-piece.ensures known are) in
+          let is = piece_of known (is_placed c.args.dots.now) c.args.given.now from.site from.count c.args.last dots piece named (omega arith) (c.piece_at-piece.ensures known are) in
           subst (IsGathered c.gather_piece.new.gathered) (λ i. part_before dots (site i) (piece.last + 1)) (c.gather_piece.ensures.gathered dots c.args.last old is before);
     }
 

@@ -6,7 +6,7 @@ use Rattle.std.specs.FinSet as set
 use Rattle.dots.specs.Orders.{dot_cmp}
 use Rattle.dots.specs.DotSets.{IsRunsOf}
 use Rattle.causal_context.specs.RunLists.{is_below}
-use Rattle.member_orset.specs.LiveLists.{live_of}
+use Rattle.member_orset.specs.PlacedLists.{is_placed}
 use Rattle.member_orset.specs.Gathering.{AreToName, IsGathered, part_before}
 use Rattle.member_orset.proofs.site_walk.gather_site.Given as goal
 
@@ -17,11 +17,11 @@ invariant-loop-first l = record {
   few : l.gathered.runs ≤ l.site * 2 ^ 41 + l.first;
   run : l.run ≤ length l.runs;
   runs_before : AllWithin (λ r. is_below (record { site = l.site; count = l.first }) r ≡ true) l.runs 0 l.run;
-  cell : l.cell ≤ length l.cells;
-  cells_before : AllWithin (λ c. is_lt (dot_cmp c.dot (record { site = l.site; count = l.first })) ≡ true) l.cells 0 l.cell;
-  before : (known dots : set.FinSet dot_cmp) → IsRunsOf l.runs known → AreToName known (live_of l.cells) l.given l.site l.last dots
+  live : l.live ≤ length l.dots;
+  live_before : AllWithin (λ c. is_lt (dot_cmp c.dot (record { site = l.site; count = l.first })) ≡ true) l.dots 0 l.live;
+  before : (known dots : set.FinSet dot_cmp) → IsRunsOf l.runs known → AreToName known (is_placed l.dots) l.given l.site l.last dots
       → l.goes_on ≡ set.contains dots (record { site = l.site; count = l.first - 1 });
-  gathered : (known dots : set.FinSet dot_cmp) → IsRunsOf l.runs known → AreToName known (live_of l.cells) l.given l.site l.last dots
+  gathered : (known dots : set.FinSet dot_cmp) → IsRunsOf l.runs known → AreToName known (is_placed l.dots) l.given l.site l.last dots
       → IsGathered l.fn.gathered (part_before dots l.site 0) → IsGathered l.gathered (part_before dots l.site l.first);
 }
 

@@ -1,19 +1,19 @@
 use Rattle.std.proofs.Common.{refl}
 use Rattle.std.proofs.lemmas.Bool.{not-false, not-true}
-use Rattle.member_orset.specs.LiveLists.{live_of}
+use Rattle.member_orset.specs.PlacedLists.{is_placed}
 use Rattle.member_orset.proofs.SiteWalk.{all_given, all_known, none_known}
 use Rattle.member_orset.proofs.site_walk.piece_at.Goals as goal
 
 pub returns-then-given : goal.returns-then-given
 returns-then-given c known are =
-    all_given known (live_of c.args.cells.now) c.args.given.now c.args.from.site c.args.from.count c.args.last c.given_piece-given.result c.given_piece-given.ensures c.if-given.true
+    all_given known (is_placed c.args.dots.now) c.args.given.now c.args.from.site c.args.from.count c.args.last c.given_piece-given.result c.given_piece-given.ensures c.if-given.true
 
 pub returns-then-not-known : goal.returns-then-not-known
 returns-then-not-known c known are =
-    none_known known (live_of c.args.cells.now) c.args.given.now c.args.from.site c.args.from.count c.args.last c.given_piece-given.result c.given_piece-given.ensures c.if-given.false
+    none_known known (is_placed c.args.dots.now) c.args.given.now c.args.from.site c.args.from.count c.args.last c.given_piece-given.result c.given_piece-given.ensures c.if-given.false
     c.args.runs.now are c.known_piece-known.result c.known_piece-known.ensures (not-true _ c.if-not-known.true)
 
 pub returns : goal.returns
 returns c known are =
-    all_known known (live_of c.args.cells.now) c.args.given.now c.args.from.site c.args.from.count c.args.last c.given_piece-given.result c.given_piece-given.ensures c.if-given.false
+    all_known known (is_placed c.args.dots.now) c.args.given.now c.args.from.site c.args.from.count c.args.last c.given_piece-given.result c.given_piece-given.ensures c.if-given.false
     c.args.runs.now are c.known_piece-known.result c.known_piece-known.ensures c.live_piece-live.result _ (not-false _ c.if-not-known.false) c.live_piece-live.ensures refl refl

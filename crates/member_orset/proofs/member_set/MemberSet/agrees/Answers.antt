@@ -1,11 +1,17 @@
-use Rattle.std.proofs.Common.{ap, subst, ◌∙◌}
-use Rattle.member_orset.specs.LiveLists.{IsTold, live_of}
+use Rattle.std.proofs.Common.{ap, subst}
+use Rattle.std.specs.FinMap as map
+use Rattle.dots.specs.Orders.{dot_cmp}
+use Rattle.member_orset.specs.Members.{Holding}
+use Rattle.member_orset.specs.Joining.{IsTold}
 use Rattle.member_orset.proofs.Agreeing.{told}
 use Rattle.member_orset.proofs.member_set.MemberSet.agrees.Goals as goal
 
-pub returns : goal.returns
-returns c =
-    let ours = subst (λ m. IsTold m c.deref-2.result.now c.cells_agree.result) (ap live_of c.deref.ensures.value ∙ ap (λ s. s.live) c.self.view_is) c.cells_agree.ensures in
-    let both = told c.args.self.now c.args.other.now c.other.inside.cells.items c.cells_agree.result c.other.invariant.are_cells.sorted (ap (λ s. s.live) c.other.view_is)
-    (subst (λ cs. IsTold c.args.self.now.live cs c.cells_agree.result) c.deref-2.ensures.value ours) in
-    record { agree = both.0; conflict = both.1 }
+pub returns-clause-agree : goal.returns-clause-agree
+returns-clause-agree c =
+    (told c.args.self.now c.args.other.now c.cells_agree.result (subst (λ (m : map.FinMap dot_cmp Holding). IsTold m (map.entries c.args.other.now.live) c.cells_agree.result) (ap (λ s. s.live) c.self.view_is)
+    (subst (λ (m : map.FinMap dot_cmp Holding). IsTold c.self.inside.cells.live (map.entries m) c.cells_agree.result) (ap (λ s. s.live) c.other.view_is) c.cells_agree.ensures))).0
+
+pub returns-clause-conflict : goal.returns-clause-conflict
+returns-clause-conflict c =
+    (told c.args.self.now c.args.other.now c.cells_agree.result (subst (λ (m : map.FinMap dot_cmp Holding). IsTold m (map.entries c.args.other.now.live) c.cells_agree.result) (ap (λ s. s.live) c.self.view_is)
+    (subst (λ (m : map.FinMap dot_cmp Holding). IsTold c.self.inside.cells.live (map.entries m) c.cells_agree.result) (ap (λ s. s.live) c.other.view_is) c.cells_agree.ensures))).1

@@ -1,64 +1,82 @@
-use Rattle.std.proofs.Common.{◌≡◌, ◌≤◌, Some, min, length, vec_len, rules, arith, ap, sym, subst, ◌∙◌}
+use Rattle.std.proofs.Common.{◌≤◌, sym, ap, subst, ◌∙◌, arith}
+use Rattle.std.specs.FinMap as map
 use Rattle.std.specs.FinSet as set
-use Rattle.std.specs.Vec.{vec_capacity}
-use Rattle.std.proofs.lemmas.Result.{on_ok_weaker}
-use Rattle.dots.specs.declared.limits.TheConstants.{MOST_RUNS}
-use Rattle.dots.specs.Values.{Dot}
+use Rattle.dots.specs.declared.limits.TheConstants.{MOST_LIVE, MOST_RUNS}
+use Rattle.dots.specs.Conditions.{Live}
 use Rattle.dots.specs.DotSets.{run_count}
-use Rattle.dots.specs.Conditions.{Live, ConditionsAgree}
-use Rattle.member_orset.specs.Members.{ConditionsConflict, condition_of, joined_at}
-use Rattle.member_orset.proofs.Joins.{len_cells}
-use Rattle.member_orset.proofs.JoinedIndexes.{as_many}
-use Rattle.member_orset.proofs.Places.{on_err_both, lacks_place, has_place}
+use Rattle.dots.specs.Orders.{dot_cmp}
+use Rattle.member_orset.specs.CellIds.{IdsFollow}
+use Rattle.member_orset.specs.LiveLists.{HoldingsAgree, HoldingsConflict}
+use Rattle.member_orset.specs.LiveStates.{fields_met}
+use Rattle.member_orset.specs.Members.{AreKept, HasField, HasPlaces, Holding, Members, cells_with, condition_at, joined_at, live_with}
+use Rattle.member_orset.proofs.Asserting.{brought_conditions, either, held_inserted, held_met, held_more, insert_has, insert_more, known_already, len_one_more, met_conditions, on_err_both, on_ok_both, refused_conflict, refused_none, unknown_not_live}
+use Rattle.member_orset.proofs.IdSteps.{follow_same}
 use Rattle.member_orset.proofs.member_set.MemberSet.assert.Goals as goal
 
-pub returns-clause-known : goal.returns-clause-known
-returns-clause-known c = on_ok_weaker c.assert_dot.result (λ h. h ∙ ap (λ s. set.insert s.known c.args.dot) c.self.view_is) c.assert_dot.ensures.known
+pub returns-then-not-agrees_with-clause-refusals : goal.returns-then-not-agrees_with-clause-refusals
+returns-then-not-agrees_with-clause-refusals c =
+    let limit = c.runs.ensures.limit in
+    let value = c.runs.ensures.value in
+    let few : run_count c.self.inside.context.dots ≤ MOST_RUNS = omega arith in
+    refused_conflict c.args.self.now c.args.dot c.args.member.now c.args.fields.now
+    (subst (λ (t : Members). HoldingsConflict (map.get t.live c.args.dot) (c.args.member.now, c.args.fields.now)) c.self.view_is (c.agrees_with.ensures.conflict.0 c.if-not-agrees_with.true))
+    (λ h e. ap (λ (t : Members). set.contains t.known c.args.dot) (sym c.self.view_is) ∙ c.self.invariant.heard c.args.dot h (ap (λ (t : Members). map.get t.live c.args.dot) c.self.view_is ∙ e))
+    (subst (λ (t : Members). run_count t.known ≤ MOST_RUNS) c.self.view_is few)
+
+pub invariant_of-self : goal.invariant_of-self
+invariant_of-self c = subst (AreKept c.self.inside.context.dots) (sym c.meet.ensures.live) (held_met c.self.inside.context.dots c.self.inside.cells.live c.args.dot c.copy.result c.self.invariant)
+
+pub returns-then-contains-clause-known : goal.returns-then-contains-clause-known
+returns-then-contains-clause-known c =
+    known_already c.self.inside.context.dots c.args.dot (sym c.contains.ensures ∙ c.if-contains.true) ∙ ap (λ (t : Members). set.insert t.known c.args.dot) c.self.view_is
+
+pub returns-then-contains-clause-conditions : goal.returns-then-contains-clause-conditions
+returns-then-contains-clause-conditions c q =
+    let s = c.self.inside in
+    ap (λ m. condition_at (map.get m q) (set.contains s.context.dots q)) (c.meet.ensures.live ∙ ap (fields_met s.cells.live c.args.dot) c.copy.ensures)
+    ∙ met_conditions s.cells.live s.context.dots c.args.dot c.args.member.now c.args.fields.now q (sym c.contains.ensures ∙ c.if-contains.true)
+    ∙ (λ i. joined_at (c.self.view_is i) c.args.dot (Live c.args.member.now c.args.fields.now) q)
+
+pub returns-then-contains-clause-refusals : goal.returns-then-contains-clause-refusals
+returns-then-contains-clause-refusals c =
+    let limit = c.runs.ensures.limit in
+    let value = c.runs.ensures.value in
+    let few : run_count c.self.inside.context.dots ≤ MOST_RUNS = omega arith in
+    refused_none c.args.self.now c.args.dot c.args.member.now c.args.fields.now
+    (subst (λ (t : Members). HoldingsAgree (map.get t.live c.args.dot) (c.args.member.now, c.args.fields.now)) c.self.view_is (c.agrees_with.ensures.agree.0 c.if-not-agrees_with.false))
+    (ap (λ (t : Members). set.contains t.known c.args.dot) (sym c.self.view_is) ∙ sym c.contains.ensures ∙ c.if-contains.true)
+    (subst (λ (t : Members). HasPlaces t (cells_with t c.args.dot) 1) c.self.view_is (c.has_place.ensures.there.0 c.if-not-has_place.false))
+    (subst (λ (t : Members). run_count t.known ≤ MOST_RUNS) c.self.view_is few)
+
+pub invariant_of-self-2 : goal.invariant_of-self-2
+invariant_of-self-2 c =
+    let s = c.self.inside in
+    let d = c.args.dot in
+    let x : Holding = (c.copy-2.result, c.copy-3.result) in
+    let unknown = sym c.contains.ensures ∙ c.if-contains.false in
+    let one_more = len_one_more s.cells.live d x (unknown_not_live s.context.dots s.cells.live d c.self.invariant unknown) in
+    let places = c.has_place.ensures.there.0 c.if-not-has_place.false in
+    let few : map.len (map.insert s.cells.live d x) ≤ MOST_LIVE = let most = subst (λ b. live_with (map.len s.cells.live) b ≤ MOST_LIVE) unknown places.few in omega arith in
+    either c.bring.result (AreKept c.bring.new.context.dots c.bring.new.cells.live)
+    (on_ok_both c.bring.result _ _ _ (λ k l. subst (λ (n : set.FinSet dot_cmp). AreKept n c.bring.new.cells.live) (sym k) (subst (AreKept (set.insert s.context.dots d)) (sym l)
+    (held_inserted (set.insert s.context.dots d) s.cells.live d x (insert_has s.context.dots d) (subst HasField (sym c.copy-3.ensures) c.requires) few (held_more s.context.dots (set.insert s.context.dots d) s.cells.live (insert_more s.context.dots d) c.self.invariant))))
+    c.bring.ensures.known c.bring.ensures.live)
+    (on_err_both c.bring.result _ _ _ (λ k l. subst (λ (n : set.FinSet dot_cmp). AreKept n c.bring.new.cells.live) (sym k) (subst (AreKept s.context.dots) (sym l) c.self.invariant)) c.bring.ensures.err_known c.bring.ensures.err_live)
 
 pub returns-clause-conditions : goal.returns-clause-conditions
 returns-clause-conditions c =
-    on_ok_weaker c.assert_dot.result (λ h (q : Dot). h q ∙ ap (λ s. joined_at s c.args.dot (Live c.args.member.now c.args.fields.now) q) c.self.view_is) c.assert_dot.ensures.conditions
+    let s = c.self.inside in
+    let d = c.args.dot in
+    let x : Holding = (c.copy-2.result, c.copy-3.result) in
+    let unknown = sym c.contains.ensures ∙ c.if-contains.false in
+    let none = unknown_not_live s.context.dots s.cells.live d c.self.invariant unknown in
+    on_ok_both c.bring.result _ _ _ (λ k l q.
+    (λ i. condition_at (map.get (l i) q) (set.contains (k i) q)) ∙ brought_conditions s.cells.live s.context.dots d x q none unknown
+    ∙ (λ i. joined_at (c.self.view_is i) d (Live (c.copy-2.ensures i) (c.copy-3.ensures i)) q)) c.bring.ensures.known c.bring.ensures.live
 
-pub returns-clause-refusals : goal.returns-clause-refusals
-returns-clause-refusals c =
-    let y = Some (Live c.args.member.now c.args.fields.now) in
-    let same = ap (λ s. condition_of s c.args.dot) c.self.view_is in
-    let live = sym (ap (λ s. s.live) c.self.view_is) in
-    let known = sym (ap (λ s. s.known) c.self.view_is) in
-    let retired = sym (ap (λ s. s.retired) c.self.view_is) in
-    let runs = subst (λ n. n ≤ MOST_RUNS) c.runs.ensures.value c.runs.ensures.limit in
-    let lacks = lacks_place c.args.self.now c.self.inside.cells.items c.self.inside.context.dots c.args.dot y c.self.invariant.are_cells live known retired in
-    let has = has_place c.args.self.now c.self.inside.cells.items c.self.inside.context.dots c.args.dot c.self.invariant.are_cells runs live known retired in
-    record {
-      agree = λ n. subst (λ x. ConditionsAgree x y) same (c.assert_dot.ensures.agree n);
-      conflict = (
-        λ h. subst (λ x. ConditionsConflict x y) same (c.assert_dot.ensures.conflict.0 h),
-        λ h. c.assert_dot.ensures.conflict.1 (subst (λ x. ConditionsConflict x y) (sym same) h),
-      );
-      cells_full = (
-        λ h. let g = lacks.0 (c.assert_dot.ensures.cells_full.0 h) in (subst (λ x. ConditionsAgree x y) same g.0, g.1),
-        λ h. c.assert_dot.ensures.cells_full.1 (lacks.1 (subst (λ x. ConditionsAgree x y) (sym same) h.0, h.1)),
-      );
-      runs_full = (λ h. has.0 (c.assert_dot.ensures.runs_full.0 h), λ h. c.assert_dot.ensures.runs_full.1 (has.1 h));
-    }
-
-pub returns-clause-err : goal.returns-clause-err
-returns-clause-err c =
-    on_err_both c.assert_dot.result _ _ _ (λ known live. record { known = known ∙ ap (λ s. s.known) c.self.view_is; live = live ∙ ap (λ s. s.live) c.self.view_is; retired = ap (λ s. s.retired) c.self.view_is }) c.assert_dot.ensures.err_known c.assert_dot.ensures.err_live
-
-pub returns-clause-retired : goal.returns-clause-retired
-returns-clause-retired c = ap (λ s. s.retired) c.self.view_is
-
-pub returns-clause-known_dot : goal.returns-clause-known_dot
-returns-clause-known_dot c h = c.assert_dot.ensures.known_dot (ap (λ s. set.contains s.known c.args.dot) c.self.view_is ∙ h)
-
-pub returns-clause-with_room : goal.returns-clause-with_room
-returns-clause-with_room c places runs =
-    let count = len_cells c.args.self.now c.self.inside.cells.items c.self.inside.context.dots c.self.invariant.are_cells (ap (λ s. s.live) c.self.view_is) in
-    let listed = as_many c.self.inside.cells.items c.self.inside.index.items c.self.invariant.are_cells.sorted c.self.invariant.is_index in
-    let room : min (vec_capacity c.self.inside.cells) (vec_capacity c.self.inside.index) ≡ c.args.self.now.cell_room = ap (λ s. s.cell_room) c.self.view_is in
-    let len : vec_len c.self.inside.cells ≡ length c.self.inside.cells.items = search rules in
-    let len2 : vec_len c.self.inside.index ≡ length c.self.inside.index.items = search rules in
-    let known : run_count c.self.inside.context.dots ≡ run_count c.args.self.now.known = ap (λ s. run_count s.known) c.self.view_is in
-    let run_room : c.self.inside.context.room ≡ c.args.self.now.run_room = ap (λ s. s.run_room) c.self.view_is in
-    c.assert_dot.ensures.with_room (omega (arith, count, room, len, places)) (omega (arith, count, listed, room, len2, places)) (omega (arith, known, run_room, runs))
+pub returns-clause-ids : goal.returns-clause-ids
+returns-clause-ids c =
+    let s = c.self.inside.cells in
+    subst (λ (t : Members). IdsFollow t.ids t.spent c.bring.new.cells.ids c.bring.new.cells.spent) c.self.view_is
+    (either c.bring.result (IdsFollow s.ids s.spent c.bring.new.cells.ids c.bring.new.cells.spent) c.bring.ensures.ids
+    (on_err_both c.bring.result _ _ _ (λ i p. follow_same s.ids c.bring.new.cells.ids s.spent c.bring.new.cells.spent i p) c.bring.ensures.err_ids c.bring.ensures.err_spent))

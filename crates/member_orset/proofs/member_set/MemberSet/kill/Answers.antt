@@ -1,41 +1,37 @@
-use Rattle.std.proofs.Common.{◌≡◌, ◌<◌, arith, ap, sym, subst, ◌∙◌}
+use Rattle.std.proofs.Common.{sym, subst, ◌∙◌}
+use Rattle.std.specs.FinMap as map
 use Rattle.std.specs.FinSet as set
-use Rattle.std.proofs.lemmas.Result.{on_ok_weaker}
-use Rattle.dots.specs.declared.limits.TheConstants.{MOST_RUNS}
-use Rattle.dots.specs.Values.{Dot}
-use Rattle.dots.specs.DotSets.{run_count}
 use Rattle.dots.specs.Conditions.{Dead}
-use Rattle.member_orset.specs.Members.{joined_at}
-use Rattle.member_orset.proofs.Places.{on_err_both}
+use Rattle.dots.specs.Orders.{dot_cmp}
+use Rattle.member_orset.specs.CellIds.{IdMap, IdSet, IdsFollow}
+use Rattle.member_orset.specs.LiveStates.{spent_with}
+use Rattle.member_orset.specs.Members.{AreKept, Members, condition_at, joined_at}
+use Rattle.member_orset.proofs.Asserting.{held_more, held_removed, insert_more}
+use Rattle.member_orset.proofs.Changes.{killed}
+use Rattle.member_orset.proofs.IdSteps.{follow_remove}
 use Rattle.member_orset.proofs.member_set.MemberSet.kill.Goals as goal
 
-pub returns-clause-known : goal.returns-clause-known
-returns-clause-known c = on_ok_weaker c.kill_dot.result (λ h. h ∙ ap (λ s. set.insert s.known c.args.dot) c.self.view_is) c.kill_dot.ensures.known
+pub invariant_of-self-2 : goal.invariant_of-self-2
+invariant_of-self-2 c =
+    let s = c.self.inside in
+    let d = c.args.dot in
+    subst (λ (k : set.FinSet dot_cmp). AreKept k c.remove.new.self.live) (sym c.in_ok-learn.ensures.ok)
+    (subst (AreKept (set.insert s.context.dots d)) (sym c.remove.ensures.live)
+    (held_more s.context.dots (set.insert s.context.dots d) (map.remove s.cells.live d) (insert_more s.context.dots d) (held_removed s.context.dots s.cells.live d c.self.invariant)))
 
 pub returns-clause-conditions : goal.returns-clause-conditions
-returns-clause-conditions c = on_ok_weaker c.kill_dot.result (λ h (q : Dot). h q ∙ ap (λ s. joined_at s c.args.dot Dead q) c.self.view_is) c.kill_dot.ensures.conditions
+returns-clause-conditions c q =
+    let s = c.self.inside in
+    let d = c.args.dot in
+    (λ i. condition_at (map.get (c.remove.ensures.live i) q) (set.contains (c.in_ok-learn.ensures.ok i) q))
+    ∙ killed s.cells.live s.context.dots d q
+    ∙ (λ i. joined_at (c.self.view_is i) d Dead q)
 
-pub returns-clause-refusals : goal.returns-clause-refusals
-returns-clause-refusals c =
-    let same = ap (λ s. run_count (set.insert s.known c.args.dot)) c.self.view_is in
-    record {
-      agrees = c.kill_dot.ensures.agrees;
-      has_place = c.kill_dot.ensures.has_place;
-      runs_full = (λ h. subst (λ n. MOST_RUNS < n) same (c.kill_dot.ensures.full.0 h), λ h. c.kill_dot.ensures.full.1 (subst (λ n. MOST_RUNS < n) (sym same) h));
-    }
-
-pub returns-clause-err : goal.returns-clause-err
-returns-clause-err c =
-    on_err_both c.kill_dot.result _ _ _ (λ known live. record { known = known ∙ ap (λ s. s.known) c.self.view_is; live = live ∙ ap (λ s. s.live) c.self.view_is; retired = ap (λ s. s.retired) c.self.view_is }) c.kill_dot.ensures.err_known c.kill_dot.ensures.err_live
-
-pub returns-clause-retired : goal.returns-clause-retired
-returns-clause-retired c = ap (λ s. s.retired) c.self.view_is
-
-pub returns-clause-known_dot : goal.returns-clause-known_dot
-returns-clause-known_dot c h = c.kill_dot.ensures.known_dot (ap (λ s. set.contains s.known c.args.dot) c.self.view_is ∙ h)
-
-pub returns-clause-with_room : goal.returns-clause-with_room
-returns-clause-with_room c h =
-    let runs : run_count c.self.inside.context.dots ≡ run_count c.args.self.now.known = ap (λ s. run_count s.known) c.self.view_is in
-    let room : c.self.inside.context.room ≡ c.args.self.now.run_room = ap (λ s. s.run_room) c.self.view_is in
-    c.kill_dot.ensures.with_room (omega (arith, h, runs, room))
+pub returns-clause-ids : goal.returns-clause-ids
+returns-clause-ids c =
+    let s = c.self.inside.cells in
+    let d = c.args.dot in
+    let follow = follow_remove s.ids s.spent d in
+    let after = subst (λ (m : IdMap). IdsFollow s.ids s.spent m (spent_with (map.get s.ids d) s.spent)) (sym c.remove.ensures.ids) follow in
+    let spent = subst (λ (x : IdSet). IdsFollow s.ids s.spent c.remove.new.self.ids x) (sym c.remove.ensures.spent) after in
+    subst (λ (t : Members). IdsFollow t.ids t.spent c.remove.new.self.ids c.remove.new.self.spent) c.self.view_is spent

@@ -1,0 +1,77 @@
+-- Cells of the other side that are taken in, one by one.
+use Rattle.std.proofs.Common.{◌≡◌, ◌≤◌, Bool, true, false, cond, List, [], ◌∷◌, ◌++◌, Some, None, refl, sym, ap, subst, ◌∙◌, ◌⊎◌, inl, inr, arith}
+use Rattle.std.specs.Prelude.{if◌then◌else◌}
+use Rattle.std.specs.Ordering.{eq_by_cmp}
+use Rattle.std.specs.FinMap as map
+use Rattle.std.specs.FinMap.Entries.{find, is_sorted}
+use Rattle.std.proofs.lemmas.Bool.{cases_Bool}
+use Rattle.dots.specs.Values.{Dot}
+use Rattle.dots.specs.Orders.{dot_cmp}
+use Rattle.dots.specs.Conditions.{fields_joined}
+use Rattle.dots.proofs.DotOrder.{dots_total}
+use Rattle.dots.proofs.SortedEntries.{find_below, rising_head, rising_tail}
+use Rattle.op_arena.specs.Ids.{Id}
+use Rattle.member_orset.specs.declared.live_dot.LiveDot.{LiveDot}
+use Rattle.member_orset.specs.CellIds.{IsNew}
+use Rattle.member_orset.specs.Joining.{IsTakenIn, holding_with}
+use Rattle.member_orset.specs.LiveLists.{holding}
+use Rattle.member_orset.specs.LiveStates.{HasTaken, LiveState}
+use Rattle.member_orset.specs.Members.{Holding}
+use Rattle.member_orset.proofs.Asserting.{len_again, len_one_more}
+use Rattle.member_orset.proofs.DotTests.{one_dot}
+use Rattle.member_orset.proofs.IdSteps.{grown_same}
+use Rattle.member_orset.proofs.LiveIds.{unnamed}
+
+-- where its dot is live here too
+pub taken_joined : (known : Dot → Bool) (s t : LiveState) (c : LiveDot) → HasTaken s.live c.dot c.fields t.live → t.ids ≡ s.ids → t.spent ≡ s.spent → s.room ≤ t.room → IsTakenIn known s c t
+taken_joined known s t c h ids spent room =
+    let x : Holding = (h.before.0, fields_joined h.before.1 c.fields) in
+    record {
+      live = λ q. ap (λ m. map.get m q) h.now ∙ map.get-insert dots_total s.live c.dot x q ∙ at q (eq_by_cmp dot_cmp q c.dot) (one_dot q c.dot);
+      ids = grown_same s t ids spent;
+      few = let same = len_again s.live c.dot h.before x h.held in let now = ap map.len h.now in omega arith;
+      room = room;
+    }
+  where
+    at : (q : Dot) (b : Bool) → (b ≡ true → q ≡ c.dot)
+        → cond b (Some (h.before.0, fields_joined h.before.1 c.fields)) (map.get s.live q) ≡ (if b then holding_with (map.get s.live q) (known q) (Some (holding c)) else map.get s.live q)
+    at q true same = ap (λ o. holding_with o (known q) (Some (holding c))) (sym (ap (map.get s.live) (same refl) ∙ h.held))
+    at q false same = refl
+
+-- where its dot is unknown here
+pub taken_new : (known : Dot → Bool) (s t : LiveState) (c : LiveDot) (id : Id) → ((q : Dot) → map.contains_key s.ids q ≡ map.contains_key s.live q) → map.get s.live c.dot ≡ None → known c.dot ≡ false
+    → t.live ≡ map.insert s.live c.dot (holding c) → t.ids ≡ map.insert s.ids c.dot id → IsNew s.ids s.spent s.spent id → t.spent ≡ s.spent → s.room ≤ t.room → IsTakenIn known s c t
+taken_new known s t c id named none new live ids fresh spent room = record {
+  live = λ q. ap (λ m. map.get m q) live ∙ map.get-insert dots_total s.live c.dot (holding c) q ∙ at q (eq_by_cmp dot_cmp q c.dot) (one_dot q c.dot);
+  ids = record {
+    kept = λ q i h. ap (λ m. map.get m q) ids ∙ map.get-insert dots_total s.ids c.dot id q ∙ stays q i h (cases_Bool (eq_by_cmp dot_cmp q c.dot));
+    fresh = λ q i h k. one q i h k (cases_Bool (eq_by_cmp dot_cmp q c.dot));
+    spent = spent;
+  };
+  few = let more = len_one_more s.live c.dot (holding c) none in let now = ap map.len live in omega arith;
+  room = room;
+}
+  where
+    at : (q : Dot) (b : Bool) → (b ≡ true → q ≡ c.dot) → cond b (Some (holding c)) (map.get s.live q) ≡ (if b then holding_with (map.get s.live q) (known q) (Some (holding c)) else map.get s.live q)
+    at q true same = λ i. holding_with (sym (ap (map.get s.live) (same refl) ∙ none) i) (sym (ap known (same refl) ∙ new) i) (Some (holding c))
+    at q false same = refl
+
+    stays : (q : Dot) (i : Id) → map.get s.ids q ≡ Some i → ((eq_by_cmp dot_cmp q c.dot ≡ true) ⊎ (eq_by_cmp dot_cmp q c.dot ≡ false)) → cond (eq_by_cmp dot_cmp q c.dot) (Some id) (map.get s.ids q) ≡ Some i
+    stays q i h b = elim b [
+      | inl t ↦ absurd (let n = sym h ∙ ap (map.get s.ids) (one_dot q c.dot t) ∙ unnamed s.ids s.live named c.dot none in cc n)
+      | inr f ↦ ap (λ x. cond x (Some id) (map.get s.ids q)) f ∙ h
+    ]
+
+    one : (q : Dot) (i : Id) → map.get s.ids q ≡ None → map.get t.ids q ≡ Some i → ((eq_by_cmp dot_cmp q c.dot ≡ true) ⊎ (eq_by_cmp dot_cmp q c.dot ≡ false)) → IsNew s.ids s.spent s.spent i
+    one q i h k b = elim b [
+      | inl t ↦ subst (IsNew s.ids s.spent s.spent) (same id i (ap (λ x. cond x (Some id) (map.get s.ids q)) (sym t) ∙ sym (map.get-insert dots_total s.ids c.dot id q) ∙ ap (λ m. map.get m q) (sym ids) ∙ k)) fresh
+      | inr f ↦ absurd (let n = sym h ∙ ap (λ x. cond x (Some id) (map.get s.ids q)) (sym f) ∙ sym (map.get-insert dots_total s.ids c.dot id q) ∙ ap (λ m. map.get m q) (sym ids) ∙ k in cc n)
+    ]
+      where
+        same : (a b : Id) → Some a ≡ Some b → a ≡ b
+        same a b e = cc e
+
+-- nothing before an entry of a list that rises is found behind it
+pub none_behind : (xs : List (Dot × Holding)) (e : Dot × Holding) (ys : List (Dot × Holding)) → is_sorted dot_cmp (xs ++ e ∷ ys) ≡ true → find dot_cmp e.0 ys ≡ None
+none_behind [] e ys h = find_below dot_cmp dots_total e.0 ys (rising_head dot_cmp dots_total e ys h)
+none_behind (x ∷ xs) e ys h = none_behind xs e ys (rising_tail dot_cmp dots_total x (xs ++ e ∷ ys) h)

@@ -1,0 +1,28 @@
+use Rattle.std.proofs.Common.{is_some, ap, ◌∙◌, ◌≡◌, true, subst, sym}
+use Rattle.std.specs.FinMap as map
+use Rattle.std.specs.FinSet as set
+use Rattle.std.specs.List.{All}
+use Rattle.std.proofs.lemmas.List.Elements.{All-nil}
+use Rattle.dots.specs.Orders.{dot_cmp}
+use Rattle.member_orset.specs.LiveLists.{live_of}
+use Rattle.member_orset.specs.PlacedStates.{cells_at, ids_of, listed_at}
+use Rattle.member_orset.specs.PlacedLists.{id_entries}
+use Rattle.member_orset.proofs.Relisted.{nothing_listed}
+use Rattle.member_orset.proofs.RisingMaps.{map_of-nil}
+use Rattle.member_orset.proofs.Views.{live_of-nil}
+use Rattle.member_orset.proofs.live_cells.LiveCells.new.Goals as goal
+
+pub invariant_of-result : goal.invariant_of-result
+invariant_of-result g c =
+    let s = c.new.result in
+    record {
+      placed = c.new.ensures.valid;
+      held = subst (All (λ id. is_some (map.get s.held id) ≡ true)) (sym c.new-2.ensures.items) (All-nil (λ id. is_some (map.get s.held id) ≡ true));
+      index = (nothing_listed (cells_at s.held (ids_of s.dots)) (listed_at s.held c.new-2.result.items) set.empty (ap (λ ds. cells_at s.held (ids_of ds)) c.new.ensures.dots) (ap (listed_at s.held) c.new-2.ensures.items)).is_index;
+    }
+
+pub returns-clause-live : goal.returns-clause-live
+returns-clause-live g c = ap (λ ds. live_of (cells_at c.new.result.held (ids_of ds))) c.new.ensures.dots ∙ live_of-nil
+
+pub returns-clause-ids : goal.returns-clause-ids
+returns-clause-ids g c = ap (λ ds. map.from_sorted (id_entries ds)) c.new.ensures.dots ∙ map_of-nil dot_cmp

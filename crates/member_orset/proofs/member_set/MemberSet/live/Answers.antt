@@ -1,9 +1,0 @@
-use Rattle.std.proofs.Common.{ap, sym, subst, ◌≤◌}
-use Rattle.dots.specs.declared.limits.TheConstants.{MOST_RUNS}
-use Rattle.member_orset.proofs.Views.{within_limits}
-use Rattle.member_orset.proofs.member_set.MemberSet.live.Goals as goal
-
-pub returns-clause-limits : goal.returns-clause-limits
-returns-clause-limits c =
-    within_limits c.args.self.now c.self.inside.cells.items c.self.inside.context.dots c.self.invariant.are_cells (ap (λ s. s.live) c.self.view_is) (ap (λ s. s.known) c.self.view_is) (sym (ap (λ s. s.retired) c.self.view_is))
-    (subst (λ n. n ≤ MOST_RUNS) c.runs.ensures.value c.runs.ensures.limit)

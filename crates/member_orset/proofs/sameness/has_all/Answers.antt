@@ -1,0 +1,42 @@
+use Rattle.std.proofs.Common.{◌≡◌, Contains, List, Some, sym, subst, refl, ◌∙◌, arith}
+use Rattle.std.specs.List.{All}
+use Rattle.std.specs.FinMap as map
+use Rattle.std.proofs.lemmas.List.Elements.{All-cons}
+use Rattle.dots.specs.Values.{Dot}
+use Rattle.dots.proofs.Membership.{first-in, later-in}
+use Rattle.member_orset.specs.Members.{Holding}
+use Rattle.member_orset.specs.Reads.{cell_read}
+use Rattle.member_orset.proofs.MapEntries.{entry_in, entry_is}
+use Rattle.member_orset.proofs.sameness.has_all.Goals as goal
+
+pub loop-dot-init : goal.loop-dot-init
+loop-dot-init c =
+    let all = c.into_iter-dot-iterator.ensures.into_iter_gives ∙ c.iter-dot-items.ensures in
+    record {
+      here = λ a. subst (All (λ (e : Dot × Holding). map.get c.args.cells.now.live e.0 ≡ Some e.1)) all a;
+      among = λ e h. subst (λ (es : List (Dot × Holding)). Contains es e) all h;
+    }
+
+pub loop-dot-preserved : goal.loop-dot-preserved
+loop-dot-preserved c =
+    let live = c.args.cells.now.live in
+    let x : Dot × Holding = (c.in-Some.dot, cell_read c.in-Some.cell) in
+    let rest = c.next.new.self in
+    let steps = c.in-Some.ensures.steps in
+    record {
+      here = λ a. c.loop-dot.invariant.here (subst (All (λ (e : Dot × Holding). map.get live e.0 ≡ Some e.1)) (sym steps) (All-cons (λ (e : Dot × Holding). map.get live e.0 ≡ Some e.1) x rest (c.is_live_so.ensures.0 c.if-not-is_live_so.false) a));
+      among = λ e h. c.loop-dot.invariant.among e (subst (λ (es : List (Dot × Holding)). Contains es e) (sym steps) (later-in x rest e h));
+    }
+
+pub returns-then-not-is_live_so : goal.returns-then-not-is_live_so
+returns-then-not-is_live_so c =
+    let x : Dot × Holding = (c.in-Some.dot, cell_read c.in-Some.cell) in
+    let here = c.loop-dot.invariant.among x (subst (λ (es : List (Dot × Holding)). Contains es x) (sym c.in-Some.ensures.steps) (first-in x c.next.new.self)) in
+    (λ t. absurd (cc t), λ all. absurd (let t = c.is_live_so.ensures.1 (all x.0 x.1 (entry_is c.args.others.now.live x here)) in cc (t, c.if-not-is_live_so.true)))
+
+pub returns : goal.returns
+returns c =
+    let live = c.args.cells.now.live in
+    let there = c.args.others.now.live in
+    let all = c.loop-dot.invariant.here (subst (All (λ (e : Dot × Holding). map.get live e.0 ≡ Some e.1)) (sym c.in-None.ensures.steps.0) (λ k d l. absurd (omega arith))) in
+    (λ t dot h g. let i = entry_in there dot h g in subst (λ (e : Dot × Holding). map.get live e.0 ≡ Some e.1) i.2 (all i.0 (dot, h) i.1), λ t. refl)

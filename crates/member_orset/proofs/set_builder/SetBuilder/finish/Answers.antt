@@ -1,0 +1,6 @@
+use Rattle.std.proofs.Common.{◌∙◌}
+use Rattle.member_orset.proofs.SpentIds.{none_retired}
+use Rattle.member_orset.proofs.set_builder.SetBuilder.finish.Goals as goal
+
+pub returns-clause-retired : goal.returns-clause-retired
+returns-clause-retired c = c.of.ensures.retired ∙ none_retired _ c.self.inside.cells.spent c.self.invariant.1

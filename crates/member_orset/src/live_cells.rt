@@ -1,0 +1,254 @@
+ghost use Rattle.std.specs.Prelude.{◌≡◌, ◌+◌, ◌<◌, ◌≤◌, ◌↔◌, ◌≢◌, ◌++◌, [], ◌∷◌, IsOk, IsTrue, IfOk, IfSome, OnOk, Err, None};
+ghost use Rattle.std.specs.Prelude.{map as each};
+ghost use Rattle.std.specs.Option.{option_map};
+ghost use Rattle.std.specs.FinMap as map;
+ghost use Rattle.std.specs.FinSet as set;
+ghost use Rattle.dots.specs.Values.{Dot};
+ghost use Rattle.dots.specs.Rows.{dots_of, row_of, rows_of};
+ghost use Rattle.dots.specs.Views.{row_view};
+ghost use Rattle.member_orset.specs.CellIds.{IsNew, retired_of};
+ghost use Rattle.member_orset.specs.Members.{IsPresentIn, most_places, view_of};
+ghost use Rattle.member_orset.specs.Reads.{cell_read};
+ghost use Rattle.member_orset.specs.LiveLists.{entry_of};
+ghost use Rattle.member_orset.specs.LiveStates.{AreLive, HasId, HasTaken, TakesFields, spent_with};
+
+use crate::cells_lent::Cells;
+use crate::dots_lent::Dots;
+use crate::insertion::put_in;
+use crate::live_dot::LiveDot;
+use crate::member_groups::{group_of, has_member};
+use crate::member_ids::{copy_members, place_in};
+use crate::member_rows::row_in;
+use crate::placed::Placed;
+use crate::placed_cells::PlacedCells;
+use crate::places::LAST_GENERATION;
+use crate::rows_lent::Rows;
+use crate::taken_cells::TakenCells;
+use crate::{Cell, Row};
+use dots::{Dot, Member, Memory};
+use lww_registers::Fields;
+use op_arena::{ArenaFault, CellId};
+use std::alloc::Global;
+use std::marker::Model;
+
+// The live dots of a set, each with its member and fields: found by dot, by member and by id.
+#[derive(Drop)]
+pub(crate) struct LiveCells<const LAST: u32> {
+    placed: PlacedCells<LAST>,
+    // The ids in the order of their cells' members, and then of their dots.
+    members: Vec<CellId>,
+}
+
+impl<const LAST: u32> Model for LiveCells<LAST> {
+    ghost use Rattle.member_orset.specs.LiveStates.{LiveState, live_code};
+
+    ghost Value = { LiveState };
+
+    ghost coded = { live_code };
+
+    ghost use Rattle.std.specs.Vec.{vec_capacity};
+    ghost use Rattle.member_orset.specs.PlacedStates.{AreIndexed, live_state};
+
+    ghost view = { λ l. live_state l.placed (vec_capacity l.members) };
+
+    ghost invariant = { λ l. AreIndexed l.placed l.members.items };
+}
+
+impl<const LAST: u32> LiveCells<LAST> {
+    // No dot is live. It takes no memory.
+    pub(crate) fn new(alloc: Global) -> Self
+        ensures live { result.live ≡ map.empty }
+        ensures ids { result.ids ≡ map.empty }
+        ensures spent { result.spent ≡ set.empty }
+    {
+        LiveCells {
+            placed: PlacedCells::new(alloc),
+            members: Vec::new(alloc),
+        }
+    }
+
+    // The allocator that it grows with.
+    pub(crate) fn allocator(&self) -> Global {
+        self.placed.allocator()
+    }
+
+    // How many dots are live.
+    pub(crate) fn len(&self) -> usize
+        ensures value { result ≡ map.len self.now.live }
+        ensures limits { AreLive LAST self.now }
+    {
+        self.placed.len()
+    }
+
+    // For how many live dots there is room in all.
+    pub(crate) fn room(&self) -> usize
+        ensures { result ≡ self.now.room }
+    {
+        self.placed.room().min(self.members.capacity())
+    }
+
+    // How many places aren't used again.
+    pub(crate) fn retired(&self) -> u32
+        ensures { result ≡ retired_of LAST self.now.spent }
+    {
+        self.placed.retired()
+    }
+
+    // The member and the fields of a dot, where it is live.
+    pub(crate) fn get(&self, dot: Dot) -> Option<Cell<'_>>
+        ensures { option_map cell_read result ≡ map.get self.now.live dot }
+    {
+        match self.placed.find(dot) {
+            Ok(place) => Some(self.placed.cell_at(place).lent()),
+            Err(_) => None,
+        }
+    }
+
+    // The id of a dot, where it is live.
+    pub(crate) fn id(&self, dot: Dot) -> Option<CellId>
+        ensures { result ≡ map.get self.now.ids dot }
+    {
+        match self.placed.find(dot) {
+            Ok(place) => Some(self.placed.id_at(place)),
+            Err(_) => None,
+        }
+    }
+
+    // The member and the fields of the live dot that has an id, where one has it.
+    pub(crate) fn at(&self, id: CellId) -> Option<Cell<'_>>
+        ensures some { IfSome result (λ cell. HasId self.now id (cell_read cell)) }
+        ensures none { result ≡ None → (dot : Dot) → map.get self.now.ids dot ≢ Some id }
+    {
+        let cell = self.placed.cell(id)?;
+        Some(cell.lent())
+    }
+
+    // The live dots in their order, each with its id.
+    pub(crate) fn placed(&self) -> &[Placed]
+        ensures { each (λ p. (p.dot, p.id)) result.now ≡ map.entries self.now.ids }
+    {
+        self.placed.placed()
+    }
+
+    // Whether some dot is live with a member.
+    pub(crate) fn contains(&self, member: &Member) -> bool
+        ensures { IsTrue result ↔ IsPresentIn self.now.live member.now }
+    {
+        has_member(&self.placed, &self.members, member)
+    }
+
+    // The row of a member, where it has a live dot.
+    pub(crate) fn row(&self, member: &Member) -> Option<Row<'_>>
+        ensures { option_map row_view result ≡ row_of (view_of self.now.live) member.now }
+    {
+        row_in(&self.placed, &self.members, member)
+    }
+
+    // Makes room for so many more live dots. `Full` exactly where there can't be so many places, and then nothing has grown.
+    pub(crate) fn reserve(&mut self, more: usize) -> Result<(), ArenaFault>
+        ensures room { OnOk result (map.len self.old.live + more ≤ self.new.room) }
+        ensures full { (result ≡ Err ArenaFault.Full)
+            ↔ (most_places < retired_of LAST self.old.spent + map.len self.old.live + more) }
+        ensures had_room { map.len self.old.live + more ≤ self.old.room → IsOk result }
+        ensures live { self.new.live ≡ self.old.live }
+        ensures ids { self.new.ids ≡ self.old.ids }
+        ensures spent { self.new.spent ≡ self.old.spent }
+        ensures grows { self.old.room ≤ self.new.room }
+    {
+        self.placed.reserve(more)?;
+        match self.members.reserve(more) {
+            Ok(()) => Ok(()),
+            Err(_) => Err(ArenaFault::Memory),
+        }
+    }
+
+    // Lets a dot be live that isn't, in room that is there.
+    pub(crate) fn insert(&mut self, cell: LiveDot) -> CellId
+        requires new { map.get self.old.live cell.dot ≡ None }
+        requires room { map.len self.old.live < self.old.room }
+        ensures live { self.new.live ≡ map.insert self.old.live cell.dot (cell.member, cell.fields) }
+        ensures ids { self.new.ids ≡ map.insert self.old.ids cell.dot result }
+        ensures new { IsNew self.old.ids self.old.spent self.old.spent result }
+        ensures spent { self.new.spent ≡ self.old.spent }
+        ensures room { self.old.room ≤ self.new.room }
+    {
+        let Err(place) = self.placed.find(cell.dot) else {
+            unreachable!()
+        };
+        let id = self.placed.insert(place, cell);
+        let listed = place_in(&self.placed, &self.members, id);
+        put_in(&mut self.members, listed, id);
+        id
+    }
+
+    // Lets a dot be live no more. Nothing changes where it isn't.
+    pub(crate) fn remove(&mut self, dot: Dot)
+        ensures live { self.new.live ≡ map.remove self.old.live dot }
+        ensures ids { self.new.ids ≡ map.remove self.old.ids dot }
+        ensures spent { self.new.spent ≡ spent_with (map.get self.old.ids dot) self.old.spent }
+        ensures room { self.old.room + map.len self.new.live
+            ≤ self.new.room + map.len self.old.live }
+    {
+        let Ok(place) = self.placed.find(dot) else {
+            return;
+        };
+        let listed = place_in(&self.placed, &self.members, self.placed.id_at(place));
+        self.members.remove(listed);
+        self.placed.remove(place);
+    }
+
+    // Joins the fields of a live dot with others that agree with them.
+    pub(crate) fn join_fields(&mut self, dot: Dot, fields: Fields)
+        requires { TakesFields self.old.live dot fields }
+        ensures live { HasTaken self.old.live dot fields self.new.live }
+        ensures ids { self.new.ids ≡ self.old.ids }
+        ensures spent { self.new.spent ≡ self.old.spent }
+        ensures room { self.old.room ≤ self.new.room }
+    {
+        let Ok(place) = self.placed.find(dot) else {
+            unreachable!()
+        };
+        self.placed.join_fields(place, fields);
+    }
+
+    // The same live dots once more, in a new arena. The one fault is want of memory.
+    pub(crate) fn copy(&self) -> Result<Self, Memory>
+        ensures live { IfOk result (λ copy. copy.live ≡ self.now.live) }
+        ensures spent { IfOk result (λ copy. copy.spent ≡ set.empty) }
+    {
+        let placed = self.placed.copy()?;
+        let members = copy_members(self.allocator(), &self.placed, &self.members, &placed)?;
+        Ok(LiveCells { placed, members })
+    }
+
+    // The cells of all live dots, to be taken one by one from the last on.
+    pub(crate) fn into_cells(self) -> TakenCells<LAST>
+        ensures { result ≡ map.entries self.entry.live }
+    {
+        let LiveCells { placed, members: _ } = self;
+        TakenCells::of(placed)
+    }
+}
+
+impl LiveCells<LAST_GENERATION> {
+    // The live dots in their order, each with its cell.
+    pub(crate) fn iter(&self) -> Cells<'_>
+        ensures { result ≡ map.entries self.now.live }
+    {
+        Cells::of(&self.placed)
+    }
+
+    // The live dots of a member, in their order.
+    pub(crate) fn dots(&self, member: &Member) -> Dots<'_>
+        ensures { result ≡ dots_of (view_of self.now.live) member.now }
+    {
+        Dots::of(&self.placed, group_of(&self.placed, &self.members, member))
+    }
+
+    // The rows of a queue, one by one, in the order of the interfaces' bytes.
+    pub(crate) fn rows(&self, queue: u16) -> Rows<'_>
+        ensures { result ≡ rows_of (view_of self.now.live) queue }
+    {
+        Rows::of(&self.placed, &self.members, queue)
+    }
+}

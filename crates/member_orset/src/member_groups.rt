@@ -1,0 +1,80 @@
+//! The ids of the cells of one member in the index of members, which stand together.
+ghost use Rattle.std.specs.Prelude.{◌≡◌, false};
+ghost use Rattle.std.specs.FinMap as map;
+ghost use Rattle.std.specs.List.{list_any};
+ghost use Rattle.std.specs.Option.{option_map_or};
+ghost use Rattle.std.specs.Ordering.{is_le, is_lt};
+ghost use Rattle.dots.specs.Orders.{member_cmp};
+ghost use Rattle.member_orset.specs.Index.{Rises};
+ghost use Rattle.member_orset.specs.PlacedStates.{AreHeld, listed_at};
+ghost use Rattle.member_orset.specs.ShownRows.{group, is_own};
+
+use crate::placed_cells::PlacedCells;
+use dots::Member;
+use op_arena::CellId;
+
+// Whether the cell of an id is of a member that lies before another one.
+fn is_below<const LAST: u32>(cells: &PlacedCells<LAST>, id: CellId, member: &Member) -> bool
+    ensures { result
+        ≡ option_map_or (λ c. is_lt (member_cmp c.member member.now))
+        (map.get cells.now.held id) false }
+{
+    match cells.cell(id) {
+        Some(cell) => cell.member < *member,
+        None => false,
+    }
+}
+
+// Whether the cell of an id is of a member that doesn't lie after another one.
+fn is_upto<const LAST: u32>(cells: &PlacedCells<LAST>, id: CellId, member: &Member) -> bool
+    ensures { result
+        ≡ option_map_or (λ c. is_le (member_cmp c.member member.now))
+        (map.get cells.now.held id) false }
+{
+    match cells.cell(id) {
+        Some(cell) => cell.member <= *member,
+        None => false,
+    }
+}
+
+// The ids of a member, in the order of their dots.
+pub(crate) fn group_of<'a, const LAST: u32>(
+    cells: &PlacedCells<LAST>,
+    members: &'a [CellId],
+    member: &Member,
+) -> &'a [CellId]
+    requires held { AreHeld cells.now.held members.now }
+    requires rises { Rises (listed_at cells.now.held members.now) }
+    ensures held { AreHeld cells.now.held result.now }
+    ensures group { listed_at cells.now.held result.now
+        ≡ group member.now (listed_at cells.now.held members.now) }
+{
+    let first = members.partition_point(
+        |id: &CellId| -> bool
+            ensures { result
+                ≡ option_map_or (λ c. is_lt (member_cmp c.member member.entry.now))
+                (map.get cells.entry.now.held id.now) false }
+        { is_below(cells, *id, member) },
+    );
+    let end = members.partition_point(
+        |id: &CellId| -> bool
+            ensures { result
+                ≡ option_map_or (λ c. is_le (member_cmp c.member member.entry.now))
+                (map.get cells.entry.now.held id.now) false }
+        { is_upto(cells, *id, member) },
+    );
+    &members[first..end]
+}
+
+// Whether the index has an id of a member.
+pub(crate) fn has_member<const LAST: u32>(
+    cells: &PlacedCells<LAST>,
+    members: &[CellId],
+    member: &Member,
+) -> bool
+    requires held { AreHeld cells.now.held members.now }
+    requires rises { Rises (listed_at cells.now.held members.now) }
+    ensures { result ≡ list_any (is_own member.now) (listed_at cells.now.held members.now) }
+{
+    !group_of(cells, members, member).is_empty()
+}

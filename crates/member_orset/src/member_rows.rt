@@ -1,0 +1,44 @@
+//! The row that the cells of one member show.
+ghost use Rattle.std.specs.Prelude.{◌≡◌, map as each};
+ghost use Rattle.std.specs.Option.{option_map};
+ghost use Rattle.dots.specs.Rows.{row_of};
+ghost use Rattle.dots.specs.Views.{row_view};
+ghost use Rattle.member_orset.specs.PlacedStates.{AreIndexed, cells_at, cells_of};
+ghost use Rattle.member_orset.specs.ShownRows.{cells_view, fields_shown, latest_fields};
+
+use crate::Row;
+use crate::latest::{Latest, after};
+use crate::member_groups::group_of;
+use crate::placed_cells::PlacedCells;
+use dots::Member;
+use op_arena::CellId;
+
+// The latest registers of the cells of ids, where one has a cell.
+fn latest_in<'a, const LAST: u32>(
+    cells: &'a PlacedCells<LAST>,
+    ids: &[CellId],
+) -> Option<Latest<'a>>
+    ensures { option_map latest_fields result
+        ≡ fields_shown (each (λ c. c.fields) (cells_at cells.now.held ids.now)) }
+{
+    let mut latest = None;
+    for id in ids {
+        if let Some(cell) = cells.cell(*id) {
+            latest = Some(after(latest, &cell.fields));
+        }
+    }
+    latest
+}
+
+// The row of a member, where it has a live dot.
+pub(crate) fn row_in<'a, const LAST: u32>(
+    cells: &'a PlacedCells<LAST>,
+    members: &[CellId],
+    member: &Member,
+) -> Option<Row<'a>>
+    requires { AreIndexed cells.now members.now }
+    ensures { option_map row_view result ≡ row_of (cells_view (cells_of cells.now)) member.now }
+{
+    let latest = latest_in(cells, group_of(cells, members, member))?;
+    Some(latest.row())
+}
