@@ -5,12 +5,14 @@
 mod deltas;
 mod frames;
 mod joins;
+mod replicas;
 mod sets;
 mod totals;
 
 use deltas::{dot_taken_often, halves_joined_often};
 use frames::{cells_decoded_often, cells_encoded_often, runs_decoded_often, runs_encoded_often};
 use joins::joined_often;
+use replicas::{commands_done_often, frames_taken_often};
 use sets::{dead_told_often, rows_read, sets_copied_often, sets_joined_often};
 use std::alloc::Global;
 use std::{env, io};
@@ -19,12 +21,17 @@ use totals::totals_joined_often;
 // How often each workload does its work.
 const TIMES: u32 = 100;
 
+// How often a site does three commands, and how many frames it takes.
+const TURNS: u32 = 333;
+const FRAMES: u32 = 1_000;
+
 // What a workload computed, or why it has no checksum. The small ones, done twice, are seen by hand: the counts 1 to 6 of
 // a site are one run, so each join adds 6 and 1; three live dots of each of two sites are six in two runs, and of one
 // site three in one; deltas join as their sets do, and a dot that is known adds none; four members have the penalties
 // 1 to 4; three dots are dead, each a run; two copies have three live dots each; three entries have the totals 1 to 3; a frame of
 // three cells of 31 bytes, in a run of 17, has 138 bytes, of which 28 are always there, and one of three runs has 79; a frame that is
-// decoded adds its live dots and runs.
+// decoded adds its live dots and runs; a site of three members that has added and removed another twice has three live dots in a run of
+// five, and one that has taken two dots of another site five live dots in two runs.
 fn checksum(alloc: Global, word: &str) -> Result<u64, &'static str> {
     match word {
         "join_3_runs" => joined_often(alloc, 3, 2),
@@ -40,6 +47,8 @@ fn checksum(alloc: Global, word: &str) -> Result<u64, &'static str> {
         "decode_3_cells" => cells_decoded_often(alloc, 3, 2),
         "encode_3_runs" => runs_encoded_often(alloc, 3, 2),
         "decode_3_runs" => runs_decoded_often(alloc, 3, 2),
+        "commands_at_3" => commands_done_often(alloc, 3, 2),
+        "frames_at_3" => frames_taken_often(alloc, 3, 2),
         "join_65536_runs" => joined_often(alloc, 65_536, TIMES),
         "join_32768_runs" => joined_often(alloc, 32_768, TIMES),
         "join_16384_cells" => sets_joined_often(alloc, (0, 0), 16_384, TIMES),
@@ -55,6 +64,12 @@ fn checksum(alloc: Global, word: &str) -> Result<u64, &'static str> {
         "decode_16384_cells" => cells_decoded_often(alloc, 16_384, TIMES),
         "encode_65536_runs" => runs_encoded_often(alloc, 65_536, TIMES),
         "decode_65536_runs" => runs_decoded_often(alloc, 65_536, TIMES),
+        "commands_at_256" => commands_done_often(alloc, 256, TURNS),
+        "commands_at_4096" => commands_done_often(alloc, 4_096, TURNS),
+        "commands_at_15000" => commands_done_often(alloc, 15_000, TURNS),
+        "frames_at_256" => frames_taken_often(alloc, 256, FRAMES),
+        "frames_at_4096" => frames_taken_often(alloc, 4_096, FRAMES),
+        "frames_at_15000" => frames_taken_often(alloc, 15_000, FRAMES),
         _ => Err("no such workload"),
     }
 }

@@ -8,7 +8,7 @@ use member_orset::{JoinFault, MemberSet};
 use std::alloc::Global;
 
 // The digits of a number below 100,000, as an interface of queue 0.
-fn member(number: u64) -> Result<Member, JoinFault> {
+pub(crate) fn member(number: u64) -> Result<Member, JoinFault> {
     let mut bytes = [b'0'; 5];
     let mut left = number;
     for place in 0..5 {

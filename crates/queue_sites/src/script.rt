@@ -1,9 +1,9 @@
 ghost use Rattle.std.specs.Prelude.{◌≡◌, ◌≢◌, ◌≤◌, ◌++◌, ◌+◌, ◌⊎◌, true, false, codes, decimal, length, vec_len, IfOk, IfErr, OnOk, IsErrOf};
 ghost use Rattle.replica.specs.Standing.{StandsFor};
-ghost use Rattle.replica.specs.Steps.{SiteKnowledge};
+ghost use Rattle.replica.specs.Steps.{SiteKnowledge, new_site};
 ghost use Rattle.ami_session.specs.Views.{reaction_of};
 ghost use Rattle.queue_sites.specs.ScriptLines.{Message as asks_message, sense_of};
-ghost use Rattle.queue_sites.specs.Script.{HasBegun, HasGiven, HasWritten, IsRun, IsRunInPart};
+ghost use Rattle.queue_sites.specs.Script.{one_site, HasBegun, HasGiven, HasWritten, IsRun, IsRunInPart};
 ghost use Rattle.queue_sites.specs.LineSteps.{BeganLine, GaveLine, IsActed, IsAnswer, IsOutput, IsReplied, IsUnknown, place_of};
 
 use crate::devices::{read_script, write_all};
@@ -30,8 +30,9 @@ struct Output {
 /// `line N: not understood`, N counting all lines from 1 (this project's own).
 ///
 /// Faults: `Read` where the reader fails or gives no end within 1,000,000 reads, `TooLong` where the script has more
-/// than 16,777,216 bytes, `Write` where the writer fails or takes no bytes, `Memory` where memory is wanting. After the
-/// first two nothing was written, after the others a front of the script's text.
+/// than 16,777,216 bytes, `Write` where the writer fails or takes no bytes, `Memory` where memory is wanting, or where a
+/// site that is worn refuses a command as full. After the first two nothing was written, after the others a front of the
+/// script's text.
 pub fn run_script<S: Source, W: Sink>(
     alloc: Global,
     reader: &mut S,
@@ -59,9 +60,17 @@ pub fn run_script<S: Source, W: Sink>(
     ensures memory { IsErrOf result ScriptFault.Memory → (W.taken writer.new ≡ W.taken writer.old) ⊎ IsRunInPart list (S.given reader.old) (S.given reader.new) (W.taken writer.old) (W.taken writer.new) }
 {
     let script = read_script(alloc, reader)?;
-    let site = SiteId::new(0).unwrap();
-    let mut replica = Replica::new(alloc, site, list);
+    let mut replica = only_site(alloc, list);
     run_lines(alloc, &mut replica, writer, &script)
+}
+
+// The replica of the one site that a script has.
+fn only_site(alloc: Global, list: QueueList) -> Replica
+    ensures place { place_of result ≡ one_site list }
+    ensures knows { StandsFor result new_site }
+{
+    let site = SiteId::new(0).unwrap();
+    Replica::new(alloc, site, list)
 }
 
 // Runs the lines of a script.
@@ -217,25 +226,29 @@ fn run_act(alloc: Global, replica: &mut Replica, act: Act) -> Result<Vec<u8>, Sc
     }
 }
 
-// The site's answer. Want of memory is no answer but the script's fault.
+// The site's answer. Want of memory, and of places where the site is worn, is no answer but the script's fault.
 fn answer_of(alloc: Global, replica: &mut Replica, asked: Ask) -> Result<Answer, ScriptFault>
     ensures ok { IfOk result (λ answer. (s : SiteKnowledge) → StandsFor replica.old s
         → IsAnswer (place_of replica.old) s asked replica.new answer) }
     ensures place { place_of replica.new ≡ place_of replica.old }
     ensures fault { IfErr result (λ fault. fault ≡ ScriptFault.Memory) }
 {
+    let worn = replica.is_worn();
     let answer = ask(alloc, replica, asked);
-    not_memory(answer)
+    told(answer, worn)
 }
 
-// An answer that isn't refused for want of memory.
-fn not_memory(answer: Answer) -> Result<Answer, ScriptFault>
+// An answer that the definitions tell: it isn't refused for want of memory, nor as full at a site where places of dead dots that
+// aren't used again may be the cause.
+fn told(answer: Answer, worn: bool) -> Result<Answer, ScriptFault>
     ensures ok { IfOk result (λ same. same ≡ answer) }
-    ensures other { OnOk result (answer ≢ Answer.Refused Refusal.Memory) }
+    ensures memory { OnOk result (answer ≢ Answer.Refused Refusal.Memory) }
+    ensures full { OnOk result (worn ≡ true → answer ≢ Answer.Refused Refusal.MembersFull) }
     ensures fault { IfErr result (λ fault. fault ≡ ScriptFault.Memory) }
 {
     match answer {
         Answer::Refused(Refusal::Memory) => Err(ScriptFault::Memory),
+        Answer::Refused(Refusal::MembersFull) if worn => Err(ScriptFault::Memory),
         answer => Ok(answer),
     }
 }

@@ -12,7 +12,7 @@ pub enum ScriptFault {
     /// The writer failed, or took no bytes. A front of the output was written.
     #[error("write failed")]
     Write,
-    /// Memory was wanting. Nothing, or a front of the output, was written.
+    /// Memory was wanting, or a command was refused as full at a site that is worn. Nothing, or a front of the output, was written.
     #[error("out of memory")]
     Memory,
 }

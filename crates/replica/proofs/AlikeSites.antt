@@ -16,7 +16,7 @@ use Rattle.dots.proofs.AlikeViews.{filter_map-same, listed-in, own-visible, same
 use Rattle.dots.proofs.Membership.{first-in, later-in, cases-in, in-some}
 use Rattle.replica.specs.declared.refusal.Refusal.TheVariants.{MembersFull, Exhausted, TotalFull}
 use Rattle.replica.specs.Changes.{Change, Meaning, AddMember, RemoveMember, SetField, CountCall, Refused, Makes, time_of, time_replaced, add_at, write_at, remove_of, is_full, is_too_long, is_exhausted, is_past_total, within_limits, in_queue, where_absent, where_present, meaning_of_setting, meaning}
-use Rattle.replica.specs.Promises.{AreAlike, MeansTheSameAlike}
+use Rattle.replica.specs.Promises.{AreAlike, AreAsFull, MeansTheSameAlike}
 use Rattle.replica.specs.Queues.{number_of}
 use Rattle.replica.specs.SiteViews.{SiteView, greatest, is_dead, older_dots, with_interface, dots_seen, visible_with, known_with, is_past_limits}
 
@@ -69,29 +69,33 @@ replaced-same r s alike (SetPenalty penalty) dot h = ap time_of (alike.penalty d
 replaced-same r s alike (SetPause pause) dot h = ap time_of (alike.pause dot h)
 replaced-same r s alike (SetLabel label) dot h = ap time_of (alike.label dot h)
 
-dead-same : (r s : SiteView) → AreAlike r s → (dot : Dot) → is_dead r dot ≡ is_dead s dot
-dead-same r s alike dot = λ i. set.contains (alike.known i) dot && not (set.contains (alike.dots.visible i) dot)
+-- what is read alike is as full
+as-full : (r s : SiteView) → AreAlike r s → AreAsFull r s
+as-full r s alike = record { visible = alike.dots.visible; known = alike.known }
+
+dead-same : (r s : SiteView) → AreAsFull r s → (dot : Dot) → is_dead r dot ≡ is_dead s dot
+dead-same r s alike dot = λ i. set.contains (alike.known i) dot && not (set.contains (alike.visible i) dot)
 
 older-same : (r s : SiteView) → AreAlike r s → (dots : List Dot) → older_dots r dots ≡ older_dots s dots
 unfolding older_dots
-older-same r s alike dots = λ i. set.retain (alike.known i) (λ dot. dead-same r s alike dot i && is_older dots dot)
+older-same r s alike dots = λ i. set.retain (alike.known i) (λ dot. dead-same r s (as-full r s alike) dot i && is_older dots dot)
 
-visible-same : (r s : SiteView) → AreAlike r s → (o : Operation) → visible_with r o ≡ visible_with s o
+visible-same : (r s : SiteView) → AreAsFull r s → (o : Operation) → visible_with r o ≡ visible_with s o
 unfolding visible_with
-visible-same r s alike o = λ i. set.retain (set.union (alike.dots.visible i) (asserted_dots (o ∷ []))) (λ dot. not (dead-same r s alike dot i || names dot o))
+visible-same r s alike o = λ i. set.retain (set.union (alike.visible i) (asserted_dots (o ∷ []))) (λ dot. not (dead-same r s alike dot i || names dot o))
 
-known-same : (r s : SiteView) → AreAlike r s → (o : Operation) → known_with r o ≡ known_with s o
+known-same : (r s : SiteView) → AreAsFull r s → (o : Operation) → known_with r o ≡ known_with s o
 unfolding known_with
 known-same r s alike o = λ i. set.union (alike.known i) (known_dots (o ∷ []))
 
-full-same : (r s : SiteView) → AreAlike r s → (o : Operation) → is_full r o ≡ is_full s o
+full-same : (r s : SiteView) → AreAsFull r s → (o : Operation) → is_full r o ≡ is_full s o
 full-same r s alike o = λ i. is_past_limits (visible-same r s alike o i) (known-same r s alike o i)
 
-module _ (r s b c : SiteView) (alike : AreAlike r s) (buffers : AreAlike b c) where
+module _ (r s b c : SiteView) (alike : AreAlike r s) (buffers : AreAsFull b c) where
   limits-same : (o p : Operation) → o ≡ p → within_limits r b o ≡ within_limits s c p
   limits-same o p e =
       (λ i. let rest : Meaning = if is_exhausted o then Refused Exhausted else if is_past_total o then Refused TotalFull else Makes o in
-      if full-same r s alike o i || (full-same b c buffers o i || is_too_long o) then Refused MembersFull else rest)
+      if full-same r s (as-full r s alike) o i || (full-same b c buffers o i || is_too_long o) then Refused MembersFull else rest)
       ∙ ap (within_limits s c) e
 
   adds-same : (site : ℕ) (member : Member) (penalty : ℕ) (paused : Bool) (label : Label) → add_at site r member penalty paused label ≡ add_at site s member penalty paused label
@@ -122,5 +126,5 @@ module _ (r s b c : SiteView) (alike : AreAlike r s) (buffers : AreAlike b c) wh
   meanings-same site names (SetField (Some queue) interface setting) = λ i. in_queue (number_of names queue) (λ q. settings-same site setting (Some q) interface i)
   meanings-same site names (CountCall queue calls) = λ i. in_queue (number_of names queue) (λ q. limits-same _ _ (ap (λ n. let o : Operation = Count site q calls (suc n) in o) (alike.totals site q calls)) i)
 
-pub means-alike : (r s buffer other : SiteView) → AreAlike r s → AreAlike buffer other → MeansTheSameAlike r s buffer other
+pub means-alike : (r s buffer other : SiteView) → AreAlike r s → AreAsFull buffer other → MeansTheSameAlike r s buffer other
 means-alike r s b c alike buffers = record { seen = same-seen r.dots s.dots alike.dots; meanings = meanings-same r s b c alike buffers }

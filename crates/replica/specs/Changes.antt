@@ -8,6 +8,7 @@ use Rattle.dots.specs.declared.member.Member.{Member}
 use Rattle.dots.specs.Values.{Dot}
 use Rattle.dots.specs.Registers.{Entry}
 use Rattle.dots.specs.declared.calls.Calls.{Calls}
+use Rattle.dots.specs.declared.calls.Calls.TheVariants.{Completed, Abandoned}
 use Rattle.dots.specs.Operations.{Operation, Setting, Add, Write, Remove, Count, SetPenalty, SetPause, SetLabel}
 use Rattle.dots.specs.Knowledge.{known_dots}
 use Rattle.dots.specs.DotSets.{run_count}
@@ -30,6 +31,11 @@ pub data Change : Type 0 where
 -- the change that a command asks
 abbrev pub change_of : Command → Change
 change_of (command.Add queue interface penalty paused label) = AddMember queue interface penalty paused label
+change_of (command.Remove queue interface) = RemoveMember queue interface
+change_of (command.Pause queue interface pause) = SetField queue interface (SetPause pause)
+change_of (command.Penalty queue interface penalty) = SetField queue interface (SetPenalty penalty)
+change_of (command.Completed queue) = CountCall queue Completed
+change_of (command.Abandoned queue) = CountCall queue Abandoned
 
 -- what a command means: it is refused, or makes an operation
 pub data Meaning : Type 0 where

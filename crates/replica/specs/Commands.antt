@@ -1,73 +1,62 @@
 -- What a command does to a site, and what it is refused for.
-use Rattle.std.specs.Prelude.{ℕ, ◌≡◌, ◌+◌, ◌≤◌, List, [], Result, IsErrOf, OnOk, OnErr, IsTrue, Contains}
-use Rattle.std.specs.Option.{unwrap_or}
-use Rattle.std.specs.FinMap as map
-use Rattle.dots.specs.declared.limits.TheConstants.{MOST_COUNT, MOST_LIVE}
+use Rattle.std.specs.Prelude.{ℕ, ◌≡◌, ◌⊎◌, max, Bool, true, Option, Some, None, Result, Ok, Err, List, [], ◌∷◌, map as each}
+use Rattle.dots.specs.declared.label.Label.{Label}
 use Rattle.dots.specs.declared.member.Member.{Member}
-use Rattle.dots.specs.Rows.{MemberRow}
-use Rattle.replica.specs.declared.command.Command.{Command}
-use Rattle.replica.specs.declared.command.Command.TheVariants.{Add}
+use Rattle.dots.specs.Values.{Dot}
+use Rattle.dots.specs.Operations.{Operation, Setting}
+use Rattle.member_orset.specs.Members.{KeepsIds}
+use Rattle.delta.specs.DeltaStates.{DeltaState}
+use Rattle.delta.specs.Joining.{Agree, IsJoinOf}
+use Rattle.delta.specs.Standing.{IsDeltaOf}
 use Rattle.replica.specs.declared.refusal.Refusal.{Refusal}
-use Rattle.replica.specs.declared.refusal.Refusal.TheVariants.{NoSuchQueue, AlreadyThere, NotThere, MembersFull, Exhausted, TotalFull, Memory}
-use Rattle.replica.specs.Queues.{number_of}
-use Rattle.replica.specs.Site.{SiteState}
+use Rattle.replica.specs.declared.refusal.Refusal.TheVariants.{Memory}
+use Rattle.replica.specs.Changes.{Meaning, Refused, Makes, add_at, is_exhausted, within_limits, write_at}
+use Rattle.replica.specs.SiteViews.{count_used, dots_seen, time_used}
+use Rattle.replica.specs.Refusing.{IsInstead, IsWorn}
+use Rattle.replica.specs.Site.{SiteState, IsUnchanged, view_of}
 
--- the queue that a command names
-abbrev pub queue_named : Command → List ℕ
-queue_named (Add queue interface penalty paused label) = queue
+-- a delta is joined with that of one operation alone, with which it agrees, and each dot keeps its id
+pub record HasJoined (old : DeltaState) (o : Operation) (new : DeltaState) : Type 0 where
+  pub change : DeltaState
+  pub stands : IsDeltaOf change (o ∷ [])
+  pub agrees : Agree old change
+  pub joined : IsJoinOf old change new
+  pub ids : KeepsIds old.members new.members
 
--- the member that an add makes: the interface, in the queue of that name
-abbrev pub member_made : List (List ℕ) → Command → Member
-member_made names (Add queue interface penalty paused label) = record { queue = unwrap_or (number_of names queue) 0; interface = interface }
+-- a site has made an operation: its state and its buffer are joined with it, and the last count and time are those of it where it has used one
+pub record HasMade (old : SiteState) (o : Operation) (new : SiteState) : Type 0 where
+  pub site : new.site ≡ old.site
+  pub names : new.names ≡ old.names
+  pub state : HasJoined old.state o new.state
+  pub pending : HasJoined old.pending o new.pending
+  pub last_count : new.last_count ≡ max (count_used old.site o) old.last_count
+  pub last_time : new.last_time ≡ max (time_used old.site o) old.last_time
+  pub frames : new.frames ≡ old.frames
 
--- its row: what is set of it, and the empty reason
-abbrev pub row_made : Command → MemberRow
-row_made (Add queue interface penalty paused label) = record { penalty = penalty; paused = paused; reason = []; name = label.name; state = label.state }
+-- a result, and the site after it, are what is meant: an operation was made, or the command was refused and changed nothing
+abbrev pub Follows : SiteState → Meaning → SiteState → Result (Unit {0}) Refusal → Type 0
+Follows old (Makes o) new result = (result ≡ Ok tt) × HasMade old o new
+Follows old (Refused refusal) new result = (result ≡ Err refusal) × IsUnchanged old new
 
--- the site after an add that is done: one member and one add more
-abbrev pub after : SiteState → Command → SiteState
-after state command = record {
-  site = state.site;
-  names = state.names;
-  members = map.insert state.members (member_made state.names command) (row_made command);
-  adds = state.adds + 1;
-}
+-- the refusal that is meant, if one is
+abbrev pub refusal_meant : Meaning → Option Refusal
+refusal_meant (Makes o) = None
+refusal_meant (Refused refusal) = Some refusal
 
--- the command's queue is in the list
-abbrev pub HasQueue : SiteState → Command → Type 0
-HasQueue state command = Contains state.names (queue_named command)
+-- what is meant comes of a command; or a refusal that may stand in its place, which changes nothing
+abbrev pub IsDone : SiteState → Meaning → SiteState → Result (Unit {0}) Refusal → Type 0
+IsDone old meant new result = Follows old meant new result ⊎ (IsUnchanged old new × IsInstead (IsWorn old) (refusal_meant meant) result)
 
--- its member is in the queue
-abbrev pub HasMember : SiteState → Command → Type 0
-HasMember state command = IsTrue (map.contains_key state.members (member_made state.names command))
+-- what is told where no number is left for an operation: the refusal that is meant, or that memory is wanting
+abbrev pub IsToldOf : SiteState → Operation → Refusal → Type 0
+IsToldOf s o refusal = (refusal ≡ Memory) ⊎ (within_limits (view_of s s.state) (view_of s s.pending) o ≡ Refused refusal)
 
--- the site has as many members as it may
-abbrev pub IsFull : SiteState → Type 0
-IsFull state = MOST_LIVE ≤ map.len state.members
+-- so it is of each add that wants a number past the greatest
+abbrev pub IsToldOfAdds : SiteState → Refusal → Type 0
+IsToldOfAdds s refusal = (member : Member) (penalty : ℕ) (paused : Bool) (label : Label) → let o = add_at s.site (view_of s s.state) member penalty paused label in
+    is_exhausted o ≡ true → IsToldOf s o refusal
 
--- the site has made as many adds as it may
-abbrev pub IsExhausted : SiteState → Type 0
-IsExhausted state = MOST_COUNT ≤ state.adds
-
--- the member is a new one of a queue in the list
-pub record IsNewMember (state : SiteState) (command : Command) : Type 0 where
-  pub queue : HasQueue state command
-  pub member : HasMember state command → ⊥
-
--- no cause stands to refuse an add
-pub record CanAdd (state : SiteState) (command : Command) : Type 0 where
-  pub new_member : IsNewMember state command
-  pub not_full : IsFull state → ⊥
-  pub not_exhausted : IsExhausted state → ⊥
-
--- an answer to an add, and the site after it
-pub record IsAnswer (old : SiteState) (command : Command) (new : SiteState) (result : Result (Unit {0}) Refusal) : Type 0 where
-  pub done : OnOk result (new ≡ after old command)
-  pub possible : OnOk result (CanAdd old command)
-  pub no_such_queue : IsErrOf result NoSuchQueue → HasQueue old command → ⊥
-  pub already_there : IsErrOf result AlreadyThere → HasQueue old command × HasMember old command
-  pub members_full : IsErrOf result MembersFull → IsNewMember old command × IsFull old
-  pub exhausted : IsErrOf result Exhausted → IsNewMember old command × ((IsFull old → ⊥) × IsExhausted old)
-  pub memory : IsErrOf result Memory → CanAdd old command
-  pub never : (IsErrOf result NotThere → ⊥) × (IsErrOf result TotalFull → ⊥)
-  pub unchanged : OnErr result (new ≡ old)
+-- and of each write on these dots that does
+abbrev pub IsToldOfWrites : SiteState → List Dot → Refusal → Type 0
+IsToldOfWrites s dots refusal = (queue : Option ℕ) (interface : List ℕ) (setting : Setting) → let seen = dots_seen (view_of s s.state).dots queue interface in
+    dots ≡ each (λ p. p.0) seen → let o = write_at s.site (view_of s s.state) setting seen in is_exhausted o ≡ true → IsToldOf s o refusal

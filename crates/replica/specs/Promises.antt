@@ -38,7 +38,12 @@ pub record AreAlike (r s : SiteView) : Type 0 where
   pub last_count : r.last_count ≡ s.last_count
   pub last_time : r.last_time ≡ s.last_time
 
--- where it is alike, of knowledges and of buffers, a command goes over the same dots and means the same
+-- What two buffers read is as full: the same dots are visible, and the same known. Nothing else is asked of a buffer.
+pub record AreAsFull (r s : SiteView) : Type 0 where
+  pub visible : r.dots.visible ≡ s.dots.visible
+  pub known : r.known ≡ s.known
+
+-- where what is read of knowledges is alike, and buffers are as full, a command goes over the same dots and means the same
 pub record MeansTheSameAlike (r s buffer other : SiteView) : Type 0 where
   pub seen : (queue : Option ℕ) (interface : List ℕ) → dots_seen r.dots queue interface ≡ dots_seen s.dots queue interface
   pub meanings : (site : ℕ) (names : List (List ℕ)) (change : Change) → meaning site names r buffer change ≡ meaning site names s other change

@@ -2,7 +2,7 @@
 ghost use Rattle.std.specs.Prelude.{ℕ, List};
 ghost use Rattle.dots.specs.Operations.{Operation};
 ghost use Rattle.dots.specs.Knowledge.{Knowledge};
-ghost use Rattle.replica.specs.Promises.{ForeseesOneMore, OlderAreNamed, MakesTraces, MakesWithinLimits, MeansTheSame, AreAlike, MeansTheSameAlike, RefusalsChangeNothing};
+ghost use Rattle.replica.specs.Promises.{ForeseesOneMore, OlderAreNamed, MakesTraces, MakesWithinLimits, MeansTheSame, AreAlike, AreAsFull, MeansTheSameAlike, RefusalsChangeNothing};
 ghost use Rattle.replica.specs.SiteViews.{SiteView};
 ghost use Rattle.replica.specs.Steps.{SiteKnowledge, Step};
 
@@ -25,7 +25,8 @@ pub fn a_command_means_the_same_at_the_same_operations()
 
 /// A command means the same where what is read is alike, be it of a knowledge or of what stands for it (this project's own).
 pub fn a_command_means_the_same_at_views_that_are_alike()
-    ensures { (r s buffer other : SiteView) → AreAlike r s → AreAlike buffer other → MeansTheSameAlike r s buffer other }
+    ensures { (r s buffer other : SiteView) → AreAlike r s → AreAsFull buffer other
+        → MeansTheSameAlike r s buffer other }
 {}
 
 /// What a command makes is within the limits of operations, where its values, and all operations that the site knows, are within theirs. So each operation
@@ -41,5 +42,6 @@ pub fn a_command_makes_operations_that_leave_traces()
 
 /// A step that is refused leaves the site as it was (this project's own).
 pub fn a_refused_step_changes_nothing()
-    ensures { (site : ℕ) (names : List (List ℕ)) (s : SiteKnowledge) (event : Step) → RefusalsChangeNothing site names s event }
+    ensures { (site : ℕ) (names : List (List ℕ)) (s : SiteKnowledge) (event : Step)
+        → RefusalsChangeNothing site names s event }
 {}

@@ -1,21 +1,36 @@
-//! One site's replica of the queue members: which members there are in each queue, and what is set of them.
+//! One site's replica of the queue members: which members there are in each queue, what is set of them, and how many calls
+//! were counted.
 //!
-//! A replica is changed by commands alone. Each command is refused for a named cause and then changes
+//! A replica is changed by commands, and by frames of other sites. Each is refused for a named cause and then changes
 //! nothing, or is done whole.
 #![tactic(auto)]
 
+mod changes;
 mod command;
-mod entries;
-mod entry;
+mod commands;
+mod cut_fault;
+mod exhausted;
+mod foreign;
+mod frames;
+mod full;
+mod joining;
 pub mod laws;
+mod planned;
 mod queue_list;
 mod refusal;
 mod replica;
-mod rows;
+mod seen_dots;
+mod setting;
+mod take_fault;
+mod worn;
 
 pub use command::Command;
+pub use cut_fault::CutFault;
+pub use delta_codec::Frame;
 pub use dots::{Memory, Row};
+pub use member_orset::Rows;
 pub use queue_list::{ListFault, QueueList};
 pub use refusal::Refusal;
 pub use replica::Replica;
-pub use rows::Rows;
+pub use take_fault::TakeFault;
+pub use worn::MOST_RETIRED;

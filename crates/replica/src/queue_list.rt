@@ -71,6 +71,17 @@ impl QueueList {
         Ok(QueueList { names: held })
     }
 
+    /// The same list once more. The one fault is want of memory.
+    pub fn copy(&self) -> Result<QueueList, Memory>
+        ensures { IfOk result (λ copy. copy ≡ self.now) }
+    {
+        let alloc = *self.names.allocator();
+        match QueueList::new(alloc, self.names.as_slice()) {
+            Ok(copy) => Ok(copy),
+            Err(_) => Err(Memory),
+        }
+    }
+
     /// The place of the queue of this name, from 0. `None` exactly where the name isn't in the list.
     pub fn position(&self, name: &QueueName) -> Option<u16>
         ensures number { result ≡ number_of self.now name.now }
@@ -92,6 +103,7 @@ impl QueueList {
     pub fn len(&self) -> u16
         ensures value { result ≡ length self.now }
         ensures limit { (0 < result) × (result ≤ QUEUES) }
+        ensures queues { AreQueues self.now }
     {
         self.names.len() as u16
     }

@@ -1,6 +1,7 @@
 use thiserror::Error;
 
-/// Why a command was not done. Of several causes the first of this list is answered (this project's own).
+/// Why a command was not done. Of several causes the first of this list is answered, but that a want of memory may hide each other
+/// one (this project's own).
 #[derive(Clone, Copy, Debug, PartialEq, Eq, Error)]
 pub enum Refusal {
     /// The queue isn't in the list.
@@ -12,13 +13,14 @@ pub enum Refusal {
     /// The member isn't in the queue; without a queue, the interface is in none.
     #[error("not there")]
     NotThere,
-    /// The replica would hold more members than its limit.
+    /// The state or the buffer would have more than 16,384 live dots or 65,536 runs, or what is made these runs by itself; or too
+    /// many places aren't used again.
     #[error("members full")]
     MembersFull,
     /// A count or a time would pass 2^40.
     #[error("numbers used up")]
     Exhausted,
-    /// A total stands at its limit.
+    /// The site's own total of these calls in the queue is 1,000,000,000.
     #[error("total full")]
     TotalFull,
     /// An allocation was refused.

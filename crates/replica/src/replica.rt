@@ -1,32 +1,39 @@
-ghost use Rattle.std.specs.Prelude.{◌≡◌, ◌≤◌, length, option_map, OnOk, OnErr, IsErrOf};
-ghost use Rattle.std.specs.FinMap as map;
+ghost use Rattle.std.specs.Prelude.{◌≡◌, ◌≤◌, IfOk, length, option_map};
+ghost use Rattle.dots.specs.declared.calls.Calls.TheVariants.{Completed, Abandoned};
+ghost use Rattle.dots.specs.Counts.{queue_total};
 ghost use Rattle.dots.specs.Rows.{dot_view, row_of, rows_of as rows_read};
-ghost use Rattle.replica.specs.Commands.{CanAdd, HasMember, HasQueue, IsExhausted, IsFull, IsNewMember, IsAnswer, after};
-ghost use Rattle.replica.specs.Changes.{change_of};
 ghost use Rattle.dots.specs.Views.{row_view};
-ghost use Rattle.replica.specs.Site.{rows_of};
-ghost use Rattle.replica.specs.Standing.{StandsFor, IsMeant};
-ghost use Rattle.replica.specs.Steps.{SiteKnowledge, Do, new_site, step};
+ghost use Rattle.member_orset.specs.Members.{dot_view_of};
+ghost use Rattle.delta.specs.DeltaStates.{IsEmpty};
+ghost use Rattle.replica.specs.Changing.{IsChangeOf};
+ghost use Rattle.replica.specs.Keeping.{IsKept};
+ghost use Rattle.replica.specs.Making.{IsMade};
+ghost use Rattle.replica.specs.Queues.{AreQueues};
+ghost use Rattle.replica.specs.Site.{IsSameSite, rows_of, sums_of};
+ghost use Rattle.replica.specs.Standing.{StandsFor};
+ghost use Rattle.replica.specs.Steps.{SiteKnowledge, new_site};
 
-use crate::entries::{of_queue, place, row_in};
-use crate::entry::Entry;
-use crate::{Command, QueueList, Refusal, Row, Rows};
-use dots::{
-    Dot, Interface, Label, MOST_LIVE, Member, Pause, Penalty, QueueName, SiteId, Stamp, Text80,
-};
+use crate::joining::join_both;
+use crate::{QueueList, Refusal, Row, Rows};
+use delta::Delta;
+use dots::{CallTotals, MOST_COUNT, Member, Memory, SiteId};
 use std::alloc::Global;
 use std::marker::Model;
 
-/// What one site knows of the queue members: its number, the list of the queues, the members of each queue with
-/// what is set of them, at most 16,384 in all, and how many adds it has made, at most 2^40.
+/// What one site knows of the queue members and of the calls: its number, the list of the queues, its state, which is all that
+/// it knows, and its buffer, which is what of its own it has put in no frame yet. It has the limits of deltas, and its counts,
+/// times and frame numbers go up to 2^40.
 #[derive(Drop)]
 pub struct Replica {
-    site: SiteId,
-    list: QueueList,
-    // In the order of the members.
-    entries: Vec<Entry>,
-    // The count of this site's last add, which is its last time too; 0 before the first.
-    last: u64,
+    pub(crate) site: SiteId,
+    pub(crate) list: QueueList,
+    pub(crate) state: Delta,
+    pub(crate) pending: Delta,
+    // The numbers that were used last, each 0 before the first.
+    pub(crate) count: u64,
+    pub(crate) time: u64,
+    pub(crate) frames: u64,
+    pub(crate) alloc: Global,
 }
 
 impl Model for Replica {
@@ -36,145 +43,166 @@ impl Model for Replica {
 
     ghost coded = { site_code };
 
-    ghost use Rattle.replica.specs.Held.{IsKept, members_of};
+    ghost use Rattle.replica.specs.Keeping.{IsKept};
 
-    ghost view = { λ r. record { site = r.site; names = r.list; members = members_of r.entries.items; adds = r.last } };
+    ghost view = { λ r. record {
+      site = r.site;
+      names = r.list;
+      state = r.state;
+      pending = r.pending;
+      last_count = r.count;
+      last_time = r.time;
+      frames = r.frames;
+    } };
 
-    ghost invariant = { λ r. IsKept r.list r.entries.items r.last };
+    ghost invariant = { λ r. IsKept (record {
+      site = r.site;
+      names = r.list;
+      state = r.state;
+      pending = r.pending;
+      last_count = r.count;
+      last_time = r.time;
+      frames = r.frames;
+    }) };
 }
 
 impl Replica {
-    /// The replica of a site that knows nothing yet. It takes no memory.
+    /// The replica of a site that knows nothing yet, and has used no number. It takes no memory.
     pub fn new(alloc: Global, site: SiteId, list: QueueList) -> Replica
         ensures site { result.site ≡ site }
         ensures names { result.names ≡ list }
-        ensures no_members { result.members ≡ map.empty }
-        ensures no_adds { result.adds ≡ 0 }
+        ensures state { IsEmpty result.state }
+        ensures pending { IsEmpty result.pending }
+        ensures last_count { result.last_count ≡ 0 }
+        ensures last_time { result.last_time ≡ 0 }
+        ensures frames { result.frames ≡ 0 }
+        ensures fresh { (result.state.members.retired ≡ 0) × (result.pending.members.retired ≡ 0) }
         ensures meaning { StandsFor result new_site }
     {
         Replica {
             site,
             list,
-            entries: Vec::new(alloc),
-            last: 0,
+            state: Delta::empty(alloc),
+            pending: Delta::empty(alloc),
+            count: 0,
+            time: 0,
+            frames: 0,
+            alloc,
         }
     }
 
-    /// The site whose replica it is.
+    /// The site whose replica it is. It takes no memory, like all that only reads.
     pub fn site(&self) -> SiteId
         ensures { result ≡ self.now.site }
     {
         self.site
     }
 
-    /// The queues.
+    /// The queues: 1 to 256 names, none twice.
     pub fn list(&self) -> &QueueList
-        ensures { result.now ≡ self.now.names }
+        ensures value { result.now ≡ self.now.names }
+        ensures queues { AreQueues self.now.names }
     {
+        let _ = self.list.len(); // so that it is known what holds of them
         &self.list
+    }
+
+    /// All that the site knows. Whatever frames it took, its own dots in it are those of the counts up to its last one, its own
+    /// stamps are of times up to its last one, and it has live dots and totals of the list's queues alone.
+    pub fn state(&self) -> &Delta
+        ensures value { result.now ≡ self.now.state }
+        ensures kept { IsKept self.now }
+    {
+        &self.state
+    }
+
+    /// What of its own the site has put in no frame yet: its buffer. It is below the state, and its own stamps and queues are as the
+    /// state's.
+    pub fn pending(&self) -> &Delta
+        ensures value { result.now ≡ self.now.pending }
+        ensures kept { IsKept self.now }
+    {
+        &self.pending
+    }
+
+    /// The count, the time and the frame number that the site used last, each at most 2^40; 0 where it used none yet.
+    pub fn last(&self) -> (u64, u64, u64)
+        ensures count { result.0 ≡ self.now.last_count }
+        ensures time { result.1 ≡ self.now.last_time }
+        ensures frames { result.2 ≡ self.now.frames }
+        ensures limits { (result.0 ≤ MOST_COUNT)
+            × ((result.1 ≤ MOST_COUNT) × (result.2 ≤ MOST_COUNT)) }
+    {
+        (self.count, self.time, self.frames)
     }
 
     /// What is set of this member. `None` where it isn't in its queue.
     pub fn row(&self, member: &Member) -> Option<Row<'_>>
-        ensures value { option_map row_view result ≡ map.get self.now.members member.now }
-        ensures meaning { (s : SiteKnowledge) → StandsFor self.now s → option_map row_view result ≡ row_of (dot_view s.known) member.now }
+        ensures value { option_map row_view result
+            ≡ row_of (dot_view_of self.now.state.members) member.now }
+        ensures meaning { (s : SiteKnowledge) → StandsFor self.now s
+            → option_map row_view result ≡ row_of (dot_view s.known) member.now }
     {
-        row_in(&self.entries, member)
+        self.state.members().row(member)
     }
 
-    /// The members of the queue of this number with their rows, in the order of their interfaces' bytes.
+    /// The members of the queue of this number with their rows, in the order of their interfaces' bytes; none where there is no such
+    /// queue.
     pub fn rows(&self, queue: u16) -> Rows<'_>
-        ensures value { result ≡ rows_of self.now.members queue }
-        ensures meaning { (s : SiteKnowledge) → StandsFor self.now s → result ≡ rows_read (dot_view s.known) queue }
-        ensures few { length result ≤ MOST_LIVE }
+        ensures value { result ≡ rows_of self.now queue }
+        ensures meaning { (s : SiteKnowledge) → StandsFor self.now s
+            → result ≡ rows_read (dot_view s.known) queue }
     {
-        Rows::new(of_queue(&self.entries, queue))
+        self.state.members().rows(queue)
     }
 
-    /// Does a command, or refuses it and changes nothing.
-    ///
-    /// An add that is done makes the interface a member of the queue of that name, with what is set of it and an
-    /// empty reason, and counts one add more. It is refused, in this order, as `NoSuchQueue` where its queue isn't
-    /// in the list, `AlreadyThere` where the member is in the queue, `MembersFull` where the replica has 16,384
-    /// members, `Exhausted` where the site's next count or time would pass 2^40, and `Memory`.
-    pub fn command(&mut self, command: Command) -> Result<(), Refusal>
-        ensures done { OnOk result (self.new ≡ after self.old command) }
-        ensures possible { OnOk result (CanAdd self.old command) }
-        ensures no_such_queue { IsErrOf result Refusal.NoSuchQueue → HasQueue self.old command → ⊥ }
-        ensures already_there { IsErrOf result Refusal.AlreadyThere
-            → HasQueue self.old command × HasMember self.old command }
-        ensures members_full { IsErrOf result Refusal.MembersFull
-            → IsNewMember self.old command × IsFull self.old }
-        ensures exhausted { IsErrOf result Refusal.Exhausted
-            → IsNewMember self.old command × ((IsFull self.old → ⊥) × IsExhausted self.old) }
-        ensures memory { IsErrOf result Refusal.Memory → CanAdd self.old command }
-        ensures never { (IsErrOf result Refusal.NotThere → ⊥) × (IsErrOf result Refusal.TotalFull → ⊥) }
-        ensures unchanged { OnErr result (self.new ≡ self.old) }
-
-        // Where the replica stands for what a site knows, all this is the command's meaning there.
-        ensures meaning { (s : SiteKnowledge) → StandsFor self.old s
-            → IsMeant ⊥ self.old self.new result
-            (step self.old.site self.old.names s (Do (change_of command))) }
+    /// How many calls of the queue of this number were completed, and how many abandoned, at all sites together: each at most
+    /// 64,000,000,000, and 0 where there is no such queue.
+    pub fn totals(&self, queue: u16) -> CallTotals
+        ensures value { result ≡ sums_of self.now queue }
+        ensures completed { (s : SiteKnowledge) → StandsFor self.now s
+            → result.completed ≡ queue_total s.known queue Completed }
+        ensures abandoned { (s : SiteKnowledge) → StandsFor self.now s
+            → result.abandoned ≡ queue_total s.known queue Abandoned }
     {
-        self.run(command)
+        self.state.totals().sum(queue)
     }
 
-    fn run(&mut self, command: Command) -> Result<(), Refusal>
-        ensures { IsAnswer self.old command self.new result }
+    /// Another replica that says the same, with the same last numbers, and with no place that isn't used again. The one fault is
+    /// want of memory.
+    pub fn copy(&self) -> Result<Replica, Memory>
+        ensures same { IfOk result (λ copy. IsSameSite self.now copy) }
+        ensures fresh { IfOk result (λ copy.
+            (copy.state.members.retired ≡ 0) × (copy.pending.members.retired ≡ 0)) }
     {
-        match command {
-            Command::Add {
-                queue,
-                interface,
-                penalty,
-                paused,
-                label,
-            } => self.add(queue, interface, penalty, paused, label),
-        }
+        let list = self.list.copy()?;
+        let state = self.state.copy()?;
+        let pending = self.pending.copy()?;
+        Ok(Replica {
+            site: self.site,
+            list,
+            state,
+            pending,
+            count: self.count,
+            time: self.time,
+            frames: self.frames,
+            alloc: self.alloc,
+        })
     }
 
-    fn add(
-        &mut self,
-        queue: QueueName,
-        interface: Interface,
-        penalty: Penalty,
-        paused: bool,
-        label: Label,
-    ) -> Result<(), Refusal>
-        ensures { IsAnswer self.old (Command.Add queue interface penalty paused label) self.new result }
+    // Makes a change: the state and the buffer take it in, and these are the last count and time then. A refusal leaves all as
+    // it was.
+    pub(crate) fn make(&mut self, change: Delta, count: u64, time: u64) -> Result<(), Refusal>
+        requires { IsChangeOf self.old count time change }
+        ensures { IsMade self.old change count time self.new result }
     {
-        let Some(number) = self.list.position(&queue) else {
-            return Err(Refusal::NoSuchQueue);
-        };
-        let member = Member {
-            queue: number,
-            interface,
-        };
-        let Err(gap) = place(&self.entries, &member) else {
-            return Err(Refusal::AlreadyThere);
-        };
-        if self.entries.len() >= MOST_LIVE {
-            return Err(Refusal::MembersFull);
-        }
-        let next = self.last + 1;
-        let (Some(dot), Some(stamp)) = (Dot::new(self.site, next), Stamp::new(next, self.site))
-        else {
-            return Err(Refusal::Exhausted);
-        };
-        let entry = Entry {
-            dot,
-            member,
-            stamp,
-            penalty,
-            pause: Pause::new(paused, Text80::empty()),
-            label,
-        };
-        match self.entries.insert(gap, entry) {
+        match join_both(&mut self.state, &mut self.pending, change) {
             Ok(()) => {
-                self.last = next;
+                self.count = count;
+                self.time = time;
                 Ok(())
             }
-            Err(_) => Err(Refusal::Memory),
+            Err(refusal) => Err(refusal),
         }
     }
 }

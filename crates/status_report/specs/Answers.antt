@@ -2,8 +2,9 @@
 use Rattle.std.specs.Prelude.{◌≡◌, ◌⊎◌, ⊤, Result, Ok, Err}
 use Rattle.replica.specs.declared.refusal.Refusal.{Refusal}
 use Rattle.replica.specs.declared.refusal.Refusal.TheVariants.{Memory}
-use Rattle.replica.specs.Commands.{IsAnswer}
-use Rattle.replica.specs.Site.{SiteState}
+use Rattle.replica.specs.Changes.{change_of}
+use Rattle.replica.specs.Commands.{IsDone}
+use Rattle.replica.specs.Site.{SiteState, meaning_at}
 use Rattle.status_report.specs.declared.asks.Answer.{Answer}
 use Rattle.status_report.specs.declared.asks.Answer.TheVariants.{Done, Refused, Report}
 use Rattle.status_report.specs.declared.asks.Ask.{Ask}
@@ -15,9 +16,9 @@ abbrev pub answer_of : Result (Unit {0}) Refusal → Answer
 answer_of (Ok done) = Done
 answer_of (Err refusal) = Refused refusal
 
--- a command is answered by its result, and changes the site as the command does
+-- a command is answered by its result, and changes the site as it means there
 abbrev pub AnswersCommand : SiteState → Ask → SiteState → Answer → Type 0
-AnswersCommand old (asked_command command) new answer = (result : Result (Unit {0}) Refusal) × (answer ≡ answer_of result) × IsAnswer old command new result
+AnswersCommand old (asked_command command) new answer = (result : Result (Unit {0}) Refusal) × (answer ≡ answer_of result) × IsDone old (meaning_at old (change_of command)) new result
 AnswersCommand old (Status request) new answer = ⊤
 
 -- a status is answered by its report, or refused for want of memory

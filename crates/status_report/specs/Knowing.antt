@@ -7,8 +7,9 @@ use Rattle.dots.specs.Knowledge.{Knowledge, SameOperations, IsConsistent}
 use Rattle.dots.specs.Rows.{dot_view, rows_of}
 use Rattle.dots.specs.Counts.{queue_total}
 use Rattle.replica.specs.Changes.{change_of}
-use Rattle.replica.specs.Site.{SiteState}
-use Rattle.replica.specs.Standing.{StandsFor, IsInstead, result_of}
+use Rattle.replica.specs.Refusing.{IsInstead}
+use Rattle.replica.specs.Site.{SiteState, IsUnchanged}
+use Rattle.replica.specs.Standing.{StandsFor, result_of}
 use Rattle.replica.specs.Steps.{SiteKnowledge, Do, step}
 use Rattle.replica.specs.declared.refusal.Refusal.{Refusal}
 use Rattle.status_report.specs.declared.asks.Answer.{Answer}
@@ -43,7 +44,7 @@ refusal_told Done = None
 refusal_told (Refused refusal) = Some refusal
 refusal_told (Report bytes) = None
 
--- A state, and an answer, are those of a site that knows this now; or a refusal that may stand in place of the answer was answered, and the state is as before.
+-- A state, and an answer, are those of a site that knows this now; or a refusal that may stand in place of the answer was answered, and the site says the same as before.
 abbrev pub IsAnswered : Type 0 → SiteState → SiteState → Answer → SiteKnowledge × Answer → Type 0
 IsAnswered worn old new answer after =
-    (StandsFor new after.0 × (answer ≡ after.1)) ⊎ ((new ≡ old) × ((result : Result (Unit {0}) Refusal) × (answer ≡ answer_of result) × IsInstead worn (refusal_told after.1) result))
+    (StandsFor new after.0 × (answer ≡ after.1)) ⊎ (IsUnchanged old new × ((result : Result (Unit {0}) Refusal) × (answer ≡ answer_of result) × IsInstead worn (refusal_told after.1) result))

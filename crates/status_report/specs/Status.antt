@@ -4,8 +4,7 @@ use Rattle.std.specs.Prelude.{ℕ, ◌+◌, Bool, true, if◌then◌else◌, ◌
 use Rattle.std.specs.List.{concat}
 use Rattle.dots.specs.declared.call_totals.CallTotals.{CallTotals}
 use Rattle.dots.specs.Rows.{MemberRow}
-use Rattle.dots.specs.Totals.{no_calls}
-use Rattle.replica.specs.Site.{SiteState, rows_of}
+use Rattle.replica.specs.Site.{SiteState, rows_of, sums_of}
 use Rattle.status_report.specs.declared.request.StatusRequest.{StatusRequest}
 use Rattle.status_report.specs.WrittenLines.{field, action_id_line}
 
@@ -97,9 +96,9 @@ status_text names totals rows request =
     ++ (concat (blocks request totals rows 0 names)
     ++ closing request.action_id (length (blocks request totals rows 0 names)))
 
--- the report of a site where no call is counted
+-- the report of a site: of its queues, with the totals and the rows that its state shows
 abbrev pub report_of : SiteState → StatusRequest → List ℕ
-report_of site request = status_text site.names (λ _. no_calls) (rows_of site.members) request
+report_of site request = status_text site.names (sums_of site) (rows_of site) request
 
 -- the blocks of the queue of this number and name, none where there is no such name
 abbrev pub blocks_named : StatusRequest → (ℕ → CallTotals) → (ℕ → List Row) → ℕ → Option (List ℕ) → List (List ℕ)

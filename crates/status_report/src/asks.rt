@@ -5,7 +5,7 @@ use replica::{Command, Refusal};
 /// What may be asked of a site.
 #[derive(Drop)]
 pub enum Ask {
-    /// A change of the queue members.
+    /// A change of the queue members, or a call that is counted.
     Command(Command),
     /// A report of what the queues show.
     Status(StatusRequest),

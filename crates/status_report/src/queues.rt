@@ -1,8 +1,7 @@
 ghost use Rattle.std.specs.Prelude.{◌≡◌, ℕ, List, map as each, IfOk};
 ghost use Rattle.dots.specs.declared.call_totals.CallTotals.{CallTotals};
-ghost use Rattle.dots.specs.Totals.{no_calls};
 ghost use Rattle.dots.specs.Views.{listed_row_view};
-ghost use Rattle.replica.specs.Site.{rows_of};
+ghost use Rattle.replica.specs.Site.{rows_of, sums_of};
 ghost use Rattle.status_report.specs.Status.{Row as ShownRow};
 
 use dots::{CallTotals, Interface, Memory};
@@ -34,20 +33,20 @@ pub trait Queues {
         ensures { IfOk result (λ listed. each listed_row_view listed.items ≡ rows self.now number) };
 }
 
-// What a replica shows. It counts no calls yet.
+// What a replica shows.
 impl Queues for Replica {
     ghost names = { λ r. r.names };
 
-    ghost totals = { λ _ _. no_calls };
+    ghost totals = { λ r. sums_of r };
 
-    ghost rows = { λ r. rows_of r.members };
+    ghost rows = { λ r. rows_of r };
 
     fn list(&self) -> &QueueList {
         self.list()
     }
 
-    fn totals(&self, _number: u16) -> CallTotals {
-        CallTotals::none()
+    fn totals(&self, number: u16) -> CallTotals {
+        self.totals(number)
     }
 
     fn rows(&self, alloc: Global, number: u16) -> Result<Vec<(&Interface, Row<'_>)>, Memory> {

@@ -128,24 +128,3 @@ fn rows_have_what_adds_set_in_the_order_of_their_interfaces(rt: HostRuntime) {
     assert_member(&rt, &replica, (1, "SIP/1"), Some(AT_SUPPORT));
     assert_member(&rt, &replica, (1, "SIP/2"), None);
 }
-
-// Asserts the answer to the add of the interface of this number to the first queue.
-fn assert_numbered_add(
-    rt: &impl Abort,
-    replica: &mut Replica,
-    number: u32,
-    wanted: Result<(), Refusal>,
-) {
-    let text = numbered(number);
-    assert_add(rt, replica, (b"sales", &text, FIRST), wanted);
-}
-
-#[test]
-fn a_replica_has_at_most_16384_members(rt: HostRuntime) {
-    let mut replica = replica(&rt, rt.alloc(), 0, QUEUES);
-    for number in 0..16_384 {
-        assert_numbered_add(&rt, &mut replica, number, Ok(()));
-    }
-    assert_numbered_add(&rt, &mut replica, 16_384, Err(Refusal::MembersFull));
-    assert!(rt; replica.rows(0).count() == 16_384);
-}

@@ -1,5 +1,6 @@
 use Rattle.std.proofs.Common.{◌∙◌, ap, inl, inr, refl, Err}
 use Rattle.replica.specs.declared.refusal.Refusal.TheVariants.{Memory}
+use Rattle.replica.proofs.PlannedCommands.{itself}
 use Rattle.status_report.specs.declared.asks.Answer.TheVariants.{Report}
 use Rattle.status_report.proofs.AskLemmas.{report-is}
 use Rattle.status_report.proofs.answer_status.Goals as goal
@@ -10,4 +11,4 @@ returns-in-Ok-clause-meaning c = λ s stands. inl (stands, ap Report (c.new.ensu
 
 -- want of memory may stand in its place
 pub returns-in-Err-clause-meaning : goal.returns-in-Err-clause-meaning
-returns-in-Err-clause-meaning c = λ s stands. inr (refl, (Err Memory, refl, record { refusal = Memory; is = refl; may = tt }))
+returns-in-Err-clause-meaning c = λ s stands. inr (itself c.args.replica.now, (Err Memory, refl, record { refusal = Memory; is = refl; may = tt }))

@@ -1,13 +1,12 @@
-use Rattle.std.proofs.Common.{◌∙◌, ap, refl}
-use Rattle.replica.specs.Held.{members_of}
-use Rattle.replica.proofs.EntryLemmas.{none_held}
-use Rattle.replica.proofs.Meanings.{stands_new}
+use Rattle.std.proofs.Common.{refl}
+use Rattle.replica.proofs.KeptSites.{new-kept}
+use Rattle.replica.proofs.StandingSites.{new-stands}
 use Rattle.replica.proofs.replica.Replica.new.Goals as goal
 
--- no adds make no members
-pub returns-clause-no_members : goal.returns-clause-no_members
-returns-clause-no_members c = ap members_of c.new.ensures.items ∙ none_held
+-- src/replica.rt:67:5
+pub invariant_of-result : goal.invariant_of-result
+invariant_of-result c = new-kept _ c.empty.ensures.empty c.empty-2.ensures.empty refl refl refl
 
--- and stand for no operations
+-- src/replica.rt:67:5
 pub returns-clause-meaning : goal.returns-clause-meaning
-returns-clause-meaning c = stands_new _ (ap members_of c.new.ensures.items ∙ none_held) refl
+returns-clause-meaning c = new-stands _ c.empty.ensures.empty c.empty-2.ensures.empty refl refl refl

@@ -1,19 +1,11 @@
-use Rattle.std.proofs.Common.{sym, ap, ◌∙◌}
-use Rattle.std.specs.FinMap as map
-use Rattle.dots.specs.Orders.{member_cmp}
-use Rattle.replica.specs.Held.{held_of_each}
-use Rattle.replica.specs.Site.{SiteState}
-use Rattle.replica.proofs.EntryLemmas.{get_is}
+use Rattle.std.proofs.Common.{ap, ◌∙◌}
+use Rattle.dots.specs.Rows.{row_of}
+use Rattle.member_orset.specs.Members.{dot_view_of}
+use Rattle.replica.proofs.ShownSites.{row-shown}
 use Rattle.replica.proofs.replica.Replica.row.Goals as goal
 
--- the list has the rows of the map
-pub returns-clause-value : goal.returns-clause-value
-returns-clause-value c =
-    c.row_in.ensures
-    ∙ ap (λ es. map.find member_cmp c.args.member.now (held_of_each es)) c.deref.ensures.value
-    ∙ sym (get_is c.self.inside.entries.items c.self.invariant.rising c.args.member.now)
-    ∙ ap (λ (s : SiteState). map.get s.members c.args.member.now) c.self.view_is
-
--- which are those of a knowledge that it stands for
+-- src/replica.rt:130:5
 pub returns-clause-meaning : goal.returns-clause-meaning
-returns-clause-meaning c s stands = returns-clause-value c ∙ sym (stands.rows c.args.member.now)
+returns-clause-meaning c = λ s stands.
+    c.row.ensures ∙ ap (λ m. row_of (dot_view_of m) c.args.member.now) c.members.ensures
+    ∙ ap (λ r. row_of (dot_view_of r.state.members) c.args.member.now) c.self.view_is ∙ row-shown c.args.self.now s stands c.args.member.now

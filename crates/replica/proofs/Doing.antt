@@ -1,0 +1,188 @@
+-- What comes of a change is what is meant by the operation that it stands for.
+use Rattle.std.proofs.Common.{◌≡◌, ◌≤◌, ◌<◌, ◌⊎◌, inl, inr, ℕ, max, Bool, true, false, ◌||◌, [], ◌∷◌, Result, Ok, Err, refl, sym, subst, ◌∙◌, arith, nat_lt, true≢false, if◌then◌else◌}
+use Rattle.std.proofs.lemmas.Bool.Decides.{nat_tests}
+use Rattle.dots.specs.declared.limits.TheConstants.{MOST_LIVE, MOST_RUNS}
+use Rattle.dots.specs.DotSets.{run_count}
+use Rattle.dots.specs.Operations.{Operation}
+use Rattle.member_orset.specs.Members.{IsWithinLimits, cells_joined, runs_joined}
+use Rattle.delta.specs.DeltaStates as deltas
+use Rattle.delta.specs.DeltaStates.{DeltaState}
+use Rattle.delta.specs.Joining.{Agree}
+use Rattle.delta.specs.Standing.{IsDeltaOf}
+use Rattle.replica.specs.declared.refusal.Refusal.{Refusal}
+use Rattle.replica.specs.declared.refusal.Refusal.TheVariants.{NoSuchQueue, AlreadyThere, NotThere, MembersFull, Exhausted, TotalFull, Memory}
+use Rattle.replica.specs.Changes.{Meaning, Refused, Makes, is_exhausted, is_full, is_past_total, is_too_long, within_limits}
+use Rattle.replica.specs.Commands.{IsDone, refusal_meant}
+use Rattle.replica.specs.Fitting.{HasRoomFor, IsTooFullFor}
+use Rattle.replica.specs.Making.{IsMade}
+use Rattle.replica.specs.Refusing.{IsToldAfterFull, IsWorn, IsWornDelta}
+use Rattle.replica.specs.Site.{SiteState, IsUnchanged, view_of}
+use Rattle.replica.specs.SiteViews.{SiteView, count_used, time_used}
+use Rattle.replica.proofs.Fullness.{full-joined, too_long-change}
+
+-- an operation that is within the limits by these tests is made, or refused for the first of them that is true
+chosen : Bool → Bool → Bool → Bool → Bool → Operation → Meaning
+chosen full buffer_full too_long exhausted past_total o =
+    if full || (buffer_full || too_long) then Refused MembersFull else if exhausted then Refused Exhausted else if past_total then Refused TotalFull else Makes o
+
+-- it is made where all are false
+made-where : (f b l e t : Bool) (o : Operation) → f ≡ false → b ≡ false → l ≡ false → e ≡ false → t ≡ false → chosen f b l e t o ≡ Makes o
+unfolding chosen
+made-where f b l e t o p q r s u = λ i. chosen (p i) (q i) (r i) (s i) (u i) o
+
+-- it is full where one of the first is true
+full-where : (f b l e t : Bool) (o : Operation) → (f ≡ true) ⊎ ((b ≡ true) ⊎ (l ≡ true)) → chosen f b l e t o ≡ Refused MembersFull
+unfolding chosen
+full-where true b l e t o h = refl
+full-where false true l e t o h = refl
+full-where false false true e t o h = refl
+full-where false false false e t o (inl h) = absurd (true≢false (sym h))
+full-where false false false e t o (inr (inl h)) = absurd (true≢false (sym h))
+full-where false false false e t o (inr (inr h)) = absurd (true≢false (sym h))
+
+-- and whichever comes, it comes after the tests of queues and members
+after-full : (f b l e t : Bool) (o : Operation) → IsToldAfterFull (refusal_meant (chosen f b l e t o))
+unfolding chosen
+after-full true b l e t o = tt
+after-full false true l e t o = tt
+after-full false false true e t o = tt
+after-full false false false true t o = tt
+after-full false false false false true o = tt
+after-full false false false false false o = tt
+
+-- what is told of an operation, it is told after these tests
+pub told-after : (r buffer : SiteView) (o : Operation) → IsToldAfterFull (refusal_meant (within_limits r buffer o))
+unfolding chosen
+told-after r buffer o = after-full (is_full r o) (is_full buffer o) (is_too_long o) (is_exhausted o) (is_past_total o) o
+
+-- an operation past the limits of one of both, or too long, is refused as full
+pub full-means : (r buffer : SiteView) (o : Operation) → (is_full r o ≡ true) ⊎ ((is_full buffer o ≡ true) ⊎ (is_too_long o ≡ true)) → within_limits r buffer o ≡ Refused MembersFull
+unfolding chosen
+full-means r buffer o h = full-where (is_full r o) (is_full buffer o) (is_too_long o) (is_exhausted o) (is_past_total o) o h
+
+-- one within all limits is made
+pub makes-it : (r buffer : SiteView) (o : Operation) → is_full r o ≡ false → is_full buffer o ≡ false → is_too_long o ≡ false → is_exhausted o ≡ false → is_past_total o ≡ false
+    → within_limits r buffer o ≡ Makes o
+unfolding chosen
+makes-it r buffer o p q l e t = made-where (is_full r o) (is_full buffer o) (is_too_long o) (is_exhausted o) (is_past_total o) o p q l e t
+
+-- and one within the limits of places, but past those of its numbers, is refused as exhausted
+pub exhausted-means : (r buffer : SiteView) (o : Operation) → is_full r o ≡ false → is_full buffer o ≡ false → is_too_long o ≡ false → is_exhausted o ≡ true
+    → within_limits r buffer o ≡ Refused Exhausted
+unfolding chosen
+exhausted-means r buffer o p q l e = λ i. chosen (p i) (q i) (l i) (e i) (is_past_total o) o
+
+-- or past those of totals
+pub total-means : (r buffer : SiteView) (o : Operation) → is_full r o ≡ false → is_full buffer o ≡ false → is_too_long o ≡ false → is_exhausted o ≡ false → is_past_total o ≡ true
+    → within_limits r buffer o ≡ Refused TotalFull
+unfolding chosen
+total-means r buffer o p q l e t = λ i. chosen (p i) (q i) (l i) (e i) (t i) o
+
+-- a refusal that is meant comes with a site that stays
+pub refused-done : (old new : SiteState) (m : Meaning) (r : Refusal) → m ≡ Refused r → IsUnchanged old new → IsDone old m new (Err r)
+refused-done old new m r e u = subst (λ m. IsDone old m new (Err r)) (sym e) (inl (refl, u))
+
+-- want of memory may stand in place of all
+pub memory-done : (old new : SiteState) (m : Meaning) → IsUnchanged old new → IsDone old m new (Err Memory)
+memory-done old new m u = inr (u, record { refusal = Memory; is = refl; may = tt })
+
+-- a worn site may be told full
+pub worn-done : (old new : SiteState) (r buffer : SiteView) (o : Operation) → IsWorn old → IsUnchanged old new → IsDone old (within_limits r buffer o) new (Err MembersFull)
+worn-done old new r buffer o worn u = inr (u, record { refusal = MembersFull; is = refl; may = (worn, told-after r buffer o) })
+
+module _ (s : SiteState) (d x : DeltaState) (o : Operation) (limits : IsWithinLimits d.members) (there : IsWithinLimits x.members) (stands : IsDeltaOf x (o ∷ [])) where
+  -- what finds room isn't full
+  not-full : HasRoomFor d x → is_full (view_of s d) o ≡ false
+  not-full room = full-joined s d x o limits stands ∙ by (cells_joined d.members x.members) (runs_joined d.members x.members) room.places.few room.runs
+    where
+      by : (cells runs : ℕ) → cells ≤ MOST_LIVE → runs ≤ MOST_RUNS → (nat_lt MOST_LIVE cells || nat_lt MOST_RUNS runs) ≡ false
+      by cells runs few short = grind (arith, nat_tests)
+
+  -- what finds none is full, or worn
+  full-or-worn : IsTooFullFor d x → (is_full (view_of s d) o ≡ true) ⊎ IsWornDelta d
+  full-or-worn (inl (inl many)) = inl (full-joined s d x o limits stands ∙ by (cells_joined d.members x.members) (runs_joined d.members x.members) many)
+    where
+      by : (cells runs : ℕ) → MOST_LIVE < cells → (nat_lt MOST_LIVE cells || nat_lt MOST_RUNS runs) ≡ true
+      by cells runs many = grind (arith, nat_tests)
+  full-or-worn (inl (inr worn)) = inr (let few = limits.cells in let few_there = there.cells in omega arith)
+  full-or-worn (inr many) = inl (full-joined s d x o limits stands ∙ by (cells_joined d.members x.members) (runs_joined d.members x.members) many)
+    where
+      by : (cells runs : ℕ) → MOST_RUNS < runs → (nat_lt MOST_LIVE cells || nat_lt MOST_RUNS runs) ≡ true
+      by cells runs many = grind (arith, nat_tests)
+
+-- a change that exists isn't too long
+pub not-too-long : (x : DeltaState) (o : Operation) → IsWithinLimits x.members → IsDeltaOf x (o ∷ []) → is_too_long o ≡ false
+not-too-long x o there stands = too_long-change x o stands ∙ by (run_count x.members.known) there.runs
+  where
+    by : (runs : ℕ) → runs ≤ MOST_RUNS → nat_lt MOST_RUNS runs ≡ false
+    by runs few = grind (arith, nat_tests)
+
+-- a site that stays after a refusal
+stays : (old new : SiteState) (x : DeltaState) (count time : ℕ) (r : Refusal) → IsMade old x count time new (Err r) → deltas.IsUnchanged old.state new.state → deltas.IsUnchanged old.pending new.pending
+    → IsUnchanged old new
+stays old new x count time r made u v = record {
+  site = made.site;
+  names = made.names;
+  state = u;
+  pending = v;
+  last_count = made.stay.last_count;
+  last_time = made.stay.last_time;
+  frames = made.frames;
+}
+
+module _ (old new : SiteState) (x : DeltaState) (o : Operation) (count time : ℕ) (agrees : Agree old.state x) (agrees_pending : Agree old.pending x)
+    (limits : IsWithinLimits old.state.members) (limits_pending : IsWithinLimits old.pending.members) (there : IsWithinLimits x.members) (stands : IsDeltaOf x (o ∷ []))
+    (exhausted : is_exhausted o ≡ false) (past_total : is_past_total o ≡ false)
+    (counted : count ≡ max (count_used old.site o) old.last_count) (timed : time ≡ max (time_used old.site o) old.last_time) where
+  abbrev meant : Meaning
+  meant = within_limits (view_of old old.state) (view_of old old.pending) o
+
+  -- done, where both have taken it in
+  taken : IsMade old x count time new (Ok tt) → IsDone old meant new (Ok tt)
+  taken made =
+      let state = made.taken.0 in let pending = made.taken.1 in
+      let is : meant ≡ Makes o =
+      makes-it (view_of old old.state) (view_of old old.pending) o (not-full old old.state x o limits there stands state.room)
+      (not-full old old.pending x o limits_pending there stands pending.room) (not-too-long x o there stands) exhausted past_total in
+      subst (λ m. IsDone old m new (Ok tt)) (sym is) (inl (
+        refl,
+        record {
+          site = made.site;
+          names = made.names;
+          state = record { change = x; stands = stands; agrees = agrees; joined = state.joined; ids = state.ids };
+          pending = record { change = x; stands = stands; agrees = agrees_pending; joined = pending.joined; ids = pending.ids };
+          last_count = made.numbers.last_count ∙ counted;
+          last_time = made.numbers.last_time ∙ timed;
+          frames = made.frames;
+        },
+      ))
+
+  -- full, where one of both finds no room
+  full : IsMade old x count time new (Err MembersFull) → IsDone old meant new (Err MembersFull)
+  full made = by made.taken.1
+    where
+      stay : IsUnchanged old new
+      stay = stays old new x count time MembersFull made made.taken.0.0 made.taken.0.1
+
+      first : (is_full (view_of old old.state) o ≡ true) ⊎ IsWornDelta old.state → IsDone old meant new (Err MembersFull)
+      first (inl f) = refused-done old new meant MembersFull (full-means (view_of old old.state) (view_of old old.pending) o (inl f)) stay
+      first (inr worn) = worn-done old new (view_of old old.state) (view_of old old.pending) o (inl worn) stay
+
+      second : (is_full (view_of old old.pending) o ≡ true) ⊎ IsWornDelta old.pending → IsDone old meant new (Err MembersFull)
+      second (inl f) = refused-done old new meant MembersFull (full-means (view_of old old.state) (view_of old old.pending) o (inr (inl f))) stay
+      second (inr worn) = worn-done old new (view_of old old.state) (view_of old old.pending) o (inr worn) stay
+
+      by : IsTooFullFor old.state x ⊎ IsTooFullFor old.pending x → IsDone old meant new (Err MembersFull)
+      by (inl f) = first (full-or-worn old old.state x o limits there stands f)
+      by (inr f) = second (full-or-worn old old.pending x o limits_pending there stands f)
+
+  -- what comes of the change is what is meant
+  pub made-done : (result : Result (Unit {0}) Refusal) → IsMade old x count time new result → IsDone old meant new result
+  made-done (Ok u) made = taken made
+  made-done (Err NoSuchQueue) made = absurd made.taken
+  made-done (Err AlreadyThere) made = absurd made.taken
+  made-done (Err NotThere) made = absurd made.taken
+  made-done (Err MembersFull) made = full made
+  made-done (Err Exhausted) made = absurd made.taken
+  made-done (Err TotalFull) made = absurd made.taken
+  made-done (Err Memory) made = memory-done old new meant (stays old new x count time Memory made made.taken.0 made.taken.1)

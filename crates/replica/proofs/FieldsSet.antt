@@ -1,0 +1,23 @@
+-- Some field is set of what an add or a write sets.
+use Rattle.std.proofs.Common.{◌≡◌, ℕ, Some, None, ap}
+use Rattle.dots.specs.declared.label.Label.{Label}
+use Rattle.dots.specs.Values.{PauseState, Stamp}
+use Rattle.dots.specs.Conditions.{DotFields}
+use Rattle.dots.specs.Operations.{Setting, SetLabel, SetPause, SetPenalty}
+use Rattle.dots.specs.Registers.{Entry}
+use Rattle.member_orset.specs.Members.{HasField}
+use Rattle.replica.specs.SetFields.{fields_added, fields_written}
+
+-- nothing isn't an entry
+no-entry : {T : Type 0} (entry : Entry T) → Some entry ≡ None → ⊥
+no-entry entry e = (cc)
+
+-- an add sets fields
+pub added-set : (stamp : Stamp) (penalty : ℕ) (pause : PauseState) (label : Label) → HasField (fields_added stamp penalty pause label)
+added-set stamp penalty pause label e = no-entry (record { stamp = stamp; value = penalty }) (ap (λ (f : DotFields). f.penalty) e)
+
+-- so does a write
+pub written-set : (stamp : Stamp) (setting : Setting) → HasField (fields_written stamp setting)
+written-set stamp (SetPenalty penalty) e = no-entry (record { stamp = stamp; value = penalty }) (ap (λ (f : DotFields). f.penalty) e)
+written-set stamp (SetPause pause) e = no-entry (record { stamp = stamp; value = pause }) (ap (λ (f : DotFields). f.pause) e)
+written-set stamp (SetLabel label) e = no-entry (record { stamp = stamp; value = label }) (ap (λ (f : DotFields). f.label) e)

@@ -1,0 +1,103 @@
+-- What a replica stands for once it has made a frame.
+use Rattle.std.proofs.Common.{◌≡◌, ◌≢◌, ◌<◌, ◌≤◌, ℕ, suc, true, false, [], ◌∷◌, refl, sym, ap, subst, ◌∙◌, if◌then◌else◌, arith}
+use Rattle.std.specs.Prelude.{nat_lt}
+use Rattle.std.proofs.lemmas.Bool.Decides.{nat_tests}
+use Rattle.dots.specs.declared.limits.TheConstants.{MOST_COUNT, QUEUES}
+use Rattle.dots.specs.Knowledge.{Knowledge}
+use Rattle.delta.specs.DeltaStates.{IsEmpty}
+use Rattle.delta.specs.Standing.{IsDeltaOf}
+use Rattle.delta.proofs.StandingDeltas.{same_stands}
+use Rattle.delta_codec.specs.declared.frame.Frame.{Frame}
+use Rattle.delta_codec.specs.Frames.{IsInRanges}
+use Rattle.replica.specs.Framing.{HasCopied, HasCut, IsFramed}
+use Rattle.replica.specs.Keeping.{AreInQueues}
+use Rattle.replica.specs.Site.{SiteState}
+use Rattle.replica.specs.Standing.{StandsFor}
+use Rattle.replica.specs.Steps.{Framed, NoNumber, Nothing, Outcome, SiteKnowledge, after_frame, cut}
+use Rattle.replica.proofs.StandingSites.{cut-stands, empty-buffer, equal-same, whole-stands}
+
+-- what comes of a frame where no number is left
+no-number : (s : SiteKnowledge) (frame buffer : Knowledge) → s.frames ≡ MOST_COUNT → after_frame s frame buffer ≡ (s, NoNumber)
+no-number s frame buffer most =
+    ap (λ b. if b then (s, NoNumber) else (record { known = s.known; buffer = buffer; frames = suc s.frames }, Framed (suc s.frames) frame)) (past s.frames most)
+  where
+    past : (n : ℕ) → n ≡ MOST_COUNT → nat_lt MOST_COUNT (suc n) ≡ true
+    past n e = grind (arith, nat_tests)
+
+-- and where one is
+next-number : (s : SiteKnowledge) (frame buffer : Knowledge) → s.frames < MOST_COUNT
+    → after_frame s frame buffer ≡ (record { known = s.known; buffer = buffer; frames = suc s.frames }, Framed (suc s.frames) frame)
+next-number s frame buffer few =
+    ap (λ b. if b then (s, NoNumber) else (record { known = s.known; buffer = buffer; frames = suc s.frames }, Framed (suc s.frames) frame)) (within s.frames few)
+  where
+    within : (n : ℕ) → n < MOST_COUNT → nat_lt MOST_COUNT (suc n) ≡ false
+    within n h = grind (arith, nat_tests)
+
+-- a site and what comes of a step
+abbrev After : Type 0
+After = SiteKnowledge × Outcome
+
+-- a number that isn't the greatest is below it
+pub below-most : (n : ℕ) → n ≤ MOST_COUNT → n ≢ MOST_COUNT → n < MOST_COUNT
+below-most n few other = omega arith
+
+-- a frame under a number that is left, of queues of a list, is in the ranges of the format
+pub in-ranges : (n : ℕ) (frame : Frame) → 1 ≤ frame.number → frame.number ≤ MOST_COUNT → n ≤ QUEUES → AreInQueues n frame.delta → IsInRanges frame
+in-ranges n frame some few queues within = record {
+  number = (some, few);
+  queues = λ dot held live. at held.0.queue (within.members dot held live);
+}
+  where
+    at : (q : ℕ) → q < n → q < QUEUES
+    at q h = omega arith
+
+-- ---- cuts
+
+-- nothing is cut of an empty buffer
+pub nothing-means : (old now : SiteState) (s : SiteKnowledge) → old ≡ now → StandsFor now s → IsEmpty old.pending → StandsFor now (cut s s.buffer).0 × ((cut s s.buffer).1 ≡ Nothing)
+nothing-means old now s e stands empty =
+    subst (λ b. StandsFor now (cut s b).0 × ((cut s b).1 ≡ Nothing)) (sym ((empty-buffer now s stands).0 (subst (λ (r : SiteState). IsEmpty r.pending) e empty))) (stands, refl)
+
+-- a buffer that isn't empty is cut as a frame
+cut-some : (s : SiteKnowledge) (buffer : Knowledge) → (buffer ≡ [] → ⊥) → cut s buffer ≡ after_frame s buffer []
+cut-some s [] some = absurd (some refl)
+cut-some s (o ∷ os) some = refl
+
+-- it is refused where no number is left
+pub cut-exhausted : (old now : SiteState) (s : SiteKnowledge) → old ≡ now → StandsFor now s → (IsEmpty old.pending → ⊥) → old.frames ≡ MOST_COUNT
+    → StandsFor now (cut s s.buffer).0 × ((cut s s.buffer).1 ≡ NoNumber)
+cut-exhausted old now s e stands some most =
+    let here = subst (λ (r : SiteState). StandsFor r s) (sym e) stands in
+    let is = cut-some s s.buffer (λ none. some ((empty-buffer old s here).1 none)) ∙ no-number s s.buffer [] (here.frames ∙ most) in
+    subst (λ (a : After). StandsFor now a.0 × (a.1 ≡ NoNumber)) (sym is) (stands, refl)
+
+-- else it gives a frame
+pub cut-means : (old now new : SiteState) (frame : Frame) (s : SiteKnowledge) → old ≡ now → StandsFor now s → (IsEmpty old.pending → ⊥) → old.frames < MOST_COUNT → HasCut old frame new
+    → StandsFor new (cut s s.buffer).0 × IsFramed frame (cut s s.buffer).1
+cut-means old now new frame s e stands some few has =
+    let here = subst (λ (r : SiteState). StandsFor r s) (sym e) stands in
+    let is = cut-some s s.buffer (λ none. some ((empty-buffer old s here).1 none)) ∙ next-number s s.buffer [] (subst (λ n. n < MOST_COUNT) (sym here.frames) few) in
+    subst (λ (a : After). StandsFor new a.0 × IsFramed frame a.1) (sym is) (
+      cut-stands old new s here has.site (equal-same old.state new.state has.state) has.pending has.last_count has.last_time has.frames,
+      record {
+        says = s.buffer;
+        outcome_is = ap (λ n. Framed n s.buffer) (ap suc here.frames ∙ sym has.heading.number);
+        stands = subst (λ d. IsDeltaOf d s.buffer) (sym has.delta) here.buffer;
+      },
+    )
+
+-- ---- frames of all
+
+-- a frame of all is made where a number is left
+pub whole-means : (old now new : SiteState) (frame : Frame) (s : SiteKnowledge) → old ≡ now → StandsFor now s → old.frames < MOST_COUNT → HasCopied old frame new
+    → StandsFor new (after_frame s s.known s.buffer).0 × IsFramed frame (after_frame s s.known s.buffer).1
+whole-means old now new frame s e stands few has =
+    let here = subst (λ (r : SiteState). StandsFor r s) (sym e) stands in
+    subst (λ (a : After). StandsFor new a.0 × IsFramed frame a.1) (sym (next-number s s.known s.buffer (subst (λ n. n < MOST_COUNT) (sym here.frames) few))) (
+      whole-stands old new s here has.site (equal-same old.state new.state has.state) (equal-same old.pending new.pending has.pending) has.last_count has.last_time has.frames,
+      record {
+        says = s.known;
+        outcome_is = ap (λ n. Framed n s.known) (ap suc here.frames ∙ sym has.heading.number);
+        stands = same_stands old.state frame.delta s.known has.delta here.known;
+      },
+    )

@@ -1,0 +1,309 @@
+-- Whether a site is full with an operation for which no number is left, and with which it can't be made: full goes before used up.
+use Rattle.std.proofs.Common.{◌≡◌, ◌≤◌, ◌<◌, ◌⊎◌, inl, inr, ℕ, zero, suc, ◌+◌, Bool, true, false, ◌||◌, List, [], ◌∷◌, length, map as each, Contains, Option, Some, None, is_some, refl, sym, ap, subst, ◌∙◌, arith, nat_lt, get_or, true≢false, max}
+use Rattle.std.specs.List.{list_any}
+use Rattle.std.proofs.Math.Bool.{or-true}
+use Rattle.std.specs.Ordering.{is_eq}
+use Rattle.std.proofs.lemmas.Cmp.{tied_itself}
+use Rattle.dots.specs.Knowledge.{is_dot}
+use Rattle.dots.proofs.Membership.{any-in}
+use Rattle.std.specs.Prelude.{nat_le}
+use Rattle.std.proofs.lemmas.Bool.{and_parts, false_from_ne_true}
+use Rattle.std.proofs.lemmas.Bool.Decides.{nat_tests}
+use Rattle.std.specs.FinMap as map
+use Rattle.std.specs.FinSet as set
+use Rattle.dots.specs.declared.label.Label.{Label}
+use Rattle.dots.specs.declared.limits.TheConstants.{MOST_LIVE, MOST_RUNS}
+use Rattle.dots.specs.declared.member.Member.{Member}
+use Rattle.dots.specs.Values.{Dot, PauseState, Stamp}
+use Rattle.dots.specs.Orders.{dot_cmp}
+use Rattle.dots.specs.Conditions.{IsConditionBelow}
+use Rattle.dots.specs.DotSets.{run_count}
+use Rattle.dots.specs.Operations.{Operation, Setting}
+use Rattle.dots.proofs.OneMoreDot.{insert_known}
+use Rattle.dots.proofs.Unions.{union-same}
+use Rattle.dots.proofs.DotOrder.{dots_total}
+use Rattle.member_orset.specs.LiveDots.{live_dots_without, dead_dots_of}
+use Rattle.member_orset.specs.Members.{Holding, IsWithinLimits, condition_at, condition_of}
+use Rattle.member_orset.specs.Reads.{dots_seen_below}
+use Rattle.delta.specs.DeltaStates.{DeltaState}
+use Rattle.replica.specs.declared.refusal.Refusal.TheVariants.{MembersFull, Exhausted, Memory}
+use Rattle.replica.specs.Changes.{add_at, is_exhausted, is_full, is_too_long, time_replaced, write_at}
+use Rattle.replica.specs.Commands.{IsToldOf, IsToldOfAdds, IsToldOfWrites}
+use Rattle.replica.specs.Fitting.{is_past_with}
+use Rattle.replica.specs.Keeping.{IsBelow, IsKept}
+use Rattle.replica.specs.Site.{SiteState, view_of}
+use Rattle.replica.specs.SiteViews.{dots_seen, greatest, older_dots}
+use Rattle.replica.proofs.Doing.{exhausted-means, full-means}
+use Rattle.replica.proofs.Fullness.{contains-older, full-add, full-write, older-dead, older-live, older-new, run_count-past, seen-older, too_long-add, too_long-write}
+use Rattle.replica.proofs.SeenOnce.{seen-live, seen-once}
+
+-- what is known is below something that is known
+pub below-known : (d e : DeltaState) → IsBelow d e → IsWithinLimits e.members → (q : Dot) → set.contains d.members.known q ≡ true → set.contains e.members.known q ≡ true
+below-known d e below limits q h =
+    by (map.get d.members.live q) (map.get e.members.live q) (set.contains e.members.known q) refl refl
+    (subst (λ k. IsConditionBelow (condition_at (map.get d.members.live q) k) (condition_of e.members q)) h (below.conditions q))
+  where
+    by : (x y : Option Holding) (k : Bool) → map.get e.members.live q ≡ y → set.contains e.members.known q ≡ k → IsConditionBelow (condition_at x true) (condition_at y k)
+        → set.contains e.members.known q ≡ true
+    by x (Some g) k live is p = (limits.held q g live).known
+    by x None true live is p = is
+    by (Some h) None false live is p = absurd p
+    by None None false live is p = absurd p
+
+-- a dot that is live above isn't dead below
+pub not-dead-below : (d e : DeltaState) → IsBelow d e → (q : Dot) → map.contains_key e.members.live q ≡ true → set.contains d.members.known q ≡ true → map.contains_key d.members.live q ≡ true
+not-dead-below d e below q live known =
+    by (map.get d.members.live q) (map.get e.members.live q) live
+    (subst (λ k. IsConditionBelow (condition_at (map.get d.members.live q) k) (condition_of e.members q)) known (below.conditions q))
+  where
+    by : (x y : Option Holding) → is_some y ≡ true → IsConditionBelow (condition_at x true) (condition_at y (set.contains e.members.known q)) → is_some x ≡ true
+    by (Some h) y is p = refl
+    by None (Some g) is p = absurd p
+    by None None is p = absurd (true≢false (sym is))
+
+-- no dot past the last count is known
+pub own-unknown : (s : SiteState) → IsKept s → set.contains s.state.members.known (record { site = s.site; count = suc s.last_count }) ≡ false
+own-unknown s kept = kept.own_dots (suc s.last_count) (omega arith) ∙ by s.last_count
+  where
+    by : (n : ℕ) → nat_le (suc n) n ≡ false
+    by n = grind (arith, nat_tests)
+
+-- all that is known of the site goes up to it
+pub own-counts : (s : SiteState) → IsKept s → (q : Dot) → set.contains s.state.members.known q ≡ true → q.site ≡ s.site → q.count ≤ s.last_count
+own-counts s kept q known own = by q.count refl
+  where
+    test : (n : ℕ) → nat_le n s.last_count ≡ true → n ≤ s.last_count
+    test n h = grind (arith, nat_tests)
+
+    by : (n : ℕ) → q.count ≡ n → q.count ≤ s.last_count
+    by zero e = omega (arith, e)
+    by (suc n) e = test q.count (sym (kept.own_dots q.count (omega (arith, e))) ∙ (λ i. set.contains s.state.members.known (record { site = sym own i; count = q.count })) ∙ known)
+
+module _ (s : SiteState) (kept : IsKept s) (limits : IsWithinLimits s.state.members) (limits_pending : IsWithinLimits s.pending.members)
+    (member : Member) (penalty : ℕ) (paused : Bool) (label : Label) where
+  -- the dot that comes next
+  abbrev next : Dot
+  next = record { site = s.site; count = suc s.last_count }
+
+  -- the add of it
+  abbrev added : Operation
+  added = add_at s.site (view_of s s.state) member penalty paused label
+
+  -- the dead dots of the site
+  abbrev dead : set.FinSet dot_cmp
+  dead = dead_dots_of s.state.members s.site
+
+  -- they are the older ones
+  older-are : older_dots (view_of s s.state) (next ∷ []) ≡ dead
+  older-are = older-dead s s.state s.site s.last_count (own-counts s kept)
+
+  abbrev stamp_next : Stamp
+  stamp_next = record { time = suc s.last_time; site = s.site }
+
+  abbrev pause_next : PauseState
+  pause_next = record { paused = paused; reason = [] }
+
+  -- whether a delta is full with the add
+  pub full-next : (d : DeltaState) → IsWithinLimits d.members → set.contains d.members.known next ≡ false
+      → is_full (view_of s d) added ≡ (nat_lt MOST_LIVE (set.len (live_dots_without d.members dead) + 1) || nat_lt MOST_RUNS (run_count (set.insert (set.union d.members.known dead) next)))
+  full-next d within unknown =
+      full-add s d within next member stamp_next penalty pause_next label (older_dots (view_of s s.state) (next ∷ [])) unknown (older-new s s.state next)
+      ∙ (λ i. nat_lt MOST_LIVE (one (set.len (live_dots_without d.members (older-are i))) i) || nat_lt MOST_RUNS (run_count (set.insert (set.union d.members.known (older-are i)) next)))
+    where
+      one : (n : ℕ) → suc n ≡ n + 1
+      one n = omega arith
+
+  -- whether it is too long alone
+  pub long-next : is_too_long added ≡ nat_lt MOST_RUNS (run_count (set.insert (set.union dead dead) next))
+  long-next =
+      too_long-add next member stamp_next penalty pause_next label (older_dots (view_of s s.state) (next ∷ []))
+      ∙ (λ i. nat_lt MOST_RUNS (run_count (set.insert ((older-are ∙ sym (union-same dead)) i) next)))
+
+  -- so the state and the buffer tell whether they are full
+  pub full-state : is_full (view_of s s.state) added
+      ≡ (nat_lt MOST_LIVE (set.len (live_dots_without s.state.members dead) + 1) || nat_lt MOST_RUNS (run_count (set.insert (set.union s.state.members.known dead) next)))
+  full-state = full-next s.state limits (own-unknown s kept)
+
+  pub full-pending : is_full (view_of s s.pending) added
+      ≡ (nat_lt MOST_LIVE (set.len (live_dots_without s.pending.members dead) + 1) || nat_lt MOST_RUNS (run_count (set.insert (set.union s.pending.members.known dead) next)))
+  full-pending = full-next s.pending limits_pending
+      (false_from_ne_true _ (λ h. true≢false (sym (below-known s.pending s.state kept.below limits next h) ∙ own-unknown s kept)))
+
+  -- and dead dots of too many runs alone are too many with the next
+  pub dead-too-long : MOST_RUNS < run_count dead → is_too_long added ≡ true
+  dead-too-long many =
+      too_long-add next member stamp_next penalty pause_next label (older_dots (view_of s s.state) (next ∷ []))
+      ∙ (λ i. nat_lt MOST_RUNS (run_count (set.insert (older-are i) next)))
+      ∙ by (run_count dead) (run_count (set.insert dead next)) many (run_count-past dead next (omega arith) less)
+    where
+      less : (q : Dot) → set.contains dead q ≡ true → q.site ≡ s.site → q.count < suc s.last_count
+      less q h own = let most = own-counts s kept q (dead-is-known q h) own in omega arith
+        where
+          dead-is-known : (q : Dot) → set.contains dead q ≡ true → set.contains s.state.members.known q ≡ true
+          dead-is-known q h = (and_parts (set.contains s.state.members.known q) _ (sym (contains-older s s.state (next ∷ []) q) ∙ ap (λ k. set.contains k q) older-are ∙ h)).0
+
+      by : (m n : ℕ) → MOST_RUNS < m → m ≤ n → nat_lt MOST_RUNS n ≡ true
+      by m n many le = grind (arith, nat_tests)
+
+-- ---- an add for which no number is left
+
+-- what is told of one
+pub told-full : (s : SiteState) (o : Operation) → (is_full (view_of s s.state) o ≡ true) ⊎ ((is_full (view_of s s.pending) o ≡ true) ⊎ (is_too_long o ≡ true)) → IsToldOf s o MembersFull
+told-full s o h = inr (full-means (view_of s s.state) (view_of s s.pending) o h)
+
+pub told-exhausted : (s : SiteState) (o : Operation) → is_full (view_of s s.state) o ≡ false → is_full (view_of s s.pending) o ≡ false → is_too_long o ≡ false → is_exhausted o ≡ true → IsToldOf s o Exhausted
+told-exhausted s o p q l e = inr (exhausted-means (view_of s s.state) (view_of s s.pending) o p q l e)
+
+-- ---- a write for which none is left
+
+module _ (s : SiteState) (kept : IsKept s) (queue : Option ℕ) (interface : List ℕ) (setting : Setting) where
+  -- the dots that it goes over
+  abbrev pairs : List (Dot × Member)
+  pairs = dots_seen (view_of s s.state).dots queue interface
+
+  abbrev its_dots : List Dot
+  its_dots = each (λ p. p.0) pairs
+
+  -- the write of them
+  abbrev written : Operation
+  written = write_at s.site (view_of s s.state) setting pairs
+
+  abbrev stamp_of : Stamp
+  stamp_of = record { time = suc (max s.last_time (greatest (λ d. time_replaced (view_of s s.state).dots setting d.0) pairs)); site = s.site }
+
+  -- with the dead ones that are older
+  abbrev seen : set.FinSet dot_cmp
+  seen = dots_seen_below s.state.members its_dots
+
+  length-firsts : (ps : List (Dot × Member)) → length (each (λ p. p.0) ps) ≡ length ps
+  length-firsts [] = refl
+  length-firsts (p ∷ ps) = ap suc (length-firsts ps)
+
+  -- each of its dots is among what is seen
+  first-seen : (first : Dot) → Contains its_dots first → set.contains seen first ≡ true
+  first-seen first here =
+      ap (λ k. set.contains k first) (seen-older s s.state its_dots)
+      ∙ set.contains-union dots_total (set.from_list its_dots) (older_dots (view_of s s.state) its_dots) first
+      ∙ ap (λ b. b || set.contains (older_dots (view_of s s.state) its_dots) first) (set.contains-from_list dots_total its_dots first ∙ among its_dots first here)
+    where
+      among : (ds : List Dot) (d : Dot) → Contains ds d → list_any (is_dot d) ds ≡ true
+      among ds d h = any-in (is_dot d) ds d h (ap is_eq (tied_itself dots_total d))
+
+  -- whether a delta is full with it
+  full-written : (d : DeltaState) → ((p : Dot × Member) → Contains pairs p → set.contains d.members.known p.0 ≡ true → map.contains_key d.members.live p.0 ≡ true)
+      → (first : Dot) → Contains its_dots first
+      → is_full (view_of s d) written
+      ≡ (nat_lt MOST_LIVE (set.len (live_dots_without d.members seen) + length its_dots) || nat_lt MOST_RUNS (run_count (set.insert (set.union d.members.known seen) first)))
+  full-written d not_dead first here =
+      full-write s d pairs setting stamp_of (older_dots (view_of s s.state) its_dots) seen (seen-older s s.state its_dots) (seen-once (view_of s s.state).dots queue interface)
+      (λ p h. older-live s s.state its_dots p.0 (seen-live s s.state queue interface p h)) not_dead
+      ∙ (λ i. nat_lt MOST_LIVE (set.len (live_dots_without d.members seen) + sym (length-firsts pairs) i)
+      || nat_lt MOST_RUNS (run_count (sym (insert_known (set.union d.members.known seen) first
+      (set.contains-union dots_total d.members.known seen first ∙ ap (λ b. set.contains d.members.known first || b) (first-seen first here) ∙ or-true (set.contains d.members.known first))) i)))
+
+  pub full-state-written : (first : Dot) → Contains its_dots first
+      → is_full (view_of s s.state) written
+      ≡ (nat_lt MOST_LIVE (set.len (live_dots_without s.state.members seen) + length its_dots) || nat_lt MOST_RUNS (run_count (set.insert (set.union s.state.members.known seen) first)))
+  full-state-written = full-written s.state (λ p h known. seen-live s s.state queue interface p h)
+
+  pub full-pending-written : (first : Dot) → Contains its_dots first
+      → is_full (view_of s s.pending) written
+      ≡ (nat_lt MOST_LIVE (set.len (live_dots_without s.pending.members seen) + length its_dots) || nat_lt MOST_RUNS (run_count (set.insert (set.union s.pending.members.known seen) first)))
+  full-pending-written = full-written s.pending (λ p h. not-dead-below s.pending s.state kept.below p.0 (seen-live s s.state queue interface p h))
+
+  -- and whether it is too long alone
+  pub long-written : is_too_long written ≡ nat_lt MOST_RUNS (run_count seen)
+  long-written = too_long-write pairs setting stamp_of (older_dots (view_of s s.state) its_dots) seen (seen-older s s.state its_dots)
+
+-- ---- what is told of all adds and all writes
+
+module _ (s : SiteState) (kept : IsKept s) (limits : IsWithinLimits s.state.members) where
+  -- dead dots of too many runs tell of an add that it is full
+  pub adds-long : IsWithinLimits s.pending.members → MOST_RUNS < run_count (dead_dots_of s.state.members s.site) → IsToldOfAdds s MembersFull
+  adds-long limits_pending many member penalty paused label e =
+      told-full s _ (inr (inr (dead-too-long s kept limits limits_pending member penalty paused label many)))
+
+  module _ (limits_pending : IsWithinLimits s.pending.members) (dots : set.FinSet dot_cmp) (count : ℕ) (are_dead : dots ≡ dead_dots_of s.state.members s.site) (is_next : count ≡ s.last_count + 1) where
+    -- a test with these dots and this count is that with the dead ones and the next count
+    same-test : (d : DeltaState) → is_past_with d dots 1 (record { site = s.site; count = count }) ≡ is_past_with d (dead_dots_of s.state.members s.site) 1 (record { site = s.site; count = suc s.last_count })
+    same-test d i = is_past_with d (are_dead i) 1 (record { site = s.site; count = (is_next ∙ one s.last_count) i })
+      where
+        one : (n : ℕ) → n + 1 ≡ suc n
+        one n = omega arith
+
+    same-runs-test : run_count (set.insert (set.union dots dots) (record { site = s.site; count = count }))
+        ≡ run_count (set.insert (set.union (dead_dots_of s.state.members s.site) (dead_dots_of s.state.members s.site)) (record { site = s.site; count = suc s.last_count }))
+    same-runs-test i = run_count (set.insert (set.union (are_dead i) (are_dead i)) (record { site = s.site; count = (is_next ∙ one s.last_count) i }))
+      where
+        one : (n : ℕ) → n + 1 ≡ suc n
+        one n = omega arith
+
+    -- where the test of the state is true, the site is full
+    pub adds-full : is_past_with s.state dots 1 (record { site = s.site; count = count }) ≡ true → IsToldOfAdds s MembersFull
+    adds-full is member penalty paused label e = told-full s _ (inl (full-state s kept limits limits_pending member penalty paused label ∙ sym (same-test s.state) ∙ is))
+
+    -- where that of the buffer is
+    pub adds-full-pending : is_past_with s.pending dots 1 (record { site = s.site; count = count }) ≡ true → IsToldOfAdds s MembersFull
+    adds-full-pending is member penalty paused label e = told-full s _ (inr (inl (full-pending s kept limits limits_pending member penalty paused label ∙ sym (same-test s.pending) ∙ is)))
+
+    -- where that of the dead dots alone is
+    pub adds-too-long : MOST_RUNS < run_count (set.insert (set.union dots dots) (record { site = s.site; count = count })) → IsToldOfAdds s MembersFull
+    adds-too-long many member penalty paused label e =
+        told-full s _ (inr (inr (long-next s kept limits limits_pending member penalty paused label ∙ ap (nat_lt MOST_RUNS) (sym same-runs-test) ∙ test (run_count (set.insert (set.union dots dots) (record { site = s.site; count = count }))) many)))
+      where
+        test : (n : ℕ) → MOST_RUNS < n → nat_lt MOST_RUNS n ≡ true
+        test n h = grind (arith, nat_tests)
+
+    -- and where none is, its numbers are used up
+    pub adds-exhausted : is_past_with s.state dots 1 (record { site = s.site; count = count }) ≡ false → is_past_with s.pending dots 1 (record { site = s.site; count = count }) ≡ false
+        → (MOST_RUNS < run_count (set.insert (set.union dots dots) (record { site = s.site; count = count })) → ⊥) → IsToldOfAdds s Exhausted
+    adds-exhausted p q few member penalty paused label e =
+        told-exhausted s _ (full-state s kept limits limits_pending member penalty paused label ∙ sym (same-test s.state) ∙ p)
+        (full-pending s kept limits limits_pending member penalty paused label ∙ sym (same-test s.pending) ∙ q)
+        (long-next s kept limits limits_pending member penalty paused label ∙ ap (nat_lt MOST_RUNS) (sym same-runs-test) ∙ test (run_count (set.insert (set.union dots dots) (record { site = s.site; count = count }))) few) e
+      where
+        test : (n : ℕ) → (MOST_RUNS < n → ⊥) → nat_lt MOST_RUNS n ≡ false
+        test n h = grind (arith, nat_tests)
+
+-- memory may be wanting for all
+pub adds-memory : (s : SiteState) → IsToldOfAdds s Memory
+adds-memory s member penalty paused label e = inl refl
+
+pub writes-memory : (s : SiteState) (dots : List Dot) → IsToldOfWrites s dots Memory
+writes-memory s dots queue interface setting are e = inl refl
+
+module _ (s : SiteState) (kept : IsKept s) (dots : List Dot) where
+  -- given dots that with the older ones have too many runs tell of a write that it is full
+  pub writes-long : MOST_RUNS < run_count (dots_seen_below s.state.members dots) → IsToldOfWrites s dots MembersFull
+  writes-long many queue interface setting are e =
+      told-full s _ (inr (inr (long-written s kept queue interface setting ∙ test (run_count (seen s kept queue interface setting)) (subst (λ ds. MOST_RUNS < run_count (dots_seen_below s.state.members ds)) are many))))
+    where
+      test : (n : ℕ) → MOST_RUNS < n → nat_lt MOST_RUNS n ≡ true
+      test n h = grind (arith, nat_tests)
+
+  module _ (below : set.FinSet dot_cmp) (is_seen : below ≡ dots_seen_below s.state.members dots) (first : Dot) (here : Contains dots first) (few : MOST_RUNS < run_count below → ⊥) where
+    -- the test of a delta is whether it is full with the write
+    past-written : (queue : Option ℕ) (interface : List ℕ) (setting : Setting) → dots ≡ its_dots s kept queue interface setting → (d : DeltaState)
+        → is_past_with d below (length dots) first ≡ is_past_with d (seen s kept queue interface setting) (length (its_dots s kept queue interface setting)) first
+    past-written queue interface setting are d i = is_past_with d ((is_seen ∙ ap (dots_seen_below s.state.members) are) i) (length (are i)) first
+
+    pub writes-full : is_past_with s.state below (length dots) first ≡ true → IsToldOfWrites s dots MembersFull
+    writes-full is queue interface setting are e =
+        told-full s _ (inl (full-state-written s kept queue interface setting first (subst (λ ds. Contains ds first) are here) ∙ sym (past-written queue interface setting are s.state) ∙ is))
+
+    pub writes-full-pending : is_past_with s.pending below (length dots) first ≡ true → IsToldOfWrites s dots MembersFull
+    writes-full-pending is queue interface setting are e =
+        told-full s _ (inr (inl (full-pending-written s kept queue interface setting first (subst (λ ds. Contains ds first) are here) ∙ sym (past-written queue interface setting are s.pending) ∙ is)))
+
+    pub writes-exhausted : is_past_with s.state below (length dots) first ≡ false → is_past_with s.pending below (length dots) first ≡ false → IsToldOfWrites s dots Exhausted
+    writes-exhausted p q queue interface setting are e =
+        told-exhausted s _ (full-state-written s kept queue interface setting first (subst (λ ds. Contains ds first) are here) ∙ sym (past-written queue interface setting are s.state) ∙ p)
+        (full-pending-written s kept queue interface setting first (subst (λ ds. Contains ds first) are here) ∙ sym (past-written queue interface setting are s.pending) ∙ q)
+        (long-written s kept queue interface setting ∙ test (run_count (seen s kept queue interface setting)) (subst (λ k. MOST_RUNS < run_count k → ⊥) (is_seen ∙ ap (dots_seen_below s.state.members) are) few)) e
+      where
+        test : (n : ℕ) → (MOST_RUNS < n → ⊥) → nat_lt MOST_RUNS n ≡ false
+        test n h = grind (arith, nat_tests)
+
+-- the first of given dots is one of them, whatever its numbers were read into
+pub first-in : (dots : List Dot) (first d : Dot) → first ≡ get_or dots 0 first → d ≡ first → 0 < length dots → Contains dots d
+first-in dots first d is same some = subst (Contains dots) (sym same) (0, some, sym is)

@@ -1,0 +1,99 @@
+-- What is planned for each command is what it means.
+use Rattle.std.proofs.Common.{◌≡◌, ◌≤◌, ◌<◌, ◌⊎◌, inl, inr, ℕ, suc, ◌+◌, true, false, List, length, Some, Result, Err, refl, sym, ap, subst, ◌∙◌, arith, nat_lt}
+use Rattle.std.proofs.lemmas.Bool.Decides.{nat_tests}
+use Rattle.std.specs.FinMap as map
+use Rattle.std.specs.FinSet as set
+use Rattle.dots.specs.declared.calls.Calls.{Calls}
+use Rattle.dots.specs.declared.limits.TheConstants.{MOST_CALLS}
+use Rattle.dots.specs.Operations.{Operation, Count}
+use Rattle.dots.specs.Totals.{join_of, single, totals_of}
+use Rattle.site_totals.specs.Raising.{alone, number_of as number_of_calls}
+use Rattle.member_orset.specs.Members.{IsWithinLimits}
+use Rattle.delta.specs.DeltaStates as deltas
+use Rattle.delta.specs.DeltaStates.{DeltaState}
+use Rattle.replica.specs.declared.refusal.Refusal.{Refusal}
+use Rattle.replica.specs.declared.refusal.Refusal.TheVariants.{TotalFull, Memory}
+use Rattle.replica.specs.Changes.{CountCall, Meaning, Refused, count_at, in_queue, within_limits}
+use Rattle.replica.specs.Changing.{IsChangeOf}
+use Rattle.replica.specs.Commands.{IsDone}
+use Rattle.replica.specs.Keeping.{IsKept}
+use Rattle.replica.specs.Making.{IsMade}
+use Rattle.replica.specs.declared.planned.Planned.{Planned}
+use Rattle.replica.specs.Planning.{IsPlan}
+use Rattle.replica.proofs.SiteChanges.{count-change}
+use Rattle.replica.specs.Queues.{number_of}
+use Rattle.replica.specs.Site.{SiteState, IsUnchanged, meaning_at, view_of}
+use Rattle.replica.proofs.Below.{below-agrees, new-agrees}
+use Rattle.replica.proofs.Doing.{made-done, memory-done, refused-done, total-means}
+use Rattle.replica.proofs.Fullness.{full-count, too_long-count}
+use Rattle.replica.proofs.MadeChanges.{count-delta, nothing-held}
+
+module _ (s : SiteState) (kept : IsKept s) (limits : IsWithinLimits s.state.members) (limits_pending : IsWithinLimits s.pending.members) where
+  -- ---- counts
+  module _ (queue : List ℕ) (calls : Calls) (number : ℕ) (numbered : number_of s.names queue ≡ Some number) where
+    abbrev so_far : ℕ
+    so_far = number_of_calls calls (totals_of s.state.totals.entries s.site number)
+
+    abbrev counting : Operation
+    counting = Count s.site number calls (suc so_far)
+
+    count-means : meaning_at s (CountCall queue calls) ≡ within_limits (view_of s s.state) (view_of s s.pending) counting
+    count-means = ap (λ n. in_queue n (λ q. within_limits (view_of s s.state) (view_of s s.pending) (count_at s.site (view_of s s.state) q calls))) numbered
+
+    -- a total at its limit is refused
+    pub count-full : MOST_CALLS ≤ so_far → meaning_at s (CountCall queue calls) ≡ Refused TotalFull
+    count-full most =
+        count-means
+        ∙ total-means (view_of s s.state) (view_of s s.pending) counting (full-count s s.state s.site number calls (suc so_far) limits) (full-count s s.pending s.site number calls (suc so_far) limits_pending)
+        (too_long-count s.site number calls (suc so_far)) refl (test so_far most)
+      where
+        test : (n : ℕ) → MOST_CALLS ≤ n → nat_lt MOST_CALLS (suc n) ≡ true
+        test n h = grind (arith, nat_tests)
+
+    -- and one below it is raised
+    pub count-plan : (planned : Planned) (total : ℕ) → so_far < MOST_CALLS → total ≡ so_far + 1 → number < length s.names
+        → planned.count ≡ s.last_count → planned.time ≡ s.last_time
+        → planned.change.members.known ≡ set.empty → planned.change.members.live ≡ map.empty
+        → planned.change.totals.entries ≡ join_of map.empty (single (record { site = s.site; queue = number }) (alone calls total))
+        → IsWithinLimits planned.change.members → IsPlan s (meaning_at s (CountCall queue calls)) planned
+    count-plan planned total less is within count time known live entries there = record {
+      operation = counting;
+      means = count-means;
+      stands = count-delta planned.change s.site number calls (suc so_far) (omega arith) known (nothing-held planned.change.members.live live) totals;
+      not_exhausted = refl;
+      not_past_total = test so_far less;
+      counted = count ∙ omega arith;
+      timed = time ∙ omega arith;
+      change = subst (λ n. IsChangeOf s n planned.time planned.change) (sym count) (subst (λ t. IsChangeOf s s.last_count t planned.change) (sym time)
+          (count-change s kept planned.change number calls (suc so_far) (omega arith) within known live totals));
+      limits = there;
+    }
+      where
+        one : (n : ℕ) → n + 1 ≡ suc n
+        one n = omega arith
+
+        totals : planned.change.totals.entries ≡ join_of map.empty (single (record { site = s.site; queue = number }) (alone calls (suc so_far)))
+        totals = entries ∙ ap (λ n. join_of map.empty (single (record { site = s.site; queue = number }) (alone calls n))) (is ∙ one so_far)
+
+        test : (n : ℕ) → n < MOST_CALLS → nat_lt MOST_CALLS (suc n) ≡ false
+        test n h = grind (arith, nat_tests)
+
+-- what comes of a planned change is what was meant
+pub plan-done : (old new : SiteState) (meant : Meaning) (planned : Planned) (result : Result (Unit {0}) Refusal) → IsKept old → IsWithinLimits old.state.members → IsWithinLimits old.pending.members
+    → IsPlan old meant planned → IsMade old planned.change planned.count planned.time new result → IsDone old meant new result
+plan-done old new meant planned result kept limits limits_pending plan made =
+    subst (λ m. IsDone old m new result) (sym plan.means)
+    (made-done old new planned.change plan.operation planned.count planned.time (new-agrees old.state planned.change plan.change.is_new) (below-agrees old.pending old.state planned.change kept.below plan.change.is_new)
+    limits limits_pending plan.limits plan.stands plan.not_exhausted plan.not_past_total plan.counted plan.timed result made)
+
+-- a site says the same as itself
+pub itself : (s : SiteState) → IsUnchanged s s
+itself s = record { site = refl; names = refl; state = delta s.state; pending = delta s.pending; last_count = refl; last_time = refl; frames = refl }
+  where
+    delta : (d : DeltaState) → deltas.IsUnchanged d d
+    delta d = record { members = record { known = refl; live = refl; ids = refl; spent = refl; retired = refl }; totals = refl }
+
+-- where nothing was planned the site stays, and what was told is what was meant
+pub refusal-done : (old : SiteState) (meant : Meaning) (refusal : Refusal) → (refusal ≡ Memory) ⊎ (meant ≡ Refused refusal) → IsDone old meant old (Err refusal)
+refusal-done old meant refusal (inl e) = subst (λ r. IsDone old meant old (Err r)) (sym e) (memory-done old old meant (itself old))
+refusal-done old meant refusal (inr e) = refused-done old old meant refusal e (itself old)

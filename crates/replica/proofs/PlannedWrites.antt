@@ -1,0 +1,164 @@
+-- What is planned for a remove and for a write is what they mean.
+use Rattle.std.proofs.Common.{◌≡◌, ◌≢◌, ◌≤◌, ◌<◌, ◌⊎◌, inl, inr, ℕ, suc, max, Bool, true, false, List, [], ◌∷◌, length, map as each, Contains, Option, Some, refl, sym, ap, subst, ◌∙◌, arith, nat_lt, nat_eq, ◌==◌, true≢false, if◌then◌else◌}
+use Rattle.std.proofs.lemmas.Bool.Decides.{nat_tests}
+use Rattle.std.specs.FinMap as map
+use Rattle.std.specs.FinSet as set
+use Rattle.dots.specs.declared.limits.TheConstants.{MOST_LIVE, MOST_RUNS}
+use Rattle.dots.specs.declared.member.Member.{Member}
+use Rattle.dots.specs.Values.{Dot, Stamp, IsCount}
+use Rattle.dots.specs.DotSets.{run_count}
+use Rattle.dots.specs.Operations.{Operation, Setting}
+use Rattle.dots.proofs.Membership.{cases-in, first-in, later-in}
+use Rattle.member_orset.specs.Members.{IsWithinLimits}
+use Rattle.member_orset.specs.Reads.{dots_seen_below}
+use Rattle.replica.specs.declared.planned.Planned.{Planned}
+use Rattle.replica.specs.declared.refusal.Refusal.{Refusal}
+use Rattle.replica.specs.declared.refusal.Refusal.TheVariants.{MembersFull, Memory}
+use Rattle.replica.specs.Changes.{Meaning, Refused, RemoveMember, in_queue, meaning_of_setting, remove_of, time_replaced, where_present, within_limits, write_at}
+use Rattle.replica.specs.Changing.{IsChangeOf}
+use Rattle.replica.specs.Commands.{IsToldOf, IsToldOfWrites}
+use Rattle.replica.specs.Keeping.{IsKept}
+use Rattle.replica.specs.Planning.{IsPlan}
+use Rattle.replica.specs.Queues.{number_of}
+use Rattle.replica.specs.SetFields.{fields_written}
+use Rattle.replica.specs.Site.{SiteState, meaning_at, view_of}
+use Rattle.replica.specs.SiteViews.{dots_seen, greatest, older_dots}
+use Rattle.replica.specs.Writing.{written_to}
+use Rattle.replica.proofs.Doing.{full-means}
+use Rattle.replica.proofs.Fullness.{older-live, seen-older}
+use Rattle.replica.proofs.MadeChanges.{held_by, known-by, nothing-held, remove-delta, write-delta}
+use Rattle.replica.proofs.PlannedAdds.{not-used-up, used-up}
+use Rattle.replica.proofs.SeenLists.{held-seen, seen-all-live, seen-rise}
+use Rattle.replica.proofs.SeenOnce.{seen-live}
+use Rattle.replica.proofs.SiteChanges.{remove-change}
+use Rattle.replica.proofs.WrittenChanges.{seen-holding, write-change}
+use Rattle.replica.proofs.WrittenDots.{rising-few}
+
+-- what is meant where some dot is seen
+where-some : (dots : List (Dot × Member)) (m : Meaning) → dots ≢ [] → where_present dots m ≡ m
+where-some [] m some = absurd (some refl)
+where-some (d ∷ ds) m some = refl
+
+-- dots that were listed, and are some, were seen
+pub some-seen : (seen : List (Dot × Member)) (listed : List Dot) (n : ℕ) (b : Bool) → listed ≡ each (λ p. p.0) seen → length listed ≡ n → b ≡ (n == 0) → b ≡ false → seen ≢ []
+some-seen [] listed n b are long test none e = by n (sym long ∙ ap length are) (sym none ∙ test)
+  where
+    by : (n : ℕ) → n ≡ 0 → false ≡ (n == 0) → ⊥
+    by n zero_is t = true≢false (sym (t ∙ ap (λ m. m == 0) zero_is))
+some-seen (d ∷ ds) listed n b are long test none e = (cc)
+
+module _ (s : SiteState) (kept : IsKept s) (limits : IsWithinLimits s.state.members) (queue : Option ℕ) (interface : List ℕ) where
+  -- the dots that are seen, each with its member
+  abbrev seen : List (Dot × Member)
+  seen = dots_seen (view_of s s.state).dots queue interface
+
+  abbrev its_dots : List Dot
+  its_dots = each (λ p. p.0) seen
+
+  -- they are few enough
+  pub seen-few : length its_dots ≤ MOST_LIVE
+  seen-few = let few = rising-few s.state.members its_dots (seen-rise (view_of s s.state).dots queue interface) (seen-all-live s.state.members queue interface) in
+      let most = limits.cells in omega arith
+
+  -- each of them is known
+  seen-known-here : (q : Dot) → Contains its_dots q → set.contains s.state.members.known q ≡ true
+  seen-known-here q here = by seen q here (λ p h. let g = seen-holding s queue interface p h in (limits.held p.0 (p.1, g.0) g.1).known)
+    where
+      by : (ps : List (Dot × Member)) (q : Dot) → Contains (each (λ p. p.0) ps) q → ((p : Dot × Member) → Contains ps p → set.contains s.state.members.known p.0 ≡ true)
+          → set.contains s.state.members.known q ≡ true
+      by [] q h known = absurd (omega (arith, h.1))
+      by (p ∷ ps) q h known = elim (cases-in p.0 (each (λ p. p.0) ps) q h) [
+        | inl e ↦ ap (set.contains s.state.members.known) (sym e) ∙ known p (first-in p ps)
+        | inr r ↦ by ps q r (λ x here. known x (later-in p ps x here))
+      ]
+
+  -- ---- a remove of them
+  pub remove-plan : (meant : Meaning) (planned : Planned) → meant ≡ where_present seen (within_limits (view_of s s.state) (view_of s s.pending) (remove_of seen)) → seen ≢ []
+      → planned.count ≡ s.last_count → planned.time ≡ s.last_time
+      → planned.change.members.known ≡ set.from_list its_dots → planned.change.members.live ≡ map.empty → planned.change.totals.entries ≡ map.empty
+      → IsWithinLimits planned.change.members → IsPlan s meant planned
+  remove-plan meant planned means some count time known live totals there = record {
+    operation = remove_of seen;
+    means = means ∙ where-some seen _ some;
+    stands = remove-delta planned.change (set.from_list its_dots) known (nothing-held planned.change.members.live live) totals;
+    not_exhausted = refl;
+    not_past_total = refl;
+    counted = count ∙ omega arith;
+    timed = time ∙ omega arith;
+    change = subst (λ n. IsChangeOf s n planned.time planned.change) (sym count) (subst (λ t. IsChangeOf s s.last_count t planned.change) (sym time)
+        (remove-change s kept planned.change its_dots seen-known-here known live totals));
+    limits = there;
+  }
+
+  -- ---- a write on them
+  module _ (setting : Setting) where
+    -- the time of it
+    abbrev next_time : ℕ
+    next_time = suc (max s.last_time (greatest (λ d. time_replaced (view_of s s.state).dots setting d.0) seen))
+
+    abbrev stamp : Stamp
+    stamp = record { time = next_time; site = s.site }
+
+    abbrev writing : Operation
+    writing = write_at s.site (view_of s s.state) setting seen
+
+    abbrev meant : Meaning
+    meant = meaning_of_setting s.site (view_of s s.state) (view_of s s.pending) setting seen
+
+    module _ (some : seen ≢ []) where
+      write-means : meant ≡ within_limits (view_of s s.state) (view_of s s.pending) writing
+      write-means = where-some seen _ some
+
+      -- what is told of writes is told of it, where its time is past the greatest
+      pub write-told : (dots : List Dot) (refusal : Refusal) → dots ≡ its_dots → IsToldOfWrites s dots refusal → (IsCount next_time → ⊥) → (refusal ≡ Memory) ⊎ (meant ≡ Refused refusal)
+      write-told dots refusal are told none = by (told queue interface setting are (used-up (max s.last_time (greatest (λ d. time_replaced (view_of s s.state).dots setting d.0) seen)) none))
+        where
+          by : IsToldOf s writing refusal → (refusal ≡ Memory) ⊎ (meant ≡ Refused refusal)
+          by (inl e) = inl e
+          by (inr e) = inr (write-means ∙ e)
+
+      -- a context of too many runs is told of
+      pub write-long : MOST_RUNS < run_count (dots_seen_below s.state.members its_dots) → meant ≡ Refused MembersFull
+      write-long many = write-means ∙ full-means (view_of s s.state) (view_of s s.pending) writing (inr (inr
+          (ap (λ k. nat_lt MOST_RUNS (run_count k)) (known-by writing seen (older_dots (view_of s s.state) its_dots) refl refl ∙ sym (seen-older s s.state its_dots))
+          ∙ test (run_count (dots_seen_below s.state.members its_dots)) many)))
+        where
+          test : (n : ℕ) → MOST_RUNS < n → nat_lt MOST_RUNS n ≡ true
+          test n h = grind (arith, nat_tests)
+
+      -- and the plan is that of the write
+      pub write-plan : (planned : Planned) → IsCount next_time → planned.count ≡ s.last_count → planned.time ≡ next_time
+          → planned.change.members.known ≡ dots_seen_below s.state.members its_dots
+          → ((q : Dot) → map.get planned.change.members.live q ≡ written_to s.state.members its_dots (fields_written stamp setting) q)
+          → planned.change.totals.entries ≡ map.empty → IsWithinLimits planned.change.members → IsPlan s meant planned
+      write-plan planned time_is count time known live totals there =
+          let held : (q : Dot) → map.get planned.change.members.live q ≡ held_by seen (fields_written stamp setting) q = λ q. live q ∙ held-seen s.state.members queue interface (fields_written stamp setting) q in
+          record {
+            operation = writing;
+            means = write-means;
+            stands = write-delta planned.change seen setting stamp (older_dots (view_of s s.state) its_dots)
+                (λ p h. older-live s s.state its_dots p.0 (seen-live s s.state queue interface p h)) (known ∙ seen-older s s.state its_dots) held totals;
+            not_exhausted = not-used-up next_time time_is;
+            not_past_total = refl;
+            counted = count ∙ omega arith;
+            timed = time ∙ own s.site next_time s.last_time (later s.last_time (greatest (λ d. time_replaced (view_of s s.state).dots setting d.0) seen));
+            change = subst (λ n. IsChangeOf s n planned.time planned.change) (sym count) (subst (λ t. IsChangeOf s s.last_count t planned.change) (sym time)
+                (write-change s kept limits planned.change queue interface setting time_is.1 known held totals));
+            limits = there;
+          }
+        where
+          later : (m n : ℕ) → m ≤ suc (max m n)
+          later m n = omega arith
+
+          own : (site n last : ℕ) → last ≤ n → n ≡ max (if nat_eq site site then n else 0) last
+          own site n last le = let same : nat_eq site site ≡ true = itself site in sym (ap (λ b. max (if b then n else 0) last) same ∙ omega arith)
+            where
+              itself : (n : ℕ) → nat_eq n n ≡ true
+              itself n = grind (arith, nat_tests)
+
+-- what a remove means, by the dots of the member
+pub remove-means : (s : SiteState) → IsKept s → (queue interface : List ℕ) (number : ℕ) → number_of s.names queue ≡ Some number
+    → meaning_at s (RemoveMember queue interface)
+    ≡ where_present (dots_seen (view_of s s.state).dots (Some number) interface) (within_limits (view_of s s.state) (view_of s s.pending) (remove_of (dots_seen (view_of s s.state).dots (Some number) interface)))
+remove-means s kept queue interface number numbered = ap (λ n. in_queue n (λ q. where_present (dots_seen (view_of s s.state).dots (Some q) interface)
+    (within_limits (view_of s s.state) (view_of s s.pending) (remove_of (dots_seen (view_of s s.state).dots (Some q) interface))))) numbered

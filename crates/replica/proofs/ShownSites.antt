@@ -1,0 +1,36 @@
+-- What is read of a replica is what is read of the knowledge that it stands for.
+use Rattle.std.proofs.Common.{◌≡◌, ℕ, ap}
+use Rattle.dots.specs.declared.calls.Calls.TheVariants.{Completed, Abandoned}
+use Rattle.dots.specs.declared.limits.TheConstants.{SITES}
+use Rattle.dots.specs.declared.member.Member.{Member}
+use Rattle.dots.specs.Counts.{queue_total}
+use Rattle.dots.specs.Rows.{dot_view, row_of, rows_of}
+use Rattle.dots.specs.Totals.{sum_below}
+use Rattle.dots.proofs.AlikeViews.{same-row, same-rows}
+use Rattle.member_orset.specs.Members.{dot_view_of}
+use Rattle.delta.specs.Standing.{IsReadAs}
+use Rattle.delta.proofs.ShownDeltas.{read-as}
+use Rattle.replica.specs.Site.{SiteState, sums_of}
+use Rattle.replica.specs.Standing.{StandsFor}
+use Rattle.replica.specs.Steps.{SiteKnowledge}
+
+-- a state is read as its knowledge
+pub known-as : (state : SiteState) (s : SiteKnowledge) → StandsFor state s → IsReadAs state.state s.known
+known-as state s stands = read-as state.state s.known stands.known
+
+-- so a member has the same row
+pub row-shown : (state : SiteState) (s : SiteKnowledge) → StandsFor state s → (member : Member)
+    → row_of (dot_view_of state.state.members) member ≡ row_of (dot_view s.known) member
+row-shown state s stands = same-row (dot_view_of state.state.members) (dot_view s.known) (known-as state s stands).dots
+
+-- a queue has the same rows
+pub rows-shown : (state : SiteState) (s : SiteKnowledge) → StandsFor state s → (queue : ℕ)
+    → rows_of (dot_view_of state.state.members) queue ≡ rows_of (dot_view s.known) queue
+rows-shown state s stands = same-rows (dot_view_of state.state.members) (dot_view s.known) (known-as state s stands).dots
+
+-- and the same totals
+pub completed-shown : (state : SiteState) (s : SiteKnowledge) → StandsFor state s → (queue : ℕ) → (sums_of state queue).completed ≡ queue_total s.known queue Completed
+completed-shown state s stands queue = ap (sum_below SITES) (λ i site. (known-as state s stands).totals site queue Completed i)
+
+pub abandoned-shown : (state : SiteState) (s : SiteKnowledge) → StandsFor state s → (queue : ℕ) → (sums_of state queue).abandoned ≡ queue_total s.known queue Abandoned
+abandoned-shown state s stands queue = ap (sum_below SITES) (λ i site. (known-as state s stands).totals site queue Abandoned i)

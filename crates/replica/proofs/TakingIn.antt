@@ -1,0 +1,98 @@
+-- Changes that a delta takes in: what is joined with a copy, or into a delta that says the same, is joined.
+use Rattle.std.proofs.Common.{◌≡◌, ◌≤◌, ◌<◌, ◌⊎◌, inl, inr, sym, ap, subst, ◌∙◌}
+use Rattle.std.specs.Prelude.{Result, Err, IsErrOf}
+use Rattle.std.specs.FinMap as map
+use Rattle.std.specs.FinSet as set
+use Rattle.dots.specs.Conditions.{condition_joined, ConditionsAgree}
+use Rattle.dots.specs.DotSets.{run_count}
+use Rattle.dots.specs.Totals.{join_of}
+use Rattle.member_orset.specs.CellIds.{IdsFollow}
+use Rattle.member_orset.specs.Members.{HasPlaces, LacksPlaces, KeepsIds, condition_at, condition_of, cells_joined, is_live, joined_dots, runs_joined}
+use Rattle.delta.specs.DeltaStates.{DeltaState, IsSame, IsUnchanged}
+use Rattle.delta.specs.Joining.{Agree, IsJoinOf}
+use Rattle.delta.proofs.Sameness.{says_the_same}
+use Rattle.replica.specs.declared.refusal.Refusal.{Refusal}
+use Rattle.replica.specs.declared.refusal.Refusal.TheVariants.{NoSuchQueue, AlreadyThere, NotThere, MembersFull, Exhausted, TotalFull, Memory}
+use Rattle.replica.specs.Fitting.{HasRoomFor, IsTooFullFor, BothTakeIn}
+
+-- what is joined into a delta that says the same as before, is joined into the one before
+pub unchanged-joined : (d same x e : DeltaState) → IsUnchanged d same → IsJoinOf same x e → IsJoinOf d x e
+unchanged-joined d same x e u j = record {
+  members = record {
+    known = j.members.known ∙ ap (λ k. set.union k x.members.known) u.members.known;
+    conditions = λ dot. j.members.conditions dot
+        ∙ (λ i. condition_joined (condition_at (map.get (u.members.live i) dot) (set.contains (u.members.known i) dot)) (condition_of x.members dot));
+  };
+  totals = j.totals ∙ ap (λ t. join_of t x.totals.entries) u.totals;
+}
+
+-- a copy has the same live dots
+copied-live : (x copy : DeltaState) → IsSame x copy → x.members.live ≡ copy.members.live
+copied-live x copy same = sym (says_the_same x.members copy.members same.conditions same.known).live
+
+-- and what is joined with it is joined with the first
+pub copy-joined : (d x copy e : DeltaState) → IsSame x copy → IsJoinOf d copy e → IsJoinOf d x e
+copy-joined d x copy e same j = record {
+  members = record {
+    known = j.members.known ∙ ap (set.union d.members.known) (sym same.known);
+    conditions = λ dot. j.members.conditions dot ∙ ap (condition_joined (condition_of d.members dot)) (sym (same.conditions dot));
+  };
+  totals = j.totals ∙ ap (join_of d.totals.entries) (sym same.totals);
+}
+
+-- a delta that agrees with one agrees with its copy
+pub copy-agrees : (d x copy : DeltaState) → IsSame x copy → Agree d x → Agree d copy
+copy-agrees d x copy same agree = λ dot. subst (ConditionsAgree (condition_of d.members dot)) (same.conditions dot) (agree dot)
+
+-- a delta that says the same agrees as before
+pub unchanged-agrees : (d same x : DeltaState) → IsUnchanged d same → Agree d x → Agree same x
+unchanged-agrees d same x u agree = λ dot.
+    subst (λ c. ConditionsAgree c (condition_of x.members dot)) (λ i. condition_at (map.get (sym u.members.live i) dot) (set.contains (sym u.members.known i) dot)) (agree dot)
+
+-- as many dots are live in the join with either
+same-cells : (d x copy : DeltaState) → IsSame x copy → cells_joined d.members copy.members ≡ cells_joined d.members x.members
+unfolding joined_dots
+same-cells d x copy same = λ i.
+    let known = sym same.known in let live = sym (copied-live x copy same) in
+    set.len (set.retain (set.union d.members.known (known i))
+    (λ dot. is_live (condition_joined (condition_of d.members dot) (condition_at (map.get (live i) dot) (set.contains (known i) dot)))))
+
+same-runs : (d x copy : DeltaState) → IsSame x copy → runs_joined d.members copy.members ≡ runs_joined d.members x.members
+same-runs d x copy same = ap (λ known. run_count (set.union d.members.known known)) (sym same.known)
+
+same-live : (x copy : DeltaState) → IsSame x copy → map.len copy.members.live ≡ map.len x.members.live
+same-live x copy same = ap map.len (sym (copied-live x copy same))
+
+-- what finds room as a copy finds it as the first
+pub copy-room : (d x copy : DeltaState) → IsSame x copy → HasRoomFor d copy → HasRoomFor d x
+copy-room d x copy same room = record {
+  places = subst (λ n. HasPlaces d.members n (map.len x.members.live)) (same-cells d x copy same)
+      (subst (HasPlaces d.members (cells_joined d.members copy.members)) (same-live x copy same) room.places);
+  runs = subst (λ n. n ≤ 65536) (same-runs d x copy same) room.runs;
+}
+
+-- and what finds none as a copy finds none
+pub copy-full : (d x copy : DeltaState) → IsSame x copy → IsTooFullFor d copy → IsTooFullFor d x
+copy-full d x copy same (inl lacks) = inl (subst (λ n. LacksPlaces d.members n (map.len x.members.live)) (same-cells d x copy same)
+    (subst (LacksPlaces d.members (cells_joined d.members copy.members)) (same-live x copy same) lacks))
+copy-full d x copy same (inr many) = inr (subst (λ n. 65536 < n) (same-runs d x copy same) many)
+
+-- ids that follow those of a delta that says the same follow those of the delta before
+pub unchanged-ids : (d same e : DeltaState) → IsUnchanged d same → KeepsIds same.members e.members → KeepsIds d.members e.members
+unchanged-ids d same e u keeps = subst (λ ids. IdsFollow ids d.members.spent e.members.ids e.members.spent) u.members.ids (subst (λ spent. IdsFollow same.members.ids spent e.members.ids e.members.spent) u.members.spent keeps)
+
+-- the two refusals
+pub both-refused : (old other x new after : DeltaState) (result : Result (Unit {0}) Refusal) → IsErrOf result MembersFull ⊎ IsErrOf result Memory → IsUnchanged old new → IsUnchanged other after
+    → (IsErrOf result MembersFull → IsTooFullFor old x ⊎ IsTooFullFor other x) → BothTakeIn old other x new after result
+both-refused old other x new after result (inl e) u v full = subst (BothTakeIn old other x new after) (sym e) ((u, v), full e)
+both-refused old other x new after result (inr e) u v full = subst (BothTakeIn old other x new after) (sym e) (u, v)
+
+-- where a change was refused, both are as they were
+pub refused-unchanged : (old other x new after : DeltaState) (r : Refusal) → BothTakeIn old other x new after (Err r) → IsUnchanged old new × IsUnchanged other after
+refused-unchanged old other x new after NoSuchQueue h = absurd h
+refused-unchanged old other x new after AlreadyThere h = absurd h
+refused-unchanged old other x new after NotThere h = absurd h
+refused-unchanged old other x new after MembersFull h = h.0
+refused-unchanged old other x new after Exhausted h = absurd h
+refused-unchanged old other x new after TotalFull h = absurd h
+refused-unchanged old other x new after Memory h = h

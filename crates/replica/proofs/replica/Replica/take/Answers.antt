@@ -1,0 +1,75 @@
+use Rattle.std.proofs.Common.{◌≡◌, Err, ap, subst, sym}
+use Rattle.delta.specs.Joining.{Agree, IsJoinOf, IsRefusedJoin}
+use Rattle.member_orset.specs.Members.{IsWithinLimits, KeepsIds}
+use Rattle.replica.specs.declared.take_fault.TakeFault.{TakeFault}
+use Rattle.replica.specs.Site.{SiteState}
+use Rattle.replica.specs.Steps.{take}
+use Rattle.replica.specs.Taking.{IsMeantFault, IsRefusedTake, MayHear}
+use Rattle.replica.proofs.KeptSites.{unchanged-kept}
+use Rattle.replica.proofs.TakenSites.{agrees-before, fault-meant, prepared-agrees, refusals-joined, refusals-taken, refusals-unheard, take-meant, taken-kept, unchanged-self}
+use Rattle.replica.proofs.TakingIn.{unchanged-ids, unchanged-joined}
+use Rattle.replica.proofs.replica.Replica.take.Goals as goal
+
+pub returns-in-Err-clause-refusals : goal.returns-in-Err-clause-refusals
+returns-in-Err-clause-refusals c =
+    refusals-unheard c.args.self.now c.args.frame.delta c.in-Err.fault c.in-Err.ensures.only c.in-Err.ensures.no_such_queue c.in-Err.ensures.not_mine
+
+pub invariant_of-self : goal.invariant_of-self
+invariant_of-self c = unchanged-kept _ c.prepare.new.self c.self.inside.pending c.self.invariant c.prepare.ensures.kept (unchanged-self c.self.inside.pending)
+
+pub returns-in-Err-prepare-clause-refusals : goal.returns-in-Err-prepare-clause-refusals
+returns-in-Err-prepare-clause-refusals c =
+    let s = c.args.self.now in
+    let d = c.args.frame.delta in
+    let refused = subst (λ (r : SiteState). IsRefusedJoin r.state d (λ f. c.prepare.result ≡ Err f)) c.self.view_is c.prepare.ensures.refusals in
+    subst (λ (t : TakeFault). IsRefusedTake s d (λ f. t ≡ f)) (sym c.take_fault_of.ensures)
+    (refusals-joined s d c.in_default.ensures.heard c.prepare.result c.in-Err-prepare.fault c.in-Err-prepare.is refused)
+
+pub returns-in-Err-prepare-clause-meaning : goal.returns-in-Err-prepare-clause-meaning
+returns-in-Err-prepare-clause-meaning c = λ s k stands says later.
+    let old = c.args.self.now in
+    let d = c.args.frame.delta in
+    let refused = subst (λ (r : SiteState). IsRefusedJoin r.state d (λ f. c.prepare.result ≡ Err f)) c.self.view_is c.prepare.ensures.refusals in
+    let within = subst (λ (r : SiteState). IsWithinLimits r.state.members) c.self.view_is (subst IsWithinLimits c.members.ensures c.cells.ensures.limits) in
+    let others = subst IsWithinLimits c.members-2.ensures c.cells-2.ensures.limits in
+    subst (λ (t : TakeFault). IsMeantFault old t (take s k).1) (sym c.take_fault_of.ensures)
+    (fault-meant old d s k stands says within others c.prepare.result refused c.in-Err-prepare.fault c.in-Err-prepare.is)
+
+pub invariant_of-self-2 : goal.invariant_of-self-2
+invariant_of-self-2 c =
+    let d = c.args.frame.delta in
+    let others = subst IsWithinLimits c.members-2.ensures c.cells-2.ensures.limits in
+    let kept = c.in_default-prepare.ensures.kept in
+    let agree = agrees-before c.self.inside.state c.prepare.new.self d kept (prepared-agrees c.prepare.new.self d others c.in_default-prepare.ensures.ready) in
+    taken-kept _ d c.absorb.new.self c.self.invariant (subst (λ (r : SiteState). MayHear r d) (sym c.self.view_is) c.in_default.ensures.heard) agree
+    (unchanged-joined c.self.inside.state c.prepare.new.self d c.absorb.new.self kept c.absorb.ensures.joined)
+
+pub returns-clause-refusals : goal.returns-clause-refusals
+returns-clause-refusals c =
+    let s = c.args.self.now in
+    let d = c.args.frame.delta in
+    let refused = subst (λ (r : SiteState). IsRefusedJoin r.state d (λ f. c.prepare.result ≡ Err f)) c.self.view_is c.prepare.ensures.refusals in
+    refusals-taken s d c.in_default.ensures.heard c.prepare.result c.in_default-prepare.field-0 c.in_default-prepare.is refused
+
+pub returns-clause-meaning : goal.returns-clause-meaning
+returns-clause-meaning c = λ s k stands says later.
+    let old = c.args.self.now in
+    let d = c.args.frame.delta in
+    let others = subst IsWithinLimits c.members-2.ensures c.cells-2.ensures.limits in
+    let kept = c.in_default-prepare.ensures.kept in
+    let refused = subst (λ (r : SiteState). IsRefusedJoin r.state d (λ f. c.prepare.result ≡ Err f)) c.self.view_is c.prepare.ensures.refusals in
+    let agree = agrees-before c.self.inside.state c.prepare.new.self d kept (prepared-agrees c.prepare.new.self d others c.in_default-prepare.ensures.ready) in
+    let agrees = subst (λ (r : SiteState). Agree r.state d) c.self.view_is agree in
+    let joined = unchanged-joined c.self.inside.state c.prepare.new.self d c.absorb.new.self kept c.absorb.ensures.joined in
+    let ids = unchanged-ids c.self.inside.state c.prepare.new.self c.absorb.new.self kept c.absorb.ensures.ids in
+    take-meant old d s k stands says _ c.prepare.result c.in_default-prepare.field-0 c.in_default-prepare.is refused agrees
+    (record {
+      site = ap (λ r. r.site) c.self.view_is;
+      names = ap (λ r. r.names) c.self.view_is;
+      state = subst (λ (r : SiteState). IsJoinOf r.state d c.absorb.new.self) c.self.view_is joined;
+      ids = subst (λ (r : SiteState). KeepsIds r.state.members c.absorb.new.self.members) c.self.view_is ids;
+      pending = ap (λ r. r.pending) c.self.view_is;
+      last_count = ap (λ r. r.last_count) c.self.view_is;
+      last_time = ap (λ r. r.last_time) c.self.view_is;
+      frames = ap (λ r. r.frames) c.self.view_is;
+    }) later

@@ -1,0 +1,20 @@
+use Rattle.std.proofs.Common.{◌≡◌, List, ◌++◌, ℕ, suc, ◌+◌, ap, ◌∙◌, arith}
+use Rattle.dots.specs.declared.member.Member.{Member}
+use Rattle.dots.specs.Rows.{dots_of}
+use Rattle.member_orset.specs.Members.{dot_view_of}
+use Rattle.replica.specs.DotLists.{dots_below}
+use Rattle.replica.proofs.seen_dots.dots_by_queue.Goals as goal
+
+pub loop-queue-init : goal.loop-queue-init
+unfolding dots_below
+loop-queue-init c = c.new-list.ensures.items
+
+pub loop-queue-preserved : goal.loop-queue-preserved
+unfolding dots_below
+loop-queue-preserved c =
+    let r = dot_view_of c.args.members.now in
+    let of = λ (interface : List ℕ). let member : Member = record { queue = c.loop-queue.queue; interface = interface } in dots_of r member in
+    let next : suc c.loop-queue.queue ≡ c.loop-queue.queue + 1 = omega arith in
+    c.in_ok-push_dots.ensures
+    ∙ (λ i. c.loop-queue.invariant i ++ of (c.copy.ensures i))
+    ∙ ap (dots_below r c.args.interface.now) next

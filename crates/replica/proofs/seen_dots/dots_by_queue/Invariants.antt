@@ -1,0 +1,8 @@
+use Rattle.std.proofs.Common.{◌≡◌}
+use Rattle.member_orset.specs.Members.{dot_view_of}
+use Rattle.replica.specs.DotLists.{dots_below}
+use Rattle.replica.proofs.seen_dots.dots_by_queue.Given as goal
+
+-- the dots of the queues so far
+abbrev pub invariant-loop-queue : goal.invariant-loop-queue
+invariant-loop-queue l = l.list.items ≡ dots_below (dot_view_of l.members) l.interface l.queue

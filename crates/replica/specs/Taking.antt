@@ -1,0 +1,164 @@
+-- For which causes a site refuses a frame of another, and what it is once it has taken one.
+use Rattle.std.specs.Prelude.{ℕ, ⊤, ◌≡◌, ◌<◌, ◌≤◌, ◌↔◌, ◌⊎◌, true, Option, Some, Result, Ok, Err, length}
+use Rattle.std.specs.FinMap as map
+use Rattle.std.specs.FinSet as set
+use Rattle.dots.specs.declared.call_totals.CallTotals.{CallTotals}
+use Rattle.dots.specs.declared.calls.Calls.{Calls}
+use Rattle.dots.specs.declared.limits.TheConstants.{MOST_RUNS}
+use Rattle.dots.specs.Values.{Dot}
+use Rattle.dots.specs.Orders.{dot_cmp}
+use Rattle.dots.specs.Registers.{Entry}
+use Rattle.dots.specs.Conditions.{DotFields}
+use Rattle.dots.specs.Knowledge.{Knowledge}
+use Rattle.dots.specs.Totals.{Entries, Key, totals_of}
+use Rattle.member_orset.specs.Members.{HasPlaces, Holding, KeepsIds, LacksPlaces, Members, cells_joined, runs_joined}
+use Rattle.member_orset.specs.declared.join_fault.JoinFault.{JoinFault}
+use Rattle.member_orset.specs.declared.join_fault.JoinFault.TheVariants as join
+use Rattle.site_totals.specs.Raising.{number_of}
+use Rattle.delta.specs.DeltaStates.{DeltaState}
+use Rattle.delta.specs.Joining.{Agree, Disagree, IsJoinOf}
+use Rattle.delta_codec.specs.declared.frame.Frame.{Frame}
+use Rattle.replica.specs.declared.take_fault.TakeFault.{TakeFault}
+use Rattle.replica.specs.declared.take_fault.TakeFault.TheVariants.{NoSuchQueue, NotMine, Conflict, CellsFull, RunsFull, Memory}
+use Rattle.replica.specs.Refusing.{IsWornDelta}
+use Rattle.replica.specs.Site.{SiteState}
+use Rattle.replica.specs.SiteViews.{count_used, greatest, time_used}
+use Rattle.replica.specs.Standing.{StandsFor}
+use Rattle.replica.specs.Steps as steps
+use Rattle.replica.specs.Steps.{Outcome, SiteKnowledge, Taken}
+
+-- ---- what no site takes
+
+-- some live dot is of a member in a queue whose number isn't below this one
+pub record HasStrangeMember (queues : ℕ) (members : Members) : Type 0 where
+  pub dot : Dot
+  pub held : Holding
+  pub live : map.get members.live dot ≡ Some held
+  pub strange : queues ≤ held.0.queue
+
+-- some total is of such a queue
+pub record HasStrangeTotal (queues : ℕ) (entries : Entries) : Type 0 where
+  pub key : Key
+  pub totals : CallTotals
+  pub counted : map.get entries key ≡ Some totals
+  pub strange : queues ≤ key.queue
+
+-- a delta speaks of a strange queue: so does a live dot or a total
+abbrev pub SpeaksOfStrangeQueue : ℕ → DeltaState → Type 0
+SpeaksOfStrangeQueue queues d = HasStrangeMember queues d.members ⊎ HasStrangeTotal queues d.totals.entries
+
+-- ---- what a site hasn't made
+
+-- some dot of a site, be it live or dead, is of a count past its last one
+pub record HasDotPast (site last : ℕ) (known : set.FinSet dot_cmp) : Type 0 where
+  pub count : ℕ
+  pub known_dot : set.contains known (record { site = site; count = count }) ≡ true
+  pub past : last < count
+
+-- a field was written by a site at a time past its last one
+pub record IsWrittenPast {T : Type 0} (site last : ℕ) (field : Option (Entry T)) : Type 0 where
+  pub entry : Entry T
+  pub set : field ≡ Some entry
+  pub own : entry.stamp.site ≡ site
+  pub past : last < entry.stamp.time
+
+-- one of three fields was
+abbrev pub HasFieldPast : ℕ → ℕ → DotFields → Type 0
+HasFieldPast site last fields = IsWrittenPast site last fields.penalty ⊎ (IsWrittenPast site last fields.pause ⊎ IsWrittenPast site last fields.label)
+
+-- some live dot has such a field
+pub record HasStampPast (site last : ℕ) (members : Members) : Type 0 where
+  pub dot : Dot
+  pub held : Holding
+  pub live : map.get members.live dot ≡ Some held
+  pub past : HasFieldPast site last held.1
+
+-- a set of members has a dot past the site's last count, or a field past its last time
+abbrev pub HasMemberPast : ℕ → ℕ → ℕ → Members → Type 0
+HasMemberPast site count time members = HasDotPast site count members.known ⊎ HasStampPast site time members
+
+-- one of two totals is greater than an own one
+abbrev pub CountsMore : CallTotals → CallTotals → Type 0
+CountsMore own totals = (own.completed < totals.completed) ⊎ (own.abandoned < totals.abandoned)
+
+-- an entry is of a site, and one of its totals is greater than the site's own
+abbrev pub IsEntryPast : ℕ → Entries → Key → CallTotals → Type 0
+IsEntryPast site own key totals = (key.site ≡ site) × CountsMore (totals_of own site key.queue) totals
+
+-- some total of a site is greater than its own
+pub record HasTotalPast (site : ℕ) (own entries : Entries) : Type 0 where
+  pub queue : ℕ
+  pub calls : Calls
+  pub past : number_of calls (totals_of own site queue) < number_of calls (totals_of entries site queue)
+
+-- a delta says of a site what the site hasn't made: a dot, a write or a call past its own
+abbrev pub IsNotMine : SiteState → DeltaState → Type 0
+IsNotMine s d = HasMemberPast s.site s.last_count s.last_time d.members ⊎ HasTotalPast s.site s.state.totals.entries d.totals.entries
+
+-- ---- the refusals, in their order
+
+-- a site may hear a delta: it speaks of no strange queue, and says nothing of the site that the site hasn't made
+pub record MayHear (s : SiteState) (d : DeltaState) : Type 0 where
+  pub queues : SpeaksOfStrangeQueue (length s.names) d → ⊥
+  pub own : IsNotMine s d → ⊥
+
+-- and both can be joined
+pub record MayJoin (s : SiteState) (d : DeltaState) : Type 0 where
+  pub hears : MayHear s d
+  pub agree : Agree s.state d
+
+-- The refusals of a frame with this delta. Each stands exactly for its cause, where no cause before it stands.
+pub record IsRefusedTake (s : SiteState) (d : DeltaState) (IsRefused : TakeFault → Type 0) : Type 0 where
+  pub no_such_queue : IsRefused NoSuchQueue ↔ SpeaksOfStrangeQueue (length s.names) d
+  pub not_mine : IsRefused NotMine ↔ ((SpeaksOfStrangeQueue (length s.names) d → ⊥) × IsNotMine s d)
+  pub conflict : IsRefused Conflict ↔ (MayHear s d × Disagree s.state d)
+  pub cells_full : IsRefused CellsFull
+      ↔ (MayJoin s d × LacksPlaces s.state.members (cells_joined s.state.members d.members) (map.len d.members.live))
+  pub runs_full : IsRefused RunsFull
+      ↔ (MayJoin s d
+      × HasPlaces s.state.members (cells_joined s.state.members d.members) (map.len d.members.live)
+      × (MOST_RUNS < runs_joined s.state.members d.members))
+
+-- why a frame is refused whose delta can't be joined
+abbrev pub take_fault_of : JoinFault → TakeFault
+take_fault_of join.Conflict = Conflict
+take_fault_of join.CellsFull = CellsFull
+take_fault_of join.RunsFull = RunsFull
+take_fault_of join.Memory = Memory
+
+-- a frame that came back was refused for this cause
+abbrev pub IsRefusedFor : Result (Unit {0}) (TakeFault × Frame) → TakeFault → Type 0
+IsRefusedFor (Ok u) fault = ⊥
+IsRefusedFor (Err refused) fault = refused.0 ≡ fault
+
+-- ---- what comes of it
+
+-- a site has taken a delta: its state is joined with it, each dot keeps its id, and all else is as before
+pub record HasTaken (old : SiteState) (d : DeltaState) (new : SiteState) : Type 0 where
+  pub site : new.site ≡ old.site
+  pub names : new.names ≡ old.names
+  pub state : IsJoinOf old.state d new.state
+  pub ids : KeepsIds old.state.members new.state.members
+  pub pending : new.pending ≡ old.pending
+  pub last_count : new.last_count ≡ old.last_count
+  pub last_time : new.last_time ≡ old.last_time
+  pub frames : new.frames ≡ old.frames
+
+-- what a frame carries has no count and no time of a site past the site's last ones
+pub record HasNoneLater (s : SiteState) (k : Knowledge) : Type 0 where
+  pub counts : greatest (count_used s.site) k ≤ s.last_count
+  pub times : greatest (time_used s.site) k ≤ s.last_time
+
+-- a refusal is what is meant. `CellsFull` may stand in its place where too many places of dead dots aren't used again; of the other four the meaning knows nothing.
+abbrev pub IsMeantFault : SiteState → TakeFault → Outcome → Type 0
+IsMeantFault old NoSuchQueue outcome = ⊤
+IsMeantFault old NotMine outcome = ⊤
+IsMeantFault old Conflict outcome = ⊤
+IsMeantFault old CellsFull outcome = (outcome ≡ steps.CellsFull) ⊎ IsWornDelta old.state
+IsMeantFault old RunsFull outcome = outcome ≡ steps.RunsFull
+IsMeantFault old Memory outcome = ⊤
+
+-- what comes of a take is what is meant, given the site after it and the outcome by the meaning
+abbrev pub IsMeantTake : SiteState → SiteState → Result (Unit {0}) (TakeFault × Frame) → SiteKnowledge × Outcome → Type 0
+IsMeantTake old new (Ok u) after = StandsFor new after.0 × (after.1 ≡ Taken)
+IsMeantTake old new (Err refused) after = IsMeantFault old refused.0 after.1

@@ -1,0 +1,195 @@
+//! The changes of single operations, each made of what its site has seen.
+ghost use Rattle.std.specs.Prelude.{◌≡◌, ◌≢◌, ◌↔◌, ◌<◌, ◌≤◌, [], ◌∷◌};
+ghost use Rattle.std.specs.Prelude.{Err, IfOk, OnOk, length, true};
+ghost use Rattle.std.specs.List.{All, list_any};
+ghost use Rattle.std.specs.FinMap as map;
+ghost use Rattle.std.specs.FinSet as set;
+ghost use Rattle.dots.specs.Values.{Dot};
+ghost use Rattle.dots.specs.DotSets.{run_count};
+ghost use Rattle.dots.specs.Knowledge.{is_dot};
+ghost use Rattle.dots.specs.Totals.{join_of, single};
+ghost use Rattle.member_orset.specs.Members.{HasField, IsWithinLimits};
+ghost use Rattle.member_orset.specs.Reads.{dots_seen_below};
+ghost use Rattle.site_totals.specs.Raising.{alone};
+ghost use Rattle.replica.specs.DotLists.{DotsRise};
+ghost use Rattle.replica.specs.Writing.{written_to};
+
+use causal_context::{Context, ContextFault};
+use delta::Delta;
+use dots::{
+    CallTotals, Calls, Dot, MOST_CALLS, MOST_LIVE, MOST_RUNS, Member, Memory, QUEUES, SiteId,
+};
+use lww_registers::Fields;
+use member_orset::{MemberSet, SetBuilder};
+use site_totals::Totals;
+use std::alloc::Global;
+
+// A change that counts no calls.
+fn of_members(alloc: Global, builder: SetBuilder) -> Delta
+    ensures known { result.members.known ≡ builder.known }
+    ensures live { result.members.live ≡ builder.live }
+    ensures totals { result.totals.entries ≡ map.empty }
+    ensures limits { IsWithinLimits result.members }
+{
+    let members = builder.finish();
+    let _ = members.cells(); // so that its limits are known
+    Delta::of(members, Totals::new(alloc))
+}
+
+// The change of an add: the dot is live with this member and these fields, and the older dots that are dead are known with
+// it. Faults: `RunsFull`, exactly where these make more than 65,536 runs; `Memory`.
+pub(crate) fn added(
+    alloc: Global,
+    members: &MemberSet,
+    dot: Dot,
+    member: &Member,
+    fields: &Fields,
+) -> Result<Delta, ContextFault>
+    requires { HasField fields.now }
+    ensures known { IfOk result (λ change. change.members.known
+        ≡ dots_seen_below members.now (dot ∷ [])) }
+    ensures live { IfOk result (λ change. change.members.live
+        ≡ map.insert map.empty dot (member.now, fields.now)) }
+    ensures totals { IfOk result (λ change. change.totals.entries ≡ map.empty) }
+    ensures limits { IfOk result (λ change. IsWithinLimits change.members) }
+    ensures full { (result ≡ Err ContextFault.RunsFull)
+        ↔ (MOST_RUNS < run_count (dots_seen_below members.now (dot ∷ []))) }
+{
+    let seen = match members.seen_below(&[dot]) {
+        Ok(seen) => seen,
+        Err(fault) => return Err(fault),
+    };
+    let mut builder = SetBuilder::new(alloc, seen);
+    if builder.cell(dot, member, fields).is_err() {
+        return Err(ContextFault::Memory);
+    }
+    Ok(of_members(alloc, builder))
+}
+
+// Gives a builder a cell for each of these dots: live with the member that it has in a set, and with these fields.
+fn write_all(
+    builder: &mut SetBuilder,
+    members: &MemberSet,
+    dots: &[Dot],
+    fields: &Fields,
+) -> Result<(), Memory>
+    requires field { HasField fields.now }
+    requires fresh { builder.old.live ≡ map.empty }
+    requires rise { DotsRise dots.now }
+    requires few { length dots.now ≤ MOST_LIVE }
+    requires known { (q : Dot) → list_any (is_dot q) dots.now ≡ true
+        → set.contains builder.old.known q ≡ true }
+    ensures known { builder.new.known ≡ builder.old.known }
+    ensures live { OnOk result ((q : Dot)
+        → map.get builder.new.live q ≡ written_to members.now dots.now fields.now q) }
+{
+    for dot in dots {
+        if let Some(cell) = members.live(*dot) {
+            builder.cell(*dot, cell.member, fields)?;
+        }
+    }
+    Ok(())
+}
+
+// The change of a write on live dots that rise: they are live with these fields alone, and the older dots that are dead are
+// known with them. Faults: `RunsFull`, exactly where these make more than 65,536 runs; `Memory`.
+pub(crate) fn written(
+    alloc: Global,
+    members: &MemberSet,
+    dots: &[Dot],
+    fields: &Fields,
+) -> Result<Delta, ContextFault>
+    requires field { HasField fields.now }
+    requires rise { DotsRise dots.now }
+    requires live { All (λ dot. map.contains_key members.now.live dot ≡ true) dots.now }
+    ensures known { IfOk result (λ change. change.members.known
+        ≡ dots_seen_below members.now dots.now) }
+    ensures live { IfOk result (λ change. (q : Dot)
+        → map.get change.members.live q ≡ written_to members.now dots.now fields.now q) }
+    ensures totals { IfOk result (λ change. change.totals.entries ≡ map.empty) }
+    ensures limits { IfOk result (λ change. IsWithinLimits change.members) }
+    ensures full { (result ≡ Err ContextFault.RunsFull)
+        ↔ (MOST_RUNS < run_count (dots_seen_below members.now dots.now)) }
+{
+    let _ = members.cells(); // so that it is known how many are live
+    let seen = match members.seen_below(dots) {
+        Ok(seen) => seen,
+        Err(fault) => return Err(fault),
+    };
+    let mut builder = SetBuilder::new(alloc, seen);
+    if write_all(&mut builder, members, dots, fields).is_err() {
+        return Err(ContextFault::Memory);
+    }
+    Ok(of_members(alloc, builder))
+}
+
+// The set of dots that are few enough.
+fn context_of(alloc: Global, dots: &[Dot]) -> Result<Context, ContextFault>
+    requires { length dots.now ≤ MOST_LIVE }
+    ensures ok { IfOk result (λ context. context.dots ≡ set.from_list dots.now) }
+    ensures full { result ≢ Err ContextFault.RunsFull }
+{
+    let mut context = Context::new(alloc);
+    for dot in dots {
+        if let Err(fault) = context.insert(*dot) {
+            return Err(fault);
+        }
+    }
+    Ok(context)
+}
+
+// The change of a remove: these dots are dead. The one fault is want of memory.
+pub(crate) fn removed(alloc: Global, dots: &[Dot]) -> Result<Delta, ContextFault>
+    requires { length dots.now ≤ MOST_LIVE }
+    ensures known { IfOk result (λ change. change.members.known ≡ set.from_list dots.now) }
+    ensures live { IfOk result (λ change. change.members.live ≡ map.empty) }
+    ensures totals { IfOk result (λ change. change.totals.entries ≡ map.empty) }
+    ensures limits { IfOk result (λ change. IsWithinLimits change.members) }
+    ensures full { result ≢ Err ContextFault.RunsFull }
+{
+    let context = match context_of(alloc, dots) {
+        Ok(context) => context,
+        Err(fault) => return Err(fault),
+    };
+    Ok(of_members(alloc, SetBuilder::new(alloc, context)))
+}
+
+// So many of these calls, and none of the others.
+fn calls_alone(calls: Calls, total: u64) -> CallTotals
+    ensures { result ≡ alone calls total }
+{
+    match calls {
+        Calls::Completed => CallTotals {
+            completed: total,
+            abandoned: 0,
+        },
+        Calls::Abandoned => CallTotals {
+            completed: 0,
+            abandoned: total,
+        },
+    }
+}
+
+// The change of a count: the site has counted so many of these calls in the queue.
+pub(crate) fn counted(
+    alloc: Global,
+    site: SiteId,
+    queue: u16,
+    calls: Calls,
+    total: u64,
+) -> Result<Delta, Memory>
+    requires queue { queue < QUEUES }
+    requires some { 1 ≤ total }
+    requires few { total ≤ MOST_CALLS }
+    ensures known { IfOk result (λ change. change.members.known ≡ set.empty) }
+    ensures live { IfOk result (λ change. change.members.live ≡ map.empty) }
+    ensures totals { IfOk result (λ change. change.totals.entries
+        ≡ join_of map.empty (single (record { site = site; queue = queue }) (alone calls total))) }
+    ensures limits { IfOk result (λ change. IsWithinLimits change.members) }
+{
+    let mut totals = Totals::new(alloc);
+    totals.reach(site, queue, calls_alone(calls, total))?;
+    let members = MemberSet::new(alloc);
+    let _ = members.cells(); // so that its limits are known
+    Ok(Delta::of(members, totals))
+}

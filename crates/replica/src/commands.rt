@@ -1,0 +1,275 @@
+//! Commands, one by one: what is to be made of each.
+ghost use Rattle.std.specs.Prelude.{◌≡◌, [], OnErr, max};
+ghost use Rattle.site_totals.specs.Raising.{number_of};
+ghost use Rattle.replica.specs.Changes.{AddMember, CountCall, RemoveMember, SetField};
+ghost use Rattle.replica.specs.Changes.{change_of, meaning_of_setting};
+ghost use Rattle.replica.specs.Commands.{IsDone};
+ghost use Rattle.replica.specs.Planning.{IsPlanned};
+ghost use Rattle.replica.specs.SetFields.{fields_added};
+ghost use Rattle.replica.specs.Refusing.{IsWorn};
+ghost use Rattle.replica.specs.Site.{IsUnchanged, meaning_at, view_of};
+ghost use Rattle.replica.specs.Settings.{setting_of};
+ghost use Rattle.replica.specs.SiteViews.{dots_seen};
+ghost use Rattle.replica.specs.Standing.{IsMeant, StandsFor};
+ghost use Rattle.replica.specs.Steps.{Do, SiteKnowledge, step};
+
+use crate::changes::{added, counted, removed, written};
+use crate::exhausted::refusal_of_runs;
+use crate::full::see_limits;
+use crate::planned::Planned;
+use crate::seen_dots::seen_dots;
+use crate::setting::{Setting, latest_replaced};
+use crate::{Command, Refusal, Replica};
+use dots::{
+    CallTotals, Calls, Dot, Interface, Label, MOST_CALLS, Member, Pause, Penalty, QueueName, Stamp,
+    Text80,
+};
+use lww_registers::{Fields, Register};
+use std::cmp::max;
+
+// How many of these calls there are.
+fn number_of(calls: Calls, totals: CallTotals) -> u64
+    ensures { result ≡ number_of calls totals }
+{
+    match calls {
+        Calls::Completed => totals.completed,
+        Calls::Abandoned => totals.abandoned,
+    }
+}
+
+// The later of two times.
+fn later(time: u64, other: u64) -> u64
+    ensures { result ≡ max time other }
+{
+    max(time, other)
+}
+
+// What an add sets under its stamp.
+fn fields_added(stamp: Stamp, penalty: Penalty, paused: bool, label: Label) -> Fields
+    ensures { result ≡ fields_added stamp penalty (record { paused = paused; reason = [] }) label }
+{
+    Fields {
+        penalty: Register::of(stamp, penalty),
+        pause: Register::of(stamp, Pause::new(paused, Text80::empty())),
+        label: Register::of(stamp, label),
+    }
+}
+
+impl Replica {
+    /// Does a command, or refuses it and changes nothing of what the site says.
+    ///
+    /// An add makes a new dot of the interface in the queue, with what is set of it and an empty reason. A pause and a penalty are
+    /// written on all dots of the interface that the site sees in the queue, or, without a queue, in every one. Add, pause and
+    /// penalty also name the dead dots of the sites of their dots with lesser counts. A remove names all dots of the interface that
+    /// the site sees in the queue. A count adds one call of the queue (RR-8083 for the dots, RR-7506 for the registers and
+    /// counters). What is made is joined into the state and the buffer, and live dots keep their ids.
+    ///
+    /// It is refused, in this order, as
+    /// 1 `NoSuchQueue` where its queue isn't in the list; 2 `AlreadyThere` where the member of an add is there;
+    /// 3 `NotThere` where the site sees no dot that a remove, a pause or a penalty goes over;
+    /// 4 `MembersFull` where the state or the buffer would have more than 16,384 live dots or 65,536 runs, or what is made has more
+    /// than 65,536 runs by itself; where `is_worn`, it may also come in place of what stands behind it, or of a command that is done;
+    /// 5 `Exhausted` where an add's next count, or the next time of an add, a pause or a penalty, is past 2^40. The next time of an
+    /// add is one past the site's last; that of the others is past all that they replace too;
+    /// 6 `TotalFull` where the site's own total of these calls in the queue is 1,000,000,000;
+    /// 7 `Memory`, which may stand in place of each. The order is this project's own.
+    pub fn command(&mut self, command: Command) -> Result<(), Refusal>
+        ensures meaning { IsDone self.old (meaning_at self.old (change_of command))
+            self.new result }
+        ensures unchanged { OnErr result (IsUnchanged self.old self.new) }
+        ensures site { self.new.site ≡ self.old.site }
+        ensures names { self.new.names ≡ self.old.names }
+
+        // Where the replica stands for what a site knows, it is the command's meaning there.
+        ensures knowledge { (s : SiteKnowledge) → StandsFor self.old s
+            → IsMeant (IsWorn self.old) self.old self.new result
+            (step self.old.site self.old.names s (Do (change_of command))) }
+    {
+        see_limits(&self.state);
+        see_limits(&self.pending);
+        match self.plan(command) {
+            Ok(planned) => self.make(planned.change, planned.count, planned.time),
+            Err(refusal) => Err(refusal),
+        }
+    }
+
+    // What is to be made of a command.
+    fn plan(&self, command: Command) -> Result<Planned, Refusal>
+        ensures { IsPlanned self.now (meaning_at self.now (change_of command)) result }
+    {
+        match command {
+            Command::Add {
+                queue,
+                interface,
+                penalty,
+                paused,
+                label,
+            } => self.plan_add(&queue, interface, penalty, paused, label),
+            Command::Remove { queue, interface } => self.plan_remove(&queue, &interface),
+            Command::Pause {
+                queue,
+                interface,
+                pause,
+            } => self.plan_setting(queue, &interface, Setting::Pause(pause)),
+            Command::Penalty {
+                queue,
+                interface,
+                penalty,
+            } => self.plan_setting(queue, &interface, Setting::Penalty(penalty)),
+            Command::Completed { queue } => self.plan_count(&queue, Calls::Completed),
+            Command::Abandoned { queue } => self.plan_count(&queue, Calls::Abandoned),
+        }
+    }
+
+    // One more of these calls of a queue.
+    fn plan_count(&self, queue: &QueueName, calls: Calls) -> Result<Planned, Refusal>
+        ensures { IsPlanned self.now (meaning_at self.now (CountCall queue.now calls)) result }
+    {
+        see_limits(&self.state);
+        see_limits(&self.pending);
+        let Some(number) = self.list.position(queue) else {
+            return Err(Refusal::NoSuchQueue);
+        };
+        let _ = self.list.len(); // so that the limit of queues is known
+        let total = number_of(calls, self.state.totals().of(self.site, number));
+        if total >= MOST_CALLS {
+            return Err(Refusal::TotalFull);
+        }
+        match counted(self.alloc, self.site, number, calls, total + 1) {
+            Ok(change) => Ok(Planned {
+                change,
+                count: self.count,
+                time: self.time,
+            }),
+            Err(_) => Err(Refusal::Memory),
+        }
+    }
+
+    // An interface that is added to a queue.
+    fn plan_add(
+        &self,
+        queue: &QueueName,
+        interface: Interface,
+        penalty: Penalty,
+        paused: bool,
+        label: Label,
+    ) -> Result<Planned, Refusal>
+        ensures { IsPlanned self.now
+            (meaning_at self.now (AddMember queue.now interface penalty paused label)) result }
+    {
+        see_limits(&self.state);
+        see_limits(&self.pending);
+        let Some(number) = self.list.position(queue) else {
+            return Err(Refusal::NoSuchQueue);
+        };
+        let member = Member {
+            queue: number,
+            interface,
+        };
+        if self.state.members().contains(&member) {
+            return Err(Refusal::AlreadyThere);
+        }
+        let Some(dot) = Dot::new(self.site, self.count + 1) else {
+            return Err(self.refuse_add());
+        };
+        let Some(stamp) = Stamp::new(self.time + 1, self.site) else {
+            return Err(self.refuse_add());
+        };
+        let fields = fields_added(stamp, penalty, paused, label);
+        match added(self.alloc, self.state.members(), dot, &member, &fields) {
+            Ok(change) => Ok(Planned {
+                change,
+                count: self.count + 1,
+                time: self.time + 1,
+            }),
+            Err(fault) => Err(refusal_of_runs(fault)),
+        }
+    }
+
+    // An interface that is removed from a queue.
+    fn plan_remove(&self, queue: &QueueName, interface: &Interface) -> Result<Planned, Refusal>
+        ensures { IsPlanned self.now
+            (meaning_at self.now (RemoveMember queue.now interface.now)) result }
+    {
+        see_limits(&self.state);
+        see_limits(&self.pending);
+        let Some(number) = self.list.position(queue) else {
+            return Err(Refusal::NoSuchQueue);
+        };
+        let members = self.state.members();
+        let Ok(dots) = seen_dots(
+            self.alloc,
+            members,
+            self.list.len(),
+            Some(number),
+            interface,
+        ) else {
+            return Err(Refusal::Memory);
+        };
+        if dots.is_empty() {
+            return Err(Refusal::NotThere);
+        }
+        match removed(self.alloc, &dots) {
+            Ok(change) => Ok(Planned {
+                change,
+                count: self.count,
+                time: self.time,
+            }),
+            Err(_) => Err(Refusal::Memory),
+        }
+    }
+
+    // One field that is set in a queue, or in every one.
+    fn plan_setting(
+        &self,
+        queue: Option<QueueName>,
+        interface: &Interface,
+        setting: Setting,
+    ) -> Result<Planned, Refusal>
+        ensures { IsPlanned self.now
+            (meaning_at self.now (SetField queue interface.now (setting_of setting))) result }
+    {
+        let Some(queue) = queue else {
+            return self.plan_write(None, interface, setting);
+        };
+        match self.list.position(&queue) {
+            Some(number) => self.plan_write(Some(number), interface, setting),
+            None => Err(Refusal::NoSuchQueue),
+        }
+    }
+
+    // One field that is set on the dots that are seen.
+    fn plan_write(
+        &self,
+        queue: Option<u16>,
+        interface: &Interface,
+        setting: Setting,
+    ) -> Result<Planned, Refusal>
+        ensures { IsPlanned self.now (meaning_of_setting self.now.site
+            (view_of self.now self.now.state) (view_of self.now self.now.pending)
+            (setting_of setting)
+            (dots_seen (view_of self.now self.now.state).dots queue interface.now)) result }
+    {
+        see_limits(&self.state);
+        see_limits(&self.pending);
+        let members = self.state.members();
+        let Ok(dots) = seen_dots(self.alloc, members, self.list.len(), queue, interface) else {
+            return Err(Refusal::Memory);
+        };
+        if dots.is_empty() {
+            return Err(Refusal::NotThere);
+        }
+        let time = later(self.time, latest_replaced(members, &dots, &setting)) + 1;
+        let Some(stamp) = Stamp::new(time, self.site) else {
+            return Err(self.refuse_write(&dots));
+        };
+        match written(self.alloc, members, &dots, &setting.fields(stamp)) {
+            Ok(change) => Ok(Planned {
+                change,
+                count: self.count,
+                time,
+            }),
+            Err(fault) => Err(refusal_of_runs(fault)),
+        }
+    }
+}

@@ -1,0 +1,65 @@
+//! What is answered where no number is left for a command: full goes before used up.
+ghost use Rattle.std.specs.Prelude.{◌≡◌, ◌<◌, ◌≤◌, length};
+ghost use Rattle.replica.specs.Commands.{IsToldOfAdds, IsToldOfWrites};
+
+use crate::full::{is_full_with, see_limits};
+use crate::{Refusal, Replica};
+use causal_context::ContextFault;
+use dots::{Dot, MOST_LIVE, MOST_RUNS};
+
+// Why a change of too many runs, or for which no memory was found, is refused.
+pub(crate) fn refusal_of_runs(fault: ContextFault) -> Refusal
+    ensures full { fault ≡ ContextFault.RunsFull → result ≡ Refusal.MembersFull }
+    ensures memory { fault ≡ ContextFault.Memory → result ≡ Refusal.Memory }
+{
+    match fault {
+        ContextFault::RunsFull => Refusal::MembersFull,
+        ContextFault::Memory => Refusal::Memory,
+    }
+}
+
+impl Replica {
+    // Why an add is refused where the next count or the next time is past 2^40.
+    pub(crate) fn refuse_add(&self) -> Refusal
+        ensures { IsToldOfAdds self.now result }
+    {
+        see_limits(&self.state);
+        see_limits(&self.pending);
+        let next = self.count + 1;
+        let dead = match self.state.members().dead_of(self.site) {
+            Ok(dead) => dead,
+            Err(fault) => return refusal_of_runs(fault),
+        };
+        if is_full_with(&self.state, &dead, 1, self.site, next) {
+            return Refusal::MembersFull;
+        }
+        if is_full_with(&self.pending, &dead, 1, self.site, next) {
+            return Refusal::MembersFull;
+        }
+        if dead.runs_with(&dead, self.site, next) > MOST_RUNS as u64 {
+            return Refusal::MembersFull;
+        }
+        Refusal::Exhausted
+    }
+
+    // Why a write on these dots, of which there is one, is refused where the next time is past 2^40.
+    pub(crate) fn refuse_write(&self, dots: &[Dot]) -> Refusal
+        requires some { 0 < length dots.now }
+        requires few { length dots.now ≤ MOST_LIVE }
+        ensures { IsToldOfWrites self.now dots.now result }
+    {
+        let seen = match self.state.members().seen_below(dots) {
+            Ok(seen) => seen,
+            Err(fault) => return refusal_of_runs(fault),
+        };
+        let first = dots[0];
+        let (site, count) = (first.site(), first.count());
+        if is_full_with(&self.state, &seen, dots.len(), site, count) {
+            return Refusal::MembersFull;
+        }
+        if is_full_with(&self.pending, &seen, dots.len(), site, count) {
+            return Refusal::MembersFull;
+        }
+        Refusal::Exhausted
+    }
+}

@@ -1,0 +1,35 @@
+//! Whether a delta would be too full with one operation more, where its dot or its stamp has no number left.
+ghost use Rattle.std.specs.Prelude.{◌≡◌, ◌≤◌, ◌+◌};
+ghost use Rattle.member_orset.specs.Members.{IsWithinLimits};
+ghost use Rattle.replica.specs.Fitting.{is_past_with};
+
+use causal_context::Context;
+use delta::Delta;
+use dots::{MOST_COUNT, MOST_LIVE, MOST_RUNS, SiteId};
+
+// Whether a delta has too many live dots or runs, once the dots of a context are dead there, so many others are live, and one
+// dot of a site is known besides.
+pub(crate) fn is_full_with(
+    delta: &Delta,
+    dead: &Context,
+    more: usize,
+    site: SiteId,
+    count: u64,
+) -> bool
+    requires least { 1 ≤ count }
+    requires most { count ≤ MOST_COUNT + 1 }
+    requires few { more ≤ MOST_LIVE }
+    ensures { result
+        ≡ is_past_with delta.now dead.now.dots more (record { site = site; count = count }) }
+{
+    let members = delta.members();
+    members.live_without(dead) > MOST_LIVE - more
+        || members.context().runs_with(dead, site, count) > MOST_RUNS as u64
+}
+
+// Makes known what holds of every delta.
+pub(crate) fn see_limits(delta: &Delta)
+    ensures { IsWithinLimits delta.now.members }
+{
+    let _ = delta.members().cells();
+}

@@ -1,0 +1,61 @@
+//! Changes that the state and the buffer take both, or neither.
+ghost use Rattle.std.specs.Prelude.{◌≡◌, ◌⊎◌, OnOk, OnErr, IsErrOf};
+ghost use Rattle.member_orset.specs.Members.{IsWithinLimits};
+ghost use Rattle.delta.specs.DeltaStates.{IsUnchanged};
+ghost use Rattle.delta.specs.Joining.{Agree, IsPrepared};
+ghost use Rattle.replica.specs.Fitting.{BothTakeIn, HasRoomFor, IsTooFullFor};
+
+use crate::Refusal;
+use delta::{Delta, JoinFault};
+
+// Why a change of what was seen is refused: it is in conflict with nothing.
+fn refusal_of(fault: JoinFault) -> Refusal
+    ensures full { fault ≡ JoinFault.CellsFull → result ≡ Refusal.MembersFull }
+    ensures runs { fault ≡ JoinFault.RunsFull → result ≡ Refusal.MembersFull }
+    ensures memory { fault ≡ JoinFault.Memory → result ≡ Refusal.Memory }
+    ensures only { (result ≡ Refusal.MembersFull) ⊎ (result ≡ Refusal.Memory) }
+{
+    match fault {
+        JoinFault::Memory => Refusal::Memory,
+        _ => Refusal::MembersFull,
+    }
+}
+
+// Makes room for a change in a delta that agrees with it.
+fn make_room(delta: &mut Delta, change: &Delta) -> Result<(), Refusal>
+    requires { Agree delta.old change.now }
+    ensures ready { OnOk result (IsPrepared delta.new change.now) }
+    ensures room { OnOk result (HasRoomFor delta.old change.now) }
+    ensures full { IsErrOf result Refusal.MembersFull → IsTooFullFor delta.old change.now }
+    ensures only { OnErr result
+        (IsErrOf result Refusal.MembersFull ⊎ IsErrOf result Refusal.Memory) }
+    ensures kept { IsUnchanged delta.old delta.new }
+{
+    match delta.prepare(change) {
+        Ok(()) => Ok(()),
+        Err(fault) => Err(refusal_of(fault)),
+    }
+}
+
+// Joins a change that agrees with both into the state and the buffer. It is copied once, and a refusal leaves both as they
+// were.
+pub(crate) fn join_both(
+    state: &mut Delta,
+    pending: &mut Delta,
+    change: Delta,
+) -> Result<(), Refusal>
+    requires state { Agree state.old change }
+    requires pending { Agree pending.old change }
+    ensures { BothTakeIn state.old pending.old change state.new pending.new result }
+{
+    let Ok(copy) = change.copy() else {
+        return Err(Refusal::Memory);
+    };
+    make_room(state, &change)?;
+    if let Err(refusal) = make_room(pending, &copy) {
+        return Err(refusal);
+    }
+    state.absorb(change);
+    pending.absorb(copy);
+    Ok(())
+}

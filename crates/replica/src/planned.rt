@@ -1,0 +1,9 @@
+use delta::Delta;
+
+// A change that a site is to make, with the count and the time that are its last ones then.
+#[derive(Drop)]
+pub struct Planned {
+    pub change: Delta,
+    pub count: u64,
+    pub time: u64,
+}

@@ -1,0 +1,100 @@
+//! The dots that a command goes over.
+ghost use Rattle.std.specs.Prelude.{◌≡◌, ◌<◌, ◌++◌, IfOk, OnOk, Some, None, map as each};
+ghost use Rattle.std.specs.FinMap as map;
+ghost use Rattle.dots.specs.Values.{Dot};
+ghost use Rattle.dots.specs.Rows.{dots_of};
+ghost use Rattle.member_orset.specs.Members.{Holding, dot_view_of};
+ghost use Rattle.replica.specs.DotLists.{dots_below};
+ghost use Rattle.replica.specs.SiteViews.{dots_seen};
+
+use dots::{Dot, Interface, Member, Memory};
+use member_orset::MemberSet;
+use std::alloc::Global;
+
+// Puts the live dots of a member after others.
+fn push_dots(list: &mut Vec<Dot>, members: &MemberSet, member: &Member) -> Result<(), Memory>
+    ensures { OnOk result
+        (list.new.items ≡ list.old.items ++ dots_of (dot_view_of members.now) member.now) }
+{
+    for dot in members.dots(member) {
+        list.push(dot)?;
+    }
+    Ok(())
+}
+
+// The live dots of an interface in the queues of the numbers below one, queue by queue.
+fn dots_by_queue(
+    alloc: Global,
+    members: &MemberSet,
+    queues: u16,
+    interface: &Interface,
+) -> Result<Vec<Dot>, Memory>
+    ensures { IfOk result (λ list. list.items
+        ≡ dots_below (dot_view_of members.now) interface.now queues) }
+{
+    let mut list = Vec::new(alloc);
+    for queue in 0..queues {
+        let member = Member {
+            queue,
+            interface: interface.copy(),
+        };
+        push_dots(&mut list, members, &member)?;
+    }
+    Ok(list)
+}
+
+// The live dots of an interface in all queues, of which there are so many, in their order.
+fn dots_of_interface(
+    alloc: Global,
+    members: &MemberSet,
+    queues: u16,
+    interface: &Interface,
+) -> Result<Vec<Dot>, Memory>
+    requires { (dot : Dot) (h : Holding) → map.get members.now.live dot ≡ Some h
+        → h.0.queue < queues }
+    ensures { IfOk result (λ list. list.items
+        ≡ each (λ p. p.0) (dots_seen (dot_view_of members.now) None interface.now)) }
+{
+    let mut list = dots_by_queue(alloc, members, queues, interface)?;
+    list.sort_unstable();
+    Ok(list)
+}
+
+// The live dots of a member, in their order.
+fn dots_of_member(
+    alloc: Global,
+    members: &MemberSet,
+    queue: u16,
+    interface: &Interface,
+) -> Result<Vec<Dot>, Memory>
+    ensures { IfOk result (λ list. list.items
+        ≡ each (λ p. p.0) (dots_seen (dot_view_of members.now) (Some queue) interface.now)) }
+{
+    let member = Member {
+        queue,
+        interface: interface.copy(),
+    };
+    let mut list = Vec::new(alloc);
+    push_dots(&mut list, members, &member)?;
+    Ok(list)
+}
+
+// The live dots of a member, or, without a queue, of the members of this interface in every queue, of which there are so
+// many, in their order.
+pub(crate) fn seen_dots(
+    alloc: Global,
+    members: &MemberSet,
+    queues: u16,
+    queue: Option<u16>,
+    interface: &Interface,
+) -> Result<Vec<Dot>, Memory>
+    requires { (dot : Dot) (h : Holding) → map.get members.now.live dot ≡ Some h
+        → h.0.queue < queues }
+    ensures { IfOk result (λ list. list.items
+        ≡ each (λ p. p.0) (dots_seen (dot_view_of members.now) queue interface.now)) }
+{
+    match queue {
+        Some(queue) => dots_of_member(alloc, members, queue, interface),
+        None => dots_of_interface(alloc, members, queues, interface),
+    }
+}

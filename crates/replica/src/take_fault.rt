@@ -1,0 +1,25 @@
+use thiserror::Error;
+
+/// Why a frame was not taken. Of several causes the first of this list is answered (this project's own).
+#[derive(Clone, Copy, Debug, PartialEq, Eq, Error)]
+pub enum TakeFault {
+    /// The frame speaks of a queue that isn't in the list.
+    #[error("no such queue")]
+    NoSuchQueue,
+    /// The frame says of the site what the site hasn't made.
+    #[error("not this site's own")]
+    NotMine,
+    /// A dot is live in the frame and at the site with two members, or with a field of one stamp and two values.
+    #[error("conflict")]
+    Conflict,
+    /// The site would know more than 16,384 live dots; or the places of dead dots that aren't used again and the live dots
+    /// of both would be more than 1,048,576.
+    #[error("too many live dots")]
+    CellsFull,
+    /// The site would know more than 65,536 runs of dots.
+    #[error("too many runs")]
+    RunsFull,
+    /// An allocation was refused.
+    #[error("out of memory")]
+    Memory,
+}
