@@ -23,6 +23,7 @@ const TIMES: u32 = 100;
 
 // How often a site does three commands, and how many frames it takes.
 const TURNS: u32 = 333;
+
 const FRAMES: u32 = 1_000;
 
 // What a workload computed, or why it has no checksum. The small ones, done twice, are seen by hand: the counts 1 to 6 of

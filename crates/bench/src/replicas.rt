@@ -102,11 +102,7 @@ pub fn commands_done_often(alloc: Global, members: u64, times: u32) -> Result<u6
 }
 
 // Takes the frame that another site cuts once it has added the interface of a number.
-fn take_one(
-    replica: &mut Replica,
-    other: &mut Replica,
-    number: u64,
-) -> Result<(), &'static str> {
+fn take_one(replica: &mut Replica, other: &mut Replica, number: u64) -> Result<(), &'static str> {
     add(other, number)?;
     let Ok(Some(frame)) = other.cut() else {
         return Err(REFUSED);
