@@ -90,6 +90,17 @@ def from_another_folder(room):
     expect(ran.stdout == read(f"{STORED}/stdout"), "it did not write what its file stdout has", ran)
 
 
+def first_example():
+    """The first example of README: its command, run by a shell, writes the lines that stand behind it, each ended by CR LF."""
+    lines = read(f"{TOP}/README.md").decode().split("```\n")[1].splitlines()
+    command = [lines.pop(0).removeprefix("$ ")]
+    while command[-1].endswith("|"):
+        command.append(lines.pop(0))
+    ran = run("sh", ["-c", "\n".join(command)])
+    expect(ran.returncode == 0, "the status is not 0", ran)
+    expect(ran.stdout == "".join(f"{line}\r\n" for line in lines).encode(), "it did not write what README shows", ran)
+
+
 def refused_allocations(room):
     """Refuses each allocation of the stored run in turn. Answers what was done."""
     compiler = next(filter(None, map(shutil.which, ["cc", "gcc", "clang"])), None)
@@ -131,8 +142,9 @@ def run_all():
             wrong_words(program)
             failures(program, room)
         from_another_folder(room)
+        first_example()
         runs = f"its words, texts and statuses ({' and '.join(map(os.path.basename, programs()))})"
-        return [runs, refused_allocations(room)]
+        return [runs, "the first example of README", refused_allocations(room)]
 
 
 if __name__ == "__main__":

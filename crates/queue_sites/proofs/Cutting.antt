@@ -4,7 +4,8 @@ use lib.Pointwise.{pointwise}
 use Rattle.std.specs.Option.{MatchOption, option_map}
 use Rattle.std.proofs.lemmas.List.{take_rest}
 use Rattle.ami_text.specs.Lines.{content}
-use Rattle.queue_sites.specs.ScriptLines.{behind, last_line, lines_after, lines_of, stream_of}
+use Rattle.std.specs.List.{onto_first, slice_split}
+use Rattle.queue_sites.specs.ScriptLines.{behind, is_bar, last_line, lines_after, lines_of, stream_of}
 
 -- two bytes are the same
 abbrev pub same : ℕ → ℕ → Bool
@@ -66,6 +67,17 @@ stream-cut (b ∷ bytes) (suc n) h = rw (h.1 0 (omega arith)) (ap (λ t. b ∷ t
 pub stream-last : (bytes : List ℕ) → IsNowhere 124 bytes → stream_of bytes ≡ bytes ++ codes "\r\n\r\n"
 stream-last [] h = refl
 stream-last (b ∷ bytes) h = rw (h 0 (omega arith)) (ap (λ t. b ∷ t) (stream-last bytes (nowhere-tail 124 b bytes h)))
+
+-- the parts of bytes, up to the first bar
+pub parts-cut : (bytes : List ℕ) (n : ℕ) → IsFirstAt 124 bytes n → slice_split is_bar bytes ≡ take n bytes ∷ slice_split is_bar (drop (suc n) bytes)
+parts-cut [] n h = absurd (omega (arith, h.0))
+parts-cut (b ∷ bytes) zero h = rw h.2 refl
+parts-cut (b ∷ bytes) (suc n) h = rw (h.1 0 (omega arith)) (ap (onto_first b) (parts-cut bytes n (first-tail 124 b bytes n h)))
+
+-- and without a bar
+pub parts-last : (bytes : List ℕ) → IsNowhere 124 bytes → slice_split is_bar bytes ≡ bytes ∷ []
+parts-last [] h = refl
+parts-last (b ∷ bytes) h = rw (h 0 (omega arith)) (ap (onto_first b) (parts-last bytes (nowhere-tail 124 b bytes h)))
 
 -- what a search for the front found
 pub behind-found : {A : Type 0} (now : A → List ℕ) (r : Option A) (front bytes : List ℕ)

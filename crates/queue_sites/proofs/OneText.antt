@@ -4,8 +4,9 @@ use mathlib.Core.List.{cons≢nil, nil≢cons, head-eq_of_cons-eq, tail-eq_of_co
 use Rattle.ami_text.specs.MessageFields.{NameAndValue}
 use Rattle.ami_text.specs.Stream.{Ending, Rest, Fault, FirstMessage, Gives as StreamGives, IsRest, Reads}
 use Rattle.replica.specs.Steps.{SiteKnowledge}
-use Rattle.queue_sites.specs.ScriptLines.{Sense, Nothing, Message, Unknown, IsMessage, sense_of, stream_of}
-use Rattle.queue_sites.specs.Script.{AreGiven, Given, Gives, HasOneText, Place, given_by, not_understood, nothing_given, unknown_in}
+use Rattle.ami_session.specs.FieldValues.{name_of}
+use Rattle.queue_sites.specs.ScriptLines.{Sense, Nothing, Message, Count, Offer, Unknown, IsMessage, queue_in, sense_of, stream_of, tried_in}
+use Rattle.queue_sites.specs.Script.{AreGiven, Given, Gives, HasOneText, Place, given_by, given_by_count, given_by_offer, not_understood, nothing_given, unknown_in}
 
 -- the messages of a stream
 abbrev Messages : Type 0
@@ -42,6 +43,8 @@ message-or-none one end fields (message ∷ (next ∷ more)) ending reads =
 some-given : EachReads → OneList → OneEnding → (place : Place) (s : SiteKnowledge) (number : ℕ) (sense : Sense) → (given : Given) × Gives place s number sense given
 some-given each one end place s number Nothing = (nothing_given s, refl)
 some-given each one end place s number Unknown = (not_understood s number, refl)
+some-given each one end place s number (Count calls queue) = (given_by_count place s calls (name_of queue), refl)
+some-given each one end place s number (Offer parts) = (given_by_offer place s (queue_in parts) (tried_in parts), refl)
 some-given each one end place s number (Message fields) =
     let outcome = each (stream_of fields) in
     by (message-or-none one end fields outcome.0 outcome.1 outcome.2) where
@@ -55,6 +58,8 @@ one-given : OneList → (place : Place) (s : SiteKnowledge) (number : ℕ) (sens
     → Gives place s number sense given → Gives place s number sense other → other ≡ given
 one-given one place s number Nothing given other a b = b ∙ sym a
 one-given one place s number Unknown given other a b = b ∙ sym a
+one-given one place s number (Count calls queue) given other a b = b ∙ sym a
+one-given one place s number (Offer parts) given other a b = b ∙ sym a
 one-given one place s number (Message fields) given other (inl a) (inl b) =
     b.2 ∙ ap (given_by place s) (head-eq_of_cons-eq (one (stream_of fields) (b.0 ∷ []) (a.0 ∷ []) (Rest b.1.0) (Rest a.1.0) b.1.1 a.1.1)) ∙ sym a.2
 one-given one place s number (Message fields) given other (inl a) (inr b) = absurd (b.0 a.0 a.1)

@@ -1,7 +1,7 @@
 -- What a message gives is what its session does at the site.
-use Rattle.std.proofs.Common.{◌≡◌, ℕ, true, subst, inl, inr, List, [], refl, ap, append-nil}
+use Rattle.std.proofs.Common.{◌≡◌, ◌∙◌, ℕ, true, subst, inl, inr, List, [], refl, ap, append-nil, Option, Some, None}
 use Rattle.ami_session.specs.Checks.{Reaction, Replies, Asks, Ends, reaction}
-use Rattle.ami_session.specs.FieldValues.{Fields}
+use Rattle.ami_session.specs.FieldValues.{Fields, name_of}
 use Rattle.ami_session.specs.Checks.{answer_reply}
 use Rattle.ami_session.specs.Text.{asks_upon, asks, text_upon}
 use Rattle.replica.specs.Steps.{SiteKnowledge}
@@ -10,9 +10,10 @@ use Rattle.status_report.specs.declared.asks.Answer.{Answer}
 use Rattle.replica.specs.Site.{SiteState}
 use Rattle.replica.specs.Standing.{StandsFor}
 use Rattle.queue_sites.specs.declared.script.Output.{Output}
-use Rattle.queue_sites.specs.ScriptLines.{IsMessage, Message, Nothing, Sense, Unknown}
-use Rattle.queue_sites.specs.Script.{Place, answers_in, given_by, not_understood, nothing_given, trusted_session}
-use Rattle.queue_sites.specs.LineSteps.{IsOutput, IsReplied, IsUnknown, given_by_reaction}
+use Rattle.dots.specs.declared.calls.Calls.{Calls}
+use Rattle.queue_sites.specs.ScriptLines.{Count, IsMessage, Message, Nothing, Offer, Sense, Unknown, queue_in, tried_in}
+use Rattle.queue_sites.specs.Script.{Place, answers_in, given_by, given_by_count, given_by_offer, not_understood, nothing_given, trusted_session}
+use Rattle.queue_sites.specs.LineSteps.{Holds, IsOutput, IsReplied, IsUnknown, given_by_reaction}
 
 -- no more messages, no more replies
 abbrev no_replies : List Answer → List ℕ
@@ -69,3 +70,28 @@ output-message place s number fields message new output is replied understood = 
   holds = replied;
   understood = understood;
 }
+
+-- a line that counts a call is understood
+count-understood : (place : Place) (s : SiteKnowledge) (calls : Calls) (queue : Option (List ℕ)) → true ≡ (given_by_count place s calls queue).understood
+count-understood place s calls None = refl
+count-understood place s calls (Some queue) = refl
+
+-- the output of a line that counts a call
+pub output-count : (place : Place) (s : SiteKnowledge) (number : ℕ) (calls : Calls) (queue : List ℕ) (sense : Sense) (new : SiteState) (output : Output) → Count calls queue ≡ sense
+    → Holds (given_by_count place s calls (name_of queue)) new output.text.items → output.understood ≡ true → IsOutput place s number sense new output
+output-count place s number calls queue sense new output asks holds understood = subst (λ (x : Sense). IsOutput place s number x new output) asks (record {
+  given = given_by_count place s calls (name_of queue);
+  gives = refl;
+  holds = holds;
+  understood = understood ∙ count-understood place s calls (name_of queue);
+})
+
+-- of one that asks for an offer
+pub output-offer : (place : Place) (s : SiteKnowledge) (number : ℕ) (parts : List ℕ) (sense : Sense) (new : SiteState) (output : Output) → Offer parts ≡ sense
+    → StandsFor new s → output.text.items ≡ (given_by_offer place s (queue_in parts) (tried_in parts)).text → output.understood ≡ true → IsOutput place s number sense new output
+output-offer place s number parts sense new output asks stands text understood = subst (λ (x : Sense). IsOutput place s number x new output) asks (record {
+  given = given_by_offer place s (queue_in parts) (tried_in parts);
+  gives = refl;
+  holds = record { stands = stands; is = text };
+  understood = understood;
+})

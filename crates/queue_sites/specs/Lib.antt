@@ -1,4 +1,5 @@
 pub mod ScriptLines
+pub mod Answers
 pub mod Script
 pub mod Views
 pub mod LineSteps

@@ -1,5 +1,6 @@
 -- What single steps of a script do to a replica that stands for what the site knows.
-use Rattle.std.specs.Prelude.{ℕ, ◌≡◌, Bool, true, false, List, ◌++◌, Option, codes, decimal}
+use Rattle.std.specs.Prelude.{ℕ, ◌≡◌, Bool, true, false, List, [], ◌++◌, Option, Some, None, codes, decimal}
+use Rattle.std.specs.List.{slice_split}
 use Rattle.std.specs.Io.KnownBytes.{append_known}
 use Rattle.ami_session.specs.Checks.{Reaction, Replies, Asks, Ends}
 use Rattle.ami_session.specs.FieldValues.{Fields}
@@ -11,8 +12,13 @@ use Rattle.status_report.specs.Knowing.{answer_in}
 use Rattle.status_report.specs.declared.asks.Answer.{Answer}
 use Rattle.status_report.specs.declared.asks.Ask.{Ask}
 use Rattle.queue_sites.specs.declared.script.Output.{Output}
-use Rattle.queue_sites.specs.ScriptLines.{Sense, sense_of}
+use Rattle.queue_sites.specs.ScriptLines.{Sense, is_bar, sense_of}
 use Rattle.queue_sites.specs.Script.{Place, Given, Gives, HasTaken, given_by}
+
+-- the parts between bars, where there are any
+abbrev pub parts_of : Option (List ℕ) → List (List ℕ)
+parts_of None = []
+parts_of (Some parts) = slice_split is_bar parts
 
 -- the place of a replica
 abbrev pub place_of : SiteState → Place

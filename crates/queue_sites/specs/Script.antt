@@ -1,14 +1,23 @@
 -- The text of a script of one site: what its lines write, one after another (this project's own).
 use Rattle.std.specs.Prelude.{ℕ, ◌≡◌, ◌≤◌, ◌+◌, ◌⊎◌, Bool, true, false, List, [], ◌∷◌, ◌++◌, length, Option, None, codes, decimal, if◌then◌else◌}
+use Rattle.std.specs.Option.{option_and_then}
 use Rattle.std.specs.Io.KnownBytes.{append_known}
+use Rattle.dots.specs.declared.calls.Calls.{Calls}
+use Rattle.dots.specs.declared.calls.Calls.TheVariants.{Completed, Abandoned}
+use Rattle.dots.specs.Rows.{dot_view, rows_of}
+use Rattle.offer.specs.Offers.{offered}
+use Rattle.replica.specs.declared.command.Command.TheVariants as command
+use Rattle.replica.specs.declared.refusal.Refusal.TheVariants.{NoSuchQueue}
+use Rattle.ami_session.specs.FieldValues.{Fields, name_of}
 use Rattle.ami_session.specs.Checks.{SessionState}
-use Rattle.ami_session.specs.FieldValues.{Fields}
 use Rattle.ami_session.specs.Text.{asks, replies}
 use Rattle.replica.specs.Steps.{SiteKnowledge, new_site}
 use Rattle.status_report.specs.Knowing.{answer_in}
 use Rattle.status_report.specs.declared.asks.Answer.{Answer}
 use Rattle.status_report.specs.declared.asks.Ask.{Ask}
-use Rattle.queue_sites.specs.ScriptLines.{Sense, Nothing, Message, Unknown, IsMessage, lines_of, sense_of}
+use Rattle.status_report.specs.declared.asks.Ask.TheVariants as ask
+use Rattle.queue_sites.specs.Answers.{answer_text, offer_text, refused_text}
+use Rattle.queue_sites.specs.ScriptLines.{Sense, Nothing, Message, Count, Offer, Unknown, IsMessage, lines_of, queue_in, sense_of, tried_in}
 
 -- a site: its number, and the names of its queues
 pub record Place : Type 0 where
@@ -39,6 +48,26 @@ given_by place s message =
     let answered = answers_in place s (asks trusted_session (message ∷ [])) in
     record { after = answered.0; text = replies trusted_session (message ∷ []) answered.1; understood = true }
 
+-- the ask for a call of a queue to be counted
+abbrev pub count_of : Calls → List ℕ → Ask
+count_of Completed queue = ask.Command (command.Completed queue)
+count_of Abandoned queue = ask.Command (command.Abandoned queue)
+
+-- a call that is counted gives the site's answer; where there is no queue name, there is no such queue
+abbrev pub given_by_count : Place → SiteKnowledge → Calls → Option (List ℕ) → Given
+given_by_count place s calls None = record { after = s; text = refused_text NoSuchQueue; understood = true }
+given_by_count place s calls (Some queue) =
+    let answered = answer_in place.site place.names s (count_of calls queue) in
+    record { after = answered.0; text = answer_text answered.1; understood = true }
+
+-- an offer gives what the queue offers of the rows that are known, beside those that were tried, and changes nothing
+abbrev pub given_by_offer : Place → SiteKnowledge → Option (List ℕ) → List (List ℕ) → Given
+given_by_offer place s queue tried = record {
+  after = s;
+  text = offer_text (option_and_then (λ name. offered place.names (rows_of (dot_view s.known)) name tried) queue);
+  understood = true;
+}
+
 -- a line that asks nothing gives nothing
 abbrev pub nothing_given : SiteKnowledge → Given
 nothing_given s = record { after = s; text = []; understood = true }
@@ -53,6 +82,8 @@ Gives place s number Nothing given = given ≡ nothing_given s
 Gives place s number (Message fields) given =
     ((message : Fields) × IsMessage fields message × (given ≡ given_by place s message))
     ⊎ (((message : Fields) → IsMessage fields message → ⊥) × (given ≡ not_understood s number))
+Gives place s number (Count calls queue) given = given ≡ given_by_count place s calls (name_of queue)
+Gives place s number (Offer parts) given = given ≡ given_by_offer place s (queue_in parts) (tried_in parts)
 Gives place s number Unknown given = given ≡ not_understood s number
 
 -- how many lines aren't understood, of one

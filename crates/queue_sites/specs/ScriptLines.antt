@@ -1,8 +1,13 @@
 -- The lines of a script, and what each of them asks (this project's own).
-use Rattle.std.specs.Prelude.{ℕ, ◌==◌, List, [], ◌∷◌, ◌++◌, Option, Some, None, codes, if◌then◌else◌}
+use Rattle.std.specs.Prelude.{ℕ, ◌==◌, Bool, List, [], ◌∷◌, ◌++◌, Option, Some, None, codes, if◌then◌else◌}
+use Rattle.std.specs.Option.{option_map}
+use Rattle.std.specs.List.{filter_map, slice_split}
 use Rattle.ami_text.specs.MessageFields.{NameAndValue}
 use Rattle.ami_text.specs.Lines.{content}
 use Rattle.ami_text.specs.Stream.{Reads, Rest}
+use Rattle.ami_session.specs.FieldValues.{name_of}
+use Rattle.dots.specs.declared.calls.Calls.{Calls}
+use Rattle.dots.specs.declared.calls.Calls.TheVariants.{Completed, Abandoned}
 
 -- the last line, which no LF ends: bytes, if there are any
 abbrev pub last_line : List ℕ → List (List ℕ)
@@ -18,10 +23,13 @@ lines_after front (b ∷ bs) = if b == 10 then content front ∷ lines_after [] 
 abbrev pub lines_of : List ℕ → List (List ℕ)
 lines_of script = lines_after [] script
 
--- what a line asks: nothing, or one message to the site, whose lines stand between bars, or it isn't understood
+-- What a line asks: nothing; one message to the site, whose lines stand between bars; a call of the queue of this name to be counted;
+-- an offer of the queue whose name stands before the first bar, beside the interfaces that stand behind it; or it isn't understood.
 pub data Sense : Type 0 where
   Nothing : Sense
   Message : (fields : List ℕ) → Sense
+  Count : (calls : Calls) → (queue : List ℕ) → Sense
+  Offer : (parts : List ℕ) → Sense
   Unknown : Sense
 
 -- what stands behind a front, where the bytes begin with it
@@ -30,14 +38,21 @@ behind [] bytes = Some bytes
 behind (f ∷ front) [] = None
 behind (f ∷ front) (b ∷ bytes) = if b == f then behind front bytes else None
 
--- what the word `ami` asks, with what stands behind it
-abbrev pub message_sense : Option (List ℕ) → Sense
-message_sense None = Unknown
-message_sense (Some fields) = Message fields
+-- the first sense that is there
+abbrev pub first_sense : List (Option Sense) → Sense
+first_sense [] = Unknown
+first_sense (None ∷ others) = first_sense others
+first_sense (Some sense ∷ others) = sense
 
--- what the words behind the site's number ask
+-- what the words behind the site's number ask, by the first of them
 abbrev pub words_sense : List ℕ → Sense
-words_sense words = message_sense (behind (codes "ami ") words)
+words_sense words = first_sense (
+  option_map Message (behind (codes "ami ") words)
+  ∷ option_map (Count Completed) (behind (codes "completed ") words)
+  ∷ option_map (Count Abandoned) (behind (codes "abandoned ") words)
+  ∷ option_map Offer (behind (codes "offer ") words)
+  ∷ []
+)
 
 -- what a line asks whose first bytes may be the site's number, of one digit or two
 abbrev pub site_sense : Option (List ℕ) → Option (List ℕ) → Sense
@@ -58,3 +73,25 @@ stream_of (b ∷ bs) = if b == 124 then codes "\r\n" ++ stream_of bs else b ∷ 
 -- the fields are this one message, with no other and no fault
 abbrev pub IsMessage : List ℕ → List NameAndValue → Type 0
 IsMessage fields message = (rest : List ℕ) × Reads (stream_of fields) (message ∷ []) (Rest rest)
+
+-- a bar, which ends a part
+abbrev pub is_bar : ℕ → Bool
+is_bar b = b == 124
+
+-- the first of parts
+abbrev pub first_part : List (List ℕ) → List ℕ
+first_part [] = []
+first_part (part ∷ parts) = part
+
+-- the parts behind the first one
+abbrev pub later_parts : List (List ℕ) → List (List ℕ)
+later_parts [] = []
+later_parts (part ∷ parts) = parts
+
+-- the queue of which an offer is asked, where what stands before the first bar is a queue name
+abbrev pub queue_in : List ℕ → Option (List ℕ)
+queue_in parts = name_of (first_part (slice_split is_bar parts))
+
+-- the interfaces that were tried: what stands behind the first bar, between bars, but for what is no interface
+abbrev pub tried_in : List ℕ → List (List ℕ)
+tried_in parts = filter_map name_of (later_parts (slice_split is_bar parts))

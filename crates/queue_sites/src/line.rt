@@ -6,6 +6,7 @@ ghost use Rattle.ami_text.specs.Lines.{content};
 ghost use Rattle.queue_sites.specs.Views.{sense};
 
 use bstr::ByteSlice;
+use dots::Calls;
 
 /// What a line of a script asks.
 #[derive(Clone, Copy)]
@@ -14,6 +15,10 @@ pub enum Line<'a> {
     Nothing,
     /// `0 ami FIELDS`: one message to the site, whose lines stand between bars.
     Message(&'a [u8]),
+    /// `0 completed QUEUE`, `0 abandoned QUEUE`: a call of the queue is to be counted.
+    Count(Calls, &'a [u8]),
+    /// `0 offer QUEUE|TRIED..`: an offer of the queue, beside the interfaces that were tried.
+    Offer(&'a [u8]),
     /// It is none of these.
     Unknown,
 }
@@ -60,8 +65,17 @@ pub fn read_line(line: &[u8]) -> Line<'_>
 fn read_words(words: &[u8]) -> Line<'_>
     ensures { sense result ≡ words_sense words.now }
 {
-    match behind(b"ami ", words) {
-        Some(fields) => Line::Message(fields),
+    if let Some(fields) = behind(b"ami ", words) {
+        return Line::Message(fields);
+    }
+    if let Some(queue) = behind(b"completed ", words) {
+        return Line::Count(Calls::Completed, queue);
+    }
+    if let Some(queue) = behind(b"abandoned ", words) {
+        return Line::Count(Calls::Abandoned, queue);
+    }
+    match behind(b"offer ", words) {
+        Some(parts) => Line::Offer(parts),
         None => Line::Unknown,
     }
 }

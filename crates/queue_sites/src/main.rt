@@ -1,12 +1,14 @@
 //! The program `queue_sites`: reads its command line, and runs a script from standard input.
 #![tactic(auto)]
 
+mod answers;
 mod command_line;
 mod devices;
 mod exit;
 mod laws;
 mod line;
 mod message;
+mod parts;
 mod script;
 mod script_fault;
 #[cfg(test)]

@@ -2,19 +2,23 @@ ghost use Rattle.std.specs.Prelude.{◌≡◌, ◌≢◌, ◌≤◌, ◌++◌, �
 ghost use Rattle.replica.specs.Standing.{StandsFor};
 ghost use Rattle.replica.specs.Steps.{SiteKnowledge, new_site};
 ghost use Rattle.ami_session.specs.Views.{reaction_of};
-ghost use Rattle.queue_sites.specs.ScriptLines.{Message as asks_message, sense_of};
-ghost use Rattle.queue_sites.specs.Script.{one_site, HasBegun, HasGiven, HasWritten, IsRun, IsRunInPart};
-ghost use Rattle.queue_sites.specs.LineSteps.{BeganLine, GaveLine, IsActed, IsAnswer, IsOutput, IsReplied, IsUnknown, place_of};
+ghost use Rattle.ami_session.specs.FieldValues.{name_of};
+ghost use Rattle.queue_sites.specs.ScriptLines.{Message as asks_message, queue_in, sense_of, tried_in};
+ghost use Rattle.queue_sites.specs.Script.{count_of, given_by_count, given_by_offer, one_site, HasBegun, HasGiven, HasWritten, IsRun, IsRunInPart};
+ghost use Rattle.queue_sites.specs.LineSteps.{BeganLine, GaveLine, Holds, IsActed, IsAnswer, IsOutput, IsReplied, IsUnknown, place_of};
 
+use crate::answers::{answer_text, offer_text, refused_text};
 use crate::devices::{read_script, write_all};
 use crate::laws::script_has_one_text;
 use crate::line::{Line, cut_line, read_line};
 use crate::message::message_of;
+use crate::parts::{cut_at_bar, interfaces_of};
 use crate::script_fault::ScriptFault;
-use ami_session::{Act, Session};
+use ami_session::{Act, Session, queue_of};
 use ami_text::{Message, Sink, Source};
-use dots::SiteId;
-use replica::{QueueList, Refusal, Replica};
+use dots::{Calls, QueueName, SiteId};
+use offer::offer;
+use replica::{Command, QueueList, Refusal, Replica};
 use status_report::{Answer, Ask, ask};
 use std::alloc::Global;
 
@@ -147,6 +151,20 @@ fn run_line(
         }),
         Line::Unknown => not_understood(alloc, number),
         Line::Message(fields) => run_fields(alloc, replica, fields, number),
+        Line::Count(calls, queue) => {
+            let text = run_count(alloc, replica, calls, queue)?;
+            Ok(Output {
+                text,
+                understood: true,
+            })
+        }
+        Line::Offer(parts) => {
+            let text = run_offer(alloc, replica, parts)?;
+            Ok(Output {
+                text,
+                understood: true,
+            })
+        }
     }
 }
 
@@ -173,6 +191,55 @@ fn run_fields(
             })
         }
     }
+}
+
+// What is written of a call that is to be counted. The one fault is `Memory`.
+fn run_count(
+    alloc: Global,
+    replica: &mut Replica,
+    calls: Calls,
+    queue: &[u8],
+) -> Result<Vec<u8>, ScriptFault>
+    ensures ok { IfOk result (λ text. (s : SiteKnowledge) → StandsFor replica.old s
+        → Holds (given_by_count (place_of replica.old) s calls (name_of queue.now)) replica.new text.items) }
+    ensures place { place_of replica.new ≡ place_of replica.old }
+    ensures fault { IfErr result (λ fault. fault ≡ ScriptFault.Memory) }
+{
+    let text = match queue_of(queue) {
+        None => refused_text(alloc, Refusal::NoSuchQueue),
+        Some(queue) => {
+            let answer = answer_of(alloc, replica, count_of(calls, queue))?;
+            answer_text(alloc, answer)
+        }
+    };
+    text.map_err(|_| ScriptFault::Memory)
+}
+
+// The ask for a call of a queue to be counted.
+fn count_of(calls: Calls, queue: QueueName) -> Ask
+    ensures { result ≡ count_of calls queue }
+{
+    Ask::Command(match calls {
+        Calls::Completed => Command::Completed { queue },
+        Calls::Abandoned => Command::Abandoned { queue },
+    })
+}
+
+// What is written of an offer. The one fault is `Memory`.
+fn run_offer(alloc: Global, replica: &Replica, parts: &[u8]) -> Result<Vec<u8>, ScriptFault>
+    ensures ok { IfOk result (λ text. (s : SiteKnowledge) → StandsFor replica.now s
+        → text.items ≡ (given_by_offer (place_of replica.now) s (queue_in parts.now) (tried_in parts.now)).text) }
+    ensures fault { IfErr result (λ fault. fault ≡ ScriptFault.Memory) }
+{
+    let (queue, behind) = cut_at_bar(parts);
+    let text = match queue_of(queue) {
+        None => refused_text(alloc, Refusal::NoSuchQueue),
+        Some(queue) => {
+            let tried = interfaces_of(alloc, behind).map_err(|_| ScriptFault::Memory)?;
+            offer_text(alloc, offer(replica, &queue, &tried))
+        }
+    };
+    text.map_err(|_| ScriptFault::Memory)
 }
 
 // What is written of a line that isn't understood. The one fault is `Memory`.

@@ -1,0 +1,2 @@
+pub mod FirstOffers
+pub mod OfferOrder

@@ -1,0 +1,20 @@
+-- The first offer so far, while rows are gone over.
+use Rattle.std.specs.Prelude.{ℕ, Bool, true, ◌&&◌, List, Option, Some, None}
+use Rattle.std.specs.List.{best_of}
+use Rattle.dots.specs.Rows.{MemberRow}
+use Rattle.offer.specs.declared.offered.Offer.{Offer}
+use Rattle.offer.specs.Offers.{comes_before, first_of, may_be_offered, offer_of}
+
+-- an offer comes before the first so far, if there is one
+abbrev pub comes_first : Option Offer → Offer → Bool
+comes_first None offer = true
+comes_first (Some first) offer = comes_before offer first
+
+-- a member may be offered, and comes before the first so far
+abbrev pub is_next : List (List ℕ) → Option Offer → List ℕ × MemberRow → Bool
+is_next tried first row = may_be_offered tried row && comes_first first (offer_of row)
+
+-- the first of the offers that are left and of the first so far
+abbrev pub first_with : Option Offer → List Offer → Option Offer
+first_with None offers = first_of offers
+first_with (Some first) offers = Some (best_of comes_before first offers)
