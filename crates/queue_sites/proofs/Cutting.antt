@@ -96,6 +96,9 @@ pub stream-found : (bytes : List ℕ) (n : ℕ) → IsFirstAt 124 bytes n
     → stream_of bytes ≡ take n bytes ++ (codes "\r\n" ++ stream_of (drop (n + 1) bytes))
 stream-found bytes n h = rw add-one (stream-cut bytes n h)
 
+pub parts-found : (bytes : List ℕ) (n : ℕ) → IsFirstAt 124 bytes n → slice_split is_bar bytes ≡ take n bytes ∷ slice_split is_bar (drop (n + 1) bytes)
+parts-found bytes n h = rw add-one (parts-cut bytes n h)
+
 -- a feed that holds the stream of the fields but for the rest goes on to the next bar
 pub fed-more : (fields held rest new after : List ℕ) (n : ℕ) → held ++ stream_of rest ≡ stream_of fields → IsFirstAt 124 rest n
     → new ≡ held ++ take n rest ++ codes "\r\n" → after ≡ take (length rest - (n + 1)) (drop (n + 1) rest) → new ++ stream_of after ≡ stream_of fields

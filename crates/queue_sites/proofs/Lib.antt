@@ -3,3 +3,4 @@ pub mod OneText
 pub mod Replying
 pub mod Running
 pub mod Taking
+pub mod TriedParts

@@ -47,12 +47,12 @@ first_sense (Some sense ∷ others) = sense
 -- what the words behind the site's number ask, by the first of them
 abbrev pub words_sense : List ℕ → Sense
 words_sense words = first_sense (
-  option_map Message (behind (codes "ami ") words)
-  ∷ option_map (Count Completed) (behind (codes "completed ") words)
-  ∷ option_map (Count Abandoned) (behind (codes "abandoned ") words)
-  ∷ option_map Offer (behind (codes "offer ") words)
-  ∷ []
-)
+    option_map Message (behind (codes "ami ") words)
+    ∷ option_map (Count Completed) (behind (codes "completed ") words)
+    ∷ option_map (Count Abandoned) (behind (codes "abandoned ") words)
+    ∷ option_map Offer (behind (codes "offer ") words)
+    ∷ []
+    )
 
 -- what a line asks whose first bytes may be the site's number, of one digit or two
 abbrev pub site_sense : Option (List ℕ) → Option (List ℕ) → Sense

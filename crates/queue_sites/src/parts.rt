@@ -24,7 +24,7 @@ pub fn cut_at_bar(parts: &[u8]) -> (&[u8], Option<&[u8]>)
 
 /// The interfaces among parts; what is no interface is left out. The one fault is want of memory.
 pub fn interfaces_of(alloc: Global, parts: Option<&[u8]>) -> Result<Vec<Interface>, Memory>
-    ensures { IfOk result (λ tried. tried.items ≡ filter_map name_of (parts_of (option_copied parts))) }
+    ensures { IfOk result (λ tried. tried.items ≡ filter_map name_of (parts_of (option_copied parts.entry))) }
 {
     let mut tried = Vec::new(alloc);
     let mut left = parts;

@@ -205,14 +205,13 @@ fn run_count(
     ensures place { place_of replica.new ≡ place_of replica.old }
     ensures fault { IfErr result (λ fault. fault ≡ ScriptFault.Memory) }
 {
-    let text = match queue_of(queue) {
-        None => refused_text(alloc, Refusal::NoSuchQueue),
+    match queue_of(queue) {
+        None => refused_text(alloc, Refusal::NoSuchQueue).map_err(|_| ScriptFault::Memory),
         Some(queue) => {
             let answer = answer_of(alloc, replica, count_of(calls, queue))?;
-            answer_text(alloc, answer)
+            answer_text(alloc, answer).map_err(|_| ScriptFault::Memory)
         }
-    };
-    text.map_err(|_| ScriptFault::Memory)
+    }
 }
 
 // The ask for a call of a queue to be counted.

@@ -59,8 +59,12 @@ Response: Error\r\nMessage: No such queue\r\n\r\n",
         ("#\n\n0 ami\n", 1, "line 3: not understood\n"),
         (" # a comment\n", 1, "line 1: not understood\n"),
         ("0 ami \n", 1, "line 1: not understood\n"),
-        ("0 completed\n0 Offer sales\n0  offer sales\n1 offer sales\n", 4, "line 1: not understood\nline 2: not understood\n\
-line 3: not understood\nline 4: not understood\n"),
+        (
+            "0 completed\n0 Offer sales\n0  offer sales\n1 offer sales\n",
+            4,
+            "line 1: not understood\nline 2: not understood\n\
+line 3: not understood\nline 4: not understood\n",
+        ),
         ("1 ami Action: QueueStatus\n", 1, "line 1: not understood\n"),
         (
             "000 ami Action: QueueStatus\n",
@@ -229,14 +233,16 @@ StateInterface: {interface}\r\nMembership: dynamic\r\nPenalty: {penalty}\r\nPaus
 
 // Writes the report of events at the end.
 fn push_report(rt: &impl Abort, alloc: Global, out: &mut Vec<u8>, events: &[Event]) {
-    out.extend_from_slice(b"Response: Success\r\nEventList: start\r\nMessage: Queue status will follow\r\n\r\n")
-        .expect(rt, "memory");
+    out.extend_from_slice(
+        b"Response: Success\r\nEventList: start\r\nMessage: Queue status will follow\r\n\r\n",
+    ).expect(rt, "memory");
     for event in events {
         push_event(rt, alloc, out, event);
     }
     let items = events.len();
-    let end = format!(in alloc; "Event: QueueStatusComplete\r\nEventList: Complete\r\nListItems: {items}\r\n\r\n")
-        .expect(rt, "memory");
+    let end = format!(in alloc;
+        "Event: QueueStatusComplete\r\nEventList: Complete\r\nListItems: {items}\r\n\r\n"
+    ).expect(rt, "memory");
     out.extend_from_slice(end.as_bytes()).expect(rt, "memory");
 }
 
@@ -248,7 +254,9 @@ fn push_given(rt: &impl Abort, alloc: Global, out: &mut Vec<u8>, gives: &Gives) 
         Gives::Success(message) => ("Success", message),
         Gives::Error(message) => ("Error", message),
     };
-    let reply = format!(in alloc; "Response: {response}\r\nMessage: {message}\r\n\r\n").expect(rt, "memory");
+    let reply = format!(in alloc; "Response: {response}\r\nMessage: {message}\r\n\r\n").expect(
+        rt, "memory",
+    );
     out.extend_from_slice(reply.as_bytes()).expect(rt, "memory");
 }
 
@@ -257,7 +265,9 @@ fn check_lines(rt: &impl Abort, alloc: Global, names: &[&str], lines: &[(&str, G
     let mut script = Vec::new(alloc);
     let mut wanted = Vec::new(alloc);
     for (line, gives) in lines {
-        script.extend_from_slice(line.as_bytes()).expect(rt, "memory");
+        script
+            .extend_from_slice(line.as_bytes())
+            .expect(rt, "memory");
         script.push(b'\n').expect(rt, "memory");
         push_given(rt, alloc, &mut wanted, gives);
     }
@@ -269,142 +279,201 @@ fn check_lines(rt: &impl Abort, alloc: Global, names: &[&str], lines: &[(&str, G
 }
 
 const STATUS: &str = "0 ami Action: QueueStatus";
+
 const ADDED: Gives = Success("Added interface to queue");
 
 #[test]
 fn members_come_and_go(rt: HostRuntime) {
-    check_lines(&rt, rt.alloc(), &["sales"], &[
-        ("0 ami action:QueueAdd|queue:sales|INTERFACE:  SIP/1", ADDED),
-        (STATUS, Report(&[Queue("sales", 0, 0), Member("sales", "SIP/1", 0, 0, "")])),
-        (
-            "0 ami action:QueueAdd|queue:sales|INTERFACE:  SIP/1",
-            Error("Unable to add interface: Already there"),
-        ),
-        (
-            "0 ami Action: QueueRemove|Queue: sales|Interface: SIP/1",
-            Success("Removed interface from queue"),
-        ),
-        (
-            "0 ami Action: QueueRemove|Queue: sales|Interface: SIP/1",
-            Error("Unable to remove interface: Not there"),
-        ),
-        (
-            "0 ami Action: QueueAdd|Queue: nosuch|Interface: SIP/1",
-            Error("No such queue"),
-        ),
-        (STATUS, Report(&[Queue("sales", 0, 0)])),
-    ]);
+    check_lines(
+        &rt,
+        rt.alloc(),
+        &["sales"],
+        &[
+            ("0 ami action:QueueAdd|queue:sales|INTERFACE:  SIP/1", ADDED),
+            (
+                STATUS,
+                Report(&[Queue("sales", 0, 0), Member("sales", "SIP/1", 0, 0, "")]),
+            ),
+            (
+                "0 ami action:QueueAdd|queue:sales|INTERFACE:  SIP/1",
+                Error("Unable to add interface: Already there"),
+            ),
+            (
+                "0 ami Action: QueueRemove|Queue: sales|Interface: SIP/1",
+                Success("Removed interface from queue"),
+            ),
+            (
+                "0 ami Action: QueueRemove|Queue: sales|Interface: SIP/1",
+                Error("Unable to remove interface: Not there"),
+            ),
+            (
+                "0 ami Action: QueueAdd|Queue: nosuch|Interface: SIP/1",
+                Error("No such queue"),
+            ),
+            (STATUS, Report(&[Queue("sales", 0, 0)])),
+        ],
+    );
 }
 
 #[test]
 fn an_interface_is_paused_in_all_its_queues(rt: HostRuntime) {
-    check_lines(&rt, rt.alloc(), &["a", "b", "c"], &[
-        ("0 ami Action: QueueAdd|Queue: a|Interface: SIP/1", ADDED),
-        ("0 ami Action: QueueAdd|Queue: b|Interface: SIP/1", ADDED),
-        ("0 ami Action: QueueAdd|Queue: c|Interface: SIP/1", ADDED),
-        (
-            "0 ami Action: QueuePause|Interface: SIP/1|Paused: yes|Reason: lunch",
-            Success("Interface paused successfully"),
-        ),
-        (
-            STATUS,
-            Report(&[
-                Queue("a", 0, 0),
-                Member("a", "SIP/1", 0, 1, "lunch"),
-                Queue("b", 0, 0),
-                Member("b", "SIP/1", 0, 1, "lunch"),
-                Queue("c", 0, 0),
-                Member("c", "SIP/1", 0, 1, "lunch"),
-            ]),
-        ),
-        (
-            "0 ami Action: QueuePause|Interface: SIP/9|Paused: yes|Reason: lunch",
-            Error("Interface not found"),
-        ),
-        (
-            "0 ami Action: QueuePause|Interface: SIP/1|Paused: no|Reason: x",
-            Success("Interface unpaused successfully"),
-        ),
-        (
-            STATUS,
-            Report(&[
-                Queue("a", 0, 0),
-                Member("a", "SIP/1", 0, 0, ""),
-                Queue("b", 0, 0),
-                Member("b", "SIP/1", 0, 0, ""),
-                Queue("c", 0, 0),
-                Member("c", "SIP/1", 0, 0, ""),
-            ]),
-        ),
-    ]);
+    check_lines(
+        &rt,
+        rt.alloc(),
+        &["a", "b", "c"],
+        &[
+            ("0 ami Action: QueueAdd|Queue: a|Interface: SIP/1", ADDED),
+            ("0 ami Action: QueueAdd|Queue: b|Interface: SIP/1", ADDED),
+            ("0 ami Action: QueueAdd|Queue: c|Interface: SIP/1", ADDED),
+            (
+                "0 ami Action: QueuePause|Interface: SIP/1|Paused: yes|Reason: lunch",
+                Success("Interface paused successfully"),
+            ),
+            (
+                STATUS,
+                Report(&[
+                    Queue("a", 0, 0),
+                    Member("a", "SIP/1", 0, 1, "lunch"),
+                    Queue("b", 0, 0),
+                    Member("b", "SIP/1", 0, 1, "lunch"),
+                    Queue("c", 0, 0),
+                    Member("c", "SIP/1", 0, 1, "lunch"),
+                ]),
+            ),
+            (
+                "0 ami Action: QueuePause|Interface: SIP/9|Paused: yes|Reason: lunch",
+                Error("Interface not found"),
+            ),
+            (
+                "0 ami Action: QueuePause|Interface: SIP/1|Paused: no|Reason: x",
+                Success("Interface unpaused successfully"),
+            ),
+            (
+                STATUS,
+                Report(&[
+                    Queue("a", 0, 0),
+                    Member("a", "SIP/1", 0, 0, ""),
+                    Queue("b", 0, 0),
+                    Member("b", "SIP/1", 0, 0, ""),
+                    Queue("c", 0, 0),
+                    Member("c", "SIP/1", 0, 0, ""),
+                ]),
+            ),
+        ],
+    );
 }
 
 #[test]
 fn penalties_are_set(rt: HostRuntime) {
-    check_lines(&rt, rt.alloc(), &["sales"], &[
-        ("0 ami Action: QueueAdd|Queue: sales|Interface: SIP/1", ADDED),
-        (
-            "0 ami Action: QueuePenalty|Interface: SIP/1|Penalty: 2147483647",
-            Success("Interface penalty set successfully"),
-        ),
-        (
-            "0 ami Action: QueuePenalty|Interface: SIP/1|Penalty: 2147483648",
-            Error("Field not valid: Penalty"),
-        ),
-        (
-            "0 ami Action: QueuePenalty|Interface: SIP/1|Penalty: -1",
-            Error("Field not valid: Penalty"),
-        ),
-        (
-            "0 ami Action: QueuePenalty|Interface: SIP/1|Penalty: abc",
-            Error("Field not valid: Penalty"),
-        ),
-        (STATUS, Report(&[Queue("sales", 0, 0), Member("sales", "SIP/1", 2_147_483_647, 0, "")])),
-        (
-            "0 ami Action: QueuePenalty|Interface: SIP/1|Penalty: 007",
-            Success("Interface penalty set successfully"),
-        ),
-        (STATUS, Report(&[Queue("sales", 0, 0), Member("sales", "SIP/1", 7, 0, "")])),
-        (
-            "0 ami Action: QueuePenalty|Interface: SIP/1|Penalty:",
-            Error("'Penalty' not specified."),
-        ),
-    ]);
+    check_lines(
+        &rt,
+        rt.alloc(),
+        &["sales"],
+        &[
+            (
+                "0 ami Action: QueueAdd|Queue: sales|Interface: SIP/1",
+                ADDED,
+            ),
+            (
+                "0 ami Action: QueuePenalty|Interface: SIP/1|Penalty: 2147483647",
+                Success("Interface penalty set successfully"),
+            ),
+            (
+                "0 ami Action: QueuePenalty|Interface: SIP/1|Penalty: 2147483648",
+                Error("Field not valid: Penalty"),
+            ),
+            (
+                "0 ami Action: QueuePenalty|Interface: SIP/1|Penalty: -1",
+                Error("Field not valid: Penalty"),
+            ),
+            (
+                "0 ami Action: QueuePenalty|Interface: SIP/1|Penalty: abc",
+                Error("Field not valid: Penalty"),
+            ),
+            (
+                STATUS,
+                Report(&[
+                    Queue("sales", 0, 0),
+                    Member("sales", "SIP/1", 2_147_483_647, 0, ""),
+                ]),
+            ),
+            (
+                "0 ami Action: QueuePenalty|Interface: SIP/1|Penalty: 007",
+                Success("Interface penalty set successfully"),
+            ),
+            (
+                STATUS,
+                Report(&[Queue("sales", 0, 0), Member("sales", "SIP/1", 7, 0, "")]),
+            ),
+            (
+                "0 ami Action: QueuePenalty|Interface: SIP/1|Penalty:",
+                Error("'Penalty' not specified."),
+            ),
+        ],
+    );
 }
 
 #[test]
 fn calls_are_counted(rt: HostRuntime) {
-    check_lines(&rt, rt.alloc(), &["sales"], &[
-        ("0 completed sales", Text("done\n")),
-        ("0 completed sales", Text("done\n")),
-        ("00 abandoned sales\r", Text("done\n")),
-        (STATUS, Report(&[Queue("sales", 2, 1)])),
-        ("0 completed nosuch", Text("refused NoSuchQueue\n")),
-        ("0 abandoned ", Text("refused NoSuchQueue\n")),
-        ("0 completed sales ", Text("refused NoSuchQueue\n")),
-        ("0 completed sales|", Text("refused NoSuchQueue\n")),
-        (STATUS, Report(&[Queue("sales", 2, 1)])),
-    ]);
+    check_lines(
+        &rt,
+        rt.alloc(),
+        &["sales"],
+        &[
+            ("0 completed sales", Text("done\n")),
+            ("0 completed sales", Text("done\n")),
+            ("00 abandoned sales\r", Text("done\n")),
+            (STATUS, Report(&[Queue("sales", 2, 1)])),
+            ("0 completed nosuch", Text("refused NoSuchQueue\n")),
+            ("0 abandoned ", Text("refused NoSuchQueue\n")),
+            ("0 completed sales ", Text("refused NoSuchQueue\n")),
+            ("0 completed sales|", Text("refused NoSuchQueue\n")),
+            (STATUS, Report(&[Queue("sales", 2, 1)])),
+        ],
+    );
 }
 
 #[test]
 fn agents_are_offered(rt: HostRuntime) {
-    check_lines(&rt, rt.alloc(), &["sales"], &[
-        ("0 offer sales", Text("offer none\n")),
-        ("0 ami Action: QueueAdd|Queue: sales|Interface: SIP/3|Penalty: 1", ADDED),
-        ("0 ami Action: QueueAdd|Queue: sales|Interface: SIP/2|Penalty: 1", ADDED),
-        ("0 ami Action: QueueAdd|Queue: sales|Interface: SIP/1|Penalty: 1", ADDED),
-        ("0 ami Action: QueueAdd|Queue: sales|Interface: SIP/4|Penalty: 0|Paused: yes", ADDED),
-        ("0 ami Action: QueueAdd|Queue: sales|Interface: SIP/5|Penalty: 2", ADDED),
-        ("0 offer sales", Text("offer 1 SIP/1\n")),
-        ("0 offer sales|SIP/1", Text("offer 1 SIP/2\n")),
-        ("0 offer sales|SIP/1|SIP/2|SIP/3", Text("offer 2 SIP/5\n")),
-        ("0 offer sales|SIP/1|SIP/2|SIP/3|SIP/5", Text("offer none\n")),
-        ("0 offer nosuch", Text("refused NoSuchQueue\n")),
-        ("0 offer ", Text("refused NoSuchQueue\n")),
-        ("0 offer |SIP/1", Text("refused NoSuchQueue\n")),
-        // What is no interface, and what comes twice, makes no difference.
-        ("0 offer sales||SIP/1||SIP/1|", Text("offer 1 SIP/2\n")),
-        ("0 offer sales|SIP/1 ", Text("offer 1 SIP/1\n")),
-    ]);
+    check_lines(
+        &rt,
+        rt.alloc(),
+        &["sales"],
+        &[
+            ("0 offer sales", Text("offer none\n")),
+            (
+                "0 ami Action: QueueAdd|Queue: sales|Interface: SIP/3|Penalty: 1",
+                ADDED,
+            ),
+            (
+                "0 ami Action: QueueAdd|Queue: sales|Interface: SIP/2|Penalty: 1",
+                ADDED,
+            ),
+            (
+                "0 ami Action: QueueAdd|Queue: sales|Interface: SIP/1|Penalty: 1",
+                ADDED,
+            ),
+            (
+                "0 ami Action: QueueAdd|Queue: sales|Interface: SIP/4|Penalty: 0|Paused: yes",
+                ADDED,
+            ),
+            (
+                "0 ami Action: QueueAdd|Queue: sales|Interface: SIP/5|Penalty: 2",
+                ADDED,
+            ),
+            ("0 offer sales", Text("offer 1 SIP/1\n")),
+            ("0 offer sales|SIP/1", Text("offer 1 SIP/2\n")),
+            ("0 offer sales|SIP/1|SIP/2|SIP/3", Text("offer 2 SIP/5\n")),
+            (
+                "0 offer sales|SIP/1|SIP/2|SIP/3|SIP/5",
+                Text("offer none\n"),
+            ),
+            ("0 offer nosuch", Text("refused NoSuchQueue\n")),
+            ("0 offer ", Text("refused NoSuchQueue\n")),
+            ("0 offer |SIP/1", Text("refused NoSuchQueue\n")),
+            // What is no interface, and what comes twice, makes no difference.
+            ("0 offer sales||SIP/1||SIP/1|", Text("offer 1 SIP/2\n")),
+            ("0 offer sales|SIP/1 ", Text("offer 1 SIP/1\n")),
+        ],
+    );
 }
