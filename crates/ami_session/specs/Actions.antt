@@ -1,17 +1,18 @@
 -- The table of the actions that a site answers, which is their definition (the actions and their fields are Asterisk's; which fields are
 -- required, how they are read, and the texts are this project's own). An action more is a row more.
-use Rattle.std.specs.Prelude.{ℕ, ◌≡◌, ◌++◌, Bool, true, false, not, List, [], ◌∷◌, Option, Some, None, codes, is_none, is_some, unwrap_or}
+use Rattle.std.specs.Prelude.{ℕ, ◌≡◌, ◌++◌, Bool, true, false, not, List, [], ◌∷◌, map as each, Option, Some, None, codes, is_none, is_some, unwrap_or, if◌then◌else◌}
 use Rattle.std.specs.List.{find}
 use Rattle.std.specs.Option.{option_map}
 use Rattle.ami_text.specs.MessageFields.{value_of}
-use Rattle.replica.specs.declared.command.Command.TheVariants.{Add}
+use Rattle.dots.specs.Values.{PauseState}
+use Rattle.replica.specs.declared.command.Command.TheVariants.{Add, Remove, Pause, Penalty}
 use Rattle.replica.specs.declared.refusal.Refusal.{Refusal}
 use Rattle.status_report.specs.declared.asks.Ask.{Ask}
 use Rattle.status_report.specs.declared.asks.Ask.TheVariants.{Command, Status}
 use Rattle.ami_session.specs.declared.action.Action.{Action}
-use Rattle.ami_session.specs.declared.action.Action.TheVariants.{QueueAdd, QueueStatus}
+use Rattle.ami_session.specs.declared.action.Action.TheVariants.{QueueAdd, QueueRemove, QueuePause, QueuePenalty, QueueStatus}
 use Rattle.ami_session.specs.FieldValues.{Fields, is_word, is_yes, id_of, text_of, name_of, penalty_of, number_of}
-use Rattle.ami_session.specs.Replies.{refusal_text}
+use Rattle.ami_session.specs.Replies.{refusal_text, removal_refusal_text}
 
 -- how a field is read: as a name, which has a byte, as a text, as a penalty, or as yes or no, which every value is
 pub data Kind : Type 0 where
@@ -62,6 +63,10 @@ penalty_in m = number_of (unwrap_or (value_of (codes "Penalty") m) (codes "0"))
 abbrev pub says_yes : Fields → Bool
 says_yes m = is_yes (text_at (codes "Paused") m)
 
+-- the pause of a message: whether its `Paused` says yes, and then its reason; one that comes with another value is dropped
+abbrev pub pause_in : Fields → PauseState
+pause_in m = record { paused = says_yes m; reason = if says_yes m then text_at (codes "Reason") m else [] }
+
 abbrev pub queue_add : ActionRow
 queue_add = record {
   name = codes "QueueAdd";
@@ -71,6 +76,38 @@ queue_add = record {
       Command (Add (text_at (codes "Queue") m) (text_at (codes "Interface") m) (penalty_in m) (says_yes m)
       (record { name = text_at (codes "MemberName") m; state = text_at (codes "StateInterface") m }));
   success = λ yes. codes "Added interface to queue";
+  refusal = refusal_text;
+}
+
+abbrev pub queue_remove : ActionRow
+queue_remove = record {
+  name = codes "QueueRemove";
+  required = queue ∷ interface ∷ [];
+  optional = [];
+  ask = λ m. Command (Remove (text_at (codes "Queue") m) (text_at (codes "Interface") m));
+  success = λ yes. codes "Removed interface from queue";
+  refusal = removal_refusal_text;
+}
+
+-- without a queue it is of every one that the interface is a member of
+abbrev pub queue_pause : ActionRow
+queue_pause = record {
+  name = codes "QueuePause";
+  required = interface ∷ paused ∷ [];
+  optional = queue ∷ text (codes "Reason") ∷ [];
+  ask = λ m. Command (Pause (value_of (codes "Queue") m) (text_at (codes "Interface") m) (pause_in m));
+  success = λ yes. if yes then codes "Interface paused successfully" else codes "Interface unpaused successfully";
+  refusal = refusal_text;
+}
+
+-- without a queue it is of every one that the interface is a member of
+abbrev pub queue_penalty : ActionRow
+queue_penalty = record {
+  name = codes "QueuePenalty";
+  required = interface ∷ penalty ∷ [];
+  optional = queue ∷ [];
+  ask = λ m. Command (Penalty (value_of (codes "Queue") m) (text_at (codes "Interface") m) (penalty_in m));
+  success = λ yes. codes "Interface penalty set successfully";
   refusal = refusal_text;
 }
 
@@ -88,11 +125,14 @@ queue_status = record {
 -- the row of an action
 abbrev pub row_of : Action → ActionRow
 row_of QueueAdd = queue_add
+row_of QueueRemove = queue_remove
+row_of QueuePause = queue_pause
+row_of QueuePenalty = queue_penalty
 row_of QueueStatus = queue_status
 
 -- all actions
 abbrev pub actions : List Action
-actions = QueueAdd ∷ QueueStatus ∷ []
+actions = QueueAdd ∷ QueueRemove ∷ QueuePause ∷ QueuePenalty ∷ QueueStatus ∷ []
 
 -- the action of this name, if it has one
 abbrev pub action_named : List ℕ → Option Action
@@ -110,9 +150,13 @@ abbrev pub is_unread : Kind → Option (List ℕ) → Bool
 is_unread kind None = false
 is_unread kind (Some value) = not (can_read kind value)
 
+-- the first of these names of which a message has no field
+abbrev pub absent_of : List (List ℕ) → Fields → Option (List ℕ)
+absent_of names m = find (λ name. is_none (value_of name m)) names
+
 -- the name of the first required field that is absent
 abbrev pub absent_in : ActionRow → Fields → Option (List ℕ)
-absent_in row m = option_map (λ f. f.name) (find (λ field. is_none (value_of field.name m)) row.required)
+absent_in row m = absent_of (each (λ f. f.name) row.required) m
 
 -- the name of the first field that can't be read, the required ones first
 abbrev pub unread_in : ActionRow → Fields → Option (List ℕ)

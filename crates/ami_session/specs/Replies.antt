@@ -17,3 +17,8 @@ refusal_text MembersFull = codes "Unable to change members: Full"
 refusal_text Exhausted = codes "Unable to change members: Numbers used up"
 refusal_text TotalFull = codes "Total full"
 refusal_text Memory = codes "Out of memory"
+
+-- what a reply to a removal says of it: the same, but for a member that isn't there
+abbrev pub removal_refusal_text : Refusal → List ℕ
+removal_refusal_text NotThere = codes "Unable to remove interface: Not there"
+removal_refusal_text refusal = refusal_text refusal

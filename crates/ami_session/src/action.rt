@@ -1,6 +1,8 @@
 //! The actions that a site answers, with their fields.
-ghost use Rattle.std.specs.Prelude.{◌≡◌};
-ghost use Rattle.ami_session.specs.Replies.{refusal_text};
+ghost use Rattle.std.specs.Prelude.{◌≡◌, [], ◌∷◌};
+ghost use Rattle.std.specs.Option.{option_map};
+ghost use Rattle.ami_session.specs.Actions.{absent_of};
+ghost use Rattle.ami_session.specs.Replies.{refusal_text, removal_refusal_text};
 
 use crate::values::is_word;
 use ami_text::Message;
@@ -11,12 +13,17 @@ use replica::Refusal;
 pub enum Action {
     /// Adds a member to a queue.
     QueueAdd,
+    /// Removes a member from a queue.
+    QueueRemove,
+    /// Pauses an interface in a queue or in every one that it is a member of, or goes on with it.
+    QueuePause,
+    /// Sets the penalty of an interface in a queue or in every one that it is a member of.
+    QueuePenalty,
     /// Reports the queues and their members.
     QueueStatus,
 }
 
 impl Action {
-    ghost use Rattle.std.specs.Option.{option_map};
     ghost use Rattle.ami_session.specs.Actions.{absent_in, action_named, row_of};
 
     /// The action of this name, compared without ASCII case.
@@ -25,6 +32,12 @@ impl Action {
     {
         if is_word(name, b"QueueAdd") {
             Some(Action::QueueAdd)
+        } else if is_word(name, b"QueueRemove") {
+            Some(Action::QueueRemove)
+        } else if is_word(name, b"QueuePause") {
+            Some(Action::QueuePause)
+        } else if is_word(name, b"QueuePenalty") {
+            Some(Action::QueuePenalty)
         } else if is_word(name, b"QueueStatus") {
             Some(Action::QueueStatus)
         } else {
@@ -37,9 +50,10 @@ impl Action {
         ensures { option_map (λ name. name.now) result ≡ absent_in (row_of self) message.now }
     {
         match self {
-            Action::QueueAdd if message.get(b"Queue").is_none() => Some("Queue"),
-            Action::QueueAdd if message.get(b"Interface").is_none() => Some("Interface"),
-            _ => None,
+            Action::QueueAdd | Action::QueueRemove => first_absent(message, "Queue", "Interface"),
+            Action::QueuePause => first_absent(message, "Interface", "Paused"),
+            Action::QueuePenalty => first_absent(message, "Interface", "Penalty"),
+            Action::QueueStatus => None,
         }
     }
 
@@ -47,9 +61,12 @@ impl Action {
     pub fn success(self, says_yes: bool) -> &'static str
         ensures { result.now ≡ (row_of self).success says_yes }
     {
-        let _ = says_yes;
         match self {
             Action::QueueAdd => "Added interface to queue",
+            Action::QueueRemove => "Removed interface from queue",
+            Action::QueuePause if says_yes => "Interface paused successfully",
+            Action::QueuePause => "Interface unpaused successfully",
+            Action::QueuePenalty => "Interface penalty set successfully",
             Action::QueueStatus => "",
         }
     }
@@ -59,8 +76,40 @@ impl Action {
         ensures { result.now ≡ (row_of self).refusal refusal }
     {
         match self {
-            Action::QueueAdd | Action::QueueStatus => refusal_text(refusal),
+            Action::QueueRemove => removal_refusal_text(refusal),
+            Action::QueueAdd
+            | Action::QueuePause
+            | Action::QueuePenalty
+            | Action::QueueStatus => refusal_text(refusal),
         }
+    }
+}
+
+// The first of two fields that the message lacks.
+fn first_absent(
+    message: &Message,
+    first: &'static str,
+    second: &'static str,
+) -> Option<&'static str>
+    ensures { option_map (λ name. name.now) result
+        ≡ absent_of (first.now ∷ second.now ∷ []) message.now }
+{
+    if message.get(first.as_bytes()).is_none() {
+        Some(first)
+    } else if message.get(second.as_bytes()).is_none() {
+        Some(second)
+    } else {
+        None
+    }
+}
+
+// What an error says of a removal that is refused.
+fn removal_refusal_text(refusal: Refusal) -> &'static str
+    ensures { result.now ≡ removal_refusal_text refusal }
+{
+    match refusal {
+        Refusal::NotThere => "Unable to remove interface: Not there",
+        other => refusal_text(other),
     }
 }
 

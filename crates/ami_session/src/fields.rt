@@ -1,13 +1,14 @@
 //! What the messages of the actions ask, field by field.
-ghost use Rattle.std.specs.Prelude.{◌≡◌, true, false, Some, None, MatchOption, MatchResult, IfOk};
+ghost use Rattle.std.specs.Prelude.{◌≡◌, true, false, codes, Some, None, unwrap_or, MatchOption, MatchResult, IfOk};
 ghost use Rattle.std.specs.Option.{option_map};
-ghost use Rattle.ami_session.specs.FieldValues.{id_of};
-ghost use Rattle.ami_session.specs.Actions.{AsksBy, Text, absent_in, is_unread, row_of, says_yes, text_at, unread_in};
+ghost use Rattle.ami_text.specs.MessageFields.{value_of};
+ghost use Rattle.ami_session.specs.FieldValues.{id_of, penalty_of};
+ghost use Rattle.ami_session.specs.Actions.{AsksBy, Name, Text, absent_in, is_unread, row_of, says_yes, text_at, unread_in};
 
 use crate::action::Action;
 use crate::values::{id_of, interface_of, is_yes, penalty_of, queue_of, text_of};
 use ami_text::Message;
-use dots::{Bytes, Label, Memory, Text80};
+use dots::{Bytes, Label, Memory, Pause, Penalty, QueueName, Text80};
 use replica::Command;
 use status_report::{Ask, StatusRequest};
 use std::alloc::Global;
@@ -51,7 +52,7 @@ pub fn queue_add(message: &Message) -> Result<Command, Unreadable>
     let Some(interface) = interface_of(text_at(message, "Interface")) else {
         return Err("Interface");
     };
-    let Some(penalty) = penalty_of(message.get(b"Penalty").unwrap_or(b"0")) else {
+    let Some(penalty) = penalty_in(message) else {
         return Err("Penalty");
     };
     let Some(name) = text_of(text_at(message, "MemberName")) else {
@@ -66,6 +67,70 @@ pub fn queue_add(message: &Message) -> Result<Command, Unreadable>
         penalty,
         paused: says_yes(message),
         label: Label { name, state },
+    })
+}
+
+/// What a QueueRemove asks that lacks no field. `Err` names the first of Queue and Interface that can't be read.
+pub fn queue_remove(message: &Message) -> Result<Command, Unreadable>
+    requires { absent_in (row_of Action.QueueRemove) message.now ≡ None }
+    ensures { MatchResult result
+        (λ command. AsksBy (row_of Action.QueueRemove) message.now (Ask.Command command))
+        (λ name. unread_in (row_of Action.QueueRemove) message.now ≡ Some name.now) }
+{
+    let Some(queue) = queue_of(text_at(message, "Queue")) else {
+        return Err("Queue");
+    };
+    let Some(interface) = interface_of(text_at(message, "Interface")) else {
+        return Err("Interface");
+    };
+    Ok(Command::Remove { queue, interface })
+}
+
+/// What a QueuePause asks that lacks no field: without a Queue of every queue that the interface is a member of. `Err` names the
+/// first field, in the order Interface, Queue, Reason, that can't be read; a reason is read whatever Paused says.
+pub fn queue_pause(message: &Message) -> Result<Command, Unreadable>
+    requires { absent_in (row_of Action.QueuePause) message.now ≡ None }
+    ensures { MatchResult result
+        (λ command. AsksBy (row_of Action.QueuePause) message.now (Ask.Command command))
+        (λ name. unread_in (row_of Action.QueuePause) message.now ≡ Some name.now) }
+{
+    let Some(interface) = interface_of(text_at(message, "Interface")) else {
+        return Err("Interface");
+    };
+    let Some(queue) = optional_queue(message.get(b"Queue")) else {
+        return Err("Queue");
+    };
+    let Some(reason) = text_of(text_at(message, "Reason")) else {
+        return Err("Reason");
+    };
+    Ok(Command::Pause {
+        queue,
+        interface,
+        pause: Pause::new(says_yes(message), reason),
+    })
+}
+
+/// What a QueuePenalty asks that lacks no field: without a Queue of every queue that the interface is a member of. `Err` names the
+/// first field, in the order Interface, Penalty, Queue, that can't be read.
+pub fn queue_penalty(message: &Message) -> Result<Command, Unreadable>
+    requires { absent_in (row_of Action.QueuePenalty) message.now ≡ None }
+    ensures { MatchResult result
+        (λ command. AsksBy (row_of Action.QueuePenalty) message.now (Ask.Command command))
+        (λ name. unread_in (row_of Action.QueuePenalty) message.now ≡ Some name.now) }
+{
+    let Some(interface) = interface_of(text_at(message, "Interface")) else {
+        return Err("Interface");
+    };
+    let Some(penalty) = penalty_in(message) else {
+        return Err("Penalty");
+    };
+    let Some(queue) = optional_queue(message.get(b"Queue")) else {
+        return Err("Queue");
+    };
+    Ok(Command::Penalty {
+        queue,
+        interface,
+        penalty,
     })
 }
 
@@ -87,6 +152,26 @@ pub fn queue_status(message: &Message, action_id: Bytes) -> Result<StatusRequest
         member,
         action_id,
     })
+}
+
+// The penalty of a message; 0 where it is absent.
+fn penalty_in(message: &Message) -> Option<Penalty>
+    ensures { result ≡ penalty_of (unwrap_or (value_of (codes "Penalty") message.now) (codes "0")) }
+{
+    penalty_of(message.get(b"Penalty").unwrap_or(b"0"))
+}
+
+// The queue of a value that may be absent; `None` where it is no name.
+fn optional_queue(value: Option<&[u8]>) -> Option<Option<QueueName>>
+    ensures { MatchOption result
+        (is_unread Name (option_map (λ v. v.now) value.entry) ≡ true)
+        (λ queue. (is_unread Name (option_map (λ v. v.now) value.entry) ≡ false)
+        × (queue ≡ option_map (λ v. v.now) value.entry)) }
+{
+    match value {
+        None => Some(None),
+        Some(value) => queue_of(value).map(Some),
+    }
 }
 
 // The text of a value that may be absent; `None` where it is no text.

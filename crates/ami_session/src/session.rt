@@ -6,7 +6,10 @@ ghost use Rattle.ami_session.specs.Checks.{accepts, Replies, Ends, login_reactio
 ghost use Rattle.ami_session.specs.Views.{reaction_of};
 
 use crate::action::Action;
-use crate::fields::{Unreadable, action_id, queue_add, queue_status, says_yes, text_at};
+use crate::fields::{
+    Unreadable, action_id, queue_add, queue_pause, queue_penalty, queue_remove, queue_status,
+    says_yes, text_at,
+};
 use crate::reply::{Response, field_error, message_reply};
 use crate::values::is_word;
 use crate::{Act, Pending};
@@ -178,13 +181,10 @@ fn ask_of(action: Action, message: &Message, id: Bytes) -> Result<Ask, Unreadabl
         (λ name. unread_in (row_of action) message.now ≡ Some name.now) }
 {
     match action {
-        Action::QueueAdd => match queue_add(message) {
-            Ok(command) => Ok(Ask::Command(command)),
-            Err(name) => Err(name),
-        },
-        Action::QueueStatus => match queue_status(message, id) {
-            Ok(request) => Ok(Ask::Status(request)),
-            Err(name) => Err(name),
-        },
+        Action::QueueAdd => queue_add(message).map(Ask::Command),
+        Action::QueueRemove => queue_remove(message).map(Ask::Command),
+        Action::QueuePause => queue_pause(message).map(Ask::Command),
+        Action::QueuePenalty => queue_penalty(message).map(Ask::Command),
+        Action::QueueStatus => queue_status(message, id).map(Ask::Status),
     }
 }

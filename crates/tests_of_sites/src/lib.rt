@@ -1,9 +1,13 @@
-//! Tests of replicas, reports, sessions, what histories show and the steps of sites by their
+//! Tests of replicas, offers, reports, sessions, actions, what histories show and the steps of sites by their
 //! public calls. This crate has no code of its own.
 #![tactic(auto)]
 
 #[cfg(test)]
+mod actions;
+#[cfg(test)]
 mod histories;
+#[cfg(test)]
+mod offers;
 #[cfg(test)]
 mod replicas;
 #[cfg(test)]

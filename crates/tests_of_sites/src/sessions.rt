@@ -1,25 +1,11 @@
 //! Messages to a session, and what it makes of each.
-use crate::shared::{assert_member, assert_text, replica, text};
+use crate::shared::{act, assert_member, assert_text, replica, text};
 use ami_session::{Act, Pending, Session};
-use ami_text::{Feed, Message};
 use dots::{Bytes, Text80};
 use replica::Refusal;
 use status_report::{Answer, Ask, StatusRequest, ask};
 use std::alloc::Global;
 use std::process::Abort;
-
-fn message(rt: &impl Abort, alloc: Global, lines: &str) -> Message {
-    let mut feed = Feed::new(alloc);
-    feed.feed(lines.as_bytes()).expect(rt, "memory");
-    feed.feed(b"\r\n").expect(rt, "memory");
-    let found = feed.next_message().expect(rt, "no fault");
-    found.expect(rt, "a message")
-}
-
-fn act(rt: &impl Abort, alloc: Global, session: &mut Session, lines: &str) -> Act {
-    let message = message(rt, alloc, lines);
-    session.handle(alloc, &message).expect(rt, "memory")
-}
 
 // Asserts that the session replies with these texts by itself, one behind the other, and does not
 // end.
@@ -34,6 +20,15 @@ fn assert_replies(
         rt.panic(lines);
     };
     assert_text(rt, given.as_slice(), wanted);
+}
+
+// Asserts that a trusted session replies to each of these messages by itself, with an error of this
+// text.
+fn assert_errors(rt: &impl Abort, alloc: Global, messages: &[(&str, &str)]) {
+    for (lines, text) in messages {
+        let wanted = [ERROR, text, "\r\n\r\n"];
+        assert_replies(rt, alloc, &mut Session::trusted(), lines, &wanted);
+    }
 }
 
 // What a trusted session asks of its site, and what waits for the answer.
@@ -52,6 +47,8 @@ const ERROR: &str = "Response: Error\r\nMessage: ";
 
 const DENIED: &str = "Response: Error\r\nMessage: Permission denied\r\n\r\n";
 
+const MISSING: &str = "Response: Error\r\nMessage: Missing action in request\r\n\r\n";
+
 const FAILED: &str = "Response: Error\r\nMessage: Authentication failed\r\n\r\n";
 
 const ACCEPTED: &str =
@@ -64,6 +61,7 @@ fn a_login_comes_before_all_else(rt: HostRuntime) {
     const STEPS: &[(&str, &str)] = &[
         ("Action: QueueStatus\r\n", DENIED),
         ("Action: Ping\r\n", DENIED),
+        ("Queue: sales\r\n", MISSING),
         ("Action: Login\r\nUsername: admin\r\n", FAILED),
         ("Action: Login\r\nUsername: Admin\r\nSecret: s3\r\n", FAILED),
         (
@@ -127,10 +125,105 @@ StateInterface: \0\r\nMemberName: \0\r\n",
             "Field not valid: Member",
         ),
     ];
-    for (lines, text) in MESSAGES {
-        let wanted = [ERROR, text, "\r\n\r\n"];
-        assert_replies(&rt, rt.alloc(), &mut Session::trusted(), lines, &wanted);
-    }
+    assert_errors(&rt, rt.alloc(), MESSAGES);
+}
+
+// A text of one byte more than it may have.
+macro_rules! too_long {
+    () => {
+        "aaaaaaaaaaaaaaaaaaaaaaaaaaaaaaaaaaaaaaaaaaaaaaaaaaaaaaaaaaaaaaaaaaaaaaaaaaaaaaaaa"
+    };
+}
+
+#[test]
+fn the_first_error_in_a_removal_is_told(rt: HostRuntime) {
+    const MESSAGES: &[(&str, &str)] = &[
+        ("Action: QueueRemove\r\n", "'Queue' not specified."),
+        (
+            "Action: QueueRemove\r\nInterface: \0\r\n",
+            "'Queue' not specified.",
+        ),
+        (
+            "Action: QueueRemove\r\nQueue: \0\r\nInterface:\r\n",
+            "'Interface' not specified.",
+        ),
+        (
+            "Action: QueueRemove\r\nInterface: \0\r\nQueue: \0\r\n",
+            "Field not valid: Queue",
+        ),
+        (
+            concat!(
+                "Action: QueueRemove\r\nQueue: sales\r\nInterface: ",
+                too_long!(),
+                "\r\n"
+            ),
+            "Field not valid: Interface",
+        ),
+    ];
+    assert_errors(&rt, rt.alloc(), MESSAGES);
+}
+
+#[test]
+fn the_first_error_in_a_pause_is_told(rt: HostRuntime) {
+    const MESSAGES: &[(&str, &str)] = &[
+        (
+            "Action: QueuePause\r\nQueue: sales\r\n",
+            "'Interface' not specified.",
+        ),
+        (
+            "Action: QueuePause\r\nReason: \0\r\nInterface: \0\r\n",
+            "'Paused' not specified.",
+        ),
+        (
+            "Action: QueuePause\r\nInterface: SIP/1\r\nPaused:\r\nPaused: yes\r\n",
+            "'Paused' not specified.",
+        ),
+        (
+            "Action: QueuePause\r\nReason: \0\r\nQueue: \0\r\nPaused: \0\r\nInterface: \0\r\n",
+            "Field not valid: Interface",
+        ),
+        (
+            "Action: QueuePause\r\nReason: \0\r\nQueue: \0\r\nPaused: \0\r\nInterface: SIP/1\r\n",
+            "Field not valid: Queue",
+        ),
+        // A reason that isn't used is read too.
+        (
+            concat!(
+                "Action: QueuePause\r\nInterface: SIP/1\r\nPaused: no\r\nReason: ",
+                too_long!(),
+                "\r\n"
+            ),
+            "Field not valid: Reason",
+        ),
+    ];
+    assert_errors(&rt, rt.alloc(), MESSAGES);
+}
+
+#[test]
+fn the_first_error_in_a_penalty_is_told(rt: HostRuntime) {
+    const MESSAGES: &[(&str, &str)] = &[
+        (
+            "Action: QueuePenalty\r\nQueue: sales\r\n",
+            "'Interface' not specified.",
+        ),
+        (
+            "Action: QueuePenalty\r\nInterface: \0\r\n",
+            "'Penalty' not specified.",
+        ),
+        (
+            "Action: QueuePenalty\r\nQueue: \0\r\nPenalty: x\r\nInterface: \0\r\n",
+            "Field not valid: Interface",
+        ),
+        (
+            "Action: QueuePenalty\r\nQueue: \0\r\nPenalty: x\r\nInterface: SIP/1\r\n",
+            "Field not valid: Penalty",
+        ),
+        (
+            "Action: QueuePenalty\r\nQueue: \0\r\nPenalty: 1\r\nInterface: SIP/1\r\n",
+            "Field not valid: Queue",
+        ),
+    ];
+    assert_errors(&rt, rt.alloc(), MESSAGES);
 }
 
 #[test]
@@ -157,34 +250,113 @@ fn assert_answer(rt: &impl Abort, alloc: Global, lines: &str, answer: Answer, wa
     assert_text(rt, given.as_slice(), wanted);
 }
 
+const REMOVE: &str = "Action: QueueRemove\r\nQueue: sales\r\nInterface: SIP/1\r\n";
+
+const PAUSE: &str = "Action: QueuePause\r\nInterface: SIP/1\r\nPaused: yes\r\n";
+
+const PENALTY: &str = "Action: QueuePenalty\r\nInterface: SIP/1\r\nPenalty: 3\r\n";
+
+const STATUS: &str = "Action: QueueStatus\r\nQueue: sales\r\nMember: SIP/1\r\nActionID: 4\r\n";
+
 #[test]
-fn an_add_that_is_done_is_told_with_its_action_id(rt: HostRuntime) {
-    const WANTED: &str =
-        "Response: Success\r\nActionID: a1\r\nMessage: Added interface to queue\r\n\r\n";
-    assert_answer(&rt, rt.alloc(), ADD, Answer::Done, &[WANTED]);
+fn what_is_done_is_told(rt: HostRuntime) {
+    const DONE: &[(&str, &str)] = &[
+        (
+            ADD,
+            "Response: Success\r\nActionID: a1\r\nMessage: Added interface to queue\r\n\r\n",
+        ),
+        (
+            REMOVE,
+            "Response: Success\r\nMessage: Removed interface from queue\r\n\r\n",
+        ),
+        (
+            PAUSE,
+            "Response: Success\r\nMessage: Interface paused successfully\r\n\r\n",
+        ),
+        (
+            PENALTY,
+            "Response: Success\r\nMessage: Interface penalty set successfully\r\n\r\n",
+        ),
+        // No site answers a status so.
+        (
+            STATUS,
+            "Response: Success\r\nActionID: 4\r\nMessage: \r\n\r\n",
+        ),
+    ];
+    for (lines, wanted) in DONE {
+        assert_answer(&rt, rt.alloc(), lines, Answer::Done, &[wanted]);
+    }
+}
+
+#[test]
+fn a_pause_that_is_done_is_told_by_what_was_asked(rt: HostRuntime) {
+    const VALUES: &[(&str, &str)] = &[
+        ("yes", "paused"),
+        ("True", "paused"),
+        ("Y", "paused"),
+        ("t", "paused"),
+        ("1", "paused"),
+        ("ON", "paused"),
+        ("no", "unpaused"),
+        ("off", "unpaused"),
+        ("0", "unpaused"),
+        ("11", "unpaused"),
+        ("yess", "unpaused"),
+        ("\0", "unpaused"),
+    ];
+    for (value, told) in VALUES {
+        let lines = format!(in rt.alloc();
+            "Action: QueuePause\r\nPaused: {value}\r\nInterface: SIP/1\r\n"
+        ).expect(&rt, "memory");
+        let wanted = [
+            "Response: Success\r\nMessage: Interface ",
+            told,
+            " successfully\r\n\r\n",
+        ];
+        assert_answer(&rt, rt.alloc(), lines.as_str(), Answer::Done, &wanted);
+    }
+}
+
+const REFUSALS: &[(Refusal, &str)] = &[
+    (Refusal::NoSuchQueue, "No such queue"),
+    (
+        Refusal::AlreadyThere,
+        "Unable to add interface: Already there",
+    ),
+    (Refusal::NotThere, "Interface not found"),
+    (Refusal::MembersFull, "Unable to change members: Full"),
+    (
+        Refusal::Exhausted,
+        "Unable to change members: Numbers used up",
+    ),
+    (Refusal::TotalFull, "Total full"),
+    (Refusal::Memory, "Out of memory"),
+];
+
+// Asserts the error upon a refusal of what a message asks.
+fn assert_refusal(rt: &impl Abort, alloc: Global, lines: &str, refusal: Refusal, text: &str) {
+    let wanted = [ERROR, text, "\r\n\r\n"];
+    assert_answer(rt, alloc, lines, Answer::Refused(refusal), &wanted);
 }
 
 #[test]
 fn each_refusal_has_its_text(rt: HostRuntime) {
-    const REFUSALS: &[(Refusal, &str)] = &[
-        (Refusal::NoSuchQueue, "No such queue"),
-        (
-            Refusal::AlreadyThere,
-            "Unable to add interface: Already there",
-        ),
-        (Refusal::NotThere, "Interface not found"),
-        (Refusal::MembersFull, "Unable to change members: Full"),
-        (
-            Refusal::Exhausted,
-            "Unable to change members: Numbers used up",
-        ),
-        (Refusal::TotalFull, "Total full"),
-        (Refusal::Memory, "Out of memory"),
-    ];
+    for lines in [ADD_WITHOUT_ID, PAUSE, PENALTY] {
+        for (refusal, text) in REFUSALS {
+            assert_refusal(&rt, rt.alloc(), lines, *refusal, text);
+        }
+    }
+}
+
+#[test]
+fn a_removal_says_of_its_own_that_a_member_is_not_there(rt: HostRuntime) {
     for (refusal, text) in REFUSALS {
-        let wanted = [ERROR, text, "\r\n\r\n"];
-        let answer = Answer::Refused(*refusal);
-        assert_answer(&rt, rt.alloc(), ADD_WITHOUT_ID, answer, &wanted);
+        let text = if *refusal == Refusal::NotThere {
+            "Unable to remove interface: Not there"
+        } else {
+            *text
+        };
+        assert_refusal(&rt, rt.alloc(), REMOVE, *refusal, text);
     }
 }
 
@@ -198,8 +370,6 @@ fn a_logoff_ends_a_session_that_is_not_logged_in(rt: HostRuntime) {
     };
     assert_text(&rt, given.as_slice(), &[WANTED]);
 }
-
-const STATUS: &str = "Action: QueueStatus\r\nQueue: sales\r\nMember: SIP/1\r\nActionID: 4\r\n";
 
 fn assert_filter(rt: &impl Abort, filter: Option<Text80>, wanted: &str) {
     assert_text(rt, filter.expect(rt, "a filter").as_bytes(), &[wanted]);
@@ -223,7 +393,10 @@ fn a_status_is_asked_with_its_filters(rt: HostRuntime) {
 
 #[test]
 fn a_report_is_the_reply_as_it_is(rt: HostRuntime) {
-    let report = Vec::from_slice(rt.alloc(), b"a report").expect(&rt, "memory");
-    let answer = Answer::Report(Bytes::new(report));
-    assert_answer(&rt, rt.alloc(), STATUS, answer, &["a report"]);
+    // No site answers a command so.
+    for lines in [STATUS, ADD, REMOVE, PAUSE, PENALTY] {
+        let report = Vec::from_slice(rt.alloc(), b"a report").expect(&rt, "memory");
+        let answer = Answer::Report(Bytes::new(report));
+        assert_answer(&rt, rt.alloc(), lines, answer, &["a report"]);
+    }
 }

@@ -1,4 +1,6 @@
 //! What these tests make and assert alike.
+use ami_session::{Act, Session};
+use ami_text::{Feed, Message};
 use dots::{Bytes, Interface, Label, Member, Penalty, QueueName, SiteId, Text80};
 use replica::{Command, QueueList, Replica, Row};
 use status_report::StatusRequest;
@@ -94,6 +96,21 @@ pub(crate) fn request(
         member: filter(rt, filters.1),
         action_id: Bytes::new(Vec::from_slice(alloc, id).expect(rt, "memory")),
     }
+}
+
+// The message of these lines.
+fn message(rt: &impl Abort, alloc: Global, lines: &str) -> Message {
+    let mut feed = Feed::new(alloc);
+    feed.feed(lines.as_bytes()).expect(rt, "memory");
+    feed.feed(b"\r\n").expect(rt, "memory");
+    let found = feed.next_message().expect(rt, "no fault");
+    found.expect(rt, "a message")
+}
+
+// What a session does upon a message of these lines.
+pub(crate) fn act(rt: &impl Abort, alloc: Global, session: &mut Session, lines: &str) -> Act {
+    let message = message(rt, alloc, lines);
+    session.handle(alloc, &message).expect(rt, "memory")
 }
 
 // Asserts that a row has what an add has set, and an empty reason.

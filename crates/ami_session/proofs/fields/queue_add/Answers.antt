@@ -1,4 +1,4 @@
-use Rattle.std.proofs.Common.{rules, ◌≡◌, Some, codes, unwrap_or, sym, ap, ◌∙◌}
+use Rattle.std.proofs.Common.{◌≡◌, Some, codes, unwrap_or, sym, ap, ◌∙◌}
 use Rattle.std.specs.Option.{option_map}
 use Rattle.ami_text.specs.MessageFields.{value_of}
 use Rattle.replica.specs.declared.command.Command.TheVariants.{Add}
@@ -13,7 +13,7 @@ returns c =
     let m = c.args.message.now in
     let queue : name_of (text_at (codes "Queue") m) ≡ Some c.in-Some.queue = ap name_of (sym c.text_at.ensures) ∙ sym c.queue_of.ensures ∙ c.in-Some.is in
     let interface : name_of (text_at (codes "Interface") m) ≡ Some c.in-Some-interface_of.interface = ap name_of (sym c.text_at-2.ensures) ∙ sym c.interface_of.ensures ∙ c.in-Some-interface_of.is in
-    let penalty : penalty_of (unwrap_or (value_of (codes "Penalty") m) (codes "0")) ≡ Some c.in-Some-penalty_of.penalty = search rules in
+    let penalty : penalty_of (unwrap_or (value_of (codes "Penalty") m) (codes "0")) ≡ Some c.in-Some-penalty_in.penalty = sym c.penalty_in.ensures ∙ c.in-Some-penalty_in.is in
     let name : text_of (text_at (codes "MemberName") m) ≡ Some c.in-Some-text_of.name = ap text_of (sym c.text_at-3.ensures) ∙ sym c.text_of.ensures ∙ c.in-Some-text_of.is in
     let state : text_of (text_at (codes "StateInterface") m) ≡ Some c.in-Some-text_of-2.state = ap text_of (sym c.text_at-4.ensures) ∙ sym c.text_of-2.ensures ∙ c.in-Some-text_of-2.is in
     record {
