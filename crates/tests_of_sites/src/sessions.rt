@@ -128,13 +128,6 @@ StateInterface: \0\r\nMemberName: \0\r\n",
     assert_errors(&rt, rt.alloc(), MESSAGES);
 }
 
-// A text of one byte more than it may have.
-macro_rules! too_long {
-    () => {
-        "aaaaaaaaaaaaaaaaaaaaaaaaaaaaaaaaaaaaaaaaaaaaaaaaaaaaaaaaaaaaaaaaaaaaaaaaaaaaaaaaa"
-    };
-}
-
 #[test]
 fn the_first_error_in_a_removal_is_told(rt: HostRuntime) {
     const MESSAGES: &[(&str, &str)] = &[
@@ -152,11 +145,9 @@ fn the_first_error_in_a_removal_is_told(rt: HostRuntime) {
             "Field not valid: Queue",
         ),
         (
-            concat!(
-                "Action: QueueRemove\r\nQueue: sales\r\nInterface: ",
-                too_long!(),
-                "\r\n"
-            ),
+            // The value has 81 bytes.
+            "Action: QueueRemove\r\nQueue: sales\r\nInterface: \
+aaaaaaaaaaaaaaaaaaaaaaaaaaaaaaaaaaaaaaaaaaaaaaaaaaaaaaaaaaaaaaaaaaaaaaaaaaaaaaaaa\r\n",
             "Field not valid: Interface",
         ),
     ];
@@ -188,11 +179,9 @@ fn the_first_error_in_a_pause_is_told(rt: HostRuntime) {
         ),
         // A reason that isn't used is read too.
         (
-            concat!(
-                "Action: QueuePause\r\nInterface: SIP/1\r\nPaused: no\r\nReason: ",
-                too_long!(),
-                "\r\n"
-            ),
+            // The value has 81 bytes.
+            "Action: QueuePause\r\nInterface: SIP/1\r\nPaused: no\r\nReason: \
+aaaaaaaaaaaaaaaaaaaaaaaaaaaaaaaaaaaaaaaaaaaaaaaaaaaaaaaaaaaaaaaaaaaaaaaaaaaaaaaaa\r\n",
             "Field not valid: Reason",
         ),
     ];
