@@ -77,10 +77,8 @@ impl Action {
     {
         match self {
             Action::QueueRemove => removal_refusal_text(refusal),
-            Action::QueueAdd
-            | Action::QueuePause
-            | Action::QueuePenalty
-            | Action::QueueStatus => refusal_text(refusal),
+            Action::QueueAdd | Action::QueuePause | Action::QueuePenalty | Action::QueueStatus =>
+                refusal_text(refusal),
         }
     }
 }
