@@ -5,3 +5,4 @@ pub mod Views
 pub mod Merging
 pub mod Uniting
 pub mod Unions
+pub mod FewRuns

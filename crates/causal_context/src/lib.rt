@@ -8,6 +8,7 @@
 mod context;
 mod context_fault;
 mod cover;
+mod few;
 pub mod laws;
 mod merge;
 mod run;

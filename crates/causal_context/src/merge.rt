@@ -7,7 +7,7 @@ ghost use Rattle.causal_context.specs.Contexts.{IsContext, IsRun};
 ghost use Rattle.causal_context.specs.RunLists.{IsNext, is_first_ours};
 
 use crate::Run;
-use crate::splice::{count_with, unite_run};
+use crate::few::{FEW_RUNS, absorb_searched, searched_count};
 use dots::MOST_RUNS;
 
 // Takes the first run that is left of two lists, by site and first.
@@ -53,7 +53,7 @@ fn takes_own(runs: &[Run], own: usize, other: &[Run], theirs: usize) -> bool
     runs[own].begins_by(other[theirs])
 }
 
-// How many runs the union of two lists of runs has. One other run is searched for, and for more both are walked once.
+// How many runs the union of two lists of runs has. Few others are searched for, and for more both are walked once.
 pub(crate) fn united_count(runs: &[Run], other: &[Run]) -> usize
     requires ours { AreApart runs.now }
     requires others { AreApart other.now }
@@ -62,8 +62,8 @@ pub(crate) fn united_count(runs: &[Run], other: &[Run]) -> usize
     ensures value { result ≡ run_count (set.union (set_of runs.now) (set_of other.now)) }
     ensures few { result ≤ length runs.now + length other.now }
 {
-    if other.len() == 1 {
-        return count_with(runs, other[0]);
+    if other.len() <= FEW_RUNS {
+        return searched_count(runs, other);
     }
     walked_count(runs, other)
 }
@@ -126,7 +126,7 @@ pub(crate) fn merge(runs: &mut [Run], other: &[Run]) -> usize
     written + 1
 }
 
-// Unites runs with others in place, in room that is there. It takes no memory. One other run is searched for, and for
+// Unites runs with others in place, in room that is there. It takes no memory. Few others are searched for, and for
 // more both are walked once.
 pub(crate) fn absorb_runs(runs: &mut Vec<Run>, other: &[Run])
     requires ours { IsContext runs.old.items }
@@ -137,8 +137,8 @@ pub(crate) fn absorb_runs(runs: &mut Vec<Run>, other: &[Run])
     ensures united { set_of runs.new.items ≡ set.union (set_of runs.old.items) (set_of other.now) }
     ensures room { vec_capacity runs.old ≤ vec_capacity runs.new }
 {
-    if other.len() == 1 {
-        let _ = unite_run(runs, other[0]); // there is room, so it can't fail
+    if other.len() <= FEW_RUNS {
+        absorb_searched(runs, other);
         return;
     }
     absorb_walked(runs, other);

@@ -7,9 +7,10 @@ ghost use Rattle.causal_context.specs.Contexts.{IsContext, IsRun};
 
 use crate::search::runs_before;
 use crate::{ContextFault, Run};
-use dots::MOST_RUNS;
+use dots::{MOST_RUNS, Memory};
 
 // A run with all that it touches, and the places of these: from the first to before the last.
+#[derive(Clone, Copy)]
 struct United {
     run: Run,
     start: usize,
@@ -60,29 +61,23 @@ pub(crate) fn count_with(runs: &[Run], run: Run) -> usize
     start + 1 + (runs.len() - end)
 }
 
-// Puts a run in place of those from a start to an end. Full exactly where it replaces none and there are 65,536.
-fn replace(runs: &mut Vec<Run>, united: United) -> Result<(), ContextFault>
+// Puts a run in place of those from a start to an end. The one fault is want of memory.
+fn replace(runs: &mut Vec<Run>, united: United) -> Result<(), Memory>
     requires order { united.start ≤ united.end }
     requires within { united.end ≤ length runs.old.items }
     ensures ok { OnOk result (runs.new.items
         ≡ take united.start runs.old.items
         ++ united.run ∷ drop united.end runs.old.items) }
-    ensures full { (result ≡ Err ContextFault.RunsFull)
-        ↔ ((united.start ≡ united.end) × (MOST_RUNS ≤ length runs.old.items)) }
     ensures no_more { united.start < united.end → IsOk result }
-    ensures with_room { vec_len runs.old < vec_capacity runs.old
-        → result ≢ Err ContextFault.Memory }
+    ensures with_room { vec_len runs.old < vec_capacity runs.old → IsOk result }
     ensures err { OnErr result (runs.new.items ≡ runs.old.items) }
     ensures capacity { vec_capacity runs.old ≤ vec_capacity runs.new }
 {
     let United { run, start, end } = united;
     if start == end {
-        if runs.len() >= MOST_RUNS {
-            return Err(ContextFault::RunsFull);
-        }
         return match runs.insert(start, run) {
             Ok(()) => Ok(()),
-            Err(_) => Err(ContextFault::Memory),
+            Err(_) => Err(Memory),
         };
     }
     runs[start] = run;
@@ -90,7 +85,7 @@ fn replace(runs: &mut Vec<Run>, united: United) -> Result<(), ContextFault>
     Ok(())
 }
 
-// Unites runs with one more. No fault changes them.
+// Unites runs with one more. No fault changes them. Full exactly where it touches none and there are 65,536.
 pub(crate) fn unite_run(runs: &mut Vec<Run>, run: Run) -> Result<(), ContextFault>
     requires { IsContext runs.old.items }
     ensures valid { IsContext runs.new.items }
@@ -108,5 +103,28 @@ pub(crate) fn unite_run(runs: &mut Vec<Run>, run: Run) -> Result<(), ContextFaul
     ensures capacity { vec_capacity runs.old ≤ vec_capacity runs.new }
 {
     let united = unite(runs, run);
-    replace(runs, united)
+    let len = runs.len();
+    if united.start == united.end && len >= MOST_RUNS {
+        return Err(ContextFault::RunsFull);
+    }
+    match replace(runs, united) {
+        Ok(()) => Ok(()),
+        Err(_) => Err(ContextFault::Memory),
+    }
+}
+
+// Unites runs with one more, in room that is there. It takes no memory.
+pub(crate) fn put_run(runs: &mut Vec<Run>, run: Run)
+    requires apart { AreApart runs.old.items }
+    requires limits { All IsRun runs.old.items }
+    requires room { vec_len runs.old < vec_capacity runs.old }
+    ensures apart { AreApart runs.new.items }
+    ensures limits { All IsRun runs.new.items }
+    ensures united { set_of runs.new.items
+        ≡ set.union (set_of runs.old.items) (set_of (run ∷ [])) }
+    ensures len { vec_len runs.new ≤ vec_len runs.old + 1 }
+    ensures capacity { vec_capacity runs.old ≤ vec_capacity runs.new }
+{
+    let united = unite(runs, run);
+    let _ = replace(runs, united); // there is room, so it can't fail
 }

@@ -136,6 +136,41 @@ fn refuses_a_join_of_one_run_too_many(rt: HostRuntime) {
     assert_runs(&rt, &context, 65_536, 3);
 }
 
+// A run between others takes in those that it touches: of the 32,768 runs of the odd counts, count 2 makes one of two, the
+// counts 10 to 20 one of seven, and the second site's dot is one more.
+#[test]
+fn few_runs_are_joined_into_many(rt: HostRuntime) {
+    let mut context = every_second(&rt, rt.alloc(), 1, 32_768);
+    let mut other = of_dot(&rt, rt.alloc(), 0, 2);
+    assert_eq!(rt; other.insert_run(site(&rt, 0), 10, 20), Ok(()));
+    insert(&rt, &mut other, 1, 5);
+    let mut turned = other.copy().expect(&rt, "memory");
+    join(&rt, &mut turned, &context, Ok(()));
+    join(&rt, &mut context, &other, Ok(()));
+    assert_runs(&rt, &context, 32_762, 3);
+    assert_same_runs(&rt, &turned, &context);
+    for (count, is_in) in [(4, false), (8, false), (16, true), (22, false)] {
+        assert_same(&rt, &context.contains(dot(&rt, 0, count)), &is_in);
+    }
+}
+
+// The first of two runs would be one too many, but for the second, which joins two.
+#[test]
+fn few_runs_may_pass_the_limit_before_the_last(rt: HostRuntime) {
+    let mut context = every_second(&rt, rt.alloc(), 1, 65_534);
+    for count in [1, 3] {
+        insert(&rt, &mut context, 1, count);
+    }
+    let mut other = of_dot(&rt, rt.alloc(), 0, 131_075);
+    insert(&rt, &mut other, 1, 2);
+    join(&rt, &mut context, &other, Ok(()));
+    assert_runs(&rt, &context, 65_536, 1);
+    assert_covers(&rt, &context, &other, true);
+    insert(&rt, &mut other, 2, 1);
+    join(&rt, &mut context, &other, Err(ContextFault::RunsFull));
+    assert_runs(&rt, &context, 65_536, 1);
+}
+
 // The first site's counts 1 to 3, and counts 5 and 6 with the second site's count 2.
 fn low_and_high(rt: &impl Abort, alloc: Global) -> (Context, Context) {
     let mut low = Context::new(alloc);
