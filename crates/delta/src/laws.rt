@@ -7,7 +7,7 @@ ghost use Rattle.dots.specs.Knowledge.{Knowledge, IsConsistent, SameOperations, 
 ghost use Rattle.dots.specs.Traces.{LeaveTraces};
 ghost use Rattle.member_orset.specs.Members.{cells_joined, runs_joined};
 ghost use Rattle.delta.specs.DeltaStates.{DeltaState, IsEmpty, IsSame};
-ghost use Rattle.delta.specs.Joining.{Agree, IsJoinOf};
+ghost use Rattle.delta.specs.Joining.{Agree, Disagree, IsJoinOf};
 ghost use Rattle.delta.specs.Standing.{IsDeltaOf, IsReadAs};
 
 /// Deltas are joined in any order (RR-7506: states form a join semilattice). It is all the same which of two that agree is joined
@@ -29,6 +29,11 @@ pub fn deltas_are_joined_in_any_order()
         → IsJoinOf x nothing joint → IsSame joint x }
     ensures into_empty { (x nothing joint : DeltaState) → IsEmpty nothing
         → IsJoinOf nothing x joint → IsSame joint x }
+{}
+
+/// Deltas that agree are not in conflict: of no two deltas is both said (this project's own).
+pub fn deltas_that_agree_are_not_in_conflict()
+    ensures { (x y : DeltaState) → Agree x y → Disagree x y → ⊥ }
 {}
 
 /// A knowledge has one delta: two that stand for it are the same. And what is the same stands for the same.

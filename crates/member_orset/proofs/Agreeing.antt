@@ -32,6 +32,10 @@ conditions_apart (Some (Live m f)) None a c = c
 conditions_apart (Some Dead) y a c = c
 conditions_apart None y a c = c
 
+-- nor are sets
+pub sets_apart : (s t : Members) → CanBeJoined s t → Conflicts s t → ⊥
+sets_apart s t agree c = conditions_apart (condition_of s c.dot) (condition_of t c.dot) (agree c.dot) c.conflict
+
 pub agree_at : (o p : Option Holding) (a b : Bool) → ((h : Holding) → p ≡ Some h → HoldingsAgree o h) → ConditionsAgree (condition_at o a) (condition_at p b)
 agree_at None p true b f = tt
 agree_at None p false b f = tt

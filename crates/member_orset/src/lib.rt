@@ -13,6 +13,7 @@ mod insertion;
 mod join_fault;
 mod joining;
 mod latest;
+pub mod laws;
 mod live_cells;
 mod live_dot;
 mod member_groups;
