@@ -12,6 +12,7 @@ pub mod KeptJoins
 pub mod KeptSites
 pub mod MadeChanges
 pub mod MadeLimits
+pub mod MadeOperationLaws
 pub mod NameLemmas
 pub mod NoNumbers
 pub mod PlannedAdds

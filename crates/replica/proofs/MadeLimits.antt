@@ -53,7 +53,7 @@ pub where_absent-made : (dots : List (Dot × Member)) (m : Meaning) (o : Operati
 where_absent-made [] m o h = h
 where_absent-made (d ∷ dots) m o h = absurd (cc)
 
-where_present-made : (dots : List (Dot × Member)) (m : Meaning) (o : Operation) → where_present dots m ≡ Makes o → m ≡ Makes o
+pub where_present-made : (dots : List (Dot × Member)) (m : Meaning) (o : Operation) → where_present dots m ≡ Makes o → m ≡ Makes o
 where_present-made [] m o h = absurd (cc)
 where_present-made (d ∷ dots) m o h = h
 
@@ -91,14 +91,14 @@ visible-is k dot here =
     (sym (visible-dot k dot) ∙ sym (in_order-has dots_total (visible_dots k) dot) ∙ any-in (is_dot dot) (in_order (visible_dots k)) dot here (ap is_eq (tied_itself dots_total dot)))
 
 -- the dots that are seen of an interface
-in-each : {X Y : Type 0} (f : X → Y) (xs : List X) (y : Y) → Contains (each f xs) y → (x : X) × Contains xs x × (f x ≡ y)
+pub in-each : {X Y : Type 0} (f : X → Y) (xs : List X) (y : Y) → Contains (each f xs) y → (x : X) × Contains xs x × (f x ≡ y)
 in-each f [] y h = absurd (nothing-in y h)
 in-each f (x ∷ xs) y h = elim (cases-in (f x) (each f xs) y h) [
   | inl e ↦ (x, first-in x xs, e)
   | inr r ↦ let s = in-each f xs y r in (s.0, later-in x xs s.0 s.1, s.2)
 ]
 
-with-is : (interface : List ℕ) (o : Option Member) (d dot : Dot) (member : Member)
+pub with-is : (interface : List ℕ) (o : Option Member) (d dot : Dot) (member : Member)
     → option_and_then {U = Dot × Member} (λ m. if bytes_eq m.interface interface then Some (d, m) else None) o ≡ Some (dot, member) → (d ≡ dot) × (o ≡ Some member)
 with-is interface None d dot member h = absurd (cc)
 with-is interface (Some m) d dot member h = by (bytes_eq m.interface interface) h

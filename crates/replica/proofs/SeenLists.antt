@@ -124,7 +124,7 @@ module _ (r : DotView) where
   member-rises member = filter-rises (is_of r member) (in_order r.visible) (in_order-rises r.visible)
 
 -- each of them is paired with the member
-paired-with : (member : Member) (dots : List Dot) (p : Dot × Member) → Contains (paired member dots) p → p.1 ≡ member
+pub paired-with : (member : Member) (dots : List Dot) (p : Dot × Member) → Contains (paired member dots) p → p.1 ≡ member
 paired-with member [] p h = absurd (nothing-in p h)
 paired-with member (x ∷ xs) p h = elim (cases-in (x, member) (paired member xs) p h) [
   | inl e ↦ ap (λ (p : Dot × Member). p.1) (sym e)

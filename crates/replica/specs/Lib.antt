@@ -5,6 +5,7 @@ pub mod DotLists
 pub mod Fitting
 pub mod Framing
 pub mod Keeping
+pub mod MadeOperations
 pub mod Making
 pub mod Planning
 pub mod Promises

@@ -1,3 +1,5 @@
+ghost use Rattle.std.specs.Prelude.{◌≡◌};
+
 use dots::{Interface, Label, Pause, Penalty, QueueName};
 
 /// A change that a supervisor or a call distributor asks of one site (Asterisk's queue actions; the counts of calls are this
@@ -52,4 +54,65 @@ pub enum Command {
         /// The queue.
         queue: QueueName,
     },
+}
+
+// The name of a queue once more, where there is one.
+fn copy_name(name: &Option<QueueName>) -> Option<QueueName>
+    ensures { result ≡ name.now }
+{
+    match name {
+        Some(name) => Some(name.copy()),
+        None => None,
+    }
+}
+
+impl Command {
+    /// The same command once more. It takes no memory.
+    pub fn copy(&self) -> Command
+        ensures { result ≡ self.now }
+    {
+        match self {
+            Command::Add {
+                queue,
+                interface,
+                penalty,
+                paused,
+                label,
+            } => Command::Add {
+                queue: queue.copy(),
+                interface: interface.copy(),
+                penalty: *penalty,
+                paused: *paused,
+                label: label.copy(),
+            },
+            Command::Remove { queue, interface } => Command::Remove {
+                queue: queue.copy(),
+                interface: interface.copy(),
+            },
+            Command::Pause {
+                queue,
+                interface,
+                pause,
+            } => Command::Pause {
+                queue: copy_name(queue),
+                interface: interface.copy(),
+                pause: pause.copy(),
+            },
+            Command::Penalty {
+                queue,
+                interface,
+                penalty,
+            } => Command::Penalty {
+                queue: copy_name(queue),
+                interface: interface.copy(),
+                penalty: *penalty,
+            },
+            Command::Completed { queue } => Command::Completed {
+                queue: queue.copy(),
+            },
+            Command::Abandoned { queue } => Command::Abandoned {
+                queue: queue.copy(),
+            },
+        }
+    }
 }

@@ -1,0 +1,111 @@
+-- What a command makes is what its site may make of what it knows.
+use Rattle.std.proofs.Common.{◌≡◌, ℕ, ◌<◌, true, List, [], ◌∷◌, Contains, length, Option, Some, None, map as each, refl, sym, ap, subst, ◌∙◌, arith}
+use Rattle.std.specs.FinSet as set
+use Rattle.std.specs.Cmp.Lexicographic.{pointwise}
+use Rattle.std.specs.Prelude.{nat_eq}
+use Rattle.std.proofs.lemmas.List.Quantifiers.{position-Some}
+use Rattle.dots.specs.declared.member.Member.{Member}
+use Rattle.dots.specs.Values.{Dot}
+use Rattle.dots.specs.Operations.{Operation, Setting}
+use Rattle.dots.specs.Knowledge.{Knowledge, is_dot, member_of, visible_dots}
+use Rattle.dots.specs.Rows.{dot_view, dots_of}
+use Rattle.dots.specs.SetItems.{in_order}
+use Rattle.dots.proofs.DotOrder.{dots_total}
+use Rattle.dots.proofs.Membership.{any-in, in-any, in-some, nothing-in}
+use Rattle.dots.proofs.RowLaws.{dot-of}
+use Rattle.dots.proofs.WithinLimitsLaws.{one-dot}
+use Rattle.member_orset.proofs.DotTests.{same_itself}
+use Rattle.replica.specs.Changes.{Change, Meaning, Makes, AddMember, RemoveMember, SetField, CountCall, add_at, count_at, meaning, meaning_of_setting, remove_of, where_absent, within_limits, write_at}
+use Rattle.replica.specs.MadeOperations.{IsMadeAt, IsRemoveAt}
+use Rattle.replica.specs.Queues.{number_of}
+use Rattle.replica.specs.SiteViews.{dots_seen, site_view, with_interface}
+use Rattle.replica.proofs.MadeLimits.{in-each, in_queue-made, made, where_absent-made, where_present-made, with-is}
+use Rattle.replica.proofs.SeenLists.{of-member, paired-with}
+use Rattle.replica.proofs.SeenOnce.{dots-paired, in-paired, seen-visible}
+use Rattle.replica.proofs.SiteViewLaws.{older-named}
+
+-- the number of a queue is that of a name in the list
+number-below : (names : List (List ℕ)) (queue : List ℕ) (q : ℕ) → number_of names queue ≡ Some q → q < length names
+number-below names queue q h = (position-Some (pointwise nat_eq queue) names q [] h).0
+
+module _ (k : Knowledge) where
+  -- each dot that is seen has the member that it is seen with
+  seen-member : (queue : Option ℕ) (interface : List ℕ) (dot : Dot) (member : Member) → Contains (dots_seen (dot_view k) queue interface) (dot, member) → member_of k dot ≡ Some member
+  seen-member None interface dot member here =
+      let x = in-some (with_interface (dot_view k) interface) (in_order (visible_dots k)) (dot, member) here in
+      let e = with-is interface (member_of k x.0) x.0 dot member x.2 in
+      ap (member_of k) (sym e.0) ∙ e.1
+  seen-member (Some q) interface dot member here =
+      let own : Member = record { queue = q; interface = interface } in
+      let dots = dots_of (dot_view k) own in
+      let found = any-in (is_dot dot) dots dot (in-paired own dots (dot, member) here) (same_itself dot) in
+      (of-member (dot_view k) own dot found).member ∙ ap Some (sym (paired-with own dots (dot, member) here))
+
+  -- where none is seen, none is visible with that member
+  absent-where : (q : ℕ) (interface : List ℕ) → dots_seen (dot_view k) (Some q) interface ≡ [] → (dot : Dot) → set.contains (visible_dots k) dot ≡ true
+      → member_of k dot ≡ Some (record { queue = q; interface = interface }) → ⊥
+  absent-where q interface none dot visible is =
+      let own : Member = record { queue = q; interface = interface } in
+      let no_dots = sym (dots-paired own (dots_of (dot_view k) own)) ∙ ap (each (λ (p : Dot × Member). p.0)) none in
+      nothing-in dot (subst (λ dots. Contains dots dot) no_dots (dot-of k own dot visible is))
+
+  -- those that are removed are visible
+  remove-may : (queue : Option ℕ) (interface : List ℕ) → IsRemoveAt k (set.from_list (each (λ d. d.0) (dots_seen (dot_view k) queue interface)))
+  remove-may queue interface = record {
+    seen = λ dot h.
+        let dots = dots_seen (dot_view k) queue interface in
+        let x = in-any (is_dot dot) (each (λ d. d.0) dots) (sym (set.contains-from_list dots_total (each (λ d. d.0) dots) dot) ∙ h) in
+        let p = in-each (λ d. d.0) dots x.0 x.1 in
+        subst (λ d. set.contains (visible_dots k) d ≡ true) (p.2 ∙ sym (one-dot dot x.0 x.2)) (seen-visible (dot_view k) queue interface p.0 p.1);
+  }
+
+-- where an operation is made though none may be seen, none is
+none-seen : (dots : List (Dot × Member)) (m : Meaning) (o : Operation) → where_absent dots m ≡ Makes o → dots ≡ []
+none-seen [] m o h = refl
+none-seen (d ∷ dots) m o h = absurd (cc)
+
+-- what is made, change by change
+setting-may : (site : ℕ) (names : List (List ℕ)) (k buffer : Knowledge) (setting : Setting) (queue : Option ℕ) (interface : List ℕ) (o : Operation)
+    → meaning_of_setting site (site_view site k) (site_view site buffer) setting (dots_seen (dot_view k) queue interface) ≡ Makes o → IsMadeAt site names k o
+setting-may site names k buffer setting queue interface o h =
+    let dots = dots_seen (dot_view k) queue interface in
+    let r = site_view site k in
+    let write = write_at site r setting dots in
+    let m = made r (site_view site buffer) write o (where_present-made dots (within_limits r (site_view site buffer) write) o h) in
+    subst (IsMadeAt site names k) m.same (record {
+      seen = λ dot member here. (seen-visible (dot_view k) queue interface (dot, member) here, seen-member k queue interface dot member here);
+      site_is = refl;
+      later = omega arith;
+      older_are = older-named site k (each (λ d. d.0) dots);
+    })
+
+pub makes-what-it-may : (site : ℕ) (names : List (List ℕ)) (change : Change) (k buffer : Knowledge) (o : Operation)
+    → meaning site names (site_view site k) (site_view site buffer) change ≡ Makes o → IsMadeAt site names k o
+makes-what-it-may site names (AddMember queue interface penalty paused label) k buffer o h =
+    let r = site_view site k in
+    let q = in_queue-made (number_of names queue) _ o h in
+    let member : Member = record { queue = q.0; interface = interface } in
+    let add = add_at site r member penalty paused label in
+    let seen = dots_seen r.dots (Some q.0) interface in
+    let m = made r (site_view site buffer) add o (where_absent-made seen (within_limits r (site_view site buffer) add) o q.2) in
+    subst (IsMadeAt site names k) m.same (record {
+      dot_is = refl;
+      stamp_is = refl;
+      queue = number-below names queue q.0 q.1;
+      absent = absent-where k q.0 interface (none-seen seen (within_limits r (site_view site buffer) add) o q.2);
+      older_are = older-named site k _;
+    })
+makes-what-it-may site names (RemoveMember queue interface) k buffer o h =
+    let r = site_view site k in
+    let q = in_queue-made (number_of names queue) _ o h in
+    let dots = dots_seen r.dots (Some q.0) interface in
+    let m = made r (site_view site buffer) (remove_of dots) o (where_present-made dots (within_limits r (site_view site buffer) (remove_of dots)) o q.2) in
+    subst (IsMadeAt site names k) m.same (remove-may k (Some q.0) interface)
+makes-what-it-may site names (SetField None interface setting) k buffer o h = setting-may site names k buffer setting None interface o h
+makes-what-it-may site names (SetField (Some queue) interface setting) k buffer o h =
+    let q = in_queue-made (number_of names queue) _ o h in setting-may site names k buffer setting (Some q.0) interface o q.2
+makes-what-it-may site names (CountCall queue calls) k buffer o h =
+    let r = site_view site k in
+    let q = in_queue-made (number_of names queue) _ o h in
+    let m = made r (site_view site buffer) (count_at site r q.0 calls) o q.2 in
+    subst (IsMadeAt site names k) m.same (record { site_is = refl; queue_is = number-below names queue q.0 q.1; total_is = refl })
