@@ -1,6 +1,5 @@
 -- The answer to an ask is what a site that knows the same answers.
-use Rattle.std.proofs.Common.{◌≡◌, ℕ, Result, Ok, Err, IfOk, refl, ap, ◌∙◌, inl, inr}
-use Rattle.dots.specs.declared.call_totals.CallTotals.{CallTotals}
+use Rattle.std.proofs.Common.{◌≡◌, ℕ, Result, Ok, Err, IfOk, refl, ap, inl, inr}
 use Rattle.replica.specs.declared.refusal.Refusal.{Refusal}
 use Rattle.replica.specs.Changes.{Meaning, Refused as Denied, Makes}
 use Rattle.replica.specs.Site.{SiteState, sums_of}

@@ -7,7 +7,7 @@ use Rattle.dots.specs.Knowledge.{Knowledge, SameOperations, IsConsistent}
 use Rattle.dots.specs.Rows.{dot_view, rows_of}
 use Rattle.dots.specs.Counts.{queue_total}
 use Rattle.replica.specs.Changes.{change_of}
-use Rattle.replica.specs.Refusing.{IsInstead}
+use Rattle.replica.specs.Refusing.{IsInstead, MayStandFor}
 use Rattle.replica.specs.Site.{SiteState, IsUnchanged}
 use Rattle.replica.specs.Standing.{StandsFor, result_of}
 use Rattle.replica.specs.Steps.{SiteKnowledge, Do, step}
@@ -48,3 +48,19 @@ refusal_told (Report bytes) = None
 abbrev pub IsAnswered : Type 0 → SiteState → SiteState → Answer → SiteKnowledge × Answer → Type 0
 IsAnswered worn old new answer after =
     (StandsFor new after.0 × (answer ≡ after.1)) ⊎ (IsUnchanged old new × ((result : Result (Unit {0}) Refusal) × (answer ≡ answer_of result) × IsInstead worn (refusal_told after.1) result))
+
+-- a refusal that is answered in place of another answer: want of memory, or `MembersFull` at a worn site
+pub record IsRefusedInstead (worn : Type 0) (told answer : Answer) : Type 0 where
+  pub refusal : Refusal
+  pub is : answer ≡ Refused refusal
+  pub may : MayStandFor worn (refusal_told told) refusal
+
+-- what may come of an ask, in place of what a site tells of it: that, or a refusal, and then the site knows what it knew
+abbrev pub MayComeOf : Type 0 → SiteKnowledge → SiteKnowledge × Answer → SiteKnowledge × Answer → Type 0
+MayComeOf worn s told after = (after ≡ told) ⊎ ((after.0 ≡ s) × IsRefusedInstead worn told.1 after.1)
+
+-- the step of one site is an answer, and the site after it, for which the new state stands
+pub record IsOneStep (worn : Type 0) (new : SiteState) (answer : Answer) (s : SiteKnowledge) (told : SiteKnowledge × Answer) : Type 0 where
+  pub after : SiteKnowledge
+  pub stands : StandsFor new after
+  pub comes : MayComeOf worn s told (after, answer)

@@ -1,5 +1,7 @@
+ghost use Rattle.std.specs.Prelude.{◌≡◌, ◌↔◌, IfOk, IsTrue};
+
 use crate::StatusRequest;
-use dots::Bytes;
+use dots::{Bytes, Memory};
 use replica::{Command, Refusal};
 
 /// What may be asked of a site.
@@ -11,6 +13,21 @@ pub enum Ask {
     Status(StatusRequest),
 }
 
+impl Ask {
+    /// The same ask once more. The one fault is want of memory, and a command takes none.
+    pub fn copy(&self) -> Result<Ask, Memory>
+        ensures { IfOk result (λ copy. copy ≡ self.now) }
+    {
+        match self {
+            Ask::Command(command) => Ok(Ask::Command(command.copy())),
+            Ask::Status(request) => {
+                let request = request.copy()?;
+                Ok(Ask::Status(request))
+            }
+        }
+    }
+}
+
 /// What a site answers.
 #[derive(Drop)]
 pub enum Answer {
@@ -20,4 +37,32 @@ pub enum Answer {
     Refused(Refusal),
     /// The bytes of the report.
     Report(Bytes),
+}
+
+impl Answer {
+    /// The same answer once more. The one fault is want of memory, and a report alone takes some.
+    pub fn copy(&self) -> Result<Answer, Memory>
+        ensures { IfOk result (λ copy. copy ≡ self.now) }
+    {
+        match self {
+            Answer::Done => Ok(Answer::Done),
+            Answer::Refused(refusal) => Ok(Answer::Refused(*refusal)),
+            Answer::Report(bytes) => {
+                let bytes = bytes.copy()?;
+                Ok(Answer::Report(bytes))
+            }
+        }
+    }
+
+    /// Whether it is the same answer as the other. It takes no memory.
+    pub fn same(&self, other: &Answer) -> bool
+        ensures { IsTrue result ↔ (self.now ≡ other.now) }
+    {
+        match (self, other) {
+            (Answer::Done, Answer::Done) => true,
+            (Answer::Refused(refusal), Answer::Refused(told)) => *refusal == *told,
+            (Answer::Report(bytes), Answer::Report(others)) => bytes.same(others),
+            _ => false,
+        }
+    }
 }

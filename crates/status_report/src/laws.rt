@@ -1,8 +1,23 @@
-//! What the definition of the status text promises. The function has no body: its contract is the law.
-ghost use Rattle.status_report.specs.Knowing.{SameStatusTexts};
+//! What the definitions of the status text and of answers promise. The functions have no body: their contracts are the laws.
+ghost use Rattle.replica.specs.Refusing.{IsWorn};
+ghost use Rattle.replica.specs.Site.{SiteState};
+ghost use Rattle.replica.specs.Standing.{StandsFor};
+ghost use Rattle.replica.specs.Steps.{SiteKnowledge};
+ghost use Rattle.status_report.specs.declared.asks.Answer.{Answer};
+ghost use Rattle.status_report.specs.declared.asks.Ask.{Ask};
+ghost use Rattle.status_report.specs.Knowing.{IsAnswered, IsOneStep, SameStatusTexts, answer_in};
 
 /// Consistent knowledges of the same operations have the same status texts, so neither the order of operations nor their
 /// repetition shows (RR-7506: replicas that have delivered the same updates are equivalent).
 pub fn knowledges_of_the_same_operations_have_the_same_status()
     ensures { SameStatusTexts }
+{}
+
+/// Whatever is answered by the contract of `ask` is one step of the site: the new state stands for what the site knows then. That is what it knows after its own
+/// answer; or what it knew, and a refusal stands in the place of that answer: `Memory`, or `MembersFull` at a worn site (this project's own).
+pub fn an_ask_is_one_step_of_a_site()
+    ensures { (old new : SiteState) (s : SiteKnowledge) (asked : Ask) (answer : Answer)
+        → StandsFor old s
+        → IsAnswered (IsWorn old) old new answer (answer_in old.site old.names s asked)
+        → IsOneStep (IsWorn old) new answer s (answer_in old.site old.names s asked) }
 {}

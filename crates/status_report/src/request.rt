@@ -1,4 +1,6 @@
-use dots::{Bytes, Text80};
+ghost use Rattle.std.specs.Prelude.{◌≡◌, IfOk};
+
+use dots::{Bytes, Memory, Text80};
 
 /// What a QueueStatus asks for (Asterisk's QueueStatus). Filters compare whole texts byte by byte, and an absent
 /// one leaves nothing out (this project's own).
@@ -10,4 +12,28 @@ pub struct StatusRequest {
     pub member: Option<Text80>,
     /// The ActionID that each block of the report repeats; no bytes where there is none.
     pub action_id: Bytes,
+}
+
+// A filter once more, where there is one.
+fn copy_filter(filter: &Option<Text80>) -> Option<Text80>
+    ensures { result ≡ filter.now }
+{
+    match filter {
+        Some(text) => Some(text.copy()),
+        None => None,
+    }
+}
+
+impl StatusRequest {
+    /// The same request once more. The one fault is want of memory.
+    pub fn copy(&self) -> Result<StatusRequest, Memory>
+        ensures { IfOk result (λ copy. copy ≡ self.now) }
+    {
+        let action_id = self.action_id.copy()?;
+        Ok(StatusRequest {
+            queue: copy_filter(&self.queue),
+            member: copy_filter(&self.member),
+            action_id,
+        })
+    }
 }
