@@ -1,9 +1,11 @@
-//! Tests of replicas, offers, reports, sessions, actions, what histories show and the steps of sites by their
-//! public calls. This crate has no code of its own.
+//! Tests of replicas, offers, reports, sessions, actions, copies of asks and answers, what histories show and the
+//! steps of sites by their public calls. This crate has no code of its own.
 #![tactic(auto)]
 
 #[cfg(test)]
 mod actions;
+#[cfg(test)]
+mod copies;
 #[cfg(test)]
 mod histories;
 #[cfg(test)]
