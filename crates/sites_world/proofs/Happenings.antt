@@ -1,0 +1,236 @@
+-- What has happened at a site, and at the sites of a world.
+use Rattle.std.proofs.Common.{◌≡◌, ◌<◌, ◌≤◌, ◌+◌, inl, inr, ℕ, Bool, true, false, List, [], ◌∷◌, ◌++◌, append-nil, length, slice_get, slice_set, Some, None, refl, sym, ap, subst, ◌∙◌, if◌then◌else◌, arith}
+use Rattle.std.proofs.lemmas.List.{length-append, length-replicate, set-get_or}
+use Rattle.std.proofs.lemmas.Option.{get_or_from_slice_get, slice_get_within}
+use Rattle.delta_codec.specs.declared.frame.Frame.{Frame}
+use Rattle.replica.specs.Site.{SiteState}
+use Rattle.replica.specs.Standing.{StandsFor}
+use Rattle.replica.specs.Steps as steps
+use Rattle.replica.specs.Steps.{Framed, SiteKnowledge, take}
+use Rattle.sites_world.specs.declared.event.Event.{Event}
+use Rattle.sites_world.specs.declared.outcome.Outcome.{Outcome}
+use Rattle.sites_world.specs.declared.outcome.Outcome.TheVariants.{Cut, NoEntry, NoSite}
+use Rattle.sites_world.specs.Histories.{HasHistory}
+use Rattle.sites_world.specs.Telling.{HasAdded, HasHappenedAt, IsFramedSo, IsTakenSo, MayBeTaken}
+use Rattle.sites_world.specs.Worlds.{Entry, IsReached, World, done_of, entries_of, framed, frame_told, happens, happens_at, happens_where, is_done, new_world, outcomes_of, run, site_of, taken}
+use Rattle.sites_world.specs.WorldStates.{Correspond, HasHappened, HaveHappened, IsFrameOf, IsSiteOf, IsWorld, StandsForWorld, WorldState}
+use Rattle.sites_world.proofs.KnownTogether.{in-parts}
+use Rattle.sites_world.proofs.Lists.{correspond-get, correspond-none, correspond-push, correspond-set, get-replicate, none-some, place-in}
+use Rattle.sites_world.proofs.MayTake.{may-take}
+
+-- ---- at one site
+
+-- a pool to which nothing is added
+nothing-added : (pool : List Frame) (entries : List Entry) → Correspond IsFrameOf pool entries → Correspond IsFrameOf pool (entries ++ [])
+nothing-added pool entries c = subst (Correspond IsFrameOf pool) (sym (append-nil entries)) c
+
+-- a frame was asked for
+pub framed-happened : (new : SiteState) (s : SiteKnowledge) (old pool : List Frame) (entries : List Entry) (maker : ℕ) (after : SiteKnowledge × steps.Outcome) (o : Outcome) → new.site ≡ maker
+    → Correspond IsFrameOf old entries → IsFramedSo new s old pool after o → HasHappenedAt new s old pool entries (framed maker (length entries) after) o
+framed-happened new s old pool entries maker after o site c (inr none) = inr none
+framed-happened new s old pool entries maker after o site c (inl (e, stands, added)) = inl (
+  ap is_done e,
+  ap (λ n. Cut (frame_told n after.1)) (sym c.lengths) ∙ sym e,
+  stands,
+  grown after.1 added,
+)
+  where
+    same-pool : pool ≡ old → Correspond IsFrameOf pool (entries ++ [])
+    same-pool is = subst (λ p. Correspond IsFrameOf p (entries ++ [])) (sym is) (nothing-added old entries c)
+
+    grown : (x : steps.Outcome) → HasAdded new.site old pool x → Correspond IsFrameOf pool (entries ++ entries_of maker x)
+    grown (Framed number carried) (frame, is, of) =
+        subst (λ p. Correspond IsFrameOf p (entries ++ entries_of maker (Framed number carried))) (sym is)
+        (correspond-push IsFrameOf old entries c frame (record { maker = maker; number = number; carried = carried })
+        (record { maker = of.maker ∙ site; number = of.number; delta = of.delta }))
+    grown steps.Done is = same-pool is
+    grown (steps.Denied refusal) is = same-pool is
+    grown steps.Nothing is = same-pool is
+    grown steps.NoNumber is = same-pool is
+    grown steps.Taken is = same-pool is
+    grown steps.CellsFull is = same-pool is
+    grown steps.RunsFull is = same-pool is
+
+-- a frame was taken
+pub taken-happened : (new : SiteState) (s : SiteKnowledge) (pool : List Frame) (entries : List Entry) (entry : Entry) (o : Outcome)
+    → Correspond IsFrameOf pool entries → IsTakenSo new s (take s entry.carried) o → HasHappenedAt new s pool pool entries (taken s (Some entry)) o
+taken-happened new s pool entries entry o c (inl (e, stands)) = inl (ap is_done e, sym e, stands, nothing-added pool entries c)
+taken-happened new s pool entries entry o c (inr (e, stands)) = inr (e, stands, refl)
+
+-- there is no such entry
+pub missing-happened : (state : SiteState) (s : SiteKnowledge) (pool : List Frame) (entries : List Entry) → Correspond IsFrameOf pool entries → StandsFor state s
+    → HasHappenedAt state s pool pool entries (taken s None) NoEntry
+missing-happened state s pool entries c stands = inl (refl, refl, stands, nothing-added pool entries c)
+
+-- ---- at the sites of a world
+
+module _ (names_of_queues : List (List ℕ)) (sites : List SiteState) (pool : List Frame) (w : World)
+    (stands : StandsForWorld (record { names = names_of_queues; sites = sites; pool = pool }) w) where
+  -- each site of it may take each of its entries
+  pub may-take-all : HasHistory names_of_queues w → (site : ℕ) (state : SiteState) (s : SiteKnowledge) → slice_get sites site ≡ Some state → slice_get w.sites site ≡ Some s
+      → (place : ℕ) (entry : Entry) → slice_get w.pool place ≡ Some entry → MayBeTaken state entry.carried
+  may-take-all has site state s here known place entry found =
+      may-take names_of_queues (length w.sites) site has.made s state entry.carried has.is.history (has.is.sites site s known) (slice_get_within w.sites site s known)
+      (stands.sites.each site state s here known) (has.is.pool entry (place-in w.pool place entry found))
+
+  -- what has happened at a site has happened in the world
+  at-site : (e : Event) (state new : SiteState) (s : SiteKnowledge) (grown : List Frame) (o : Outcome) → slice_get sites (site_of e) ≡ Some state → slice_get w.sites (site_of e) ≡ Some s
+      → new.site ≡ state.site → new.names ≡ state.names → HasHappenedAt new s pool grown w.pool (happens_at names_of_queues w.pool s e) o
+      → HasHappened (record { names = names_of_queues; sites = slice_set sites (site_of e) new; pool = grown }) w e o
+  at-site e state new s grown o here known site names_are happened = by happened
+    where
+      of : IsSiteOf names_of_queues (site_of e) state s
+      of = stands.sites.each (site_of e) state s here known
+
+      within : site_of e < length sites
+      within = slice_get_within sites (site_of e) state here
+
+      stands-there : (t : SiteKnowledge) → StandsFor new t → IsSiteOf names_of_queues (site_of e) new t
+      stands-there t known_so = record { site = site ∙ of.site; names_are = names_are ∙ of.names_are; stands = known_so }
+
+      done : happens names_of_queues w e ≡ happens_where names_of_queues w (site_of e) (Some s) e
+      done = ap (λ x. happens_where names_of_queues w (site_of e) x e) known
+
+      by : HasHappenedAt new s pool grown w.pool (happens_at names_of_queues w.pool s e) o
+          → HasHappened (record { names = names_of_queues; sites = slice_set sites (site_of e) new; pool = grown }) w e o
+      by (inl (is, told, known_so, carried)) = inl (
+        is,
+        ap (λ x. x.1) done ∙ told,
+        subst (λ x. StandsForWorld (record { names = names_of_queues; sites = slice_set sites (site_of e) new; pool = grown }) x.0) (sym done)
+            (record { sites = correspond-set (IsSiteOf names_of_queues) sites w.sites stands.sites (site_of e) new _ within (stands-there _ known_so); pool = carried }),
+      )
+      by (inr (is, known_so, same)) = inr (is, record { sites = kept; pool = subst (λ p. Correspond IsFrameOf p w.pool) (sym same) stands.pool })
+        where
+          kept : Correspond (IsSiteOf names_of_queues) (slice_set sites (site_of e) new) w.sites
+          kept = subst (Correspond (IsSiteOf names_of_queues) (slice_set sites (site_of e) new)) (set-again w.sites (site_of e) s known)
+              (correspond-set (IsSiteOf names_of_queues) sites w.sites stands.sites (site_of e) new s within (stands-there s known_so))
+            where
+              set-again : {X : Type 0} (xs : List X) (i : ℕ) (x : X) → slice_get xs i ≡ Some x → slice_set xs i x ≡ xs
+              set-again xs i x is = ap (slice_set xs i) (sym (get_or_from_slice_get xs i x x is)) ∙ set-get_or xs i x
+
+  pub at-site-happened : (e : Event) (at : ℕ) (state new : SiteState) (grown : List Frame) (o : Outcome) → at ≡ site_of e → slice_get sites at ≡ Some state
+      → new.site ≡ state.site → new.names ≡ state.names
+      → ((s : SiteKnowledge) → slice_get w.sites at ≡ Some s → HasHappenedAt new s pool grown w.pool (happens_at state.names w.pool s e) o)
+      → HasHappened (record { names = names_of_queues; sites = slice_set sites at new; pool = grown }) w e o
+  at-site-happened e at state new grown o is here site names_are happened =
+      let known = correspond-get (IsSiteOf names_of_queues) sites w.sites stands.sites at state here in
+      subst (λ n. HasHappened (record { names = names_of_queues; sites = slice_set sites n new; pool = grown }) w e o) (sym is)
+      (at-site e state new known.0 grown o (ap (slice_get sites) (sym is) ∙ here) (ap (slice_get w.sites) (sym is) ∙ known.1) site names_are
+      (subst (λ names. HasHappenedAt new known.0 pool grown w.pool (happens_at names w.pool known.0 e) o) known.2.names_are (happened known.0 known.1)))
+
+  -- there is no such site
+  pub no-site-happened : (e : Event) → length sites ≤ site_of e → HasHappened (record { names = names_of_queues; sites = sites; pool = pool }) w e NoSite
+  no-site-happened e past =
+      let done : happens names_of_queues w e ≡ (w, NoSite) = ap (λ x. happens_where names_of_queues w (site_of e) x e) (correspond-none (IsSiteOf names_of_queues) sites w.sites stands.sites (site_of e) past) in
+      inl (refl, ap (λ x. x.1) done, subst (λ x. StandsForWorld (record { names = names_of_queues; sites = sites; pool = pool }) x.0) (sym done) stands)
+
+-- ---- events in turn
+
+-- the events that were done, with one more
+done-push : (es : List Event) (os : List Outcome) (e : Event) (o : Outcome) → length os ≡ length es → done_of (es ++ e ∷ []) (os ++ o ∷ []) ≡ done_of es os ++ (if is_done o then e ∷ [] else [])
+done-push [] [] e o same = refl
+done-push [] (p ∷ os) e o same = absurd (omega (arith, same))
+done-push (f ∷ es) [] e o same = absurd (omega (arith, same))
+done-push (f ∷ es) (p ∷ os) e o same = by (is_done p) (done-push es os e o (omega (arith, same)))
+  where
+    by : (b : Bool) → done_of (es ++ e ∷ []) (os ++ o ∷ []) ≡ done_of es os ++ (if is_done o then e ∷ [] else [])
+        → (if b then f ∷ done_of (es ++ e ∷ []) (os ++ o ∷ []) else done_of (es ++ e ∷ []) (os ++ o ∷ [])) ≡ (if b then f ∷ done_of es os else done_of es os) ++ (if is_done o then e ∷ [] else [])
+    by true h = ap (λ xs. f ∷ xs) h
+    by false h = h
+
+outcomes-push : (os : List Outcome) (o : Outcome) → outcomes_of (os ++ o ∷ []) ≡ outcomes_of os ++ (if is_done o then o ∷ [] else [])
+outcomes-push [] o = refl
+outcomes-push (p ∷ os) o = by (is_done p) (outcomes-push os o)
+  where
+    by : (b : Bool) → outcomes_of (os ++ o ∷ []) ≡ outcomes_of os ++ (if is_done o then o ∷ [] else [])
+        → (if b then p ∷ outcomes_of (os ++ o ∷ []) else outcomes_of (os ++ o ∷ [])) ≡ (if b then p ∷ outcomes_of os else outcomes_of os) ++ (if is_done o then o ∷ [] else [])
+    by true h = ap (λ xs. p ∷ xs) h
+    by false h = h
+
+module _ (names_of_queues : List (List ℕ)) (sites : ℕ) (w : World) where
+  -- a world that was reached leads to others that are
+  pub reached-more : (events : List Event) → IsReached names_of_queues sites w → IsReached names_of_queues sites (run names_of_queues w events).0
+  reached-more events reached = record {
+    events = reached.events ++ events;
+    is = (in-parts names_of_queues (new_world sites) reached.events events).world ∙ ap (λ x. (run names_of_queues x events).0) reached.is;
+  }
+
+module _ (names_of_queues : List (List ℕ)) (w : World) (es : List Event) (os : List Outcome) (e : Event) (o : Outcome) (new_sites : List SiteState) (new_pool : List Frame) where
+  abbrev new : WorldState
+  new = record { names = names_of_queues; sites = new_sites; pool = new_pool }
+
+  -- one event more has happened
+  pub happened-more : (old_sites : List SiteState) (old_pool : List Frame) → HaveHappened (record { names = names_of_queues; sites = old_sites; pool = old_pool }) w es os
+      → HasHappened new (run names_of_queues w (done_of es os)).0 e o → HaveHappened new w (es ++ e ∷ []) (os ++ o ∷ [])
+  happened-more old_sites old_pool before happened = by happened
+    where
+      lengths : length (os ++ o ∷ []) ≡ length (es ++ e ∷ [])
+      lengths = length-append os (o ∷ []) ∙ ap (λ n. n + 1) before.one_each ∙ sym (length-append es (e ∷ []))
+
+      pushed : (b : Bool) → is_done o ≡ b → done_of (es ++ e ∷ []) (os ++ o ∷ []) ≡ done_of es os ++ (if b then e ∷ [] else [])
+      pushed b is = done-push es os e o before.one_each ∙ ap (λ c. done_of es os ++ (if c then e ∷ [] else [])) is
+
+      told : (b : Bool) → is_done o ≡ b → outcomes_of (os ++ o ∷ []) ≡ outcomes_of os ++ (if b then o ∷ [] else [])
+      told b is = outcomes-push os o ∙ ap (λ c. outcomes_of os ++ (if c then o ∷ [] else [])) is
+
+      by : HasHappened new (run names_of_queues w (done_of es os)).0 e o → HaveHappened new w (es ++ e ∷ []) (os ++ o ∷ [])
+      by (inl (is, outcome_is, stands)) =
+          let events = pushed true is in
+          let parts = in-parts names_of_queues w (done_of es os) (e ∷ []) in
+          record {
+            one_each = lengths;
+            outcomes_are = told true is ∙ (λ i. before.outcomes_are i ++ sym outcome_is i ∷ []) ∙ sym parts.outcomes ∙ ap (λ xs. (run names_of_queues w xs).1) (sym events);
+            stands = subst (StandsForWorld new) (sym parts.world ∙ ap (λ xs. (run names_of_queues w xs).0) (sym events)) stands;
+          }
+      by (inr (is, stands)) =
+          let undone : is_done o ≡ false = ap is_done is in
+          let events = pushed false undone ∙ append-nil (done_of es os) in
+          record {
+            one_each = lengths;
+            outcomes_are = told false undone ∙ append-nil (outcomes_of os) ∙ before.outcomes_are ∙ ap (λ xs. (run names_of_queues w xs).1) (sym events);
+            stands = subst (λ xs. StandsForWorld new (run names_of_queues w xs).0) (sym events) stands;
+          }
+
+-- no event has happened
+pub none-happened : (state : WorldState) (w : World) (outcomes : List Outcome) → outcomes ≡ [] → StandsForWorld state w → HaveHappened state w [] outcomes
+none-happened state w outcomes none stands = subst (HaveHappened state w []) (sym none) (record { one_each = refl; outcomes_are = refl; stands = stands })
+
+-- ---- the worlds that sites stand for
+
+-- after events there is still one
+pub world-after : (names_of_queues : List (List ℕ)) (sites new_sites : List SiteState) (pool new_pool : List Frame) (events : List Event) (outcomes : List Outcome)
+    → IsWorld (record { names = names_of_queues; sites = sites; pool = pool }) → length new_sites ≡ length sites
+    → ((w : World) → IsReached names_of_queues (length sites) w → StandsForWorld (record { names = names_of_queues; sites = sites; pool = pool }) w
+    → HaveHappened (record { names = names_of_queues; sites = new_sites; pool = new_pool }) w events outcomes)
+    → IsWorld (record { names = names_of_queues; sites = new_sites; pool = new_pool })
+world-after names_of_queues sites new_sites pool new_pool events outcomes is count happened =
+    let so_far = (run names_of_queues is.world (done_of events outcomes)).0 in
+    record {
+      world = so_far;
+      reached = subst (λ n. IsReached names_of_queues n so_far) (sym count) (reached-more names_of_queues (length sites) is.world (done_of events outcomes) is.reached);
+      stands = (happened is.world is.reached is.stands).stands;
+    }
+
+-- a new one is reached by no event
+new-reached : (names_of_queues : List (List ℕ)) (sites : ℕ) → IsReached names_of_queues sites (new_world sites)
+new-reached names_of_queues sites = record { events = []; is = refl }
+
+-- new sites stand for a new world
+pub new-stands : (names_of_queues : List (List ℕ)) (count : ℕ) (sites : List SiteState) (pool : List Frame) → length sites ≡ count → pool ≡ []
+    → ((site : ℕ) (state : SiteState) → slice_get sites site ≡ Some state → IsSiteOf names_of_queues site state steps.new_site)
+    → StandsForWorld (record { names = names_of_queues; sites = sites; pool = pool }) (new_world count)
+new-stands names_of_queues count sites pool long none each = record {
+  sites = record {
+    lengths = long ∙ sym (length-replicate count steps.new_site);
+    each = λ site state s here known. subst (IsSiteOf names_of_queues site state) (sym (get-replicate count steps.new_site site s known)) (each site state here);
+  };
+  pool = subst (λ p. Correspond IsFrameOf p []) (sym none) (record { lengths = refl; each = λ place frame entry here found. absurd (none-some frame here) });
+}
+
+pub new-is-world : (names_of_queues : List (List ℕ)) (sites : List SiteState) (pool : List Frame) (count : ℕ) → length sites ≡ count
+    → StandsForWorld (record { names = names_of_queues; sites = sites; pool = pool }) (new_world count) → IsWorld (record { names = names_of_queues; sites = sites; pool = pool })
+new-is-world names_of_queues sites pool count long stands = record {
+  world = new_world count;
+  reached = subst (λ n. IsReached names_of_queues n (new_world count)) (sym long) (new-reached names_of_queues count);
+  stands = stands;
+}

@@ -1,0 +1,56 @@
+-- The knowledges of a world that has a history: they are consistent together, and a member has at most one visible dot of a site.
+use Rattle.std.proofs.Common.{◌≡◌, ◌<◌, ◌⊎◌, inl, inr, ℕ, List, [], ◌∷◌, ◌++◌, length, refl, sym, ap, subst, ◌∙◌, true≢false, arith}
+use Rattle.dots.specs.declared.member.Member.{Member}
+use Rattle.dots.specs.Values.{Dot}
+use Rattle.dots.specs.Operations.{asserted_by}
+use Rattle.dots.specs.Knowledge.{IsConsistent, Knowledge, names}
+use Rattle.dots.proofs.Membership.{any-in, in-part}
+use Rattle.sites_world.specs.declared.event.Event.{Event}
+use Rattle.sites_world.specs.Histories.{HasHistory, IsHistory, IsHistoryOf, IsIn, IsPartOf, Buffered, Carried, Known}
+use Rattle.sites_world.specs.Promises.{IsVisibleDotOf, RunsInParts}
+use Rattle.sites_world.specs.Worlds.{World, happens}
+use Rattle.sites_world.proofs.Dots.{member-in, visible-parts}
+use Rattle.sites_world.proofs.Parts.{asserted-part, both-part, consistent-part}
+
+-- each knowledge of a world is a part of its history
+pub part-of : (names_of_queues : List (List ℕ)) (w : World) (h k : Knowledge) → IsHistoryOf names_of_queues w h → IsIn w k → IsPartOf k h
+part-of names_of_queues w h k all (Known site s is e) = subst (λ l. IsPartOf l h) (sym e) (all.sites site s is).known
+part-of names_of_queues w h k all (Buffered site s is e) = subst (λ l. IsPartOf l h) (sym e) (all.sites site s is).buffer
+part-of names_of_queues w h k all (Carried entry here e) = subst (λ l. IsPartOf l h) (sym e) (all.pool entry here)
+
+-- any two are consistent together
+pub together : (names_of_queues : List (List ℕ)) (w : World) (k l : Knowledge) → HasHistory names_of_queues w → IsIn w k → IsIn w l → IsConsistent (k ++ l)
+together names_of_queues w k l has ik il =
+    consistent-part names_of_queues (length w.sites) has.made (k ++ l) has.is.history
+    (both-part k l has.made (part-of names_of_queues w has.made k has.is ik) (part-of names_of_queues w has.made l has.is il))
+
+-- and each is consistent
+pub alone : (names_of_queues : List (List ℕ)) (w : World) (k : Knowledge) → HasHistory names_of_queues w → IsIn w k → IsConsistent k
+alone names_of_queues w k has ik = consistent-part names_of_queues (length w.sites) has.made k has.is.history (part-of names_of_queues w has.made k has.is ik)
+
+module _ (names_of_queues : List (List ℕ)) (sites : ℕ) (h k : Knowledge) (made : IsHistory names_of_queues sites h) (part : IsPartOf k h) (m : Member) where
+  -- of two visible dots of a member and a site none is earlier
+  none-earlier : (dot other : Dot) → IsVisibleDotOf k m dot → IsVisibleDotOf k m other → dot.site ≡ other.site → dot.count < other.count → ⊥
+  none-earlier dot other one two same less =
+      let p = in-part asserted_by k (other, m) (member-in k other m two.member) in
+      let named = made.older p.0 other dot m (part p.0 p.1) p.2 (asserted-part k h part (dot, m) (member-in k dot m one.member)) same less in
+      true≢false (sym (any-in (names dot) k p.0 p.1 named) ∙ (visible-parts k dot one.visible).1)
+
+  -- so there is at most one
+  pub one-dot : (dot other : Dot) → IsVisibleDotOf k m dot → IsVisibleDotOf k m other → dot.site ≡ other.site → dot ≡ other
+  one-dot dot other one two same = by (three dot.count other.count)
+    where
+      three : (a b : ℕ) → (a ≡ b) ⊎ ((a < b) ⊎ (b < a))
+      three a b = grind arith
+
+      by : ((dot.count ≡ other.count) ⊎ ((dot.count < other.count) ⊎ (other.count < dot.count))) → dot ≡ other
+      by (inl e) = λ i. record { site = same i; count = e i }
+      by (inr (inl less)) = absurd (none-earlier dot other one two same less)
+      by (inr (inr less)) = absurd (none-earlier other dot two one (sym same) less)
+
+-- events are run in parts
+pub in-parts : (names_of_queues : List (List ℕ)) (w : World) (first rest : List Event) → RunsInParts names_of_queues w first rest
+in-parts names_of_queues w [] rest = record { world = refl; outcomes = refl }
+in-parts names_of_queues w (e ∷ es) rest =
+    let deeper = in-parts names_of_queues (happens names_of_queues w e).0 es rest in
+    record { world = deeper.world; outcomes = ap (λ os. (happens names_of_queues w e).1 ∷ os) deeper.outcomes }

@@ -1,0 +1,10 @@
+mod Lists
+mod Parts
+mod Dots
+mod GrownHistories
+mod MadeHistories
+mod SteppedHistories
+mod KnownTogether
+mod ToldAnswers
+mod MayTake
+mod Happenings

@@ -1,0 +1,132 @@
+-- Parts of a history, and that any two of them are consistent together.
+use Rattle.std.proofs.Common.{◌≡◌, ℕ, ◌⊎◌, inl, inr, Bool, true, false, ◌||◌, List, [], ◌∷◌, ◌++◌, Contains, Option, Some, None, refl, sym, ap, subst, ◌∙◌, if◌then◌else◌, arith}
+use Rattle.std.specs.FinSet as set
+use Rattle.std.specs.List.{list_any}
+use Rattle.std.proofs.Math.Bool.{or-true}
+use Rattle.std.proofs.lemmas.List.Elements.{Contains-append_cases, Contains-append_left, Contains-append_right}
+use Rattle.dots.specs.declared.member.Member.{Member}
+use Rattle.dots.specs.Values.{Dot, Stamp}
+use Rattle.dots.specs.Registers.{Entry}
+use Rattle.dots.specs.Operations.{Operation, Field, Add, Write, Remove, Count, asserted_by, entry_under, penalty_field, pause_field, label_field, set_label, set_pause, set_penalty}
+use Rattle.dots.specs.Knowledge.{IsConsistent, Knowledge, OneValue, all_asserted, asserts, is_asserted, is_named, known_dots, names, settings_of}
+use Rattle.dots.proofs.KnownLaws.{known-dot}
+use Rattle.dots.proofs.Membership.{any-in, in-any, in-part, in-some, only-in, part-in}
+use Rattle.sites_world.specs.Histories.{IsHistory, IsPartOf, stamp_of}
+use Rattle.sites_world.proofs.Lists.{none-some, one-some}
+
+-- ---- parts
+
+-- nothing is a part of everything
+pub none-part : (h : Knowledge) → IsPartOf [] h
+none-part h o here = absurd (omega (arith, here.1))
+
+-- parts of a part
+pub part-through : (k l h : Knowledge) → IsPartOf k l → IsPartOf l h → IsPartOf k h
+part-through k l h p q o here = q o (p o here)
+
+-- two parts together are one
+pub both-part : (k l h : Knowledge) → IsPartOf k h → IsPartOf l h → IsPartOf (k ++ l) h
+both-part k l h p q o here = elim (Contains-append_cases k l o here) [ inl a ↦ p o a | inr b ↦ q o b ]
+
+-- each of two parts is a part of both
+pub first-part : (k l : Knowledge) → IsPartOf k (k ++ l)
+first-part k l o here = Contains-append_left k l o here
+
+pub second-part : (k l : Knowledge) → IsPartOf l (k ++ l)
+second-part k l o here = Contains-append_right k l o here
+
+-- an operation more, of the history
+pub more-part : (o : Operation) (k h : Knowledge) → Contains h o → IsPartOf k h → IsPartOf (o ∷ k) h
+more-part o k h is p = both-part (o ∷ []) k h (λ q here. subst (Contains h) (only-in o q here) is) p
+
+-- ---- what is asserted and known in a part
+
+pub asserted-part : (k h : Knowledge) → IsPartOf k h → (p : Dot × Member) → Contains (all_asserted k) p → Contains (all_asserted h) p
+asserted-part k h part p here = let o = in-part asserted_by k p here in part-in asserted_by h o.0 p (part o.0 o.1) o.2
+
+any-part : (p : Operation → Bool) (k h : Knowledge) → IsPartOf k h → list_any p k ≡ true → list_any p h ≡ true
+any-part p k h part is = let o = in-any p k is in any-in p h o.0 (part o.0 o.1) o.2
+
+pub named-part : (k h : Knowledge) (dot : Dot) → IsPartOf k h → is_named k dot ≡ true → is_named h dot ≡ true
+named-part k h dot part is = any-part (names dot) k h part is
+
+-- a dot that is known is asserted or named
+pub known-cases : (k : Knowledge) (dot : Dot) → set.contains (known_dots k) dot ≡ true → (is_asserted k dot ≡ true) ⊎ (is_named k dot ≡ true)
+known-cases k dot is = by (is_asserted k dot) (is_named k dot) refl refl (sym (known-dot k dot) ∙ is)
+  where
+    by : (a n : Bool) → is_asserted k dot ≡ a → is_named k dot ≡ n → (a || n) ≡ true → (is_asserted k dot ≡ true) ⊎ (is_named k dot ≡ true)
+    by true n e f h = inl e
+    by false n e f h = inr (f ∙ h)
+
+pub known-asserted : (k : Knowledge) (dot : Dot) → is_asserted k dot ≡ true → set.contains (known_dots k) dot ≡ true
+known-asserted k dot is = known-dot k dot ∙ ap (λ b. b || is_named k dot) is
+
+pub known-named : (k : Knowledge) (dot : Dot) → is_named k dot ≡ true → set.contains (known_dots k) dot ≡ true
+known-named k dot is = known-dot k dot ∙ ap (λ b. is_asserted k dot || b) is ∙ or-true (is_asserted k dot)
+
+pub known-part : (k h : Knowledge) (dot : Dot) → IsPartOf k h → set.contains (known_dots k) dot ≡ true → set.contains (known_dots h) dot ≡ true
+known-part k h dot part is = elim (known-cases k dot is) [
+  | inl a ↦ known-asserted h dot (any-part (asserts dot) k h part a)
+  | inr n ↦ known-named h dot (named-part k h dot part n)
+]
+
+-- ---- stamps
+
+-- a field is set under the stamp of its operation alone
+abbrev pub IsStamped : {T : Type 0} → Field T → Type 0
+IsStamped {T} field = (o : Operation) (e : Entry T) → field o ≡ Some e → stamp_of o ≡ Some e.stamp
+
+under : {T : Type 0} (stamp : Stamp) (value : Option T) (e : Entry T) → entry_under stamp value ≡ Some e → Some stamp ≡ Some e.stamp
+under stamp None e h = absurd (none-some e h)
+under stamp (Some value) e h = ap (λ x. Some x.stamp) (one-some _ e h)
+
+pub penalty-stamped : IsStamped penalty_field
+penalty-stamped (Add dot member stamp penalty pause label older) e h = under stamp (Some penalty) e h
+penalty-stamped (Write dots setting stamp older) e h = under stamp (set_penalty setting) e h
+penalty-stamped (Remove dots) e h = absurd (none-some e h)
+penalty-stamped (Count site queue calls total) e h = absurd (none-some e h)
+
+pub pause-stamped : IsStamped pause_field
+pause-stamped (Add dot member stamp penalty pause label older) e h = under stamp (Some pause) e h
+pause-stamped (Write dots setting stamp older) e h = under stamp (set_pause setting) e h
+pause-stamped (Remove dots) e h = absurd (none-some e h)
+pause-stamped (Count site queue calls total) e h = absurd (none-some e h)
+
+pub label-stamped : IsStamped label_field
+label-stamped (Add dot member stamp penalty pause label older) e h = under stamp (Some label) e h
+label-stamped (Write dots setting stamp older) e h = under stamp (set_label setting) e h
+label-stamped (Remove dots) e h = absurd (none-some e h)
+label-stamped (Count site queue calls total) e h = absurd (none-some e h)
+
+chosen : {T : Type 0} (field : Field T) (dot : Dot) → Operation → Option (Entry T)
+chosen field dot o = if asserts dot o then field o else None
+
+-- an entry is set by an operation of the knowledge
+pub set-by : {T : Type 0} (field : Field T) (k : Knowledge) (dot : Dot) (e : Entry T) → Contains (settings_of field k dot) e → (o : Operation) × Contains k o × (field o ≡ Some e)
+unfolding chosen
+set-by {T} field k dot e here = let o = in-some (chosen field dot) k e here in (o.0, o.1, by (asserts dot o.0) o.2)
+  where
+    by : {x : Option (Entry T)} (b : Bool) → (if b then x else None) ≡ Some e → x ≡ Some e
+    by true h = h
+    by false h = absurd (none-some e h)
+
+-- where a stamp belongs to one operation, it gives a field one value
+one-value : {T : Type 0} (field : Field T) → IsStamped field → (k : Knowledge)
+    → ((o p : Operation) (stamp : Stamp) → Contains k o → Contains k p → stamp_of o ≡ Some stamp → stamp_of p ≡ Some stamp → o ≡ p) → OneValue field k
+one-value field stamped k stamps dot a b ha hb same =
+    let o = set-by field k dot a ha in
+    let p = set-by field k dot b hb in
+    let one = stamps o.0 p.0 a.stamp o.1 p.1 (stamped o.0 a o.2) (stamped p.0 b p.2 ∙ ap Some (sym same)) in
+    ap (λ x. x.value) (one-some a b (sym o.2 ∙ ap field one ∙ p.2))
+
+-- a history is consistent, and so is each part of it
+pub consistent-part : (names_of_queues : List (List ℕ)) (sites : ℕ) (h k : Knowledge) → IsHistory names_of_queues sites h → IsPartOf k h → IsConsistent k
+consistent-part names_of_queues sites h k made part = record {
+  members = λ dot m n a b. made.members dot m n (asserted-part k h part (dot, m) a) (asserted-part k h part (dot, n) b);
+  penalties = one-value penalty_field penalty-stamped k stamps;
+  pauses = one-value pause_field pause-stamped k stamps;
+  labels = one-value label_field label-stamped k stamps;
+}
+  where
+    stamps : (o p : Operation) (stamp : Stamp) → Contains k o → Contains k p → stamp_of o ≡ Some stamp → stamp_of p ≡ Some stamp → o ≡ p
+    stamps o p stamp ho hp = made.stamps o p stamp (part o ho) (part p hp)

@@ -1,0 +1,238 @@
+-- Each event keeps the history of a world, or makes it longer by one operation.
+use Rattle.std.proofs.Common.{◌≡◌, ◌<◌, ◌⊎◌, inl, inr, ℕ, suc, Bool, true, false, nat_lt, List, [], ◌∷◌, ◌++◌, Contains, length, slice_get, slice_set, Option, Some, None, refl, sym, ap, subst, ◌∙◌, true≢false, if◌then◌else◌, arith}
+use Rattle.std.specs.FinSet as set
+use Rattle.std.proofs.lemmas.List.{length-set}
+use Rattle.std.proofs.lemmas.List.Elements.{Contains-append_cases, Contains-append_right}
+use Rattle.std.proofs.lemmas.Option.{slice_get_within}
+use Rattle.dots.specs.declared.limits.TheConstants.{MOST_COUNT, MOST_LIVE, MOST_RUNS}
+use Rattle.dots.specs.Values.{Dot}
+use Rattle.dots.specs.DotSets.{run_count}
+use Rattle.dots.specs.Operations.{Operation, Add, Write, Remove, Count}
+use Rattle.dots.specs.Knowledge.{Knowledge, known_dots, visible_dots}
+use Rattle.dots.proofs.KnownLaws.{known-dot}
+use Rattle.dots.proofs.Membership.{cases-in, first-in, later-in, nothing-in, only-in}
+use Rattle.replica.specs.Changes.{Change, Makes as makes_operation, Meaning, Refused, change_of, meaning}
+use Rattle.replica.specs.SiteViews.{site_view}
+use Rattle.replica.specs.Steps as steps
+use Rattle.replica.specs.Steps.{SiteKnowledge, Framed, Take, Whole, Cut, after_frame, after_meaning, cut, new_site, step, take}
+use Rattle.replica.proofs.MadeOperationLaws.{makes-what-it-may}
+use Rattle.status_report.specs.declared.asks.Ask.{Ask}
+use Rattle.status_report.specs.declared.asks.Ask.TheVariants.{Command as asked_command, Status}
+use Rattle.status_report.specs.Knowing.{answer_in}
+use Rattle.replica.specs.MadeOperations.{IsMadeAt}
+use Rattle.sites_world.specs.declared.event.Event.{Event}
+use Rattle.sites_world.specs.declared.event.Event.TheVariants as event
+use Rattle.sites_world.specs.Histories.{HasHistory, IsHistory, IsHistoryOf, IsOf, IsPartOf, IsSiteIn}
+use Rattle.sites_world.specs.Worlds.{Entry, IsReached, World, after_happening, answered, entries_of, framed, happens, happens_at, happens_where, new_world, run, site_of, taken}
+use Rattle.sites_world.proofs.Lists.{get-replicate, get-set-other, get-set-same, one-some, place-in}
+use Rattle.sites_world.proofs.Parts.{both-part, more-part, none-part}
+use Rattle.sites_world.proofs.GrownHistories.{grows}
+use Rattle.sites_world.proofs.MadeHistories.{made-next}
+
+-- ---- a new world
+
+-- nothing is asserted, and no dot known, of no operation
+nothing-known : (dot : Dot) → set.contains (known_dots []) dot ≡ true → ⊥
+nothing-known dot is = true≢false (sym is ∙ known-dot [] dot)
+
+-- the history of no operation
+empty-history : (names_of_queues : List (List ℕ)) (sites : ℕ) → IsHistory names_of_queues sites []
+empty-history names_of_queues sites = record {
+  stamps = λ o p stamp ho hp eo ep. absurd (nothing-in o ho);
+  members = λ dot m n hm hn. absurd (nothing-in (dot, m) hm);
+  made = λ dot is. absurd (nothing-known dot is);
+  sites_are = λ dot is. absurd (nothing-known dot is);
+  queues = λ dot m here. absurd (nothing-in (dot, m) here);
+  counts = λ site queue calls total here. absurd (nothing-in (Count site queue calls total) here);
+  older = λ o dot earlier m here asserts before same less. absurd (nothing-in o here);
+}
+
+-- a new site has a part of it
+new-site-in : (site : ℕ) (s : SiteKnowledge) → s ≡ new_site → IsSiteIn [] site s
+new-site-in site s e = subst (IsSiteIn [] site) (sym e) (record { known = none-part []; buffer = none-part []; own = λ o here of. absurd (nothing-in o here) })
+
+pub new-history : (names_of_queues : List (List ℕ)) (sites : ℕ) → IsHistoryOf names_of_queues (new_world sites) []
+new-history names_of_queues sites = record {
+  history = empty-history names_of_queues _;
+  sites = λ site s is. new-site-in site s (get-replicate sites new_site site s is);
+  pool = λ entry here. absurd (nothing-in entry here);
+}
+
+-- ---- the site of a step
+
+module _ (names_of_queues : List (List ℕ)) (w : World) (h : Knowledge) (site : ℕ) (s : SiteKnowledge) (all : IsHistoryOf names_of_queues w h) (is : slice_get w.sites site ≡ Some s) where
+  within : site < length w.sites
+  within = slice_get_within w.sites site s is
+
+  same-place : (j : ℕ) → (j ≡ site) ⊎ (j ≡ site → ⊥)
+  same-place j = grind arith
+
+  -- the site that was put in, and the others
+  pub put-cases : (t : SiteKnowledge) (j : ℕ) (u : SiteKnowledge) → slice_get (slice_set w.sites site t) j ≡ Some u → ((j ≡ site) × (u ≡ t)) ⊎ ((j ≡ site → ⊥) × (slice_get w.sites j ≡ Some u))
+  put-cases t j u here = by (same-place j)
+    where
+      by : ((j ≡ site) ⊎ (j ≡ site → ⊥)) → ((j ≡ site) × (u ≡ t)) ⊎ ((j ≡ site → ⊥) × (slice_get w.sites j ≡ Some u))
+      by (inl e) = inl (e, one-some u t (sym here ∙ ap (slice_get (slice_set w.sites site t)) e ∙ get-set-same w.sites site t within))
+      by (inr apart) = inr (apart, sym (get-set-other w.sites site j t apart) ∙ here)
+
+  -- where no operation is made the history stays
+  pub kept-history : (t : SiteKnowledge) (added : List Entry) → IsSiteIn h site t → ((entry : Entry) → Contains added entry → IsPartOf entry.carried h)
+      → IsHistoryOf names_of_queues (record { sites = slice_set w.sites site t; pool = w.pool ++ added }) h
+  kept-history t added known carried = record {
+    history = subst (λ n. IsHistory names_of_queues n h) (sym (length-set w.sites site t)) all.history;
+    sites = λ j u here. by j u (put-cases t j u here);
+    pool = λ entry here. elim (Contains-append_cases w.pool added entry here) [ inl a ↦ all.pool entry a | inr b ↦ carried entry b ];
+  }
+    where
+      by : (j : ℕ) (u : SiteKnowledge) → (((j ≡ site) × (u ≡ t)) ⊎ ((j ≡ site → ⊥) × (slice_get w.sites j ≡ Some u))) → IsSiteIn h j u
+      by j u (inl p) = subst (λ n. IsSiteIn h n u) (sym p.0) (subst (IsSiteIn h site) (sym p.1) known)
+      by j u (inr p) = all.sites j u p.1
+
+  -- an operation that the site makes is its own alone
+  made-of : (o : Operation) (j : ℕ) → IsMadeAt site names_of_queues s.known o → IsOf j o → j ≡ site
+  made-of (Add dot member stamp penalty pause label older) j a of = sym of ∙ ap (λ x. x.site) a.stamp_is
+  made-of (Write dots setting stamp older) j a of = sym of ∙ a.site_is
+  made-of (Remove dots) j a of = absurd of
+  made-of (Count s queue calls total) j a of = sym of ∙ a.site_is
+
+  -- the site once it has made an operation
+  abbrev after : Operation → SiteKnowledge
+  after o = record { known = o ∷ s.known; buffer = o ∷ s.buffer; frames = s.frames }
+
+  longer : (o : Operation) (k : Knowledge) → IsPartOf k h → IsPartOf k (o ∷ h)
+  longer o k part p here = later-in o h p (part p here)
+
+  -- where one is made it is the last of the history
+  pub made-history : (o : Operation) → IsMadeAt site names_of_queues s.known o → IsHistoryOf names_of_queues (record { sites = slice_set w.sites site (after o); pool = w.pool ++ [] }) (o ∷ h)
+  made-history o made = record {
+    history = subst (λ n. IsHistory names_of_queues n (o ∷ h)) (sym (length-set w.sites site (after o)))
+        (grows names_of_queues (length w.sites) h o all.history (made-next names_of_queues (length w.sites) site h s all.history (all.sites site s is) within o made));
+    sites = λ j u here. by j u (put-cases (after o) j u here);
+    pool = λ entry here. elim (Contains-append_cases w.pool [] entry here) [
+      | inl a ↦ longer o entry.carried (all.pool entry a)
+      | inr b ↦ absurd (nothing-in entry b)
+    ];
+  }
+    where
+      own_of : (p : Operation) → Contains (o ∷ h) p → IsOf site p → Contains (o ∷ s.known) p
+      own_of p here of = elim (cases-in o h p here) [
+        | inl e ↦ subst (Contains (o ∷ s.known)) e (first-in o s.known)
+        | inr r ↦ later-in o s.known p ((all.sites site s is).own p r of)
+      ]
+
+      others : (j : ℕ) (u : SiteKnowledge) → (j ≡ site → ⊥) → IsSiteIn h j u → (p : Operation) → Contains (o ∷ h) p → IsOf j p → Contains u.known p
+      others j u apart known p here of = elim (cases-in o h p here) [
+        | inl e ↦ absurd (apart (made-of o j made (subst (IsOf j) (sym e) of)))
+        | inr r ↦ known.own p r of
+      ]
+
+      there : IsSiteIn (o ∷ h) site (after o)
+      there = let known = all.sites site s is in record {
+        known = more-part o s.known (o ∷ h) (first-in o h) (longer o s.known known.known);
+        buffer = more-part o s.buffer (o ∷ h) (first-in o h) (longer o s.buffer known.buffer);
+        own = own_of;
+      }
+
+      by : (j : ℕ) (u : SiteKnowledge) → (((j ≡ site) × (u ≡ after o)) ⊎ ((j ≡ site → ⊥) × (slice_get w.sites j ≡ Some u))) → IsSiteIn (o ∷ h) j u
+      by j u (inl p) = subst (λ n. IsSiteIn (o ∷ h) n u) (sym p.0) (subst (IsSiteIn (o ∷ h) site) (sym p.1) there)
+      by j u (inr p) = let known = all.sites j u p.1 in record {
+        known = longer o u.known known.known;
+        buffer = longer o u.buffer known.buffer;
+        own = others j u p.0 known;
+      }
+
+-- ---- steps that make no operation
+
+-- a site after a step knows a part of the history, and so does the frame that was made, if one was
+record KeepsParts (h : Knowledge) (site : ℕ) (after : SiteKnowledge × steps.Outcome) : Type 0 where
+  site_in : IsSiteIn h site after.0
+  carried : (entry : Entry) → Contains (entries_of site after.1) entry → IsPartOf entry.carried h
+
+module _ (h : Knowledge) (site : ℕ) (s : SiteKnowledge) (known : IsSiteIn h site s) where
+  -- a frame of a part, with a buffer that is one
+  frame-parts : (frame buffer : Knowledge) → IsPartOf frame h → IsPartOf buffer h → KeepsParts h site (after_frame s frame buffer)
+  frame-parts frame buffer part rest = by (nat_lt MOST_COUNT (suc s.frames))
+    where
+      by : (b : Bool) → KeepsParts h site (if b then (s, steps.NoNumber) else (record { known = s.known; buffer = buffer; frames = suc s.frames }, Framed (suc s.frames) frame))
+      by true = record { site_in = known; carried = λ entry here. absurd (nothing-in entry here) }
+      by false = record {
+        site_in = record { known = known.known; buffer = rest; own = known.own };
+        carried = λ entry here. subst (λ e. IsPartOf e.carried h) (only-in _ entry here) part;
+      }
+
+  cut-by : (buffer : Knowledge) → IsPartOf buffer h → KeepsParts h site (cut s buffer)
+  cut-by [] part = record { site_in = known; carried = λ entry here. absurd (nothing-in entry here) }
+  cut-by (o ∷ os) part = frame-parts (o ∷ os) [] part (none-part h)
+
+  abbrev taken_by : Knowledge → Bool → Bool → SiteKnowledge × steps.Outcome
+  taken_by frame a b = if a then (s, steps.CellsFull) else if b then (s, steps.RunsFull) else (record { known = frame ++ s.known; buffer = s.buffer; frames = s.frames }, steps.Taken)
+
+  -- a site that takes a part
+  take-parts : (frame : Knowledge) → IsPartOf frame h → IsSiteIn h site (take s frame).0
+  take-parts frame part = by (nat_lt MOST_LIVE (set.len (visible_dots (frame ++ s.known)))) (nat_lt MOST_RUNS (run_count (known_dots (frame ++ s.known))))
+    where
+      by : (a b : Bool) → IsSiteIn h site (taken_by frame a b).0
+      by true b = known
+      by false true = known
+      by false false = record {
+        known = both-part frame s.known h part known.known;
+        buffer = known.buffer;
+        own = λ o here of. Contains-append_right frame s.known o (known.own o here of);
+      }
+
+-- ---- events
+
+module _ (names_of_queues : List (List ℕ)) (w : World) (h : Knowledge) (all : IsHistoryOf names_of_queues w h) where
+  module _ (site : ℕ) (s : SiteKnowledge) (is : slice_get w.sites site ≡ Some s) where
+    no-entry : (entry : Entry) → Contains [] entry → IsPartOf entry.carried h
+    no-entry entry here = absurd (nothing-in entry here)
+
+    -- nothing changes
+    same-history : HasHistory names_of_queues (record { sites = slice_set w.sites site s; pool = w.pool ++ [] })
+    same-history = record { made = h; is = kept-history names_of_queues w h site s all is s [] (all.sites site s is) no-entry }
+
+    command-history : (change : Change) → HasHistory names_of_queues (record { sites = slice_set w.sites site (step site names_of_queues s (steps.Do change)).0; pool = w.pool ++ [] })
+    command-history change = by (meaning site names_of_queues (site_view site s.known) (site_view site s.buffer) change) refl
+      where
+        by : (m : Meaning) → meaning site names_of_queues (site_view site s.known) (site_view site s.buffer) change ≡ m
+            → HasHistory names_of_queues (record { sites = slice_set w.sites site (after_meaning s m).0; pool = w.pool ++ [] })
+        by (Refused refusal) e = same-history
+        by (makes_operation o) e = record { made = o ∷ h; is = made-history names_of_queues w h site s all is o (makes-what-it-may site names_of_queues change s.known s.buffer o e) }
+
+    ask-history : (asked : Ask) → HasHistory names_of_queues (after_happening w site (answered (answer_in site names_of_queues s asked)))
+    ask-history (asked_command command) = command-history (change_of command)
+    ask-history (Status request) = same-history
+
+    frame-history : (after : SiteKnowledge × steps.Outcome) → KeepsParts h site after → HasHistory names_of_queues (after_happening w site (framed site (length w.pool) after))
+    frame-history after parts = record { made = h; is = kept-history names_of_queues w h site s all is after.0 (entries_of site after.1) parts.site_in parts.carried }
+
+    taken-history : (found : Option Entry) → ((entry : Entry) → found ≡ Some entry → IsPartOf entry.carried h) → HasHistory names_of_queues (after_happening w site (taken s found))
+    taken-history None carried = same-history
+    taken-history (Some entry) carried = record {
+      made = h;
+      is = kept-history names_of_queues w h site s all is (take s entry.carried).0 [] (take-parts h site s (all.sites site s is) entry.carried (carried entry refl)) no-entry;
+    }
+
+  at-history : (e : Event) (s : SiteKnowledge) → slice_get w.sites (site_of e) ≡ Some s → HasHistory names_of_queues (after_happening w (site_of e) (happens_at names_of_queues w.pool s e))
+  at-history (event.Ask site asked) s is = ask-history site s is asked
+  at-history (event.Cut site) s is = let known = all.sites site s is in frame-history site s is (cut s s.buffer) (cut-by h site s known s.buffer known.buffer)
+  at-history (event.Whole site) s is = let known = all.sites site s is in frame-history site s is (after_frame s s.known s.buffer) (frame-parts h site s known s.known s.buffer known.known known.buffer)
+  at-history (event.Take site place) s is = taken-history site s is (slice_get w.pool place) (λ entry found. all.pool entry (place-in w.pool place entry found))
+
+  -- an event leads to a world with a history
+  pub happens-history : (e : Event) → HasHistory names_of_queues (happens names_of_queues w e).0
+  happens-history e = by (slice_get w.sites (site_of e)) refl
+    where
+      by : (found : Option SiteKnowledge) → slice_get w.sites (site_of e) ≡ found → HasHistory names_of_queues (happens_where names_of_queues w (site_of e) found e).0
+      by None is = record { made = h; is = all }
+      by (Some s) is = at-history e s is
+
+module _ (names_of_queues : List (List ℕ)) where
+  -- so do events in turn
+  pub run-history : (w : World) (events : List Event) → HasHistory names_of_queues w → HasHistory names_of_queues (run names_of_queues w events).0
+  run-history w [] has = has
+  run-history w (e ∷ es) has = run-history (happens names_of_queues w e).0 es (happens-history names_of_queues w has.made has.is e)
+
+  -- and a world that events lead to has one
+  pub reached-history : (sites : ℕ) (w : World) → IsReached names_of_queues sites w → HasHistory names_of_queues w
+  reached-history sites w reached = subst (HasHistory names_of_queues) reached.is (run-history (new_world sites) reached.events (record { made = []; is = new-history names_of_queues sites }))

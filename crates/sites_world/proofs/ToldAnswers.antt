@@ -1,0 +1,109 @@
+-- What comes of asks and frames at one site is told as the world of operations has it, or as want of memory.
+use Rattle.std.proofs.Common.{◌≡◌, ◌⊎◌, inl, inr, ℕ, Bool, true, false, List, [], ◌∷◌, ◌++◌, length, Option, Some, Ok, refl, sym, ap, subst, ◌∙◌, true≢false}
+use Rattle.delta.specs.DeltaStates.{DeltaState}
+use Rattle.delta.specs.Joining.{Disagree}
+use Rattle.delta.specs.Standing.{IsDeltaOf}
+use Rattle.delta_codec.specs.declared.frame.Frame.{Frame}
+use Rattle.replica.specs.declared.refusal.Refusal.{Refusal}
+use Rattle.replica.specs.declared.refusal.Refusal.TheVariants as refusal
+use Rattle.replica.specs.declared.take_fault.TakeFault.{TakeFault}
+use Rattle.replica.specs.declared.take_fault.TakeFault.TheVariants as take_fault
+use Rattle.replica.specs.Changes.{Makes, Meaning, Refused as refused_meaning, change_of, meaning}
+use Rattle.replica.specs.Framing.{IsFramed}
+use Rattle.replica.specs.Refusing.{IsWorn, MayStandFor}
+use Rattle.replica.specs.Site.{IsUnchanged, SiteState}
+use Rattle.replica.specs.SiteViews.{site_view}
+use Rattle.replica.specs.Standing.{StandsFor, result_of}
+use Rattle.replica.specs.Steps as steps
+use Rattle.replica.specs.Steps.{Framed, SiteKnowledge, Take, after_meaning, step}
+use Rattle.replica.specs.Taking.{IsMeantFault, IsNotMine, SpeaksOfStrangeQueue}
+use Rattle.replica.proofs.StandingSites.{unchanged-stands}
+use Rattle.replica.proofs.StepLaws.{refusals-change-nothing}
+use Rattle.dots.specs.Knowledge.{Knowledge}
+use Rattle.status_report.specs.declared.asks.Answer.{Answer}
+use Rattle.status_report.specs.declared.asks.Answer.TheVariants.{Done, Refused, Report}
+use Rattle.status_report.specs.declared.asks.Ask.{Ask}
+use Rattle.status_report.specs.declared.asks.Ask.TheVariants.{Command as asked_command, Status}
+use Rattle.status_report.specs.Answers.{answer_of}
+use Rattle.status_report.specs.Knowing.{IsAnswered, answer_in, refusal_told}
+use Rattle.sites_world.specs.declared.outcome.Outcome.TheVariants.{Answered, Cut, NoMemory, Took}
+use Rattle.sites_world.specs.Telling.{HasAdded, IsAnsweredSo, IsFramedSo, IsTakenSo, MayBeTaken, answer_told, take_fault_told}
+use Rattle.sites_world.specs.Worlds.{take_told, frame_told}
+
+-- ---- answers
+
+-- what is refused changes nothing
+refused-stays : (site : ℕ) (names : List (List ℕ)) (s : SiteKnowledge) (asked : Ask) (r : Refusal) → (answer_in site names s asked).1 ≡ Refused r → (answer_in site names s asked).0 ≡ s
+refused-stays site names s (Status request) r e = refl
+refused-stays site names s (asked_command command) r e = by (meaning site names (site_view site s.known) (site_view site s.buffer) (change_of command)) e
+  where
+    by : (m : Meaning) → answer_of (result_of (after_meaning s m).1) ≡ Refused r → (after_meaning s m).0 ≡ s
+    by (Makes o) e = absurd (done-refused e)
+      where
+        done-refused : Done ≡ Refused r → ⊥
+        done-refused e = (cc)
+    by (refused_meaning x) e = refl
+
+-- an answer is told as it is, or it is a refusal
+told-cases : (worn : Bool) (answer : Answer) → (answer_told worn answer ≡ Answered answer) ⊎ ((answer_told worn answer ≡ NoMemory) × ((r : Refusal) × (answer ≡ Refused r)))
+told-cases worn Done = inl refl
+told-cases worn (Report bytes) = inl refl
+told-cases worn (Refused refusal.NoSuchQueue) = inl refl
+told-cases worn (Refused refusal.AlreadyThere) = inl refl
+told-cases worn (Refused refusal.NotThere) = inl refl
+told-cases true (Refused refusal.MembersFull) = inr (refl, (refusal.MembersFull, refl))
+told-cases false (Refused refusal.MembersFull) = inl refl
+told-cases worn (Refused refusal.Exhausted) = inl refl
+told-cases worn (Refused refusal.TotalFull) = inl refl
+told-cases worn (Refused refusal.Memory) = inr (refl, (refusal.Memory, refl))
+
+-- a refusal that stands in place of another is told as want of memory
+stands-told : (W : Type 0) (worn : Bool) (told : Option Refusal) (r : Refusal) → (W → worn ≡ true) → MayStandFor W told r → answer_told worn (Refused r) ≡ NoMemory
+stands-told W worn told refusal.NoSuchQueue is may = absurd may
+stands-told W worn told refusal.AlreadyThere is may = absurd may
+stands-told W worn told refusal.NotThere is may = absurd may
+stands-told W worn told refusal.MembersFull is may = ap (λ b. answer_told b (Refused refusal.MembersFull)) (is may.0)
+stands-told W worn told refusal.Exhausted is may = absurd may
+stands-told W worn told refusal.TotalFull is may = absurd may
+stands-told W worn told refusal.Memory is may = refl
+
+pub told-answer : (worn : Bool) (old new : SiteState) (s : SiteKnowledge) (asked : Ask) (answer : Answer) → StandsFor old s → (IsWorn old → worn ≡ true)
+    → IsAnswered (IsWorn old) old new answer (answer_in old.site old.names s asked) → IsAnsweredSo new s (answer_in old.site old.names s asked) (answer_told worn answer)
+told-answer worn old new s asked answer stands is (inl (after, e)) = elim (told-cases worn answer) [
+  | inl told ↦ inl (told ∙ ap Answered e, after)
+  | inr told ↦ inr (told.0, subst (StandsFor new) (refused-stays old.site old.names s asked told.1.0 (sym e ∙ told.1.1)) after)
+]
+told-answer worn old new s asked answer stands is (inr (same, (result, e, instead))) =
+    let refused : answer ≡ Refused instead.refusal = e ∙ ap answer_of instead.is in
+    inr (ap (answer_told worn) refused ∙ stands-told (IsWorn old) worn (refusal_told (answer_in old.site old.names s asked).1) instead.refusal is instead.may, unchanged-stands old new s stands same)
+
+-- ---- frames that were made
+
+pub told-frame : (new : SiteState) (s : SiteKnowledge) (old pool : List Frame) (after : SiteKnowledge × steps.Outcome) (frame : Frame) → StandsFor new after.0 → IsFramed frame after.1
+    → frame.maker ≡ new.site → pool ≡ old ++ frame ∷ [] → IsFramedSo new s old pool after (Cut (Ok (Some (length old))))
+told-frame new s old pool after frame stands framed maker grown = inl (
+  ap (λ x. Cut (frame_told (length old) x)) (sym framed.outcome_is),
+  stands,
+  subst (HasAdded new.site old pool) (sym framed.outcome_is) (frame, grown, record { maker = maker; number = refl; delta = framed.stands }),
+)
+
+-- ---- frames that were taken
+
+pub told-fault : (worn : Bool) (old new : SiteState) (s : SiteKnowledge) (k : Knowledge) (d : DeltaState) (fault : TakeFault) → MayBeTaken old k → IsDeltaOf d k → StandsFor old s → IsUnchanged old new
+    → (IsWorn old → worn ≡ true)
+    → (fault ≡ take_fault.NoSuchQueue → SpeaksOfStrangeQueue (length old.names) d) → (fault ≡ take_fault.NotMine → IsNotMine old d) → (fault ≡ take_fault.Conflict → Disagree old.state d)
+    → IsMeantFault old fault (step old.site old.names s (Take k)).1 → IsTakenSo new s (step old.site old.names s (Take k)) (take_fault_told worn fault)
+told-fault worn old new s k d take_fault.NoSuchQueue may is stands same wears strange mine conflict meant = absurd (may.queues d is (strange refl))
+told-fault worn old new s k d take_fault.NotMine may is stands same wears strange mine conflict meant = absurd (may.own d is (mine refl))
+told-fault worn old new s k d take_fault.Conflict may is stands same wears strange mine conflict meant = absurd (may.agrees d is (conflict refl))
+told-fault true old new s k d take_fault.CellsFull may is stands same wears strange mine conflict meant = inr (refl, unchanged-stands old new s stands same)
+told-fault false old new s k d take_fault.CellsFull may is stands same wears strange mine conflict (inl e) = inl (
+  ap (λ x. Took (take_told x)) (sym e),
+  subst (StandsFor new) (sym ((refusals-change-nothing old.site old.names s (Take k)).cells_full e)) (unchanged-stands old new s stands same),
+)
+told-fault false old new s k d take_fault.CellsFull may is stands same wears strange mine conflict (inr w) = absurd (true≢false (sym (wears (inl w))))
+told-fault worn old new s k d take_fault.RunsFull may is stands same wears strange mine conflict meant = inl (
+  ap (λ x. Took (take_told x)) (sym meant),
+  subst (StandsFor new) (sym ((refusals-change-nothing old.site old.names s (Take k)).runs_full meant)) (unchanged-stands old new s stands same),
+)
+told-fault worn old new s k d take_fault.Memory may is stands same wears strange mine conflict meant = inr (refl, unchanged-stands old new s stands same)

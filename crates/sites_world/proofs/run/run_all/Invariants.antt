@@ -1,0 +1,15 @@
+use Rattle.std.proofs.Common.{◌≡◌, ◌≤◌, ℕ, List, length, take, vec_len, vec_capacity}
+use Rattle.sites_world.specs.Worlds.{IsReached, World}
+use Rattle.sites_world.specs.WorldStates.{HaveHappened, StandsForWorld}
+use Rattle.sites_world.proofs.run.run_all.Given as goal
+
+-- the events so far have happened, and there is room for the outcomes of the others
+abbrev pub invariant-loop-event : goal.invariant-loop-event
+invariant-loop-event l = record {
+  count : length l.sites.items ≡ length l.initial.sites.items;
+  told : vec_len l.outcomes ≡ l.event-index;
+  room : length l.events ≤ vec_capacity l.outcomes;
+  happened : (names : List (List ℕ)) (w : World) → IsReached names (length l.initial.sites.items) w
+      → StandsForWorld (record { names = names; sites = l.initial.sites.items; pool = l.initial.pool.items }) w
+      → HaveHappened (record { names = names; sites = l.sites.items; pool = l.pool.items }) w (take l.event-index l.events) l.outcomes.items;
+}

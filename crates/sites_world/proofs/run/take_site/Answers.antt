@@ -1,0 +1,26 @@
+use Rattle.std.proofs.Common.{inl, sym, ap, subst, ◌∙◌}
+use Rattle.delta.proofs.StandingDeltas.{same_stands}
+use Rattle.replica.specs.Steps.{take}
+use Rattle.sites_world.specs.declared.outcome.Outcome.TheVariants.{Took}
+use Rattle.sites_world.specs.Telling.{IsTakenSo}
+use Rattle.sites_world.specs.Worlds.{take_told}
+use Rattle.sites_world.proofs.ToldAnswers.{told-fault}
+use Rattle.sites_world.proofs.run.take_site.Goals as goal
+use Rattle.sites_world.proofs.run.take_site.Goals.{in-Ok-take, in-Err}
+
+-- the copy is taken as the frame is
+pub returns-clause-meaning : goal.returns-clause-meaning
+returns-clause-meaning c = λ s k stands is may.
+    let old = c.args.replica.now in
+    let new = c.take.new.self in
+    let copied = same_stands c.args.frame.now.delta c.in-Ok.copy.delta k c.in-Ok.ensures is in
+    elim c.match-take.branch [
+      | in-Ok-take w ↦
+          let meant = w.in-Ok-take.ensures.meaning s k stands copied may.none_later in
+          inl (w.result-is ∙ ap (λ x. Took (take_told x)) (sym meant.1), meant.0)
+      | in-Err w ↦
+          let refused = w.in-Err.ensures.refusals in
+          subst (IsTakenSo new s (take s k)) (sym (w.result-is ∙ w.take_fault_told.ensures))
+          (told-fault c.is_worn-worn.result old new s k c.in-Ok.copy.delta w.in-Err.fault may copied stands w.in-Err.ensures.unchanged c.is_worn-worn.ensures.1
+          refused.no_such_queue.0 (λ e. (refused.not_mine.0 e).1) (λ e. (refused.conflict.0 e).1) (w.in-Err.ensures.meaning s k stands copied may.none_later))
+    ]

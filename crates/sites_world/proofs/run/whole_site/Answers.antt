@@ -1,0 +1,19 @@
+use Rattle.std.proofs.Common.{[], ◌∷◌, ◌++◌, Ok, Some, length, sym, ap, subst, ◌∙◌}
+use Rattle.replica.specs.Steps.{after_frame}
+use Rattle.sites_world.specs.declared.outcome.Outcome.TheVariants.{Cut}
+use Rattle.sites_world.specs.Telling.{IsFramedSo}
+use Rattle.sites_world.proofs.ToldAnswers.{told-frame}
+use Rattle.sites_world.proofs.run.whole_site.Goals as goal
+
+-- the frame is the last of the pool
+pub returns-in-Ok-clause-meaning : goal.returns-in-Ok-clause-meaning
+returns-in-Ok-clause-meaning c = λ s stands.
+    let new = c.whole.new.self in
+    let old = c.args.pool.now.items in
+    let pool = c.put_frame.new.pool.items in
+    let meant = c.in-Ok.ensures.meaning s stands in
+    let has = c.in-Ok.ensures.frame in
+    let grown = c.put_frame.ensures.pool ∙ ap (λ fs. fs ++ c.in-Ok.frame ∷ []) c.reserve.ensures.items in
+    let told = c.put_frame.ensures.told ∙ ap (λ fs. Cut (Ok (Some (length fs)))) c.reserve.ensures.items in
+    subst (IsFramedSo new s old pool (after_frame s s.known s.buffer)) (sym told)
+    (told-frame new s old pool (after_frame s s.known s.buffer) c.in-Ok.frame meant.0 meant.1 (has.heading.maker ∙ sym has.site) grown)

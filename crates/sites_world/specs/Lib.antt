@@ -1,0 +1,5 @@
+pub mod Worlds
+pub mod Histories
+pub mod WorldStates
+pub mod Telling
+pub mod Promises

@@ -1,0 +1,69 @@
+-- What contracts see of the sites of one process: their states and the frames in the pool, and which world of operations they stand for.
+use Rattle.std.specs.Prelude.{ℕ, ◌≡◌, ◌⊎◌, true, List, Some, length, slice_get, refl}
+use Rattle.std.specs.Coded.{Coded, code_by, coded×, coded_ℕ, coded_list}
+use Rattle.delta.specs.DeltaStates.{DeltaState, delta_code}
+use Rattle.delta.specs.Standing.{IsDeltaOf}
+use Rattle.delta_codec.specs.declared.frame.Frame.{Frame}
+use Rattle.replica.specs.Site.{SiteState, site_code}
+use Rattle.replica.specs.Standing.{StandsFor}
+use Rattle.replica.specs.Steps.{SiteKnowledge}
+use Rattle.sites_world.specs.declared.event.Event.{Event}
+use Rattle.sites_world.specs.declared.outcome.Outcome.{Outcome}
+use Rattle.sites_world.specs.declared.outcome.Outcome.TheVariants.{NoMemory}
+use Rattle.sites_world.specs.Worlds.{Entry, IsReached, World, done_of, happens, is_done, outcomes_of, run}
+
+-- The names of the queues, the sites by their numbers, and the frames in the pool.
+pub record WorldState : Type 0 where
+  pub names : List (List ℕ)
+  pub sites : List SiteState
+  pub pool : List Frame
+
+-- a frame is stored as its parts
+abbrev pub frame_code : Coded Frame
+frame_code = code_by (ℕ × (ℕ × DeltaState)) (coded× coded_ℕ (coded× coded_ℕ delta_code)) (λ f. (f.maker, (f.number, f.delta)))
+    (λ p. record { maker = p.0; number = p.1.0; delta = p.1.1 }) (λ _. refl)
+
+-- and all of it as its parts
+abbrev pub world_code : Coded WorldState
+world_code = code_by (List (List ℕ) × (List SiteState × List Frame)) (coded× (coded_list (coded_list coded_ℕ)) (coded× (coded_list site_code) (coded_list frame_code)))
+    (λ w. (w.names, (w.sites, w.pool))) (λ p. record { names = p.0; sites = p.1.0; pool = p.1.1 }) (λ _. refl)
+
+-- a state is that of the site of this number, with these queues, and stands for what the site knows
+pub record IsSiteOf (names : List (List ℕ)) (number : ℕ) (state : SiteState) (s : SiteKnowledge) : Type 0 where
+  pub site : state.site ≡ number
+  pub names_are : state.names ≡ names
+  pub stands : StandsFor state s
+
+-- a frame is that of an entry: its delta is the one of what the entry carries
+pub record IsFrameOf (place : ℕ) (frame : Frame) (entry : Entry) : Type 0 where
+  pub maker : frame.maker ≡ entry.maker
+  pub number : frame.number ≡ entry.number
+  pub delta : IsDeltaOf frame.delta entry.carried
+
+-- two lists correspond: they are of one length, and elements at one place are related
+pub record Correspond {X Y : Type 0} (R : ℕ → X → Y → Type 0) (xs : List X) (ys : List Y) : Type 0 where
+  pub lengths : length xs ≡ length ys
+  pub each : (place : ℕ) (x : X) (y : Y) → slice_get xs place ≡ Some x → slice_get ys place ≡ Some y → R place x y
+
+-- states and frames stand for a world of operations
+pub record StandsForWorld (state : WorldState) (w : World) : Type 0 where
+  pub sites : Correspond (IsSiteOf state.names) state.sites w.sites
+  pub pool : Correspond IsFrameOf state.pool w.pool
+
+-- they stand for a world that events lead to
+pub record IsWorld (state : WorldState) : Type 0 where
+  pub world : World
+  pub reached : IsReached state.names (length state.sites) world
+  pub stands : StandsForWorld state world
+
+-- An event has happened: what comes of it is what comes of it in the world of operations, and the states stand for the world after it. Or memory was
+-- wanting, and they stand for the world as it was.
+abbrev pub HasHappened : WorldState → World → Event → Outcome → Type 0
+HasHappened new w e o = ((is_done o ≡ true) × ((happens new.names w e).1 ≡ o) × StandsForWorld new (happens new.names w e).0) ⊎ ((o ≡ NoMemory) × StandsForWorld new w)
+
+-- Events have happened: there is one outcome for each; those whose outcome isn't want of memory are done, each with the outcome that it has in the world of
+-- operations, and the states stand for the world after these.
+pub record HaveHappened (new : WorldState) (w : World) (events : List Event) (outcomes : List Outcome) : Type 0 where
+  pub one_each : length outcomes ≡ length events
+  pub outcomes_are : outcomes_of outcomes ≡ (run new.names w (done_of events outcomes)).1
+  pub stands : StandsForWorld new (run new.names w (done_of events outcomes)).0

@@ -1,0 +1,121 @@
+-- The world of operations: what each site knows, and the frames that were made. A frame that is lost is one that is never taken, and each may be
+-- taken again and in any order (RR-7506: a replica is changed at its source, and merges what it is sent, whenever that comes).
+use Rattle.std.specs.Prelude.{ℕ, ◌≡◌, Bool, true, false, List, [], ◌∷◌, ◌++◌, length, replicate, slice_get, slice_set, Option, Some, None, Result, Ok, Err, if◌then◌else◌}
+use Rattle.dots.specs.Knowledge.{Knowledge}
+use Rattle.replica.specs.declared.cut_fault.CutFault.{CutFault}
+use Rattle.replica.specs.declared.cut_fault.CutFault.TheVariants.{Exhausted}
+use Rattle.replica.specs.declared.take_fault.TakeFault.{TakeFault}
+use Rattle.replica.specs.declared.take_fault.TakeFault.TheVariants as take_fault
+use Rattle.replica.specs.Steps as steps
+use Rattle.replica.specs.Steps.{SiteKnowledge, Cut, Framed, NoNumber, Whole, new_site, step, take}
+use Rattle.status_report.specs.declared.asks.Answer.{Answer}
+use Rattle.status_report.specs.Knowing.{answer_in}
+use Rattle.sites_world.specs.declared.event.Event.{Event}
+use Rattle.sites_world.specs.declared.event.Event.TheVariants as event
+use Rattle.sites_world.specs.declared.outcome.Outcome.{Outcome}
+use Rattle.sites_world.specs.declared.outcome.Outcome.TheVariants as outcome
+
+-- a frame that was made: by which site, under which number, and what it carries
+pub record Entry : Type 0 where
+  pub maker : ℕ
+  pub number : ℕ
+  pub carried : Knowledge
+
+-- what each site knows, by the sites' numbers, and the pool: all frames that were made, in their order
+pub record World : Type 0 where
+  pub sites : List SiteKnowledge
+  pub pool : List Entry
+
+-- so many sites that know nothing yet, and no frame
+abbrev pub new_world : ℕ → World
+new_world sites = record { sites = replicate sites new_site; pool = [] }
+
+-- what an event does at its site: what the site knows then, the entries that the pool gets, and what comes of it
+pub record Happening : Type 0 where
+  pub site : SiteKnowledge
+  pub added : List Entry
+  pub outcome : Outcome
+
+-- what was asked is answered
+abbrev pub answered : SiteKnowledge × Answer → Happening
+answered after = record { site = after.0; added = []; outcome = outcome.Answered after.1 }
+
+-- the entry that comes of a site's step, where that made a frame
+abbrev pub entries_of : ℕ → steps.Outcome → List Entry
+entries_of maker (Framed number carried) = record { maker = maker; number = number; carried = carried } ∷ []
+entries_of maker other = []
+
+-- how it is told that a frame was asked for: by its place behind so many entries, or by why there is none
+abbrev pub frame_told : ℕ → steps.Outcome → Result (Option ℕ) CutFault
+frame_told entries (Framed number carried) = Ok (Some entries)
+frame_told entries NoNumber = Err Exhausted
+frame_told entries other = Ok None
+
+-- a frame was asked for, with so many entries in the pool
+abbrev pub framed : ℕ → ℕ → SiteKnowledge × steps.Outcome → Happening
+framed maker entries after = record { site = after.0; added = entries_of maker after.1; outcome = outcome.Cut (frame_told entries after.1) }
+
+-- how it is told that a frame was taken, or why it was not
+abbrev pub take_told : steps.Outcome → Result (Unit {0}) TakeFault
+take_told steps.CellsFull = Err take_fault.CellsFull
+take_told steps.RunsFull = Err take_fault.RunsFull
+take_told other = Ok tt
+
+-- a site takes the frame of an entry, where there is that entry
+abbrev pub taken : SiteKnowledge → Option Entry → Happening
+taken s None = record { site = s; added = []; outcome = outcome.NoEntry }
+taken s (Some entry) = let after = take s entry.carried in record { site = after.0; added = []; outcome = outcome.Took (take_told after.1) }
+
+-- what an event does at a site that knows this, with this pool; each site has the queues of these names
+abbrev pub happens_at : List (List ℕ) → List Entry → SiteKnowledge → Event → Happening
+happens_at names pool s (event.Ask site asked) = answered (answer_in site names s asked)
+happens_at names pool s (event.Cut site) = framed site (length pool) (step site names s Cut)
+happens_at names pool s (event.Whole site) = framed site (length pool) (step site names s Whole)
+happens_at names pool s (event.Take site entry) = taken s (slice_get pool entry)
+
+-- the site at which an event happens
+abbrev pub site_of : Event → ℕ
+site_of (event.Ask site asked) = site
+site_of (event.Cut site) = site
+site_of (event.Whole site) = site
+site_of (event.Take site entry) = site
+
+-- a world after what has happened at the site of this number
+abbrev pub after_happening : World → ℕ → Happening → World
+after_happening w site h = record { sites = slice_set w.sites site h.site; pool = w.pool ++ h.added }
+
+-- an event at the site of this number, where there is one
+abbrev pub happens_where : List (List ℕ) → World → ℕ → Option SiteKnowledge → Event → World × Outcome
+happens_where names w site None e = (w, outcome.NoSite)
+happens_where names w site (Some s) e = let h = happens_at names w.pool s e in (after_happening w site h, h.outcome)
+
+-- an event: the world after it, and what comes of it
+abbrev pub happens : List (List ℕ) → World → Event → World × Outcome
+happens names w e = happens_where names w (site_of e) (slice_get w.sites (site_of e)) e
+
+-- events in turn: the world after them, and the outcome of each
+abbrev pub run : List (List ℕ) → World → List Event → World × List Outcome
+run names w [] = (w, [])
+run names w (e ∷ es) = let one = happens names w e in let rest = run names one.0 es in (rest.0, one.1 ∷ rest.1)
+
+-- events that lead from sites that know nothing to a world
+pub record IsReached (names : List (List ℕ)) (sites : ℕ) (w : World) : Type 0 where
+  pub events : List Event
+  pub is : (run names (new_world sites) events).0 ≡ w
+
+-- ---- events that were done
+
+-- an outcome is that of an event that was done: all are but want of memory
+abbrev pub is_done : Outcome → Bool
+is_done outcome.NoMemory = false
+is_done other = true
+
+-- the events that were done, of events with their outcomes
+abbrev pub done_of : List Event → List Outcome → List Event
+done_of (e ∷ es) (o ∷ os) = if is_done o then e ∷ done_of es os else done_of es os
+done_of es os = []
+
+-- and the outcomes of these
+abbrev pub outcomes_of : List Outcome → List Outcome
+outcomes_of [] = []
+outcomes_of (o ∷ os) = if is_done o then o ∷ outcomes_of os else outcomes_of os

@@ -1,0 +1,209 @@
+//! Events, one by one: what each does at its site, and what comes of it.
+ghost use Rattle.std.specs.Prelude.{◌≡◌, ◌≤◌, ◌+◌, ◌++◌, ℕ, List, [], ◌∷◌, Ok, Some, IfOk};
+ghost use Rattle.std.specs.Prelude.{length, option_map, slice_get, vec_len, vec_capacity};
+ghost use Rattle.dots.specs.Knowledge.{Knowledge};
+ghost use Rattle.delta.specs.DeltaStates.{IsSame};
+ghost use Rattle.delta.specs.Standing.{IsDeltaOf};
+ghost use Rattle.replica.specs.Standing.{StandsFor};
+ghost use Rattle.replica.specs.Steps.{Cut, SiteKnowledge, Take, Whole, step};
+ghost use Rattle.status_report.specs.Knowing.{answer_in};
+ghost use Rattle.sites_world.specs.Telling.{HasHappenedAt, IsAnsweredSo, IsFramedSo, IsTakenSo, MayBeTaken};
+ghost use Rattle.sites_world.specs.Telling.{answer_told, take_fault_told};
+ghost use Rattle.sites_world.specs.Worlds.{Entry, IsReached, World, happens_at, site_of};
+ghost use Rattle.sites_world.specs.WorldStates.{Correspond, HasHappened, HaveHappened, IsFrameOf, StandsForWorld};
+
+use crate::{Event, Outcome};
+use dots::{Memory, SiteId};
+use replica::{CutFault, Frame, Refusal, Replica, TakeFault};
+use status_report::{Answer, Ask, ask};
+use std::alloc::Global;
+
+// An answer as an outcome.
+fn answer_told(worn: bool, answer: Answer) -> Outcome
+    ensures { result ≡ answer_told worn answer }
+{
+    match answer {
+        Answer::Refused(Refusal::Memory) => Outcome::NoMemory,
+        Answer::Refused(Refusal::MembersFull) if worn => Outcome::NoMemory,
+        answer => Outcome::Answered(answer),
+    }
+}
+
+// Does what is asked of a site.
+fn ask_site(alloc: Global, replica: &mut Replica, asked: &Ask) -> Outcome
+    ensures site { replica.new.site ≡ replica.old.site }
+    ensures names { replica.new.names ≡ replica.old.names }
+    ensures meaning { (s : SiteKnowledge) → StandsFor replica.old s → IsAnsweredSo replica.new s
+        (answer_in replica.old.site replica.old.names s asked.now) result }
+{
+    let Ok(asked) = asked.copy() else {
+        return Outcome::NoMemory;
+    };
+    let worn = replica.is_worn();
+    answer_told(worn, ask(alloc, replica, asked))
+}
+
+// Puts a site's buffer into a frame at the end of the pool.
+fn cut_site(replica: &mut Replica, pool: &mut Vec<Frame>) -> Outcome
+    ensures site { replica.new.site ≡ replica.old.site }
+    ensures names { replica.new.names ≡ replica.old.names }
+    ensures meaning { (s : SiteKnowledge) → StandsFor replica.old s → IsFramedSo replica.new s
+        pool.old.items pool.new.items (step replica.old.site replica.old.names s Cut) result }
+{
+    if pool.reserve(1).is_err() {
+        return Outcome::NoMemory;
+    }
+    match replica.cut() {
+        Ok(None) => Outcome::Cut(Ok(None)),
+        Ok(Some(frame)) => put_frame(pool, frame),
+        Err(fault) => Outcome::Cut(Err(fault)),
+    }
+}
+
+// Puts a frame at the end of the pool, where there is room.
+fn put_frame(pool: &mut Vec<Frame>, frame: Frame) -> Outcome
+    requires { vec_len pool.old + 1 ≤ vec_capacity pool.old }
+    ensures told { result ≡ Outcome.Cut (Ok (Some (length pool.old.items))) }
+    ensures pool { pool.new.items ≡ pool.old.items ++ frame ∷ [] }
+{
+    let entry = pool.len();
+    pool.push_reserved(frame);
+    Outcome::Cut(Ok(Some(entry)))
+}
+
+// Puts all that a site knows into a frame at the end of the pool.
+fn whole_site(replica: &mut Replica, pool: &mut Vec<Frame>) -> Outcome
+    ensures site { replica.new.site ≡ replica.old.site }
+    ensures names { replica.new.names ≡ replica.old.names }
+    ensures meaning { (s : SiteKnowledge) → StandsFor replica.old s → IsFramedSo replica.new s
+        pool.old.items pool.new.items (step replica.old.site replica.old.names s Whole) result }
+{
+    if pool.reserve(1).is_err() {
+        return Outcome::NoMemory;
+    }
+    match replica.whole() {
+        Ok(frame) => put_frame(pool, frame),
+        Err(CutFault::Memory) => Outcome::NoMemory,
+        Err(fault) => Outcome::Cut(Err(fault)),
+    }
+}
+
+// Why a frame wasn't taken, as an outcome.
+fn take_fault_told(worn: bool, fault: TakeFault) -> Outcome
+    ensures { result ≡ take_fault_told worn fault }
+{
+    match fault {
+        TakeFault::Memory => Outcome::NoMemory,
+        TakeFault::CellsFull if worn => Outcome::NoMemory,
+        fault => Outcome::Took(Err(fault)),
+    }
+}
+
+// A copy of a frame, whose delta says the same. The one fault is want of memory.
+fn copy_of(frame: &Frame) -> Result<Frame, Memory>
+    ensures { IfOk result (λ copy. IsSame frame.now.delta copy.delta) }
+{
+    let delta = frame.delta.copy()?;
+    Ok(Frame {
+        maker: frame.maker,
+        number: frame.number,
+        delta,
+    })
+}
+
+// The frame of an entry, where there is that entry.
+fn frame_at(pool: &[Frame], entry: usize) -> Option<&Frame>
+    ensures { option_map (λ frame. frame.now) result ≡ slice_get pool.now entry }
+{
+    pool.get(entry)
+}
+
+// Lets a site take a frame that it may take.
+fn take_site(replica: &mut Replica, frame: &Frame) -> Outcome
+    ensures site { replica.new.site ≡ replica.old.site }
+    ensures names { replica.new.names ≡ replica.old.names }
+    ensures meaning { (s : SiteKnowledge) (k : Knowledge) → StandsFor replica.old s
+        → IsDeltaOf frame.now.delta k → MayBeTaken replica.old k → IsTakenSo replica.new s
+        (step replica.old.site replica.old.names s (Take k)) result }
+{
+    let Ok(copy) = copy_of(frame) else {
+        return Outcome::NoMemory;
+    };
+    let worn = replica.is_worn();
+    match replica.take(copy) {
+        Ok(()) => Outcome::Took(Ok(())),
+        Err((fault, _)) => take_fault_told(worn, fault),
+    }
+}
+
+// The site at which an event happens.
+fn site_of(event: &Event) -> SiteId
+    ensures { result ≡ site_of event.now }
+{
+    match event {
+        Event::Ask(site, _) => *site,
+        Event::Cut(site) => *site,
+        Event::Whole(site) => *site,
+        Event::Take(site, _) => *site,
+    }
+}
+
+// Does an event at its site.
+fn happen_at(alloc: Global, replica: &mut Replica, pool: &mut Vec<Frame>, event: &Event) -> Outcome
+    ensures site { replica.new.site ≡ replica.old.site }
+    ensures names { replica.new.names ≡ replica.old.names }
+    ensures meaning { (s : SiteKnowledge) (entries : List Entry) → StandsFor replica.old s
+        → replica.old.site ≡ site_of event.now → Correspond IsFrameOf pool.old.items entries
+        → ((place : ℕ) (entry : Entry) → slice_get entries place ≡ Some entry
+        → MayBeTaken replica.old entry.carried)
+        → HasHappenedAt replica.new s pool.old.items pool.new.items entries
+        (happens_at replica.old.names entries s event.now) result }
+{
+    match event {
+        Event::Ask(_, asked) => ask_site(alloc, replica, asked),
+        Event::Cut(_) => cut_site(replica, pool),
+        Event::Whole(_) => whole_site(replica, pool),
+        Event::Take(_, entry) => match frame_at(pool.as_slice(), *entry) {
+            Some(frame) => take_site(replica, frame),
+            None => Outcome::NoEntry,
+        },
+    }
+}
+
+// Does an event.
+fn happen(alloc: Global, sites: &mut Vec<Replica>, pool: &mut Vec<Frame>, event: &Event) -> Outcome
+    ensures meaning { (names : List (List ℕ)) (w : World)
+        → IsReached names (length sites.old.items) w
+        → StandsForWorld (record { names = names; sites = sites.old.items; pool = pool.old.items }) w
+        → HasHappened (record { names = names; sites = sites.new.items; pool = pool.new.items })
+        w event.now result }
+    ensures count { length sites.new.items ≡ length sites.old.items }
+{
+    match sites.get_mut(usize::from(site_of(event).number())) {
+        Some(replica) => happen_at(alloc, replica, pool, event),
+        None => Outcome::NoSite,
+    }
+}
+
+// Does events in turn, and puts what comes of each at the end of the outcomes, where there is room for all.
+pub(crate) fn run_all(
+    alloc: Global,
+    sites: &mut Vec<Replica>,
+    pool: &mut Vec<Frame>,
+    events: &[Event],
+    outcomes: &mut Vec<Outcome>,
+)
+    requires room { vec_len outcomes.old + length events.now ≤ vec_capacity outcomes.old }
+    requires none { outcomes.old.items ≡ [] }
+    ensures meaning { (names : List (List ℕ)) (w : World)
+        → IsReached names (length sites.old.items) w
+        → StandsForWorld (record { names = names; sites = sites.old.items; pool = pool.old.items }) w
+        → HaveHappened (record { names = names; sites = sites.new.items; pool = pool.new.items })
+        w events.now outcomes.new.items }
+    ensures count { length sites.new.items ≡ length sites.old.items }
+{
+    for event in events {
+        let outcome = happen(alloc, sites, pool, event);
+        outcomes.push_reserved(outcome);
+    }
+}

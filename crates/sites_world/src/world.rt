@@ -1,0 +1,139 @@
+ghost use Rattle.std.specs.Prelude.{◌≡◌, ◌≤◌, ◌⊎◌, ◌↔◌, ◌<◌, ℕ, Err, IfOk, OnErr, Some};
+ghost use Rattle.std.specs.Prelude.{length, option_map, slice_get};
+ghost use Rattle.replica.specs.Site.{SiteState};
+ghost use Rattle.sites_world.specs.Worlds.{IsReached, World as world_of_operations, new_world};
+ghost use Rattle.sites_world.specs.WorldStates.{HaveHappened, IsSiteOf, IsWorld, StandsForWorld};
+ghost use Rattle.replica.specs.Steps.{new_site};
+
+use crate::run::run_all;
+use crate::{Event, Outcome, WorldFault};
+use dots::{Memory, SITES, SiteId};
+use replica::{Frame, QueueList, Replica};
+use std::alloc::Global;
+use std::marker::Model;
+
+/// All sites in one process, with the pool of the frames that they made. There is a world of operations that it stands for, to which
+/// events lead from sites that know nothing.
+#[derive(Drop)]
+pub struct World {
+    list: QueueList,
+    sites: Vec<Replica>,
+    pool: Vec<Frame>,
+}
+
+impl Model for World {
+    ghost use Rattle.sites_world.specs.WorldStates.{IsWorld, WorldState, world_code};
+
+    ghost Value = { WorldState };
+
+    ghost coded = { world_code };
+
+    ghost view = { λ w. record { names = w.list; sites = w.sites.items; pool = w.pool.items } };
+
+    ghost invariant = { λ w. IsWorld (record {
+      names = w.list;
+      sites = w.sites.items;
+      pool = w.pool.items;
+    }) };
+}
+
+// So many new sites, each with a copy of the list.
+fn new_sites(alloc: Global, sites: u16, list: &QueueList) -> Result<Vec<Replica>, Memory>
+    requires { sites ≤ SITES }
+    ensures count { IfOk result (λ made. length made.items ≡ sites) }
+    ensures each { IfOk result (λ made. (site : ℕ) (state : SiteState)
+        → slice_get made.items site ≡ Some state → IsSiteOf list.now site state new_site) }
+{
+    let mut made = Vec::new(alloc);
+    for number in 0..sites {
+        let site = SiteId::new(number).unwrap();
+        let names = list.copy()?;
+        made.push(Replica::new(alloc, site, names))?;
+    }
+    Ok(made)
+}
+
+impl World {
+    /// So many sites that know nothing yet, 1 to 64, each with these queues, and no frame. Faults, in order: `BadSites`, exactly where
+    /// there are none or more than 64; `Memory`.
+    pub fn new(alloc: Global, sites: u16, list: &QueueList) -> Result<World, WorldFault>
+        ensures names { IfOk result (λ world. world.names ≡ list.now) }
+        ensures count { IfOk result (λ world. length world.sites ≡ sites) }
+        ensures meaning { IfOk result (λ world. StandsForWorld world (new_world sites)) }
+        ensures bad_sites { (result ≡ Err WorldFault.BadSites) ↔ ((sites ≡ 0) ⊎ (SITES < sites)) }
+    {
+        if sites == 0 || SITES < sites {
+            return Err(WorldFault::BadSites);
+        }
+        let Ok(list) = list.copy() else {
+            return Err(WorldFault::Memory);
+        };
+        match new_sites(alloc, sites, &list) {
+            Ok(sites) => Ok(World {
+                list,
+                sites,
+                pool: Vec::new(alloc),
+            }),
+            Err(_) => Err(WorldFault::Memory),
+        }
+    }
+
+    /// Does these events in turn, each at its site, and answers what comes of each. An event that memory is wanting for, or that a
+    /// worn site refuses as full, has the outcome `NoMemory` and changes nothing. The other events lead to what they lead to in the
+    /// world of operations, each with the outcome that it has there (RR-7506: what a site shows is the reading of the updates that
+    /// were delivered to it; the events are this project's own). So each report is the status text of what its site knows. The one
+    /// fault is want of memory, before the first event.
+    pub fn run(&mut self, events: &[Event]) -> Result<Vec<Outcome>, Memory>
+        ensures meaning { IfOk result (λ outcomes. (w : world_of_operations)
+            → IsReached self.old.names (length self.old.sites) w → StandsForWorld self.old w
+            → HaveHappened self.new w events.now outcomes.items) }
+        ensures unchanged { OnErr result (self.new ≡ self.old) }
+        ensures names { self.new.names ≡ self.old.names }
+        ensures count { length self.new.sites ≡ length self.old.sites }
+        ensures world { IsWorld self.new }
+    {
+        let alloc = *self.sites.allocator();
+        let mut outcomes = Vec::new(alloc);
+        outcomes.reserve(events.len())?;
+        run_all(
+            alloc,
+            &mut self.sites,
+            &mut self.pool,
+            events,
+            &mut outcomes,
+        );
+        Ok(outcomes)
+    }
+
+    /// The replica of this site. `None` where there is no such site. It takes no memory, like all that only reads.
+    pub fn replica(&self, site: SiteId) -> Option<&Replica>
+        ensures value { option_map (λ replica. replica.now) result
+            ≡ slice_get self.now.sites site }
+        ensures world { IsWorld self.now }
+    {
+        self.sites.get(usize::from(site.number()))
+    }
+
+    /// The frame of this entry of the pool, counted from 0. `None` where there is no such entry.
+    pub fn entry(&self, entry: usize) -> Option<&Frame>
+        ensures value { option_map (λ frame. frame.now) result
+            ≡ slice_get self.now.pool entry }
+        ensures world { IsWorld self.now }
+    {
+        self.pool.get(entry)
+    }
+
+    /// How many entries the pool has.
+    pub fn entries(&self) -> usize
+        ensures { result ≡ length self.now.pool }
+    {
+        self.pool.len()
+    }
+
+    /// The queues that each site has.
+    pub fn list(&self) -> &QueueList
+        ensures { result.now ≡ self.now.names }
+    {
+        &self.list
+    }
+}

@@ -1,0 +1,12 @@
+use thiserror::Error;
+
+/// Why there is no world of so many sites. Of several faults the first of this list is answered (this project's own).
+#[derive(Clone, Copy, Debug, PartialEq, Eq, Error)]
+pub enum WorldFault {
+    /// There are not from 1 to 64 sites.
+    #[error("not from 1 to 64 sites")]
+    BadSites,
+    /// An allocation was refused.
+    #[error("out of memory")]
+    Memory,
+}
