@@ -24,7 +24,7 @@ asks-end (m ∷ before) s last bytes e others more = ap (asks_upon (reaction s m
 
 pub nothing-follows : (s : SessionState) (before : List Fields) (last : Fields) → NothingFollows s before last
 nothing-follows s before last = record {
-  text = λ bytes e others more answers. ap (λ t. greeting ++ t) (replies-end before s last bytes e others more answers);
+  text = λ bytes e others more answers. ap (λ t. greeting s ++ t) (replies-end before s last bytes e others more answers);
   asks = λ bytes e others more. asks-end before s last bytes e others more;
 }
 
@@ -46,5 +46,5 @@ front (m ∷ ms) s answers more = by (reaction s m) answers (front ms (after s m
 pub front-of-more : (s : SessionState) (ms : List Fields) (answers more : List Answer) → IsFrontOfMore s ms answers more
 front-of-more s ms answers more = let one = front ms s answers more in record {
   rest = one.0;
-  is = ap (λ t. greeting ++ t) one.1 ∙ sym (append_assoc greeting (replies s ms answers) one.0);
+  is = ap (λ t. greeting s ++ t) one.1 ∙ sym (append_assoc (greeting s) (replies s ms answers) one.0);
 }

@@ -15,8 +15,9 @@ pub record Login : Type 0 where
   pub user : List ℕ
   pub secret : List ℕ
 
--- a session: who may log in (anybody where there is none), and whether somebody has
+-- a session: the line that greets its client, who may log in (anybody where there is none), and whether somebody has
 pub record SessionState : Type 0 where
+  pub greeting : List ℕ
   pub login : Option Login
   pub logged_in : Bool
 

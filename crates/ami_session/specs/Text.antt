@@ -1,15 +1,19 @@
 -- The text of a whole session: what it writes upon messages, one after another, and upon the answers to what it asks of the site. (A
--- Manager session begins with a greeting; its words are this project's own.)
-use Rattle.std.specs.Prelude.{ℕ, ◌≡◌, List, [], ◌∷◌, ◌++◌, codes}
+-- Manager session begins with a line that greets; its own words are this project's.)
+use Rattle.std.specs.Prelude.{ℕ, ◌≡◌, ◌||◌, Bool, true, false, List, [], ◌∷◌, ◌++◌, codes}
 use Rattle.status_report.specs.declared.asks.Answer.{Answer}
 use Rattle.status_report.specs.declared.asks.Ask.{Ask}
 use Rattle.ami_session.specs.Checks.{SessionState, Reaction, Replies, Asks, Ends, reaction, after}
 use Rattle.ami_session.specs.FieldValues.{Fields}
 use Rattle.ami_session.specs.Checks.{answer_reply}
 
--- the line that greets a client
-abbrev pub greeting : List ℕ
-greeting = codes "Queue Sites Call Manager/1.0.0\r\n"
+-- the line that greets a client where a session has been given no other
+abbrev pub own_greeting : List ℕ
+own_greeting = codes "Queue Sites Call Manager/1.0.0"
+
+-- a session's greeting: its line
+abbrev pub greeting : SessionState → List ℕ
+greeting s = s.greeting ++ codes "\r\n"
 
 -- what a reaction writes before the rest; an ask takes the first of the answers, and without one nothing more is written
 abbrev pub text_upon : Reaction → (List Answer → List ℕ) → List Answer → List ℕ
@@ -25,7 +29,7 @@ replies s (m ∷ ms) answers = text_upon (reaction s m) (replies (after s m) ms)
 
 -- the session's text
 abbrev pub session_text : SessionState → List Fields → List Answer → List ℕ
-session_text s ms answers = greeting ++ replies s ms answers
+session_text s ms answers = greeting s ++ replies s ms answers
 
 -- what the site is asked before the rest; nothing after the end
 abbrev pub asks_upon : Reaction → List Ask → List Ask
@@ -42,6 +46,17 @@ asks s (m ∷ ms) = asks_upon (reaction s m) (asks (after s m) ms)
 abbrev pub after_all : SessionState → List Fields → SessionState
 after_all s [] = s
 after_all s (m ∷ ms) = after_all (after s m) ms
+
+-- whether a reaction ends the session
+abbrev pub is_end : Reaction → Bool
+is_end (Replies bytes) = false
+is_end (Asks ask waiting) = false
+is_end (Ends bytes) = true
+
+-- whether one of the messages ends the session
+abbrev pub is_over : SessionState → List Fields → Bool
+is_over s [] = false
+is_over s (m ∷ ms) = is_end (reaction s m) || is_over (after s m) ms
 
 -- once a message has ended the session, nothing behind it counts: neither in the text nor in what is asked
 pub record NothingFollows (s : SessionState) (before : List Fields) (last : Fields) : Type 0 where

@@ -3,6 +3,7 @@ ghost use Rattle.ami_session.specs.Actions.{AsksBy, absent_in, row_of, unread_in
 ghost use Rattle.ami_session.specs.FieldValues.{id_of};
 ghost use Rattle.ami_session.specs.Replies.{reply};
 ghost use Rattle.ami_session.specs.Checks.{accepts, Replies, Ends, login_reaction, named_reaction, reaction, reaction_to, after, after_action};
+ghost use Rattle.ami_session.specs.Text.{own_greeting};
 ghost use Rattle.ami_session.specs.Views.{reaction_of};
 
 use crate::action::Action;
@@ -26,9 +27,14 @@ struct Credentials {
     secret: Text80,
 }
 
-/// One client's session (Asterisk's Manager Interface): whether it is logged in, and who may log in.
+/// The line that greets a client where a session has been given no other.
+const GREETING: &[u8] = b"Queue Sites Call Manager/1.0.0";
+
+/// One client's session (Asterisk's Manager Interface): how it greets, whether it is logged in, and who may log in.
 #[derive(Drop)]
 pub struct Session {
+    // None where it greets as all do.
+    greeting: Option<Text80>,
     // None where every Login is accepted.
     credentials: Option<Credentials>,
     logged_in: bool,
@@ -39,29 +45,59 @@ impl Model for Session {
 
     ghost Value = { SessionState };
 
+    ghost use Rattle.std.specs.Prelude.{unwrap_or};
     ghost use Rattle.ami_session.specs.Logins.{login_of};
+    ghost use Rattle.ami_session.specs.Text.{own_greeting};
 
-    ghost view = { λ s. record { login = login_of s.credentials; logged_in = s.logged_in } };
+    ghost view = { λ s. record {
+      greeting = unwrap_or s.greeting own_greeting;
+      login = login_of s.credentials;
+      logged_in = s.logged_in;
+    } };
 }
 
 impl Session {
-    /// A session that isn't logged in, for this user and secret.
+    /// A session that isn't logged in, for this user and secret. It greets with `Queue Sites Call Manager/1.0.0`.
     pub fn new(user: Text80, secret: Text80) -> Session
-        ensures { result ≡ record { login = Some (record { user = user; secret = secret }); logged_in = false } }
+        ensures { result ≡ record { greeting = own_greeting; login = Some (record { user = user; secret = secret }); logged_in = false } }
     {
         Session {
+            greeting: None,
             credentials: Some(Credentials { user, secret }),
             logged_in: false,
         }
     }
 
-    /// A session that needs no Login, and accepts every one.
+    /// A session that needs no Login, and accepts every one. It greets as above.
     pub fn trusted() -> Session
-        ensures { result ≡ record { login = None; logged_in = true } }
+        ensures { result ≡ record { greeting = own_greeting; login = None; logged_in = true } }
     {
         Session {
+            greeting: None,
             credentials: None,
             logged_in: true,
+        }
+    }
+
+    /// The session that greets with this line instead: some clients accept only a server that calls itself
+    /// `Asterisk Call Manager/` with a version (Asterisk's greeting).
+    pub fn with_greeting(self, greeting: Text80) -> Session
+        ensures { result ≡ record self { greeting = greeting } }
+    {
+        Session {
+            greeting: Some(greeting),
+            credentials: self.credentials,
+            logged_in: self.logged_in,
+        }
+    }
+
+    /// The line that greets its client, without the line's end.
+    pub fn greeting(&self) -> &[u8]
+        ensures { result.now ≡ self.now.greeting }
+    {
+        match &self.greeting {
+            None => GREETING,
+            Some(greeting) => greeting.as_bytes(),
         }
     }
 

@@ -8,4 +8,5 @@ pub mod Outcome
 pub mod Parsing
 pub mod Outcomes
 pub mod Scanning
+pub mod Taking
 pub mod WholeLines

@@ -2,7 +2,7 @@
 //!
 //! Bytes come in pieces of any size. A [`Feed`] cuts them into lines and gives the messages,
 //! whatever the pieces were. A [`Source`] gives bytes and a [`Sink`] takes them; both are made of
-//! std's readers and writers, or of memory.
+//! std's readers and writers, or of memory. [`write_all`] writes bytes to the last.
 //!
 //! A message as lines `Name: value` with an empty line at its end is Asterisk's (its Manager action
 //! documents). The rules for lines, fields and limits in `specs/` are this project's own.
@@ -26,6 +26,7 @@ mod sink;
 mod source;
 mod std_sink;
 mod std_source;
+mod writing;
 
 pub use failed::Failed;
 pub use feed::Feed;
@@ -38,3 +39,4 @@ pub use source::Source;
 pub use std::alloc::AllocError as Memory;
 pub use std_sink::StdSink;
 pub use std_source::StdSource;
+pub use writing::write_all;

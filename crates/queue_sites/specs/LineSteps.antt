@@ -2,6 +2,7 @@
 use Rattle.std.specs.Prelude.{ℕ, ◌≡◌, Bool, true, false, List, [], ◌++◌, Option, Some, None, codes, decimal}
 use Rattle.std.specs.List.{slice_split}
 use Rattle.std.specs.Io.KnownBytes.{append_known}
+use Rattle.ami_text.specs.Devices.{HasTaken}
 use Rattle.ami_session.specs.Checks.{Reaction, Replies, Asks, Ends}
 use Rattle.ami_session.specs.FieldValues.{Fields}
 use Rattle.ami_session.specs.Checks.{answer_reply}
@@ -13,7 +14,7 @@ use Rattle.status_report.specs.declared.asks.Answer.{Answer}
 use Rattle.status_report.specs.declared.asks.Ask.{Ask}
 use Rattle.queue_sites.specs.declared.script.Output.{Output}
 use Rattle.queue_sites.specs.ScriptLines.{Sense, is_bar, sense_of}
-use Rattle.queue_sites.specs.Script.{Place, Given, Gives, HasTaken, given_by}
+use Rattle.queue_sites.specs.Script.{Place, Given, Gives, given_by}
 
 -- the parts between bars, where there are any
 abbrev pub parts_of : Option (List ℕ) → List (List ℕ)

@@ -8,9 +8,10 @@ use Rattle.dots.specs.Rows.{dot_view, rows_of}
 use Rattle.offer.specs.Offers.{offered}
 use Rattle.replica.specs.declared.command.Command.TheVariants as command
 use Rattle.replica.specs.declared.refusal.Refusal.TheVariants.{NoSuchQueue}
+use Rattle.ami_text.specs.Devices.{HasTaken}
 use Rattle.ami_session.specs.FieldValues.{Fields, name_of}
 use Rattle.ami_session.specs.Checks.{SessionState}
-use Rattle.ami_session.specs.Text.{asks, replies}
+use Rattle.ami_session.specs.Text.{asks, own_greeting, replies}
 use Rattle.replica.specs.Steps.{SiteKnowledge, new_site}
 use Rattle.status_report.specs.Knowing.{answer_in}
 use Rattle.status_report.specs.declared.asks.Answer.{Answer}
@@ -40,7 +41,7 @@ answers_in place s (ask ∷ more) =
 
 -- a session that needs no Login
 abbrev pub trusted_session : SessionState
-trusted_session = record { login = None; logged_in = true }
+trusted_session = record { greeting = own_greeting; login = None; logged_in = true }
 
 -- a message gives the replies of a trusted session of this one message, in which the site answers what is asked
 abbrev pub given_by : Place → SiteKnowledge → Fields → Given
@@ -103,19 +104,6 @@ pub record HasWritten (place : Place) (s : SiteKnowledge) (script : List ℕ) (b
   pub text : List ℕ
   pub is_text : AreGiven place s 1 (lines_of script) text unknown
   pub taken : after ≡ append_known before text
-
--- a device has given at least so many bytes
-pub record HasGiven (before after : Option (List ℕ)) (least : ℕ) : Type 0 where
-  pub bytes : List ℕ
-  pub given : after ≡ append_known before bytes
-  pub many : least ≤ length bytes
-
--- a device has taken the front of these bytes
-pub record HasTaken (before after : Option (List ℕ)) (bytes : List ℕ) : Type 0 where
-  pub front : List ℕ
-  pub rest : List ℕ
-  pub is : bytes ≡ front ++ rest
-  pub taken : after ≡ append_known before front
 
 -- a device has taken the front of the text of a script's lines
 pub record HasBegun (place : Place) (s : SiteKnowledge) (script : List ℕ) (before after : Option (List ℕ)) : Type 0 where

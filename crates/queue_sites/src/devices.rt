@@ -1,10 +1,10 @@
-//! A script is read whole before any of its lines is run, and each line's output is written whole.
-ghost use Rattle.std.specs.Prelude.{◌≡◌, ◌≢◌, ◌≤◌, true, false, vec_len, IfOk, IfErr, OnOk, OnErr, IsErrOf, ◌⊎◌, ◌+◌};
+//! A script is read whole before any of its lines is run.
+ghost use Rattle.std.specs.Prelude.{◌≡◌, ◌≢◌, ◌≤◌, true, false, vec_len, IfOk, IfErr, OnOk, IsErrOf, ◌⊎◌, ◌+◌};
 ghost use Rattle.std.specs.Io.KnownBytes.{append_known};
-ghost use Rattle.queue_sites.specs.Script.{HasGiven, HasTaken};
+ghost use Rattle.ami_text.specs.Devices.{HasGiven};
 
 use crate::script_fault::ScriptFault;
-use ami_text::{Sink, Source};
+use ami_text::Source;
 use std::alloc::Global;
 
 // How many bytes are read at a time.
@@ -42,28 +42,4 @@ pub fn read_script<S: Source>(alloc: Global, reader: &mut S) -> Result<Vec<u8>, 
             .map_err(|_| ScriptFault::Memory)?;
     }
     Err(ScriptFault::Read)
-}
-
-/// Writes all the bytes. Fault: `Write` where the writer fails or takes none; a front was written.
-pub fn write_all<W: Sink>(writer: &mut W, bytes: &[u8]) -> Result<(), ScriptFault>
-    requires { W.failed writer.old ≡ false }
-    ensures written { OnOk result (W.taken writer.new ≡ append_known (W.taken writer.old) bytes.now) }
-    ensures works { OnOk result (W.failed writer.new ≡ false) }
-    ensures fault { IfErr result (λ fault. fault ≡ ScriptFault.Write) }
-    ensures fails { OnErr result (W.failed writer.new ≡ true) }
-    ensures begun { IfErr result (λ _. HasTaken (W.taken writer.old) (W.taken writer.new) bytes.now) }
-{
-    let mut rest = bytes;
-    while !rest.is_empty() {
-        match writer.write(rest) {
-            Err(_) => return Err(ScriptFault::Write),
-            Ok(count) => {
-                if count == 0 {
-                    return Err(ScriptFault::Write);
-                }
-                rest = &rest[count..];
-            }
-        }
-    }
-    Ok(())
 }

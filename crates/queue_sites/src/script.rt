@@ -1,21 +1,22 @@
 ghost use Rattle.std.specs.Prelude.{◌≡◌, ◌≢◌, ◌≤◌, ◌++◌, ◌+◌, ◌⊎◌, true, false, codes, decimal, length, vec_len, IfOk, IfErr, OnOk, IsErrOf};
 ghost use Rattle.replica.specs.Standing.{StandsFor};
 ghost use Rattle.replica.specs.Steps.{SiteKnowledge, new_site};
+ghost use Rattle.ami_text.specs.Devices.{HasGiven};
 ghost use Rattle.ami_session.specs.Views.{reaction_of};
 ghost use Rattle.ami_session.specs.FieldValues.{name_of};
 ghost use Rattle.queue_sites.specs.ScriptLines.{Message as asks_message, queue_in, sense_of, tried_in};
-ghost use Rattle.queue_sites.specs.Script.{count_of, given_by_count, given_by_offer, one_site, HasBegun, HasGiven, HasWritten, IsRun, IsRunInPart};
+ghost use Rattle.queue_sites.specs.Script.{count_of, given_by_count, given_by_offer, one_site, HasBegun, HasWritten, IsRun, IsRunInPart};
 ghost use Rattle.queue_sites.specs.LineSteps.{BeganLine, GaveLine, Holds, IsActed, IsAnswer, IsOutput, IsReplied, IsUnknown, place_of};
 
 use crate::answers::{answer_text, offer_text, refused_text};
-use crate::devices::{read_script, write_all};
+use crate::devices::read_script;
 use crate::laws::script_has_one_text;
 use crate::line::{Line, cut_line, read_line};
 use crate::message::message_of;
 use crate::parts::{cut_at_bar, interfaces_of};
 use crate::script_fault::ScriptFault;
 use ami_session::{Act, Session, queue_of};
-use ami_text::{Message, Sink, Source};
+use ami_text::{Message, Sink, Source, write_all};
 use dots::{Calls, QueueName, SiteId};
 use offer::offer;
 use replica::{Command, QueueList, Refusal, Replica};
@@ -128,7 +129,7 @@ fn give_line<W: Sink>(
     ensures fault { IfErr result (λ fault. (fault ≡ ScriptFault.Write) ⊎ (fault ≡ ScriptFault.Memory)) }
 {
     let output = run_line(alloc, replica, line, number)?;
-    write_all(writer, &output.text)?;
+    write_all(writer, &output.text).map_err(|_| ScriptFault::Write)?;
     Ok(output.understood)
 }
 

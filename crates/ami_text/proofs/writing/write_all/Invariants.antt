@@ -1,6 +1,6 @@
 use Rattle.std.proofs.Common.{◌≡◌, ◌++◌, ℕ, List, false, length}
 use Rattle.std.specs.Io.KnownBytes.{append_known}
-use Rattle.queue_sites.proofs.devices.write_all.Given as goal
+use Rattle.ami_text.proofs.writing.write_all.Given as goal
 
 -- the writer works, and has taken the front of the bytes; the rest is left
 abbrev pub invariant-loop-rest : goal.invariant-loop-rest

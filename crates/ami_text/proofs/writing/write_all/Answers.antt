@@ -1,6 +1,6 @@
 use Rattle.std.proofs.Common.{arith}
-use Rattle.queue_sites.proofs.Taking.{front-grows, taken-grows}
-use Rattle.queue_sites.proofs.devices.write_all.Goals as goal
+use Rattle.ami_text.proofs.Taking.{front-grows, taken-grows}
+use Rattle.ami_text.proofs.writing.write_all.Goals as goal
 
 pub loop-rest-preserved : goal.loop-rest-preserved
 loop-rest-preserved g c =

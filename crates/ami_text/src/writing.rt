@@ -1,0 +1,33 @@
+//! Bytes are written whole, in as many writes as the sink makes of them.
+ghost use Rattle.std.specs.Prelude.{◌≡◌, true, false, OnOk, OnErr};
+ghost use Rattle.std.specs.Io.KnownBytes.{append_known};
+ghost use Rattle.ami_text.specs.Devices.{HasTaken};
+
+use crate::{Failed, Sink};
+
+/// Writes all the bytes.
+///
+/// `Failed`: the sink failed, or took none of the bytes that were left; it has taken a front of
+/// them, and may not be written to again.
+pub fn write_all<W: Sink>(writer: &mut W, bytes: &[u8]) -> Result<(), Failed>
+    requires { W.failed writer.old ≡ false }
+    ensures written { OnOk result (W.taken writer.new
+        ≡ append_known (W.taken writer.old) bytes.now) }
+    ensures works { OnOk result (W.failed writer.new ≡ false) }
+    ensures fails { OnErr result (W.failed writer.new ≡ true) }
+    ensures begun { OnErr result (HasTaken (W.taken writer.old) (W.taken writer.new) bytes.now) }
+{
+    let mut rest = bytes;
+    while !rest.is_empty() {
+        match writer.write(rest) {
+            Err(failed) => return Err(failed),
+            Ok(count) => {
+                if count == 0 {
+                    return Err(Failed);
+                }
+                rest = &rest[count..];
+            }
+        }
+    }
+    Ok(())
+}
