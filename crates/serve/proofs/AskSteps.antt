@@ -1,0 +1,39 @@
+-- What is done upon an ask that the desk answers.
+use Rattle.std.proofs.Common.{◌≡◌, ℕ, List, [], ◌∷◌, refl, sym, ◌∙◌, subst, append-nil, Option, Result, Ok, Err, IfErr, OnErr, OnOk}
+use Rattle.std.specs.Io.KnownBytes.{append_known}
+use Rattle.ami_text.specs.Devices.{HasTaken}
+use Rattle.status_report.specs.declared.asks.Answer.{Answer}
+use Rattle.status_report.specs.declared.asks.Ask.{Ask}
+use Rattle.ami_session.specs.Checks.{Asks, Reaction, Waiting, answer_reply}
+use Rattle.serve.specs.declared.serve_fault.ServeFault.{ServeFault}
+use Rattle.serve.specs.declared.serve_fault.ServeFault.TheVariants.{Write}
+use Rattle.serve.specs.Steps.{BreaksOff, HasBegun, HasDone, HasSaid}
+use Rattle.serve.proofs.Taking.{taken-none}
+
+-- the reply upon the answer is to be written
+pub ask-done : {D : Type 0} (Answers : D → Ask → Answer → D → Type 0) (ask : Ask) (waiting : Waiting) (answer : Answer) (d e : D) (text : List ℕ)
+    → Answers d ask answer e → text ≡ answer_reply waiting answer → HasDone Answers (Asks ask waiting) d e text
+ask-done Answers ask waiting answer d e text answered is = record {
+  answers = answer ∷ [];
+  run = (e, answered, refl);
+  is = is ∙ sym (append-nil (answer_reply waiting answer));
+}
+
+-- it was written
+pub all-said : {D T E : Type 0} (Answers : D → Ask → Answer → D → Type 0) (r : Reaction) (d e : D) (old new : Option (List ℕ)) (text : List ℕ) (result : Result T E)
+    → HasDone Answers r d e text → OnOk result (new ≡ append_known old text) → OnOk result (HasSaid Answers r d e old new)
+all-said Answers r d e old new text (Ok x) done taken = record { text = text; done = done; taken = taken }
+all-said Answers r d e old new text (Err f) done taken = tt
+
+-- or a front of it was
+pub front-said : {D T : Type 0} (Answers : D → Ask → Answer → D → Type 0) (Refuses : D → Ask → D → Type 0) (r : Reaction) (d e : D) (old new : Option (List ℕ)) (text : List ℕ)
+    (result : Result T ServeFault) → HasDone Answers r d e text → IfErr result (λ fault. fault ≡ Write) → OnErr result (HasTaken old new text)
+    → IfErr result (λ fault. BreaksOff Answers Refuses r d e old new fault)
+front-said Answers Refuses r d e old new text (Ok x) done is taken = tt
+front-said Answers Refuses r d e old new text (Err f) done is taken =
+    subst (λ fault. BreaksOff Answers Refuses r d e old new fault) (sym is) (record { text = text; done = done; taken = taken })
+
+-- or nothing was
+pub none-said : {D : Type 0} (Answers : D → Ask → Answer → D → Type 0) (r : Reaction) (d e : D) (old : Option (List ℕ)) (text : List ℕ)
+    → HasDone Answers r d e text → HasBegun Answers r d e old old
+none-said Answers r d e old text done = record { text = text; done = done; taken = record { front = []; rest = text; is = refl; taken = taken-none old } }

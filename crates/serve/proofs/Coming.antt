@@ -1,0 +1,100 @@
+-- What comes of a stream, read by read.
+use Rattle.std.proofs.Common.{◌≡◌, ◌≤◌, ◌⊎◌, ⊎_elim, ℕ, Bool, true, Result, Ok, Err, Some, None, List, [], ◌++◌, sym, ap, subst, arith, append_assoc, append-nil, length, length-append, Option}
+use Rattle.ami_text.specs.Lines.{lines_text}
+use Rattle.ami_text.specs.MessageFields.{NameAndValue}
+use Rattle.ami_text.specs.declared.feed_fault.FeedFault.{FeedFault}
+use Rattle.ami_text.specs.declared.feed_fault.FeedFault.TheVariants as stream_fault
+use Rattle.ami_text.specs.FeedStates.{FeedState, IsStreamFault}
+use Rattle.ami_text.specs.Stream.{Gives, HasFault, IsRest, Reads, Rest}
+use Rattle.serve.specs.declared.serve_fault.ServeFault.{ServeFault}
+use Rattle.serve.specs.declared.serve_fault.ServeFault.TheVariants.{Read, Write, LineTooLong, TooManyFields, DeskDown, Turns, Memory}
+use Rattle.serve.specs.Faults.{session_fault}
+use Rattle.serve.specs.Steps.{HasCome, IsHeld, IsNext}
+use Rattle.serve.proofs.Taking.{taken-grows, taken-none}
+
+-- more bytes change no message
+abbrev pub MoreStays : Type 0
+MoreStays = (bytes piece rest : List ℕ) (messages : List (List NameAndValue)) → Gives bytes messages rest → Gives (bytes ++ piece) messages (rest ++ piece)
+
+-- messages, and then those of what is left
+abbrev pub LaterFollows : Type 0
+LaterFollows = (bytes held rest : List ℕ) (messages later : List (List NameAndValue)) → Gives bytes messages held → Gives held later rest → Gives bytes (messages ++ later) rest
+
+-- nothing has come
+pub come-none : (given : Option (List ℕ)) (held : List ℕ) (reads : ℕ) → ((bytes : List ℕ) → Gives bytes [] bytes) → HasCome given given held reads reads (λ stream. Gives stream [] held)
+come-none given held reads none = record {
+  bytes = [];
+  given = taken-none given;
+  many = omega arith;
+  holds = subst (λ t. Gives t [] held) (sym (append-nil held)) (none held);
+}
+
+-- what holds of the stream
+pub come-so : (given after : Option (List ℕ)) (held : List ℕ) (reads left : ℕ) (H K : List ℕ → Type 0) → ((stream : List ℕ) → H stream → K stream)
+    → HasCome given after held reads left H → HasCome given after held reads left K
+come-so given after held reads left H K so come = record { bytes = come.bytes; given = come.given; many = come.many; holds = so (held ++ come.bytes) come.holds }
+
+-- and then more has
+pub come-more : (given now after : Option (List ℕ)) (held rest : List ℕ) (reads left last : ℕ) (K : List ℕ → Type 0) → MoreStays
+    → HasCome given now held reads left (λ stream. Gives stream [] rest) → HasCome now after rest left last K
+    → HasCome given after held reads last (λ stream. (piece : List ℕ) × Gives stream [] (rest ++ piece) × K (rest ++ piece))
+come-more given now after held rest reads left last K stays come more = record {
+  bytes = come.bytes ++ more.bytes;
+  given = taken-grows given now after come.bytes more.bytes come.given more.given;
+  many = omega (arith, come.many, more.many, length-append come.bytes more.bytes);
+  holds = (more.bytes, subst (λ t. Gives t [] (rest ++ more.bytes)) (append_assoc held come.bytes more.bytes) (stays (held ++ come.bytes) more.bytes rest [] come.holds), more.holds);
+}
+
+-- what is left of a stream is no longer than it
+pub left-within : (bytes rest : List ℕ) → Gives bytes [] rest → length rest ≤ length bytes
+left-within bytes rest gives = omega (arith, ap (length {A = ℕ}) gives.2, length-append (lines_text gives.0) rest)
+
+-- a piece came
+pub piece-came : (given now after : Option (List ℕ)) (held rest more : List ℕ) (reads left last : ℕ) → MoreStays
+    → HasCome given now held reads left (λ stream. Gives stream [] rest) → HasCome now after rest left last (IsHeld (Ok true) rest more)
+    → HasCome given after held reads last (λ stream. Gives stream [] more)
+piece-came given now after held rest more reads left last stays come piece =
+    come-so given after held reads last _ _ (λ stream x. subst (λ t. Gives stream [] t) (sym x.2) x.1) (come-more given now after held rest reads left last _ stays come piece)
+
+-- none came, and what is held is no message
+pub none-came : (given now after : Option (List ℕ)) (held rest more : List ℕ) (reads left last : ℕ) → MoreStays → IsRest rest
+    → HasCome given now held reads left (λ stream. Gives stream [] rest) → HasCome now after rest left last (λ stream. (more ≡ stream) × (more ≡ rest))
+    → HasCome given after held reads last (λ stream. Reads stream [] (Rest more))
+none-came given now after held rest more reads left last stays is_rest come piece =
+    come-so given after held reads last _ _ (λ stream x. (subst (λ t. Gives stream [] t) (sym x.2.0) x.1, subst IsRest (sym x.2.1) is_rest))
+    (come-more given now after held rest reads left last _ stays come piece)
+
+-- reading broke off
+pub broken-came : (fault : ServeFault) (given now after : Option (List ℕ)) (held rest more : List ℕ) (reads left last : ℕ) → MoreStays → IsRest rest
+    → HasCome given now held reads left (λ stream. Gives stream [] rest) → HasCome now after rest left last (IsHeld (Err fault) rest more)
+    → HasCome given after held reads last (IsNext (Err fault) more)
+broken-came Read given now after held rest more reads left last stays is_rest come piece = none-came given now after held rest more reads left last stays is_rest come piece
+broken-came Turns given now after held rest more reads left last stays is_rest come piece = none-came given now after held rest more reads left last stays is_rest come piece
+broken-came Memory given now after held rest more reads left last stays is_rest come piece =
+    come-so given after held reads last _ _ (λ stream x. tt) (come-more given now after held rest reads left last _ stays come piece)
+broken-came Write given now after held rest more reads left last stays is_rest come piece = absurd piece.holds
+broken-came LineTooLong given now after held rest more reads left last stays is_rest come piece = absurd piece.holds
+broken-came TooManyFields given now after held rest more reads left last stays is_rest come piece = absurd piece.holds
+broken-came DeskDown given now after held rest more reads left last stays is_rest come piece = absurd piece.holds
+
+-- a read's result, told
+pub held-so : (now after : Option (List ℕ)) (rest more : List ℕ) (left last : ℕ) (result told : Result Bool ServeFault) → result ≡ told
+    → HasCome now after rest left last (IsHeld result rest more) → HasCome now after rest left last (IsHeld told rest more)
+held-so now after rest more left last result told is come = subst (λ r. HasCome now after rest left last (IsHeld r rest more)) is come
+
+-- what came, told
+pub next-so : (now after : Option (List ℕ)) (held rest : List ℕ) (reads left : ℕ) (result told : Result (Option (List NameAndValue)) ServeFault) → result ≡ told
+    → HasCome now after held reads left (IsNext result rest) → HasCome now after held reads left (IsNext told rest)
+next-so now after held rest reads left result told is come = subst (λ r. HasCome now after held reads left (IsNext r rest)) is come
+
+not-both : (o : Option FeedFault) (fault : FeedFault) → o ≡ None → o ≡ Some fault → ⊥
+not-both o fault none some = cc
+
+-- what a feed shows that fails
+pub fault-next : (fault : FeedFault) (told : ServeFault) (was : FeedState) (held stream : List ℕ) → told ≡ session_fault fault → was.fault ≡ None
+    → (IsStreamFault (Some fault) → (was.fault ≡ Some fault) ⊎ HasFault fault was.held) → Gives stream [] was.held → IsNext (Err told) held stream
+fault-next stream_fault.LineTooLong told was held stream is works shows gives =
+    subst (λ f. IsNext (Err f) held stream) (sym is) (was.held, gives, ⊎_elim (λ failed. absurd (not-both was.fault stream_fault.LineTooLong works failed)) (λ has. has) (shows tt))
+fault-next stream_fault.TooManyFields told was held stream is works shows gives =
+    subst (λ f. IsNext (Err f) held stream) (sym is) (was.held, gives, ⊎_elim (λ failed. absurd (not-both was.fault stream_fault.TooManyFields works failed)) (λ has. has) (shows tt))
+fault-next stream_fault.Memory told was held stream is works shows gives = subst (λ f. IsNext (Err f) held stream) (sym is) tt

@@ -1,0 +1,5 @@
+pub mod AskSteps
+pub mod Coming
+pub mod Serving
+pub mod Taking
+pub mod TextSteps

@@ -1,0 +1,343 @@
+-- How a session goes on, message by message.
+use Rattle.std.proofs.Common.{◌≡◌, ◌≤◌, ⊎_elim, inl, inr, ℕ, ◌+◌, Bool, true, false, List, [], ◌∷◌, ◌++◌, refl, sym, ◌∙◌, ap, subst, arith, append_assoc, append-nil, length, length-append, Option, Ok, Err, Some, None}
+use Rattle.std.specs.Io.KnownBytes.{append_known}
+use Rattle.ami_text.specs.Devices.{HasGiven, HasTaken}
+use Rattle.ami_text.specs.Stream.{Ending, Gives, Reads, Rest}
+use Rattle.status_report.specs.declared.asks.Answer.{Answer}
+use Rattle.status_report.specs.declared.asks.Ask.{Ask}
+use Rattle.ami_session.specs.Checks.{SessionState, after as session_after, reaction}
+use Rattle.ami_session.specs.FieldValues.{Fields}
+use Rattle.ami_session.specs.Text.{after_all, greeting, is_end, is_over}
+use Rattle.serve.specs.declared.serve_fault.ServeFault.{ServeFault}
+use Rattle.serve.specs.declared.serve_fault.ServeFault.TheVariants.{Read, Write, LineTooLong, TooManyFields, DeskDown, Turns, Memory}
+use Rattle.serve.specs.Sessions.{AreAnswered, Carries, HasText, IsBegun, IsLeftBy, IsRefused, IsServed}
+use Rattle.serve.specs.Steps.{BreaksOff, HasBegun, HasCome, HasSaid, IsDown, IsNext, IsUntouched}
+use Rattle.serve.proofs.Coming.{LaterFollows, MoreStays}
+use Rattle.serve.proofs.Taking.{taken-grows, taken-none}
+use Rattle.serve.proofs.TextSteps.{after-one, over-one, text-one}
+
+-- the stream of two pieces has the messages of the one, and then those of what that leaves and the other
+abbrev pub PiecesJoin : Type 0
+PiecesJoin = (first second held : List ℕ) (messages more : List Fields) (ending : Ending) → Gives first messages held → Reads (held ++ second) more ending → Reads (first ++ second) (messages ++ more) ending
+
+-- a session that has come so far: the messages of the bytes are answered, none of them ends it, and this is held behind them
+pub record Going {D : Type 0} (Answers : D → Ask → Answer → D → Type 0) (s : SessionState) (d e : D) (now : SessionState) (held : List ℕ) (reads : ℕ) (bytes text : List ℕ) : Type 0 where
+  pub messages : List Fields
+  pub gives : Gives bytes messages held
+  pub goes_on : is_over s messages ≡ false
+  pub is_now : now ≡ after_all s messages
+  pub has_text : HasText Answers s d e messages text
+  pub many : 1000000 ≤ reads + length bytes
+
+-- nothing is answered yet
+greeted : {D : Type 0} (Answers : D → Ask → Answer → D → Type 0) (s : SessionState) (d : D) → HasText Answers s d d [] (greeting s)
+greeted Answers s d = record { answers = []; run = refl; is = sym (append-nil (greeting s)) }
+
+-- it begins with the greeting
+pub going-start : {D : Type 0} (Answers : D → Ask → Answer → D → Type 0) (s : SessionState) (d : D) (given old new : Option (List ℕ)) (held : List ℕ) (reads : ℕ) → ((bytes : List ℕ) → Gives bytes [] bytes)
+    → held ≡ [] → reads ≡ 1000000 → new ≡ append_known old (greeting s) → Carries given given old new (Going Answers s d d s held reads)
+going-start Answers s d given old new held reads none is_held is_reads taken = record {
+  bytes = [];
+  text = greeting s;
+  given = taken-none given;
+  taken = taken;
+  holds = record {
+    messages = [];
+    gives = subst (λ t. Gives [] [] t) (sym is_held) (none []);
+    goes_on = refl;
+    is_now = refl;
+    has_text = greeted Answers s d;
+    many = omega (arith, is_reads);
+  };
+}
+
+-- which may break off
+greeting-begun : {D : Type 0} (Answers : D → Ask → Answer → D → Type 0) (s : SessionState) (d : D) (given old new : Option (List ℕ)) → ((bytes : List ℕ) → Gives bytes [] bytes)
+    → HasTaken old new (greeting s) → Carries given given old new (IsBegun Answers s d d)
+greeting-begun Answers s d given old new none taken = record {
+  bytes = [];
+  text = taken.front;
+  given = taken-none given;
+  taken = taken.taken;
+  holds = record {
+    messages = [];
+    rest = [];
+    gives = none [];
+    more = taken.rest;
+    has_text = subst (λ t. HasText Answers s d d [] t) taken.is (greeted Answers s d);
+  };
+}
+
+pub greeting-breaks : {D : Type 0} (Answers : D → Ask → Answer → D → Type 0) (Refuses : D → Ask → D → Type 0) (fault : ServeFault) (s : SessionState) (d : D) (given old new : Option (List ℕ))
+    → ((bytes : List ℕ) → Gives bytes [] bytes) → fault ≡ Write → HasTaken old new (greeting s) → Carries given given old new (IsLeftBy Answers Refuses s d d fault)
+greeting-breaks Answers Refuses fault s d given old new none is taken =
+    subst (λ f. Carries given given old new (IsLeftBy Answers Refuses s d d f)) (sym is) (greeting-begun Answers s d given old new none taken)
+
+-- what was read and written, and what holds of it
+carries-so : (given given_new old new : Option (List ℕ)) (H K : List ℕ → List ℕ → Type 0) → ((bytes text : List ℕ) → H bytes text → K bytes text)
+    → Carries given given_new old new H → Carries given given_new old new K
+carries-so given given_new old new H K so c = record { bytes = c.bytes; text = c.text; given = c.given; taken = c.taken; holds = so c.bytes c.text c.holds }
+
+-- bytes of which one part was served, and this holds of what was held behind it and the other part
+record ReadOn (held : List ℕ) (reads left : ℕ) (H : List ℕ → List ℕ → Type 0) (K : List ℕ → Type 0) (bytes text : List ℕ) : Type 0 where
+  pub first : List ℕ
+  pub piece : List ℕ
+  pub is : bytes ≡ first ++ piece
+  pub before : H first text
+  pub more : K (held ++ piece)
+  pub many : reads ≤ left + length piece
+
+reads-on : (given now after old new : Option (List ℕ)) (held : List ℕ) (reads left : ℕ) (H : List ℕ → List ℕ → Type 0) (K : List ℕ → Type 0)
+    → Carries given now old new H → HasCome now after held reads left K → Carries given after old new (ReadOn held reads left H K)
+reads-on given now after old new held reads left H K c come = record {
+  bytes = c.bytes ++ come.bytes;
+  text = c.text;
+  given = taken-grows given now after c.bytes come.bytes c.given come.given;
+  taken = c.taken;
+  holds = record { first = c.bytes; piece = come.bytes; is = refl; before = c.holds; more = come.holds; many = come.many };
+}
+
+-- the stream has no further message, and an ending
+ended-by : {D : Type 0} (Answers : D → Ask → Answer → D → Type 0) (s now : SessionState) (d e : D) (held : List ℕ) (reads left : ℕ) (K : List ℕ → Type 0) (bytes text : List ℕ) (ending : Ending)
+    → PiecesJoin → ((stream : List ℕ) → K stream → Reads stream [] ending)
+    → ReadOn held reads left (Going Answers s d e now held reads) K bytes text → AreAnswered Answers s d e ending bytes text
+ended-by Answers s now d e held reads left K bytes text ending join so x =
+    let going = x.before in
+    let all = join x.first x.piece held going.messages [] ending going.gives (so (held ++ x.piece) x.more) in
+    record {
+      messages = going.messages;
+      reads = subst (λ ms. Reads bytes ms ending) (append-nil going.messages) (subst (λ t. Reads t (going.messages ++ []) ending) (sym x.is) all);
+      has_text = going.has_text;
+    }
+
+-- nothing more is told of the stream
+begun-before : {D : Type 0} (Answers : D → Ask → Answer → D → Type 0) (s now : SessionState) (d e : D) (held : List ℕ) (reads left : ℕ) (K : List ℕ → Type 0) (bytes text : List ℕ)
+    → MoreStays → ReadOn held reads left (Going Answers s d e now held reads) K bytes text → IsBegun Answers s d e bytes text
+begun-before Answers s now d e held reads left K bytes text stays x =
+    let going = x.before in
+    record {
+      messages = going.messages;
+      rest = held ++ x.piece;
+      gives = subst (λ t. Gives t going.messages (held ++ x.piece)) (sym x.is) (stays x.first x.piece held going.messages going.gives);
+      more = [];
+      has_text = subst (λ t. HasText Answers s d e going.messages t) (sym (append-nil text)) going.has_text;
+    }
+
+-- the reader has ended
+pub served-at-end : {D : Type 0} (Answers : D → Ask → Answer → D → Type 0) (s now : SessionState) (d e : D) (given before after old new : Option (List ℕ)) (held rest : List ℕ)
+    (reads left : ℕ) (ended : Bool) → PiecesJoin → ended ≡ true
+    → Carries given before old new (Going Answers s d e now held reads) → HasCome before after held reads left (IsNext (Ok None) rest)
+    → Carries given after old new (IsServed Answers s d e ended)
+served-at-end Answers s now d e given before after old new held rest reads left ended join is c come =
+    carries-so given after old new _ _
+    (λ bytes text x.
+    let all = ended-by Answers s now d e held reads left (IsNext (Ok None) rest) bytes text (Rest rest) join (λ stream more. more) x in
+    record { messages = all.messages; rest = rest; gives = all.reads.0; has_text = all.has_text; at_end = inr (all.reads.1, is) })
+    (reads-on given before after old new held reads left _ _ c come)
+
+-- reading broke off
+pub reading-breaks : {D : Type 0} (Answers : D → Ask → Answer → D → Type 0) (Refuses : D → Ask → D → Type 0) (fault : ServeFault) (s now : SessionState) (d e : D)
+    (given before after old new : Option (List ℕ)) (held rest : List ℕ) (reads left : ℕ) → PiecesJoin → MoreStays
+    → Carries given before old new (Going Answers s d e now held reads) → HasCome before after held reads left (IsNext (Err fault) rest)
+    → Carries given after old new (IsLeftBy Answers Refuses s d e fault)
+reading-breaks Answers Refuses Read s now d e given before after old new held rest reads left join stays c come =
+    carries-so given after old new _ _ (λ bytes text x. (rest, ended-by Answers s now d e held reads left (IsNext (Err Read) rest) bytes text _ join (λ stream more. more) x))
+    (reads-on given before after old new held reads left _ _ c come)
+reading-breaks Answers Refuses Turns s now d e given before after old new held rest reads left join stays c come =
+    carries-so given after old new _ _ (λ bytes text x. (rest, ended-by Answers s now d e held reads left (IsNext (Err Turns) rest) bytes text _ join (λ stream more. more) x))
+    (reads-on given before after old new held reads left _ _ c come)
+reading-breaks Answers Refuses LineTooLong s now d e given before after old new held rest reads left join stays c come =
+    carries-so given after old new _ _ (λ bytes text x. ended-by Answers s now d e held reads left (IsNext (Err LineTooLong) rest) bytes text _ join (λ stream more. more) x)
+    (reads-on given before after old new held reads left _ _ c come)
+reading-breaks Answers Refuses TooManyFields s now d e given before after old new held rest reads left join stays c come =
+    carries-so given after old new _ _ (λ bytes text x. ended-by Answers s now d e held reads left (IsNext (Err TooManyFields) rest) bytes text _ join (λ stream more. more) x)
+    (reads-on given before after old new held reads left _ _ c come)
+reading-breaks Answers Refuses Memory s now d e given before after old new held rest reads left join stays c come =
+    carries-so given after old new _ _ (λ bytes text x. begun-before Answers s now d e held reads left (IsNext (Err Memory) rest) bytes text stays x)
+    (reads-on given before after old new held reads left _ _ c come)
+reading-breaks Answers Refuses Write s now d e given before after old new held rest reads left join stays c come = absurd come.holds
+reading-breaks Answers Refuses DeskDown s now d e given before after old new held rest reads left join stays c come = absurd come.holds
+
+-- 1,000,000 reads gave a byte each
+pub turns-over : {D : Type 0} (Answers : D → Ask → Answer → D → Type 0) (s now : SessionState) (d e : D) (given before after old new : Option (List ℕ)) (held : List ℕ)
+    (reads left : ℕ) (K : List ℕ → Type 0) → left ≡ 0 → Carries given before old new (Going Answers s d e now held reads) → HasCome before after held reads left K
+    → HasGiven given after 1000000
+turns-over Answers s now d e given before after old new held reads left K none c come = record {
+  bytes = c.bytes ++ come.bytes;
+  given = taken-grows given before after c.bytes come.bytes c.given come.given;
+  many = omega (arith, c.holds.many, come.many, none, length-append c.bytes come.bytes);
+}
+
+-- a message came
+record MessageCame {D : Type 0} (Answers : D → Ask → Answer → D → Type 0) (s : SessionState) (d e : D) (now : SessionState) (message : Fields) (rest : List ℕ) (left : ℕ) (bytes text : List ℕ) : Type 0 where
+  pub messages : List Fields
+  pub gives : Gives bytes (messages ++ message ∷ []) rest
+  pub goes_on : is_over s messages ≡ false
+  pub is_now : now ≡ after_all s messages
+  pub has_text : HasText Answers s d e messages text
+  pub many : 1000000 ≤ left + length bytes
+
+-- what was written, and then this
+message-came : {D : Type 0} (Answers : D → Ask → Answer → D → Type 0) (s now : SessionState) (d e : D) (given before after old new : Option (List ℕ)) (held rest : List ℕ) (message : Fields)
+    (reads left : ℕ) → MoreStays → LaterFollows
+    → Carries given before old new (Going Answers s d e now held reads) → HasCome before after held reads left (IsNext (Ok (Some message)) rest)
+    → Carries given after old new (MessageCame Answers s d e now message rest left)
+message-came Answers s now d e given before after old new held rest message reads left stays later c come =
+    carries-so given after old new _ _
+    (λ bytes text x.
+    let going = x.before in
+    let more = stays x.first x.piece held going.messages going.gives in
+    let all = later (x.first ++ x.piece) (held ++ x.piece) rest going.messages (message ∷ []) more x.more in
+    record {
+      messages = going.messages;
+      gives = subst (λ t. Gives t (going.messages ++ message ∷ []) rest) (sym x.is) all;
+      goes_on = going.goes_on;
+      is_now = going.is_now;
+      has_text = going.has_text;
+      many = omega (arith, going.many, x.many, length-append x.first x.piece, ap (length {A = ℕ}) x.is);
+    })
+    (reads-on given before after old new held reads left _ _ c come)
+
+-- the text of what was read, and of a message more
+record Said {D : Type 0} (Answers : D → Ask → Answer → D → Type 0) (s : SessionState) (d e : D) (now : SessionState) (message : Fields) (rest : List ℕ) (left : ℕ) (bytes text : List ℕ) : Type 0 where
+  pub messages : List Fields
+  pub gives : Gives bytes (messages ++ message ∷ []) rest
+  pub goes_on : is_over s messages ≡ false
+  pub is_now : now ≡ after_all s messages
+  pub has_text : HasText Answers s d e (messages ++ message ∷ []) text
+  pub many : 1000000 ≤ left + length bytes
+
+said : {D : Type 0} (Answers : D → Ask → Answer → D → Type 0) (s now : SessionState) (d mid e : D) (given after old before new : Option (List ℕ)) (rest : List ℕ) (message : Fields) (left : ℕ)
+    → Carries given after old before (MessageCame Answers s d mid now message rest left) → HasSaid Answers (reaction now message) mid e before new
+    → Carries given after old new (Said Answers s d e now message rest left)
+said Answers s now d mid e given after old before new rest message left c has =
+    let x = c.holds in
+    record {
+      bytes = c.bytes;
+      text = c.text ++ has.text;
+      given = c.given;
+      taken = taken-grows old before new c.text has.text c.taken has.taken;
+      holds = record {
+        messages = x.messages;
+        gives = x.gives;
+        goes_on = x.goes_on;
+        is_now = x.is_now;
+        has_text = text-one Answers s now d mid e x.messages message c.text has.text x.goes_on x.is_now x.has_text has.done;
+        many = x.many;
+      };
+    }
+
+-- it is answered, and the session goes on
+pub going-on : {D : Type 0} (Answers : D → Ask → Answer → D → Type 0) (s now next : SessionState) (d mid e : D) (given before after old written new : Option (List ℕ)) (held rest : List ℕ) (message : Fields)
+    (reads left : ℕ) → MoreStays → LaterFollows
+    → Carries given before old written (Going Answers s d mid now held reads) → HasCome before after held reads left (IsNext (Ok (Some message)) rest)
+    → HasSaid Answers (reaction now message) mid e written new → next ≡ session_after now message → is_end (reaction now message) ≡ false
+    → Carries given after old new (Going Answers s d e next rest left)
+going-on Answers s now next d mid e given before after old written new held rest message reads left stays later c come has is on =
+    carries-so given after old new _ _
+    (λ bytes text x. record {
+      messages = x.messages ++ message ∷ [];
+      gives = x.gives;
+      goes_on = over-one x.messages s message x.goes_on ∙ ap (λ t. is_end (reaction t message)) (sym x.is_now) ∙ on;
+      is_now = is ∙ ap (λ t. session_after t message) x.is_now ∙ sym (after-one x.messages s message);
+      has_text = x.has_text;
+      many = x.many;
+    })
+    (said Answers s now d mid e given after old written new rest message left (message-came Answers s now d mid given before after old written held rest message reads left stays later c come) has)
+
+-- or ends
+pub served-by-end : {D : Type 0} (Answers : D → Ask → Answer → D → Type 0) (s now : SessionState) (d mid e : D) (given before after old written new : Option (List ℕ)) (held rest : List ℕ) (message : Fields)
+    (reads left : ℕ) (ended : Bool) → MoreStays → LaterFollows
+    → Carries given before old written (Going Answers s d mid now held reads) → HasCome before after held reads left (IsNext (Ok (Some message)) rest)
+    → HasSaid Answers (reaction now message) mid e written new → is_end (reaction now message) ≡ true
+    → Carries given after old new (IsServed Answers s d e ended)
+served-by-end Answers s now d mid e given before after old written new held rest message reads left ended stays later c come has over =
+    carries-so given after old new _ _
+    (λ bytes text x. record {
+      messages = x.messages ++ message ∷ [];
+      rest = rest;
+      gives = x.gives;
+      has_text = x.has_text;
+      at_end = inl (over-one x.messages s message x.goes_on ∙ ap (λ t. is_end (reaction t message)) (sym x.is_now) ∙ over);
+    })
+    (said Answers s now d mid e given after old written new rest message left (message-came Answers s now d mid given before after old written held rest message reads left stays later c come) has)
+
+-- a front of its text was written
+begun : {D : Type 0} (Answers : D → Ask → Answer → D → Type 0) (s now : SessionState) (d mid e : D) (given after old before new : Option (List ℕ)) (rest : List ℕ) (message : Fields) (left : ℕ)
+    → Carries given after old before (MessageCame Answers s d mid now message rest left) → HasBegun Answers (reaction now message) mid e before new
+    → Carries given after old new (IsBegun Answers s d e)
+begun Answers s now d mid e given after old before new rest message left c has =
+    let x = c.holds in
+    let all = text-one Answers s now d mid e x.messages message c.text has.text x.goes_on x.is_now x.has_text has.done in
+    record {
+      bytes = c.bytes;
+      text = c.text ++ has.taken.front;
+      given = c.given;
+      taken = taken-grows old before new c.text has.taken.front c.taken has.taken.taken;
+      holds = record {
+        messages = x.messages ++ message ∷ [];
+        rest = rest;
+        gives = x.gives;
+        more = has.taken.rest;
+        has_text = subst (λ t. HasText Answers s d e (x.messages ++ message ∷ []) t)
+            (ap (λ t. c.text ++ t) has.taken.is ∙ sym (append_assoc c.text has.taken.front has.taken.rest)) all;
+      };
+    }
+
+-- nothing of it was
+untouched : {D : Type 0} (Answers : D → Ask → Answer → D → Type 0) (s now : SessionState) (d mid e : D) (given before after old written new : Option (List ℕ)) (held rest : List ℕ) (message : Fields)
+    (reads left : ℕ) → MoreStays
+    → Carries given before old written (Going Answers s d mid now held reads) → HasCome before after held reads left (IsNext (Ok (Some message)) rest)
+    → IsUntouched mid e written new → Carries given after old new (IsBegun Answers s d e)
+untouched Answers s now d mid e given before after old written new held rest message reads left stays c come same =
+    let so = carries-so given after old written _ _ (λ bytes text x. begun-before Answers s now d mid held reads left (IsNext (Ok (Some message)) rest) bytes text stays x)
+    (reads-on given before after old written held reads left _ _ c come) in
+    record {
+      bytes = so.bytes;
+      text = so.text;
+      given = so.given;
+      taken = same.taken ∙ so.taken;
+      holds = subst (λ t. IsBegun Answers s d t so.bytes so.text) (sym same.desk) so.holds;
+    }
+
+-- the desk gave no answer
+refused : {D : Type 0} (Answers : D → Ask → Answer → D → Type 0) (Refuses : D → Ask → D → Type 0) (s now : SessionState) (d mid e : D) (given after old before new : Option (List ℕ)) (rest : List ℕ) (message : Fields)
+    (left : ℕ) → Carries given after old before (MessageCame Answers s d mid now message rest left) → IsDown Refuses (reaction now message) mid e before new
+    → Carries given after old new (IsRefused Answers Refuses s d e)
+refused Answers Refuses s now d mid e given after old before new rest message left c down =
+    let x = c.holds in
+    record {
+      bytes = c.bytes;
+      text = c.text;
+      given = c.given;
+      taken = down.taken ∙ c.taken;
+      holds = record {
+        messages = x.messages;
+        last = message;
+        rest = rest;
+        gives = x.gives;
+        left = mid;
+        has_text = x.has_text;
+        ask = down.ask;
+        waiting = down.waiting;
+        asked = ap (λ t. reaction t message) (sym x.is_now) ∙ down.asked;
+        refused = down.refused;
+      };
+    }
+
+-- answering it broke off
+pub answering-breaks : {D : Type 0} (Answers : D → Ask → Answer → D → Type 0) (Refuses : D → Ask → D → Type 0) (fault : ServeFault) (s now : SessionState) (d mid e : D)
+    (given before after old written new : Option (List ℕ)) (held rest : List ℕ) (message : Fields) (reads left : ℕ) → MoreStays → LaterFollows
+    → Carries given before old written (Going Answers s d mid now held reads) → HasCome before after held reads left (IsNext (Ok (Some message)) rest)
+    → BreaksOff Answers Refuses (reaction now message) mid e written new fault → Carries given after old new (IsLeftBy Answers Refuses s d e fault)
+answering-breaks Answers Refuses Write s now d mid e given before after old written new held rest message reads left stays later c come broken =
+    begun Answers s now d mid e given after old written new rest message left (message-came Answers s now d mid given before after old written held rest message reads left stays later c come) broken
+answering-breaks Answers Refuses Memory s now d mid e given before after old written new held rest message reads left stays later c come broken =
+    ⊎_elim (λ front. begun Answers s now d mid e given after old written new rest message left (message-came Answers s now d mid given before after old written held rest message reads left stays later c come) front)
+    (λ same. untouched Answers s now d mid e given before after old written new held rest message reads left stays c come same) broken
+answering-breaks Answers Refuses DeskDown s now d mid e given before after old written new held rest message reads left stays later c come broken =
+    refused Answers Refuses s now d mid e given after old written new rest message left (message-came Answers s now d mid given before after old written held rest message reads left stays later c come) broken
+answering-breaks Answers Refuses Read s now d mid e given before after old written new held rest message reads left stays later c come broken = absurd broken
+answering-breaks Answers Refuses LineTooLong s now d mid e given before after old written new held rest message reads left stays later c come broken = absurd broken
+answering-breaks Answers Refuses TooManyFields s now d mid e given before after old written new held rest message reads left stays later c come broken = absurd broken
+answering-breaks Answers Refuses Turns s now d mid e given before after old written new held rest message reads left stays later c come broken = absurd broken

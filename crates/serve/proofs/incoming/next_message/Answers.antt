@@ -1,0 +1,54 @@
+use Rattle.std.proofs.Common.{◌∙◌, [], ◌∷◌, Ok, ap, arith}
+use Rattle.ami_text.specs.Stream.{Gives}
+use Rattle.serve.proofs.Coming.{broken-came, come-so, fault-next, held-so, left-within, none-came, piece-came}
+use Rattle.serve.proofs.incoming.next_message.Goals as goal
+
+pub returns-in-Ok-Some-clause-come : goal.returns-in-Ok-Some-clause-come
+returns-in-Ok-Some-clause-come g c =
+    let laws = c.messages_so_far.ensures in
+    let held = c.pieces.incoming.feed.held in
+    let rest = c.next_message.new.self.held in
+    let message = c.in-Ok-Some.message in
+    let first = rw c.in-Ok-Some.field-0-is at c.in-Ok-Some.ensures.message in
+    come-so _ _ _ _ _ (λ stream. Gives stream [] held) _ (λ stream gives. laws.later stream held rest [] (message ∷ []) gives (laws.one held rest message first)) c.pieces.invariant.come
+
+pub returns-in-Err-clause-come : goal.returns-in-Err-clause-come
+returns-in-Err-clause-come g c =
+    come-so _ _ _ _ _ (λ stream. Gives stream [] c.pieces.incoming.feed.held) _
+    (λ stream gives. fault-next c.in-Err.fault c.from.result c.pieces.incoming.feed _ stream c.from.ensures c.pieces.invariant.feed c.in-Err.ensures.fault gives)
+    c.pieces.invariant.come
+
+pub pieces-preserved : goal.pieces-preserved
+pieces-preserved g c =
+    let laws = c.messages_so_far.ensures in
+    let rest = c.next_message.ensures.rest (c.in-Ok-None.is ∙ ap Ok c.in-Ok-None.field-0-is) in
+    let is = c.in-Ok-true.is ∙ ap Ok c.in-Ok-true.field-0-test in
+    let held = c.pieces.incoming.feed.held in
+    let left = c.next_message.new.self.held in
+    let before = come-so _ _ _ _ _ _ (λ stream. Gives stream [] left) (λ stream gives. laws.later stream held left [] [] gives rest.0) c.pieces.invariant.come in
+    let more = c.read_piece.ensures.more is in
+    record {
+      works = c.in-Ok-true.ensures.works;
+      feed = c.in-Ok-true.ensures.feed;
+      come = piece-came _ _ _ _ left _ _ _ _ laws.more before (held-so _ _ left _ _ _ _ _ is c.read_piece.ensures.come);
+      ahead = omega (arith, more.1, left-within held left rest.0, c.pieces.invariant.ahead);
+    }
+
+pub returns-in-Ok-false-clause-come : goal.returns-in-Ok-false-clause-come
+returns-in-Ok-false-clause-come g c =
+    let laws = c.messages_so_far.ensures in
+    let rest = c.next_message.ensures.rest (c.in-Ok-None.is ∙ ap Ok c.in-Ok-None.field-0-is) in
+    let is = c.in-Ok-false.is ∙ ap Ok c.in-Ok-false.field-0-test in
+    let held = c.pieces.incoming.feed.held in
+    let left = c.next_message.new.self.held in
+    let before = come-so _ _ _ _ _ _ (λ stream. Gives stream [] left) (λ stream gives. laws.later stream held left [] [] gives rest.0) c.pieces.invariant.come in
+    none-came _ _ _ _ left _ _ _ _ laws.more rest.1 before (held-so _ _ left _ _ _ _ _ is c.read_piece.ensures.come)
+
+pub returns-in-Err-read_piece-clause-come : goal.returns-in-Err-read_piece-clause-come
+returns-in-Err-read_piece-clause-come g c =
+    let laws = c.messages_so_far.ensures in
+    let rest = c.next_message.ensures.rest (c.in-Ok-None.is ∙ ap Ok c.in-Ok-None.field-0-is) in
+    let held = c.pieces.incoming.feed.held in
+    let left = c.next_message.new.self.held in
+    let before = come-so _ _ _ _ _ _ (λ stream. Gives stream [] left) (λ stream gives. laws.later stream held left [] [] gives rest.0) c.pieces.invariant.come in
+    broken-came c.in-Err-read_piece.fault _ _ _ _ left _ _ _ _ laws.more rest.1 before (held-so _ _ left _ _ _ _ _ c.in-Err-read_piece.is c.read_piece.ensures.come)

@@ -1,0 +1,16 @@
+use Rattle.std.proofs.Common.{◌≡◌, ◌≤◌, [], None, false}
+use Rattle.ami_text.specs.Stream.{Gives}
+use Rattle.serve.specs.Steps.{HasCome, bytes_ahead}
+use Rattle.serve.proofs.incoming.next_message.Given as goal
+
+-- the reader and the feed work, nothing that came was a message, and no more is ahead than was
+abbrev pub invariant-pieces : goal.invariant-pieces
+invariant-pieces g l = record {
+  works : g.S.Source.failed l.reader ≡ false;
+  feed : l.incoming.feed.fault ≡ None;
+  come : HasCome (g.S.Source.given l.fn.reader) (g.S.Source.given l.reader) l.fn.incoming.feed.held l.fn.incoming.reads l.incoming.reads (λ stream. Gives stream [] l.incoming.feed.held);
+  ahead : bytes_ahead l.incoming.reads l.incoming.feed.held ≤ bytes_ahead l.fn.incoming.reads l.fn.incoming.feed.held;
+}
+
+abbrev pub decreases-pieces : goal.decreases-pieces
+decreases-pieces g l = l.incoming.reads

@@ -1,0 +1,64 @@
+use Rattle.std.proofs.Common.{◌≡◌, ◌∙◌, Result, Ok, Err, ap, refl, sym}
+use Rattle.ami_text.specs.FeedStates.{FeedState}
+use Rattle.serve.specs.declared.serve_fault.ServeFault.{ServeFault}
+use Rattle.serve.proofs.Coming.{next-so}
+use Rattle.serve.proofs.Serving.{answering-breaks, going-on, going-start, greeting-breaks, reading-breaks, served-at-end, served-by-end, turns-over}
+use Rattle.serve.proofs.serve.Goals as goal
+
+err-is : {T : Type 0} (r : Result T ServeFault) (a b : ServeFault) → r ≡ Err a → r ≡ Err b → a ≡ b
+err-is r a b one other = cc
+
+pub returns-in-Err-clause-left : goal.returns-in-Err-clause-left
+returns-in-Err-clause-left g c =
+    greeting-breaks g.D.Desk.answers g.D.Desk.refuses c.in-Err.fault c.args.session c.args.desk.now _ _ _ c.messages_so_far.ensures.none c.in-Err.ensures.fault c.in-Err.ensures.begun
+
+pub messages-init : goal.messages-init
+messages-init g c =
+    let feed = c.new-incoming.ensures.feed in
+    record {
+      reader = c.requires.reader;
+      writer = c.in-Ok.ensures.works;
+      feed = ap (λ (f : FeedState). f.fault) feed;
+      going = going-start g.D.Desk.answers c.args.session c.args.desk.now _ _ _ _ _ c.messages_so_far.ensures.none (ap (λ (f : FeedState). f.held) feed) c.new-incoming.ensures.reads c.in-Ok.ensures.written;
+    }
+
+pub returns-in-Ok-None-clause-served : goal.returns-in-Ok-None-clause-served
+returns-in-Ok-None-clause-served g c =
+    let is = c.in-Ok-None.is ∙ ap Ok c.in-Ok-None.field-0-is in
+    served-at-end g.D.Desk.answers _ _ _ _ _ _ _ _ _ _ _ _ _ _ c.stream_of_two_pieces.ensures.rest (c.next_message.ensures.ended is)
+    c.messages.invariant.going (next-so _ _ _ _ _ _ _ _ is c.next_message.ensures.come)
+
+pub returns-in-Err-next_message-clause-left : goal.returns-in-Err-next_message-clause-left
+returns-in-Err-next_message-clause-left g c =
+    reading-breaks g.D.Desk.answers g.D.Desk.refuses c.in-Err-next_message.fault _ _ _ _ _ _ _ _ _ _ _ _ _ c.stream_of_two_pieces.ensures.rest c.messages_so_far.ensures.more
+    c.messages.invariant.going (next-so _ _ _ _ _ _ _ _ c.in-Err-next_message.is c.next_message.ensures.come)
+
+pub returns-in-Err-next_message-clause-turns : goal.returns-in-Err-next_message-clause-turns
+returns-in-Err-next_message-clause-turns g c = λ turns.
+    turns-over g.D.Desk.answers _ _ _ _ _ _ _ _ _ _ _ _ _ (c.in-Err-next_message.ensures.turns (ap Err (err-is _ _ _ refl turns))) c.messages.invariant.going c.next_message.ensures.come
+
+pub returns-in-Ok-true-clause-served : goal.returns-in-Ok-true-clause-served
+returns-in-Ok-true-clause-served g c =
+    let laws = c.messages_so_far.ensures in
+    let is = c.in-Ok-Some.is ∙ ap Ok c.in-Ok-Some.field-0-is in
+    served-by-end g.D.Desk.answers _ _ _ _ _ _ _ _ _ _ _ _ _ c.in-Ok-Some.message _ _ _ laws.more laws.later
+    c.messages.invariant.going (next-so _ _ _ _ _ _ _ _ is c.next_message.ensures.come) c.in-Ok-true.ensures.said (sym c.in-Ok-true.ensures.ends ∙ c.in-Ok-true.field-0-test)
+
+pub returns-in-Err-answer_message-clause-left : goal.returns-in-Err-answer_message-clause-left
+returns-in-Err-answer_message-clause-left g c =
+    let laws = c.messages_so_far.ensures in
+    let is = c.in-Ok-Some.is ∙ ap Ok c.in-Ok-Some.field-0-is in
+    answering-breaks g.D.Desk.answers g.D.Desk.refuses c.in-Err-answer_message.fault _ _ _ _ _ _ _ _ _ _ _ _ _ c.in-Ok-Some.message _ _ laws.more laws.later
+    c.messages.invariant.going (next-so _ _ _ _ _ _ _ _ is c.next_message.ensures.come) c.in-Err-answer_message.ensures.fault
+
+pub messages-preserved : goal.messages-preserved
+messages-preserved g c =
+    let laws = c.messages_so_far.ensures in
+    let is = c.in-Ok-Some.is ∙ ap Ok c.in-Ok-Some.field-0-is in
+    record {
+      reader = c.in-Ok-Some.ensures.works;
+      writer = c.in-Ok-false.ensures.works;
+      feed = c.in-Ok-Some.ensures.feed;
+      going = going-on g.D.Desk.answers _ _ _ _ _ _ _ _ _ _ _ _ _ _ c.in-Ok-Some.message _ _ laws.more laws.later
+          c.messages.invariant.going (next-so _ _ _ _ _ _ _ _ is c.next_message.ensures.come) c.in-Ok-false.ensures.said c.in-Ok-false.ensures.session (sym c.in-Ok-false.ensures.ends ∙ c.in-Ok-false.field-0-test);
+    }

@@ -1,0 +1,18 @@
+use Rattle.std.proofs.Common.{◌≡◌, None, false}
+use Rattle.serve.specs.Sessions.{Carries}
+use Rattle.serve.specs.Steps.{bytes_ahead}
+use Rattle.serve.proofs.Serving.{Going}
+use Rattle.serve.proofs.serve.Given as goal
+
+-- the devices and the feed work, and the session goes on
+abbrev pub invariant-messages : goal.invariant-messages
+invariant-messages g l = record {
+  reader : g.S.Source.failed l.reader ≡ false;
+  writer : g.W.Sink.failed l.writer ≡ false;
+  feed : l.incoming.feed.fault ≡ None;
+  going : Carries (g.S.Source.given l.fn.reader) (g.S.Source.given l.reader) (g.W.Sink.taken l.fn.writer) (g.W.Sink.taken l.writer)
+      (Going g.D.Desk.answers l.fn.session l.fn.desk l.desk l.session l.incoming.feed.held l.incoming.reads);
+}
+
+abbrev pub decreases-messages : goal.decreases-messages
+decreases-messages g l = bytes_ahead l.incoming.reads l.incoming.feed.held

@@ -1,0 +1,5 @@
+pub mod Desks
+pub mod Faults
+pub mod Replicas
+pub mod Sessions
+pub mod Steps

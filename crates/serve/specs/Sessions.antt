@@ -1,0 +1,72 @@
+-- What a session that is served over devices and a desk has read, asked and written (this project's own).
+use Rattle.std.specs.Prelude.{ℕ, ◌≡◌, ◌⊎◌, Bool, true, List, [], ◌∷◌, ◌++◌, Option}
+use Rattle.std.specs.Io.KnownBytes.{append_known}
+use Rattle.ami_text.specs.declared.feed_fault.FeedFault.TheVariants as feed
+use Rattle.ami_text.specs.Stream.{Ending, Fault, Gives, IsRest, Reads, Rest}
+use Rattle.status_report.specs.declared.asks.Answer.{Answer}
+use Rattle.status_report.specs.declared.asks.Ask.{Ask}
+use Rattle.ami_session.specs.Checks.{Asks, SessionState, Waiting, reaction}
+use Rattle.ami_session.specs.FieldValues.{Fields}
+use Rattle.ami_session.specs.Text.{after_all, asks, is_over, session_text}
+use Rattle.serve.specs.declared.serve_fault.ServeFault.{ServeFault}
+use Rattle.serve.specs.declared.serve_fault.ServeFault.TheVariants.{Read, Write, LineTooLong, TooManyFields, DeskDown, Turns, Memory}
+use Rattle.serve.specs.Desks.{DeskRun}
+
+-- a source has given bytes and a sink has taken a text, of which this holds
+pub record Carries (given_old given_new taken_old taken_new : Option (List ℕ)) (Holds : List ℕ → List ℕ → Type 0) : Type 0 where
+  pub bytes : List ℕ
+  pub text : List ℕ
+  pub given : given_new ≡ append_known given_old bytes
+  pub taken : taken_new ≡ append_known taken_old text
+  pub holds : Holds bytes text
+
+-- the session's text upon these messages, where a desk answers what they ask and comes from one state to another
+pub record HasText {D : Type 0} (Answers : D → Ask → Answer → D → Type 0) (s : SessionState) (d e : D) (messages : List Fields) (text : List ℕ) : Type 0 where
+  pub answers : List Answer
+  pub run : DeskRun Answers d (asks s messages) answers e
+  pub is : text ≡ session_text s messages answers
+
+-- a session was served: the text is that of the messages of the bytes, up to a Logoff, or to the end of a reader that has ended
+pub record IsServed {D : Type 0} (Answers : D → Ask → Answer → D → Type 0) (s : SessionState) (d e : D) (ended : Bool) (bytes text : List ℕ) : Type 0 where
+  pub messages : List Fields
+  pub rest : List ℕ
+  pub gives : Gives bytes messages rest
+  pub has_text : HasText Answers s d e messages text
+  pub at_end : (is_over s messages ≡ true) ⊎ (IsRest rest × (ended ≡ true))
+
+-- all messages of the bytes are answered, and nothing but this ending stands behind them
+pub record AreAnswered {D : Type 0} (Answers : D → Ask → Answer → D → Type 0) (s : SessionState) (d e : D) (ending : Ending) (bytes text : List ℕ) : Type 0 where
+  pub messages : List Fields
+  pub reads : Reads bytes messages ending
+  pub has_text : HasText Answers s d e messages text
+
+-- the text is a front of that of the messages that were answered
+pub record IsBegun {D : Type 0} (Answers : D → Ask → Answer → D → Type 0) (s : SessionState) (d e : D) (bytes text : List ℕ) : Type 0 where
+  pub messages : List Fields
+  pub rest : List ℕ
+  pub gives : Gives bytes messages rest
+  pub more : List ℕ
+  pub has_text : HasText Answers s d e messages (text ++ more)
+
+-- all messages before the last are answered, and what that asks the desk refused in the state in which they left it
+pub record IsRefused {D : Type 0} (Answers : D → Ask → Answer → D → Type 0) (Refuses : D → Ask → D → Type 0) (s : SessionState) (d e : D) (bytes text : List ℕ) : Type 0 where
+  pub messages : List Fields
+  pub last : Fields
+  pub rest : List ℕ
+  pub gives : Gives bytes (messages ++ last ∷ []) rest
+  pub left : D
+  pub has_text : HasText Answers s d left messages text
+  pub ask : Ask
+  pub waiting : Waiting
+  pub asked : reaction (after_all s messages) last ≡ Asks ask waiting
+  pub refused : Refuses left ask e
+
+-- what each fault leaves
+abbrev pub IsLeftBy : {D : Type 0} → (D → Ask → Answer → D → Type 0) → (D → Ask → D → Type 0) → SessionState → D → D → ServeFault → List ℕ → List ℕ → Type 0
+IsLeftBy Answers Refuses s d e Read bytes text = (rest : List ℕ) × AreAnswered Answers s d e (Rest rest) bytes text
+IsLeftBy Answers Refuses s d e Turns bytes text = (rest : List ℕ) × AreAnswered Answers s d e (Rest rest) bytes text
+IsLeftBy Answers Refuses s d e LineTooLong bytes text = AreAnswered Answers s d e (Fault feed.LineTooLong) bytes text
+IsLeftBy Answers Refuses s d e TooManyFields bytes text = AreAnswered Answers s d e (Fault feed.TooManyFields) bytes text
+IsLeftBy Answers Refuses s d e DeskDown bytes text = IsRefused Answers Refuses s d e bytes text
+IsLeftBy Answers Refuses s d e Write bytes text = IsBegun Answers s d e bytes text
+IsLeftBy Answers Refuses s d e Memory bytes text = IsBegun Answers s d e bytes text

@@ -1,0 +1,91 @@
+-- What single steps of a session do.
+use Rattle.std.specs.Prelude.{ℕ, ◌≡◌, ◌≤◌, ◌+◌, ◌*◌, ◌⊎◌, Bool, true, false, List, [], ◌∷◌, ◌++◌, length, Option, Some, None, Result, Ok, Err}
+use Rattle.std.specs.Io.KnownBytes.{append_known}
+use Rattle.ami_text.specs.declared.feed_fault.FeedFault.TheVariants as feed
+use Rattle.ami_text.specs.Devices.{HasTaken}
+use Rattle.ami_text.specs.Stream.{Fault, Gives, Reads, Rest}
+use Rattle.status_report.specs.declared.asks.Answer.{Answer}
+use Rattle.status_report.specs.declared.asks.Ask.{Ask}
+use Rattle.ami_session.specs.Checks.{Asks, Reaction, Waiting}
+use Rattle.ami_session.specs.FieldValues.{Fields}
+use Rattle.ami_session.specs.Text.{asks_upon, text_upon}
+use Rattle.serve.specs.declared.serve_fault.ServeFault.{ServeFault}
+use Rattle.serve.specs.declared.serve_fault.ServeFault.TheVariants.{Read, Write, LineTooLong, TooManyFields, DeskDown, Turns, Memory}
+use Rattle.serve.specs.Desks.{DeskRun}
+
+-- how many bytes may still be looked at: those held, and as many as the reads that are left may give
+abbrev pub bytes_ahead : ℕ → List ℕ → ℕ
+bytes_ahead reads held = 1024 * reads + length held
+
+-- A source has given bytes, at least one for each read that was used, and this holds of the stream that they make with
+-- those held before.
+pub record HasCome (given_old given_new : Option (List ℕ)) (held : List ℕ) (reads_old reads_new : ℕ) (Holds : List ℕ → Type 0) : Type 0 where
+  pub bytes : List ℕ
+  pub given : given_new ≡ append_known given_old bytes
+  pub many : reads_old ≤ reads_new + length bytes
+  pub holds : Holds (held ++ bytes)
+
+-- what is held after a read: the stream, where a piece came; the same as before, where none did
+abbrev pub IsHeld : Result Bool ServeFault → List ℕ → List ℕ → List ℕ → Type 0
+IsHeld (Ok true) old new stream = new ≡ stream
+IsHeld (Ok false) old new stream = (new ≡ stream) × (new ≡ old)
+IsHeld (Err Read) old new stream = (new ≡ stream) × (new ≡ old)
+IsHeld (Err Turns) old new stream = (new ≡ stream) × (new ≡ old)
+IsHeld (Err Memory) old new stream = Unit {0}
+IsHeld (Err Write) old new stream = ⊥
+IsHeld (Err LineTooLong) old new stream = ⊥
+IsHeld (Err TooManyFields) old new stream = ⊥
+IsHeld (Err DeskDown) old new stream = ⊥
+
+-- what stands first in the stream, and what is held behind it: a message, nothing more, or a fault
+abbrev pub IsNext : Result (Option Fields) ServeFault → List ℕ → List ℕ → Type 0
+IsNext (Ok (Some message)) held stream = Gives stream (message ∷ []) held
+IsNext (Ok None) held stream = Reads stream [] (Rest held)
+IsNext (Err Read) held stream = Reads stream [] (Rest held)
+IsNext (Err Turns) held stream = Reads stream [] (Rest held)
+IsNext (Err LineTooLong) held stream = Reads stream [] (Fault feed.LineTooLong)
+IsNext (Err TooManyFields) held stream = Reads stream [] (Fault feed.TooManyFields)
+IsNext (Err Memory) held stream = Unit {0}
+IsNext (Err Write) held stream = ⊥
+IsNext (Err DeskDown) held stream = ⊥
+
+-- the desk has answered what a reaction asks, and this text is to be written
+pub record HasDone {D : Type 0} (Answers : D → Ask → Answer → D → Type 0) (r : Reaction) (d e : D) (text : List ℕ) : Type 0 where
+  pub answers : List Answer
+  pub run : DeskRun Answers d (asks_upon r []) answers e
+  pub is : text ≡ text_upon r (λ _. []) answers
+
+-- the same, and a sink has taken the text
+pub record HasSaid {D : Type 0} (Answers : D → Ask → Answer → D → Type 0) (r : Reaction) (d e : D) (taken_old taken_new : Option (List ℕ)) : Type 0 where
+  pub text : List ℕ
+  pub done : HasDone Answers r d e text
+  pub taken : taken_new ≡ append_known taken_old text
+
+-- the same, and a sink has taken a front of the text
+pub record HasBegun {D : Type 0} (Answers : D → Ask → Answer → D → Type 0) (r : Reaction) (d e : D) (taken_old taken_new : Option (List ℕ)) : Type 0 where
+  pub text : List ℕ
+  pub done : HasDone Answers r d e text
+  pub taken : HasTaken taken_old taken_new text
+
+-- the desk has refused what a reaction asks, and nothing was written
+pub record IsDown {D : Type 0} (Refuses : D → Ask → D → Type 0) (r : Reaction) (d e : D) (taken_old taken_new : Option (List ℕ)) : Type 0 where
+  pub ask : Ask
+  pub waiting : Waiting
+  pub asked : r ≡ Asks ask waiting
+  pub refused : Refuses d ask e
+  pub taken : taken_new ≡ taken_old
+
+-- nothing was asked, and nothing was written
+pub record IsUntouched {D : Type 0} (d e : D) (taken_old taken_new : Option (List ℕ)) : Type 0 where
+  pub desk : e ≡ d
+  pub taken : taken_new ≡ taken_old
+
+-- where a fault breaks off what is done upon a reaction
+abbrev pub BreaksOff : {D : Type 0} → (D → Ask → Answer → D → Type 0) → (D → Ask → D → Type 0) → Reaction → D → D → Option (List ℕ) → Option (List ℕ) → ServeFault → Type 0
+BreaksOff Answers Refuses r d e taken_old taken_new Write = HasBegun Answers r d e taken_old taken_new
+BreaksOff Answers Refuses r d e taken_old taken_new Memory = HasBegun Answers r d e taken_old taken_new ⊎ IsUntouched d e taken_old taken_new
+BreaksOff Answers Refuses r d e taken_old taken_new DeskDown = IsDown Refuses r d e taken_old taken_new
+BreaksOff Answers Refuses r d e taken_old taken_new Read = ⊥
+BreaksOff Answers Refuses r d e taken_old taken_new LineTooLong = ⊥
+BreaksOff Answers Refuses r d e taken_old taken_new TooManyFields = ⊥
+BreaksOff Answers Refuses r d e taken_old taken_new Turns = ⊥

@@ -1,0 +1,101 @@
+//! The messages that come in, read as they are needed.
+ghost use Rattle.std.specs.Prelude.{◌≡◌, ◌≤◌, ◌<◌, ◌+◌, [], None, Ok, true, false, IfOk, IfSome, OnOk, IsErrOf};
+ghost use Rattle.serve.specs.Steps.{HasCome, IsHeld, IsNext, bytes_ahead};
+
+use crate::ServeFault;
+use ami_text::laws::messages_so_far;
+use ami_text::{Feed, Message, Source};
+use std::alloc::Global;
+
+// How many bytes are read at a time.
+const PIECE: usize = 1024;
+
+// How often a session reads before it counts as having no end.
+const MOST_READS: u32 = 1_000_000;
+
+/// What has come of a client's stream and belongs to no message yet, and how many reads are left.
+#[derive(Drop)]
+pub struct Incoming {
+    pub feed: Feed,
+    pub reads: u32,
+}
+
+impl Incoming {
+    /// Nothing has come.
+    pub fn new(alloc: Global) -> Incoming
+        ensures feed { result.feed ≡ record { held = []; fault = None } }
+        ensures reads { result.reads ≡ 1000000 }
+    {
+        Incoming {
+            feed: Feed::new(alloc),
+            reads: MOST_READS,
+        }
+    }
+}
+
+/// The client's next message, read as far as needed; `None` at the end of what it sends.
+///
+/// Faults: `LineTooLong` and `TooManyFields` where the stream has them next; `Turns` where no read is left, and `Read` where
+/// one fails; `Memory`.
+pub fn next_message<S: Source>(
+    reader: &mut S,
+    incoming: &mut Incoming,
+) -> Result<Option<Message>, ServeFault>
+    requires reader { S.failed reader.old ≡ false }
+    requires feed { incoming.old.feed.fault ≡ None }
+    ensures come { HasCome (S.given reader.old) (S.given reader.new) incoming.old.feed.held incoming.old.reads incoming.new.reads
+        (IsNext result incoming.new.feed.held) }
+    ensures ended { result ≡ Ok None → S.ended reader.new ≡ true }
+    ensures works { OnOk result (S.failed reader.new ≡ false) }
+    ensures feed { OnOk result (incoming.new.feed.fault ≡ None) }
+    ensures shorter { IfOk result (λ next. IfSome next (λ _. bytes_ahead incoming.new.reads incoming.new.feed.held
+        < bytes_ahead incoming.old.reads incoming.old.feed.held)) }
+    ensures read { IsErrOf result ServeFault.Read → S.failed reader.new ≡ true }
+    ensures turns { IsErrOf result ServeFault.Turns → incoming.new.reads ≡ 0 }
+{
+    messages_so_far();
+    'pieces: loop {
+        match incoming.feed.next_message() {
+            Ok(Some(message)) => return Ok(Some(message)),
+            Ok(None) => {}
+            Err(fault) => return Err(ServeFault::from(fault)),
+        }
+        match read_piece(reader, incoming) {
+            Ok(true) => {}
+            Ok(false) => return Ok(None),
+            Err(fault) => return Err(fault),
+        }
+    }
+}
+
+// Reads once, and holds what came. It tells whether anything did. Faults: `Turns` where no read is left, `Read`, `Memory`.
+fn read_piece<S: Source>(reader: &mut S, incoming: &mut Incoming) -> Result<bool, ServeFault>
+    requires reader { S.failed reader.old ≡ false }
+    requires feed { incoming.old.feed.fault ≡ None }
+    ensures come { HasCome (S.given reader.old) (S.given reader.new) incoming.old.feed.held incoming.old.reads incoming.new.reads
+        (IsHeld result incoming.old.feed.held incoming.new.feed.held) }
+    ensures more { result ≡ Ok true → (incoming.new.reads + 1 ≡ incoming.old.reads)
+        × (bytes_ahead incoming.new.reads incoming.new.feed.held ≤ bytes_ahead incoming.old.reads incoming.old.feed.held) }
+    ensures ended { result ≡ Ok false → S.ended reader.new ≡ true }
+    ensures works { OnOk result (S.failed reader.new ≡ false) }
+    ensures feed { OnOk result (incoming.new.feed.fault ≡ None) }
+    ensures read { IsErrOf result ServeFault.Read → S.failed reader.new ≡ true }
+    ensures turns { IsErrOf result ServeFault.Turns → incoming.new.reads ≡ 0 }
+{
+    if incoming.reads == 0 {
+        return Err(ServeFault::Turns);
+    }
+    let mut piece = [0u8; PIECE];
+    let count = match reader.read(&mut piece) {
+        Ok(count) => count,
+        Err(_) => return Err(ServeFault::Read),
+    };
+    if count == 0 {
+        return Ok(false);
+    }
+    incoming.reads -= 1;
+    match incoming.feed.feed(&piece[..count]) {
+        Ok(()) => Ok(true),
+        Err(_) => Err(ServeFault::Memory),
+    }
+}
