@@ -1,5 +1,5 @@
-//! Tests of replicas, offers, reports, sessions, actions, copies of asks and answers, what histories show and the
-//! steps of sites by their public calls. This crate has no code of its own.
+//! Tests of replicas, offers, reports, sessions, actions, copies of asks and answers, sessions that are served, what
+//! histories show and the steps of sites by their public calls. This crate has no code of its own.
 #![tactic(auto)]
 
 #[cfg(test)]
@@ -14,6 +14,8 @@ mod offers;
 mod replicas;
 #[cfg(test)]
 mod reports;
+#[cfg(test)]
+mod served;
 #[cfg(test)]
 mod sessions;
 #[cfg(test)]

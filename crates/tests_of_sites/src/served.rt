@@ -1,0 +1,301 @@
+//! Sessions that are served over memory, byte for byte.
+ghost use Rattle.std.specs.Prelude.{◌≡◌, ◌<◌, Unit, false};
+
+use crate::shared::{assert_text, replica, text};
+use ami_session::Session;
+use ami_text::{MemorySink, MemorySource, Sink, Source};
+use serve::{Desk, DeskDown, ReplicaDesk, ServeFault, serve};
+use status_report::{Answer, Ask};
+use std::alloc::Global;
+use std::process::Abort;
+
+const GREETING: &str = "Queue Sites Call Manager/1.0.0\r\n";
+
+const ACCEPTED: &str = "Response: Success\r\nMessage: Authentication accepted\r\n\r\n";
+
+const GOODBYE: &str = "Response: Goodbye\r\nMessage: Thanks for all the fish.\r\n\r\n";
+
+const ADDED: &str = "Response: Success\r\nMessage: Added interface to queue\r\n\r\n";
+
+const DENIED: &str = "Response: Error\r\nMessage: Permission denied\r\n\r\n";
+
+const MISSING: &str = "Response: Error\r\nMessage: Missing action in request\r\n\r\n";
+
+const UNKNOWN: &str = "Response: Error\r\nMessage: Invalid/unknown command\r\n\r\n";
+
+// The report of a queue with one member.
+const REPORT: &str =
+    "Response: Success\r\nEventList: start\r\nMessage: Queue status will follow\r\n\r\n\
+Event: QueueParams\r\nQueue: sales\r\nCompleted: 0\r\nAbandoned: 0\r\n\r\n\
+Event: QueueMember\r\nQueue: sales\r\nName: SIP/1\r\nLocation: SIP/1\r\nStateInterface: SIP/1\r\nMembership: dynamic\r\n\
+Penalty: 0\r\nPaused: 0\r\nPausedReason: \r\n\r\n\
+Event: QueueStatusComplete\r\nEventList: Complete\r\nListItems: 2\r\n\r\n";
+
+// An add and a status, in lines ended by LF alone.
+const ADD_AND_STATUS: &str =
+    "action:QueueAdd\nqueue:sales\nINTERFACE:  SIP/1\n\nAction: QueueStatus\n\n";
+
+const LOGIN_AND_LOGOFF: &str =
+    "Action: Login\r\nUsername: admin\r\nSecret: s3\r\n\r\nAction: Logoff\r\n\r\n";
+
+fn login(rt: &impl Abort) -> Session {
+    Session::new(text(rt, "admin"), text(rt, "s3"))
+}
+
+fn desk(rt: &impl Abort, alloc: Global) -> ReplicaDesk {
+    ReplicaDesk::new(alloc, replica(rt, alloc, 0, &["sales"]))
+}
+
+// Serves a session upon this stream, given at most so many bytes a read, and asserts how it ends and what was written.
+fn assert_served(
+    rt: &impl Abort,
+    alloc: Global,
+    session: Session,
+    stream: &[u8],
+    most: usize,
+    end: Result<(), ServeFault>,
+    wanted: &[&str],
+)
+    requires { 0 < most }
+{
+    let mut reader = MemorySource::new(stream, most);
+    let mut writer = MemorySink::new(alloc, 700);
+    let mut desk = desk(rt, alloc);
+    let served = serve(&(), alloc, &mut reader, &mut writer, session, &mut desk);
+    assert_text(rt, writer.as_slice(), wanted);
+    assert!(rt; served == end);
+}
+
+#[test]
+fn a_session_from_its_first_byte_to_its_last(rt: HostRuntime) {
+    let alloc = rt.alloc();
+    let trusted: &[(&str, &[&str])] = &[
+        ("", &[GREETING]),
+        (ADD_AND_STATUS, &[GREETING, ADDED, REPORT]),
+        ("Action: QueueStatus\r\n\r", &[GREETING]),
+        ("Action: Ping\n\nAction: Logoff\n\nAction: Ping\n\n", &[GREETING, UNKNOWN, GOODBYE]),
+    ];
+    for (stream, wanted) in trusted {
+        for most in [1, 7, 1024] {
+            assert_served(&rt, alloc, Session::trusted(), stream.as_bytes(), most, Ok(()), wanted);
+        }
+    }
+    let named: &[(&str, &[&str])] = &[
+        (LOGIN_AND_LOGOFF, &[GREETING, ACCEPTED, GOODBYE]),
+        (
+            "Action: QueueStatus\n\nx: y\n\nAction: Login\nUsername: admin\nSecret: s3\n\nAction: Ping\n\n",
+            &[GREETING, DENIED, MISSING, ACCEPTED, UNKNOWN],
+        ),
+    ];
+    for (stream, wanted) in named {
+        for most in [1, 7, 1024] {
+            assert_served(&rt, alloc, login(&rt), stream.as_bytes(), most, Ok(()), wanted);
+        }
+    }
+}
+
+#[test]
+fn a_session_greets_as_it_was_told(rt: HostRuntime) {
+    let alloc = rt.alloc();
+    let session = Session::trusted().with_greeting(text(&rt, "Asterisk Call Manager/5.0.1"));
+    let wanted = ["Asterisk Call Manager/5.0.1\r\n", UNKNOWN];
+    assert_served(&rt, alloc, session, b"Action: Ping\n\n", 100, Ok(()), &wanted);
+    let session = login(&rt).with_greeting(text(&rt, ""));
+    assert_served(&rt, alloc, session, b"Action: Ping\n\n", 100, Ok(()), &["\r\n", DENIED]);
+}
+
+// A Login with one more line, of so many bytes, and a Logoff.
+fn long_login(rt: &impl Abort, alloc: Global, length: usize) -> Vec<u8>
+    requires { 3 < length }
+{
+    let mut stream = Vec::from_slice(alloc, b"Action: Login\r\nUsername: admin\r\nSecret: s3\r\nX: ")
+        .expect(rt, "memory");
+    for _ in 3..length {
+        stream.push(b'a').expect(rt, "memory");
+    }
+    stream
+        .extend_from_slice(b"\r\n\r\nAction: Logoff\r\n\r\n")
+        .expect(rt, "memory");
+    stream
+}
+
+// A message of so many lines, behind one that is answered.
+fn many_lines(rt: &impl Abort, alloc: Global, count: usize) -> Vec<u8> {
+    let mut stream = Vec::from_slice(alloc, b"Action: Ping\n\n").expect(rt, "memory");
+    for _ in 0..count {
+        stream.extend_from_slice(b"x\n").expect(rt, "memory");
+    }
+    stream.push(b'\n').expect(rt, "memory");
+    stream
+}
+
+#[test]
+fn the_longest_line_and_the_longest_message(rt: HostRuntime) {
+    let alloc = rt.alloc();
+    let fits = long_login(&rt, alloc, 1_024);
+    let wanted = [GREETING, ACCEPTED, GOODBYE];
+    assert_served(&rt, alloc, login(&rt), &fits, 1, Ok(()), &wanted);
+    let long = long_login(&rt, alloc, 1_025);
+    let fault = Err(ServeFault::LineTooLong);
+    assert_served(&rt, alloc, login(&rt), &long, 1, fault, &[GREETING]);
+    let fits = many_lines(&rt, alloc, 128);
+    let wanted = [GREETING, UNKNOWN, MISSING];
+    assert_served(&rt, alloc, Session::trusted(), &fits, 100, Ok(()), &wanted);
+    let many = many_lines(&rt, alloc, 129);
+    let fault = Err(ServeFault::TooManyFields);
+    assert_served(&rt, alloc, Session::trusted(), &many, 1_000, fault, &[GREETING, UNKNOWN]);
+}
+
+#[test]
+fn nothing_behind_a_logoff_counts(rt: HostRuntime) {
+    let alloc = rt.alloc();
+    let mut stream = many_lines(&rt, alloc, 129);
+    let mut behind = Vec::from_slice(alloc, b"Action: Logoff\n\n").expect(&rt, "memory");
+    behind.append(&mut stream).expect(&rt, "memory");
+    assert_served(&rt, alloc, Session::trusted(), &behind, 1_000, Ok(()), &[GREETING, GOODBYE]);
+}
+
+#[test]
+fn reads_are_numbered(rt: HostRuntime) {
+    // The last read of 1,000,000 may tell the end.
+    let alloc = rt.alloc();
+    let mut lines = vec![in alloc; b'\n'; 999_999].expect(&rt, "memory");
+    assert_served(&rt, alloc, login(&rt), &lines, 1, Ok(()), &[GREETING]);
+    lines.push(b'\n').expect(&rt, "memory");
+    let fault = Err(ServeFault::Turns);
+    assert_served(&rt, alloc, login(&rt), &lines, 1, fault, &[GREETING]);
+}
+
+// Whether these texts, one behind the other, begin with the bytes.
+fn is_front(given: &[u8], texts: &[&str]) -> bool {
+    let mut rest = given;
+    for text in texts {
+        match rest.strip_prefix(text.as_bytes()) {
+            Some(behind) => rest = behind,
+            None => return text.as_bytes().starts_with(rest),
+        }
+    }
+    rest.is_empty()
+}
+
+// How a session upon a Login and a Logoff ends whose reader gives a byte a read, and fails at the read behind so many;
+// this must be written.
+fn assert_read(
+    rt: &impl Abort,
+    alloc: Global,
+    reads: u64,
+    end: Result<(), ServeFault>,
+    wanted: &[&str],
+) {
+    let mut reader = MemorySource::failing(LOGIN_AND_LOGOFF.as_bytes(), 1, reads);
+    let mut writer = MemorySink::new(alloc, 700);
+    let served = serve(&(), alloc, &mut reader, &mut writer, login(rt), &mut desk(rt, alloc));
+    assert!(rt; served == end);
+    assert_text(rt, writer.as_slice(), wanted);
+}
+
+#[test]
+fn a_reader_that_fails(rt: HostRuntime) {
+    // The Login has 46 bytes, and the Logoff 18; nothing is read behind it.
+    let alloc = rt.alloc();
+    for reads in 0..46 {
+        assert_read(&rt, alloc, reads, Err(ServeFault::Read), &[GREETING]);
+    }
+    for reads in 46..64 {
+        assert_read(&rt, alloc, reads, Err(ServeFault::Read), &[GREETING, ACCEPTED]);
+    }
+    assert_read(&rt, alloc, 64, Ok(()), &[GREETING, ACCEPTED, GOODBYE]);
+}
+
+// How a session upon a Login and a Logoff ends whose writer takes so many bytes a write, and fails at the write behind
+// so many. What was written is a front of the text.
+fn end_over(
+    rt: &impl Abort,
+    alloc: Global,
+    most: usize,
+    writes: u64,
+) -> (Result<(), ServeFault>, usize) {
+    let mut reader = MemorySource::new(LOGIN_AND_LOGOFF.as_bytes(), 1_024);
+    let mut writer = MemorySink::failing(alloc, most, writes);
+    let served = serve(&(), alloc, &mut reader, &mut writer, login(rt), &mut desk(rt, alloc));
+    assert!(rt; is_front(writer.as_slice(), &[GREETING, ACCEPTED, GOODBYE]));
+    (served, writer.as_slice().len())
+}
+
+#[test]
+fn a_writer_that_fails(rt: HostRuntime) {
+    let alloc = rt.alloc();
+    let whole = GREETING.len() + ACCEPTED.len() + GOODBYE.len();
+    for writes in 0..4 {
+        let (served, _) = end_over(&rt, alloc, 700, writes);
+        assert!(rt; served == Err(ServeFault::Write));
+    }
+    assert!(rt; end_over(&rt, alloc, 700, 4) == (Ok(()), whole));
+    // Of 3 bytes a write.
+    for writes in 0..49 {
+        let (served, taken) = end_over(&rt, alloc, 3, writes);
+        assert!(rt; served == Err(ServeFault::Write) && taken < whole);
+    }
+    assert!(rt; end_over(&rt, alloc, 3, 49) == (Ok(()), whole));
+    assert!(rt; end_over(&rt, alloc, 0, 1_000) == (Err(ServeFault::Write), 0));
+}
+
+// A desk that gives so many answers.
+#[derive(Drop)]
+struct TiredDesk {
+    desk: ReplicaDesk,
+    answers: u32,
+}
+
+impl Desk<()> for TiredDesk {
+    ghost answers = { λ old asked answer new. Unit {0} };
+
+    ghost refuses = { λ old asked new. Unit {0} };
+
+    fn ask(&mut self, rt: &(), asked: Ask) -> Result<Answer, DeskDown> {
+        if self.answers == 0 {
+            return Err(DeskDown);
+        }
+        self.answers -= 1;
+        self.desk.ask(rt, asked)
+    }
+}
+
+#[test]
+fn a_desk_that_is_down(rt: HostRuntime) {
+    let alloc = rt.alloc();
+    for (answers, end, wanted) in [
+        (0, Err(ServeFault::DeskDown), &[GREETING] as &[&str]),
+        (1, Err(ServeFault::DeskDown), &[GREETING, ADDED]),
+        (2, Ok(()), &[GREETING, ADDED, REPORT]),
+    ] {
+        let mut reader = MemorySource::new(ADD_AND_STATUS.as_bytes(), 1_024);
+        let mut writer = MemorySink::new(alloc, 700);
+        let mut tired = TiredDesk {
+            desk: desk(&rt, alloc),
+            answers,
+        };
+        let served = serve(&(), alloc, &mut reader, &mut writer, Session::trusted(), &mut tired);
+        assert!(rt; served == end);
+        assert_text(&rt, writer.as_slice(), wanted);
+    }
+}
+
+// To be run with each allocation refused in turn: memory is wanting, or the sink fails for it, and what was written is
+// a front of the text. A report that finds no memory is refused, and the session goes on.
+#[test]
+fn refused_memory_of_a_session(rt: HostRuntime) {
+    let alloc = rt.alloc();
+    let mut reader = MemorySource::new(ADD_AND_STATUS.as_bytes(), 10);
+    let mut writer = MemorySink::new(alloc, 700);
+    let mut desk = desk(&rt, alloc);
+    let served = serve(&(), alloc, &mut reader, &mut writer, Session::trusted(), &mut desk);
+    let wanting = "Response: Error\r\nMessage: Out of memory\r\n\r\n";
+    assert!(rt; is_front(writer.as_slice(), &[GREETING, ADDED, REPORT])
+        || is_front(writer.as_slice(), &[GREETING, wanting, REPORT])
+        || is_front(writer.as_slice(), &[GREETING, ADDED, wanting]));
+    match served {
+        Ok(()) => {}
+        Err(fault) => assert!(rt; fault == ServeFault::Memory || fault == ServeFault::Write),
+    }
+}
