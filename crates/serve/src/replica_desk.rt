@@ -1,46 +1,31 @@
-ghost use Rattle.std.specs.Prelude.{◌≡◌, ⊥, OnErr, IfOk};
+ghost use Rattle.std.specs.Prelude.{◌≡◌};
 
 use crate::{Desk, DeskDown};
 use replica::Replica;
 use status_report::{Answer, Ask, ask};
 use std::alloc::Global;
-use std::marker::Model;
 
 /// The desk of a replica that is asked by nobody else. It is never down, and waits for nobody.
 #[derive(Drop)]
 pub struct ReplicaDesk {
     alloc: Global,
-    replica: Replica,
-}
-
-impl Model for ReplicaDesk {
-    ghost use Rattle.replica.specs.Site.{SiteState};
-
-    ghost Value = { SiteState };
-
-    ghost view = { λ d. d.replica };
+    /// What answers.
+    pub replica: Replica,
 }
 
 impl ReplicaDesk {
     /// The desk of this replica.
     pub fn new(alloc: Global, replica: Replica) -> ReplicaDesk
-        ensures { result ≡ replica }
+        ensures { result.replica ≡ replica }
     {
         ReplicaDesk { alloc, replica }
-    }
-
-    /// The replica.
-    pub fn replica(&self) -> &Replica
-        ensures { result.now ≡ self.now }
-    {
-        &self.replica
     }
 }
 
 impl<R> Desk<R> for ReplicaDesk {
     ghost use Rattle.serve.specs.Replicas.{AnswersAs};
 
-    ghost answers = { λ old asked answer new. AnswersAs old asked answer new };
+    ghost answers = { λ old asked answer new. AnswersAs old.replica asked answer new.replica };
 
     ghost refuses = { λ old asked new. ⊥ };
 

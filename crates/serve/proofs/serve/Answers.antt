@@ -1,4 +1,4 @@
-use Rattle.std.proofs.Common.{◌≡◌, ◌∙◌, Result, Ok, Err, ap, refl, sym}
+use Rattle.std.proofs.Common.{◌≡◌, ◌∙◌, Bool, Result, Ok, Err, ap, refl, sym}
 use Rattle.ami_text.specs.FeedStates.{FeedState}
 use Rattle.serve.specs.declared.serve_fault.ServeFault.{ServeFault}
 use Rattle.serve.proofs.Coming.{next-so}
@@ -7,6 +7,10 @@ use Rattle.serve.proofs.serve.Goals as goal
 
 err-is : {T : Type 0} (r : Result T ServeFault) (a b : ServeFault) → r ≡ Err a → r ≡ Err b → a ≡ b
 err-is r a b one other = cc
+
+-- a message ends the session as it is told
+as-told : (told end is : Bool) → told ≡ end → told ≡ is → end ≡ is
+as-told told end is tells test = sym tells ∙ test
 
 pub returns-in-Err-clause-left : goal.returns-in-Err-clause-left
 returns-in-Err-clause-left g c =
@@ -42,7 +46,7 @@ returns-in-Ok-true-clause-served g c =
     let laws = c.messages_so_far.ensures in
     let is = c.in-Ok-Some.is ∙ ap Ok c.in-Ok-Some.field-0-is in
     served-by-end g.D.Desk.answers _ _ _ _ _ _ _ _ _ _ _ _ _ c.in-Ok-Some.message _ _ _ laws.more laws.later
-    c.messages.invariant.going (next-so _ _ _ _ _ _ _ _ is c.next_message.ensures.come) c.in-Ok-true.ensures.said (sym c.in-Ok-true.ensures.ends ∙ c.in-Ok-true.field-0-test)
+    c.messages.invariant.going (next-so _ _ _ _ _ _ _ _ is c.next_message.ensures.come) c.in-Ok-true.ensures.said (as-told _ _ _ c.in-Ok-true.ensures.ends c.in-Ok-true.field-0-test)
 
 pub returns-in-Err-answer_message-clause-left : goal.returns-in-Err-answer_message-clause-left
 returns-in-Err-answer_message-clause-left g c =
@@ -60,5 +64,5 @@ messages-preserved g c =
       writer = c.in-Ok-false.ensures.works;
       feed = c.in-Ok-Some.ensures.feed;
       going = going-on g.D.Desk.answers _ _ _ _ _ _ _ _ _ _ _ _ _ _ c.in-Ok-Some.message _ _ laws.more laws.later
-          c.messages.invariant.going (next-so _ _ _ _ _ _ _ _ is c.next_message.ensures.come) c.in-Ok-false.ensures.said c.in-Ok-false.ensures.session (sym c.in-Ok-false.ensures.ends ∙ c.in-Ok-false.field-0-test);
+          c.messages.invariant.going (next-so _ _ _ _ _ _ _ _ is c.next_message.ensures.come) c.in-Ok-false.ensures.said c.in-Ok-false.ensures.session (as-told _ _ _ c.in-Ok-false.ensures.ends c.in-Ok-false.field-0-test);
     }
