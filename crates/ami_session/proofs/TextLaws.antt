@@ -1,10 +1,12 @@
 -- What the text of a session promises.
-use Rattle.std.proofs.Common.{◌≡◌, ℕ, List, [], ◌∷◌, ◌++◌, refl, sym, ap, ◌∙◌, append_assoc, append-nil}
+use Rattle.std.proofs.Common.{◌≡◌, ⊎_elim, ℕ, ◌||◌, Bool, true, true≢false, List, [], ◌∷◌, ◌++◌, refl, sym, ap, ◌∙◌, subst, append_assoc, append-nil}
+use Rattle.ami_text.specs.Stream.{Ending, Gives, IsRest, Reads, Rest}
 use Rattle.status_report.specs.declared.asks.Answer.{Answer}
+use Rattle.status_report.specs.declared.asks.Ask.{Ask}
 use Rattle.ami_session.specs.Checks.{SessionState, Reaction, Replies, Asks, Ends, reaction, after}
 use Rattle.ami_session.specs.FieldValues.{Fields}
 use Rattle.ami_session.specs.Checks.{answer_reply}
-use Rattle.ami_session.specs.Text.{greeting, text_upon, replies, asks_upon, asks, after_all, NothingFollows, IsFrontOfMore}
+use Rattle.ami_session.specs.Text.{greeting, text_upon, replies, asks_upon, asks, after_all, is_end, is_over, session_text, AreOf, NothingFollows, IsFrontOfLonger, IsFrontOfMore, SameText}
 
 written-same : (r : Reaction) (f g : List Answer → List ℕ) → ((answers : List Answer) → f answers ≡ g answers) → (answers : List Answer) → text_upon r f answers ≡ text_upon r g answers
 written-same (Replies bytes) f g same answers = ap (λ t. bytes ++ t) (same answers)
@@ -48,3 +50,84 @@ front-of-more s ms answers more = let one = front ms s answers more in record {
   rest = one.0;
   is = ap (λ t. greeting s ++ t) one.1 ∙ sym (append_assoc (greeting s) (replies s ms answers) one.0);
 }
+
+longer : (ms : List Fields) (s : SessionState) (more : List Fields) (answers : List Answer) → (rest : List ℕ) × (replies s (ms ++ more) answers ≡ replies s ms answers ++ rest)
+longer [] s more answers = (replies s more answers, refl)
+longer (m ∷ ms) s more answers = by (reaction s m) answers (longer ms (after s m) more)
+  where
+    by : (r : Reaction) (answers : List Answer) → ((a : List Answer) → (rest : List ℕ) × (replies (after s m) (ms ++ more) a ≡ replies (after s m) ms a ++ rest))
+        → (rest : List ℕ) × (text_upon r (replies (after s m) (ms ++ more)) answers ≡ text_upon r (replies (after s m) ms) answers ++ rest)
+    by (Replies bytes) answers go =
+        let one = go answers in
+        (one.0, ap (λ t. bytes ++ t) one.1 ∙ sym (append_assoc bytes (replies (after s m) ms answers) one.0))
+    by (Ends bytes) answers go = ([], sym (append-nil bytes))
+    by (Asks ask waiting) [] go = ([], refl)
+    by (Asks ask waiting) (answer ∷ answers) go =
+        let one = go answers in
+        (one.0, ap (λ t. answer_reply waiting answer ++ t) one.1 ∙ sym (append_assoc (answer_reply waiting answer) (replies (after s m) ms answers) one.0))
+
+pub front-of-longer : (s : SessionState) (ms more : List Fields) (answers : List Answer) → IsFrontOfLonger s ms more answers
+front-of-longer s ms more answers = let one = longer ms s more answers in record {
+  rest = one.0;
+  is = ap (λ t. greeting s ++ t) one.1 ∙ sym (append_assoc (greeting s) (replies s ms answers) one.0);
+}
+
+-- nothing counts behind messages one of which ends the session
+over-by : (r : Reaction) (rest : Bool) (f g : List Answer → List ℕ) → (rest ≡ true → (answers : List Answer) → f answers ≡ g answers) → (is_end r || rest) ≡ true
+    → (answers : List Answer) → text_upon r f answers ≡ text_upon r g answers
+over-by (Replies bytes) rest f g so over answers = ap (λ t. bytes ++ t) (so over answers)
+over-by (Ends bytes) rest f g so over answers = refl
+over-by (Asks ask waiting) rest f g so over [] = refl
+over-by (Asks ask waiting) rest f g so over (answer ∷ answers) = ap (λ t. answer_reply waiting answer ++ t) (so over answers)
+
+replies-over : (ms : List Fields) (s : SessionState) (more : List Fields) → is_over s ms ≡ true → (answers : List Answer) → replies s (ms ++ more) answers ≡ replies s ms answers
+replies-over [] s more over answers = absurd (true≢false (sym over))
+replies-over (m ∷ ms) s more over answers =
+    over-by (reaction s m) (is_over (after s m) ms) (replies (after s m) (ms ++ more)) (replies (after s m) ms) (replies-over ms (after s m) more) over answers
+
+asks-by : (r : Reaction) (rest : Bool) (f g : List Ask) → (rest ≡ true → f ≡ g) → (is_end r || rest) ≡ true → asks_upon r f ≡ asks_upon r g
+asks-by (Replies bytes) rest f g so over = so over
+asks-by (Ends bytes) rest f g so over = refl
+asks-by (Asks ask waiting) rest f g so over = ap (λ t. ask ∷ t) (so over)
+
+asks-over : (ms : List Fields) (s : SessionState) (more : List Fields) → is_over s ms ≡ true → asks s (ms ++ more) ≡ asks s ms
+asks-over [] s more over = absurd (true≢false (sym over))
+asks-over (m ∷ ms) s more over = asks-by (reaction s m) (is_over (after s m) ms) (asks (after s m) (ms ++ more)) (asks (after s m) ms) (asks-over ms (after s m) more) over
+
+-- a stream has messages
+abbrev pub EachReads : Type 0
+EachReads = (bytes : List ℕ) → (messages : List Fields) × (ending : Ending) × Reads bytes messages ending
+
+-- and no others
+abbrev pub OneReading : Type 0
+OneReading = (bytes : List ℕ) (messages others : List Fields) (ending other : Ending) → Reads bytes messages ending → Reads bytes others other → messages ≡ others
+
+-- the messages of two pieces
+abbrev pub PiecesJoin : Type 0
+PiecesJoin = (first second held : List ℕ) (messages more : List Fields) (ending : Ending) → Gives first messages held → Reads (held ++ second) more ending → Reads (first ++ second) (messages ++ more) ending
+
+-- the text of a session's messages is that of all
+text-of-all : EachReads → OneReading → PiecesJoin → (s : SessionState) (bytes : List ℕ) (ms all : List Fields) (ending : Ending) → Reads bytes all ending → AreOf s bytes ms → SameText s all ms
+text-of-all each one join s bytes ms all ending reads are = ⊎_elim over at_end are.whole
+  where
+    over : is_over s ms ≡ true → SameText s all ms
+    over is =
+        let behind = each (are.rest ++ []) in
+        let both : Reads bytes (ms ++ behind.0) behind.1 = subst (λ t. Reads t (ms ++ behind.0) behind.1) (append-nil bytes) (join bytes [] are.rest ms behind.0 behind.1 are.gives behind.2) in
+        let same : all ≡ ms ++ behind.0 = one bytes all (ms ++ behind.0) ending behind.1 reads both in
+        record {
+          text = λ answers. ap (λ t. greeting s ++ replies s t answers) same ∙ ap (λ t. greeting s ++ t) (replies-over ms s behind.0 is answers);
+          asks = ap (asks s) same ∙ asks-over ms s behind.0 is;
+        }
+
+    at_end : IsRest are.rest → SameText s all ms
+    at_end is =
+        let same : all ≡ ms = one bytes all ms ending (Rest are.rest) reads (are.gives, is) in
+        record { text = λ answers. ap (λ t. session_text s t answers) same; asks = ap (asks s) same }
+
+pub one-text : EachReads → OneReading → PiecesJoin → (s : SessionState) (bytes : List ℕ) (ms others : List Fields) → AreOf s bytes ms → AreOf s bytes others → SameText s ms others
+one-text each one join s bytes ms others are others_are =
+    let all = each bytes in
+    let left = text-of-all each one join s bytes ms all.0 all.1 all.2 are in
+    let right = text-of-all each one join s bytes others all.0 all.1 all.2 others_are in
+    record { text = λ answers. sym (left.text answers) ∙ right.text answers; asks = sym left.asks ∙ right.asks }

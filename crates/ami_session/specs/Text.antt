@@ -1,6 +1,7 @@
 -- The text of a whole session: what it writes upon messages, one after another, and upon the answers to what it asks of the site. (A
 -- Manager session begins with a line that greets; its own words are this project's.)
-use Rattle.std.specs.Prelude.{ℕ, ◌≡◌, ◌||◌, Bool, true, false, List, [], ◌∷◌, ◌++◌, codes}
+use Rattle.std.specs.Prelude.{ℕ, ◌≡◌, ◌⊎◌, ◌||◌, Bool, true, false, List, [], ◌∷◌, ◌++◌, codes}
+use Rattle.ami_text.specs.Stream.{Gives, IsRest}
 use Rattle.status_report.specs.declared.asks.Answer.{Answer}
 use Rattle.status_report.specs.declared.asks.Ask.{Ask}
 use Rattle.ami_session.specs.Checks.{SessionState, Reaction, Replies, Asks, Ends, reaction, after}
@@ -68,3 +69,19 @@ pub record NothingFollows (s : SessionState) (before : List Fields) (last : Fiel
 pub record IsFrontOfMore (s : SessionState) (ms : List Fields) (answers more : List Answer) : Type 0 where
   pub rest : List ℕ
   pub is : session_text s ms (answers ++ more) ≡ session_text s ms answers ++ rest
+
+-- the text of more messages begins with the text of fewer
+pub record IsFrontOfLonger (s : SessionState) (ms more : List Fields) (answers : List Answer) : Type 0 where
+  pub rest : List ℕ
+  pub is : session_text s (ms ++ more) answers ≡ session_text s ms answers ++ rest
+
+-- a session's messages in a stream: one of them ends it, or no other stands behind them
+pub record AreOf (s : SessionState) (bytes : List ℕ) (ms : List Fields) : Type 0 where
+  pub rest : List ℕ
+  pub gives : Gives bytes ms rest
+  pub whole : (is_over s ms ≡ true) ⊎ IsRest rest
+
+-- messages have the same text, and ask the same
+pub record SameText (s : SessionState) (ms others : List Fields) : Type 0 where
+  pub text : (answers : List Answer) → session_text s ms answers ≡ session_text s others answers
+  pub asks : asks s ms ≡ asks s others
