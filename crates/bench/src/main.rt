@@ -6,6 +6,7 @@ mod deltas;
 mod frames;
 mod joins;
 mod replicas;
+mod sessions;
 mod sets;
 mod totals;
 
@@ -13,6 +14,7 @@ use deltas::{dot_taken_often, halves_joined_often};
 use frames::{cells_decoded_often, cells_encoded_often, runs_decoded_often, runs_encoded_often};
 use joins::joined_often;
 use replicas::{commands_done_often, frames_taken_often};
+use sessions::status_served_often;
 use sets::{dead_told_often, rows_read, sets_copied_often, sets_joined_often};
 use std::alloc::Global;
 use std::{env, io};
@@ -25,6 +27,9 @@ const TIMES: u32 = 100;
 const TURNS: u32 = 333;
 
 const FRAMES: u32 = 1_000;
+
+// How many asks a session has.
+const ASKS: u32 = 10_000;
 
 // What a workload computed, or why it has no checksum. The small ones, done twice, are seen by hand: the counts 1 to 6 of
 // a site are one run, so each join adds 6 and 1; three live dots of each of two sites are six in two runs, and of one
@@ -50,6 +55,7 @@ fn checksum(alloc: Global, word: &str) -> Result<u64, &'static str> {
         "decode_3_runs" => runs_decoded_often(alloc, 3, 2),
         "commands_at_3" => commands_done_often(alloc, 3, 2),
         "frames_at_3" => frames_taken_often(alloc, 3, 2),
+        "serve_2_statuses_of_3" => status_served_often(alloc, 3, 2),
         "join_65536_runs" => joined_often(alloc, 65_536, TIMES),
         "join_32768_runs" => joined_often(alloc, 32_768, TIMES),
         "join_16384_cells" => sets_joined_often(alloc, (0, 0), 16_384, TIMES),
@@ -71,6 +77,7 @@ fn checksum(alloc: Global, word: &str) -> Result<u64, &'static str> {
         "frames_at_256" => frames_taken_often(alloc, 256, FRAMES),
         "frames_at_4096" => frames_taken_often(alloc, 4_096, FRAMES),
         "frames_at_15000" => frames_taken_often(alloc, 15_000, FRAMES),
+        "serve_10000_statuses_of_100" => status_served_often(alloc, 100, ASKS),
         _ => Err("no such workload"),
     }
 }

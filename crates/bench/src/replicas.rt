@@ -72,8 +72,8 @@ fn new_site(alloc: Global, number: u16) -> Result<Replica, &'static str> {
     Ok(Replica::new(alloc, site, list))
 }
 
-// The replica of site 0 with so many members, which it has sent.
-fn site_of(alloc: Global, members: u64) -> Result<Replica, &'static str> {
+/// The replica of site 0 with so many members, which it has sent.
+pub fn site_of(alloc: Global, members: u64) -> Result<Replica, &'static str> {
     let mut replica = new_site(alloc, 0)?;
     for number in 0..members {
         add(&mut replica, number)?;
