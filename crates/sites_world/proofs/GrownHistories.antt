@@ -1,5 +1,5 @@
 -- A history with one operation more.
-use Rattle.std.proofs.Common.{◌≡◌, ◌<◌, ◌⊎◌, inl, inr, ℕ, Bool, true, false, ◌||◌, List, ◌∷◌, Contains, length, Some, refl, sym, ap, subst, ◌∙◌, arith}
+use Rattle.std.proofs.Common.{◌≡◌, ◌<◌, ◌⊎◌, inl, inr, ℕ, Bool, true, false, ◌||◌, List, ◌∷◌, Contains, length, Some, refl, sym, ap, subst, ◌∙◌, arith, []}
 use Rattle.std.specs.Prelude.{⊤}
 use Rattle.std.specs.FinSet as set
 use Rattle.std.proofs.lemmas.List.Elements.{Contains-append_cases}
@@ -33,9 +33,17 @@ pub record IsNext (names_of_queues : List (List ℕ)) (sites : ℕ) (h : Knowled
   pub members : (dot : Dot) (m n : Member) → Contains (asserted_by o) (dot, m) → Contains (asserted_by o) (dot, n) → m ≡ n
   pub asserted : (dot : Dot) (m : Member) → Contains (asserted_by o) (dot, m) → IsNewDot names_of_queues sites h o dot m ⊎ Contains (all_asserted h) (dot, m)
   pub named : (dot : Dot) → names dot o ≡ true → set.contains (known_dots h) dot ≡ true
+  pub made_once : (dot : Dot) → Makes dot o → set.contains (known_dots h) dot ≡ true → ⊥
   pub counts : CountsIn names_of_queues o
   pub older : (dot earlier : Dot) (m : Member) → Contains (asserted_by o) (dot, m) → Contains (all_asserted h) (earlier, m)
       → earlier.site ≡ dot.site → earlier.count < dot.count → names earlier o ≡ true
+
+-- an add asserts the dot that it makes
+pub makes-pair : (o : Operation) (dot : Dot) → Makes dot o → (m : Member) × Contains (asserted_by o) (dot, m)
+makes-pair (Add made member stamp penalty pause label older) dot p = (member, subst (λ d. Contains {X = Dot × Member} ((made, member) ∷ []) (d, member)) p.0 (first-in (made, member) []))
+makes-pair (Write dots setting stamp older) dot p = absurd p
+makes-pair (Remove dots) dot p = absurd p
+makes-pair (Count site queue calls total) dot p = absurd p
 
 -- an operation makes one dot
 one-made : (o : Operation) (dot other : Dot) → Makes dot o → Makes other o → dot ≡ other
@@ -80,6 +88,21 @@ module _ (names_of_queues : List (List ℕ)) (sites : ℕ) (h : Knowledge) (o : 
       by : (b : Bool) → names dot o ≡ b → (b || is_named h dot) ≡ true → set.contains (known_dots h) dot ≡ true
       by true e q = next.named dot e
       by false e q = known-named h dot q
+
+  -- a dot that the next operation makes was made by none before
+  made-before : (p : Operation) (dot : Dot) → Makes dot o → Contains h p → Makes dot p → ⊥
+  made-before p dot makes here before =
+      let q = makes-pair p dot before in
+      next.made_once dot makes (known-pair dot q.0 (part-in asserted_by h p (dot, q.0) here q.1))
+
+  adds-next : (a b : Operation) (dot : Dot) → Contains (o ∷ h) a → Contains (o ∷ h) b → Makes dot a → Makes dot b → a ≡ b
+  adds-next a b dot ha hb ma mb = by (cases-in o h a ha) (cases-in o h b hb)
+    where
+      by : ((o ≡ a) ⊎ Contains h a) → ((o ≡ b) ⊎ Contains h b) → a ≡ b
+      by (inl p) (inl q) = sym p ∙ q
+      by (inl p) (inr q) = absurd (made-before b dot (subst (Makes dot) (sym p) ma) q mb)
+      by (inr p) (inl q) = absurd (made-before a dot (subst (Makes dot) (sym q) mb) p ma)
+      by (inr p) (inr q) = made.adds a b dot p q ma mb
 
   -- what was made stays so
   still-made : (dot : Dot) → WasMade h dot → WasMade (o ∷ h) dot
@@ -141,6 +164,7 @@ module _ (names_of_queues : List (List ℕ)) (sites : ℕ) (h : Knowledge) (o : 
       | inl new ↦ record { add = o; is = first-in o h; makes = new.1.makes }
       | inr was ↦ still-made dot (made.made dot was)
     ];
+    adds = adds-next;
     sites_are = λ dot is. elim (known-next dot is) [ inl new ↦ new.1.site | inr was ↦ made.sites_are dot was ];
     queues = queues-next;
     counts = counts-next;

@@ -1,5 +1,8 @@
 -- What has happened at a site, and at the sites of a world.
-use Rattle.std.proofs.Common.{◌≡◌, ◌<◌, ◌≤◌, ◌+◌, inl, inr, ℕ, Bool, true, false, List, [], ◌∷◌, ◌++◌, append-nil, length, slice_get, slice_set, Some, None, refl, sym, ap, subst, ◌∙◌, if◌then◌else◌, arith}
+use Rattle.std.specs.Option.{option_map}
+use Rattle.delta_codec.specs.Frames.{IsInRanges}
+use Rattle.std.proofs.lemmas.Bool.{and_parts}
+use Rattle.std.proofs.Common.{◌≡◌, ◌<◌, ◌≤◌, ◌+◌, inl, inr, ℕ, Bool, true, false, List, [], ◌∷◌, ◌++◌, append-nil, length, slice_get, slice_set, Some, None, refl, sym, ap, subst, ◌∙◌, if◌then◌else◌, arith, ◌&&◌, is_some, true≢false, Option, IfSome}
 use Rattle.std.proofs.lemmas.List.{length-append, length-replicate, set-get_or}
 use Rattle.std.proofs.lemmas.Option.{get_or_from_slice_get, slice_get_within}
 use Rattle.delta_codec.specs.declared.frame.Frame.{Frame}
@@ -8,14 +11,15 @@ use Rattle.replica.specs.Standing.{StandsFor}
 use Rattle.replica.specs.Steps as steps
 use Rattle.replica.specs.Steps.{Framed, SiteKnowledge, take}
 use Rattle.sites_world.specs.declared.event.Event.{Event}
+use Rattle.sites_world.specs.declared.event.Event.TheVariants as event
 use Rattle.sites_world.specs.declared.outcome.Outcome.{Outcome}
-use Rattle.sites_world.specs.declared.outcome.Outcome.TheVariants.{Cut, NoEntry, NoSite}
+use Rattle.sites_world.specs.declared.outcome.Outcome.TheVariants.{Cut, NoEntry, NoSite, NoMemory}
 use Rattle.sites_world.specs.Histories.{HasHistory}
-use Rattle.sites_world.specs.Telling.{HasAdded, HasHappenedAt, IsFramedSo, IsTakenSo, MayBeTaken}
-use Rattle.sites_world.specs.Worlds.{Entry, IsReached, World, done_of, entries_of, framed, frame_told, happens, happens_at, happens_where, is_done, new_world, outcomes_of, run, site_of, taken}
-use Rattle.sites_world.specs.WorldStates.{Correspond, HasHappened, HaveHappened, IsFrameOf, IsSiteOf, IsWorld, StandsForWorld, WorldState}
+use Rattle.sites_world.specs.Telling.{HasAdded, HasHappenedAt, IsFramedSo, IsTakenSo, MayBeTaken, HasEntry}
+use Rattle.sites_world.specs.Worlds.{Entry, IsReached, World, done_of, entries_of, framed, frame_told, happens, happens_at, happens_where, is_done, new_world, outcomes_of, run, site_of, taken, has_entry, is_there}
+use Rattle.sites_world.specs.WorldStates.{Correspond, HasHappened, HaveHappened, IsFrameOf, IsSiteOf, IsWorld, StandsForWorld, WorldState, are_there}
 use Rattle.sites_world.proofs.KnownTogether.{in-parts}
-use Rattle.sites_world.proofs.Lists.{correspond-get, correspond-none, correspond-push, correspond-set, get-replicate, none-some, place-in}
+use Rattle.sites_world.proofs.Lists.{correspond-get, correspond-none, correspond-push, correspond-set, get-replicate, none-some, place-in, some-within}
 use Rattle.sites_world.proofs.MayTake.{may-take}
 
 -- ---- at one site
@@ -42,7 +46,7 @@ framed-happened new s old pool entries maker after o site c (inl (e, stands, add
     grown (Framed number carried) (frame, is, of) =
         subst (λ p. Correspond IsFrameOf p (entries ++ entries_of maker (Framed number carried))) (sym is)
         (correspond-push IsFrameOf old entries c frame (record { maker = maker; number = number; carried = carried })
-        (record { maker = of.maker ∙ site; number = of.number; delta = of.delta }))
+        (record { maker = of.maker ∙ site; number = of.number; delta = of.delta; ranges = of.ranges }))
     grown steps.Done is = same-pool is
     grown (steps.Denied refusal) is = same-pool is
     grown steps.Nothing is = same-pool is
@@ -62,6 +66,17 @@ pub missing-happened : (state : SiteState) (s : SiteKnowledge) (pool : List Fram
     → HasHappenedAt state s pool pool entries (taken s None) NoEntry
 missing-happened state s pool entries c stands = inl (refl, refl, stands, nothing-added pool entries c)
 
+-- an entry whose frame is in the pool is there
+pub taken-found : (e : Event) (pool : List Frame) (w : World) → Correspond IsFrameOf pool w.pool → HasEntry pool e → has_entry w e ≡ true
+taken-found (event.Ask site asked) pool w c within = refl
+taken-found (event.Cut site) pool w c within = refl
+taken-found (event.Whole site) pool w c within = refl
+taken-found (event.Take site entry) pool w c within = by (slice_get w.pool entry) refl
+  where
+    by : (o : Option Entry) → slice_get w.pool entry ≡ o → is_some o ≡ true
+    by (Some x) is = refl
+    by None is = absurd (some-within w.pool entry (let same = c.lengths in omega (arith, within, same)) is)
+
 -- ---- at the sites of a world
 
 module _ (names_of_queues : List (List ℕ)) (sites : List SiteState) (pool : List Frame) (w : World)
@@ -75,9 +90,9 @@ module _ (names_of_queues : List (List ℕ)) (sites : List SiteState) (pool : Li
 
   -- what has happened at a site has happened in the world
   at-site : (e : Event) (state new : SiteState) (s : SiteKnowledge) (grown : List Frame) (o : Outcome) → slice_get sites (site_of e) ≡ Some state → slice_get w.sites (site_of e) ≡ Some s
-      → new.site ≡ state.site → new.names ≡ state.names → HasHappenedAt new s pool grown w.pool (happens_at names_of_queues w.pool s e) o
+      → new.site ≡ state.site → new.names ≡ state.names → (o ≡ NoMemory → has_entry w e ≡ true) → HasHappenedAt new s pool grown w.pool (happens_at names_of_queues w.pool s e) o
       → HasHappened (record { names = names_of_queues; sites = slice_set sites (site_of e) new; pool = grown }) w e o
-  at-site e state new s grown o here known site names_are happened = by happened
+  at-site e state new s grown o here known site names_are found happened = by happened
     where
       of : IsSiteOf names_of_queues (site_of e) state s
       of = stands.sites.each (site_of e) state s here known
@@ -87,6 +102,9 @@ module _ (names_of_queues : List (List ℕ)) (sites : List SiteState) (pool : Li
 
       stands-there : (t : SiteKnowledge) → StandsFor new t → IsSiteOf names_of_queues (site_of e) new t
       stands-there t known_so = record { site = site ∙ of.site; names_are = names_are ∙ of.names_are; stands = known_so }
+
+      there : o ≡ NoMemory → is_there w e ≡ true
+      there is = (λ i. is_some (known i) && found is i)
 
       done : happens names_of_queues w e ≡ happens_where names_of_queues w (site_of e) (Some s) e
       done = ap (λ x. happens_where names_of_queues w (site_of e) x e) known
@@ -99,7 +117,7 @@ module _ (names_of_queues : List (List ℕ)) (sites : List SiteState) (pool : Li
         subst (λ x. StandsForWorld (record { names = names_of_queues; sites = slice_set sites (site_of e) new; pool = grown }) x.0) (sym done)
             (record { sites = correspond-set (IsSiteOf names_of_queues) sites w.sites stands.sites (site_of e) new _ within (stands-there _ known_so); pool = carried }),
       )
-      by (inr (is, known_so, same)) = inr (is, record { sites = kept; pool = subst (λ p. Correspond IsFrameOf p w.pool) (sym same) stands.pool })
+      by (inr (is, known_so, same)) = inr (is, there is, record { sites = kept; pool = subst (λ p. Correspond IsFrameOf p w.pool) (sym same) stands.pool })
         where
           kept : Correspond (IsSiteOf names_of_queues) (slice_set sites (site_of e) new) w.sites
           kept = subst (Correspond (IsSiteOf names_of_queues) (slice_set sites (site_of e) new)) (set-again w.sites (site_of e) s known)
@@ -109,13 +127,13 @@ module _ (names_of_queues : List (List ℕ)) (sites : List SiteState) (pool : Li
               set-again xs i x is = ap (slice_set xs i) (sym (get_or_from_slice_get xs i x x is)) ∙ set-get_or xs i x
 
   pub at-site-happened : (e : Event) (at : ℕ) (state new : SiteState) (grown : List Frame) (o : Outcome) → at ≡ site_of e → slice_get sites at ≡ Some state
-      → new.site ≡ state.site → new.names ≡ state.names
+      → new.site ≡ state.site → new.names ≡ state.names → (o ≡ NoMemory → has_entry w e ≡ true)
       → ((s : SiteKnowledge) → slice_get w.sites at ≡ Some s → HasHappenedAt new s pool grown w.pool (happens_at state.names w.pool s e) o)
       → HasHappened (record { names = names_of_queues; sites = slice_set sites at new; pool = grown }) w e o
-  at-site-happened e at state new grown o is here site names_are happened =
+  at-site-happened e at state new grown o is here site names_are found happened =
       let known = correspond-get (IsSiteOf names_of_queues) sites w.sites stands.sites at state here in
       subst (λ n. HasHappened (record { names = names_of_queues; sites = slice_set sites n new; pool = grown }) w e o) (sym is)
-      (at-site e state new known.0 grown o (ap (slice_get sites) (sym is) ∙ here) (ap (slice_get w.sites) (sym is) ∙ known.1) site names_are
+      (at-site e state new known.0 grown o (ap (slice_get sites) (sym is) ∙ here) (ap (slice_get w.sites) (sym is) ∙ known.1) site names_are found
       (subst (λ names. HasHappenedAt new known.0 pool grown w.pool (happens_at names w.pool known.0 e) o) known.2.names_are (happened known.0 known.1)))
 
   -- there is no such site
@@ -146,6 +164,33 @@ outcomes-push (p ∷ os) o = by (is_done p) (outcomes-push os o)
         → (if b then p ∷ outcomes_of (os ++ o ∷ []) else outcomes_of (os ++ o ∷ [])) ≡ (if b then p ∷ outcomes_of os else outcomes_of os) ++ (if is_done o then o ∷ [] else [])
     by true h = ap (λ xs. p ∷ xs) h
     by false h = h
+
+-- what is to be shown of one event more, from a world on
+abbrev Goes : List (List ℕ) → List Event → List Outcome → Event → Outcome → World → Type 0
+Goes names es os e o v = are_there names v es os ≡ true → (is_done o ≡ false → is_there (run names v (done_of es os)).0 e ≡ true) → are_there names v (es ++ e ∷ []) (os ++ o ∷ []) ≡ true
+
+both : (a b : Bool) → a ≡ true → b ≡ true → (a && b) ≡ true
+both a b p q = (λ i. p i && q i)
+
+-- where memory was wanting for one event more there are its site and its entry too
+there-push : (names_of_queues : List (List ℕ)) (w : World) (es : List Event) (os : List Outcome) (e : Event) (o : Outcome) → length os ≡ length es → are_there names_of_queues w es os ≡ true
+    → (is_done o ≡ false → is_there (run names_of_queues w (done_of es os)).0 e ≡ true) → are_there names_of_queues w (es ++ e ∷ []) (os ++ o ∷ []) ≡ true
+there-push names_of_queues w [] [] e o same all last = by (is_done o) refl
+  where
+    by : (b : Bool) → is_done o ≡ b → (if b then true else is_there w e && true) ≡ true
+    by true is = refl
+    by false is = both (is_there w e) true (last is) refl
+there-push names_of_queues w [] (p ∷ os) e o same all last = absurd (omega (arith, same))
+there-push names_of_queues w (f ∷ es) [] e o same all last = absurd (omega (arith, same))
+there-push names_of_queues w (f ∷ es) (p ∷ os) e o same all last =
+    by (is_done p) (there-push names_of_queues (happens names_of_queues w f).0 es os e o (omega (arith, same))) (there-push names_of_queues w es os e o (omega (arith, same))) all last
+  where
+    by : (b : Bool) → Goes names_of_queues es os e o (happens names_of_queues w f).0 → Goes names_of_queues es os e o w
+        → (if b then are_there names_of_queues (happens names_of_queues w f).0 es os else is_there w f && are_there names_of_queues w es os) ≡ true
+        → (is_done o ≡ false → is_there (run names_of_queues w (if b then f ∷ done_of es os else done_of es os)).0 e ≡ true)
+        → (if b then are_there names_of_queues (happens names_of_queues w f).0 (es ++ e ∷ []) (os ++ o ∷ []) else is_there w f && are_there names_of_queues w (es ++ e ∷ []) (os ++ o ∷ [])) ≡ true
+    by true after_it before_it so_far at_last = after_it so_far at_last
+    by false after_it before_it so_far at_last = let parts = and_parts (is_there w f) _ so_far in both (is_there w f) _ parts.0 (before_it parts.1 at_last)
 
 module _ (names_of_queues : List (List ℕ)) (sites : ℕ) (w : World) where
   -- a world that was reached leads to others that are
@@ -179,21 +224,23 @@ module _ (names_of_queues : List (List ℕ)) (w : World) (es : List Event) (os :
           let parts = in-parts names_of_queues w (done_of es os) (e ∷ []) in
           record {
             one_each = lengths;
+            there = there-push names_of_queues w es os e o before.one_each before.there (λ undone. absurd (true≢false (sym is ∙ undone)));
             outcomes_are = told true is ∙ (λ i. before.outcomes_are i ++ sym outcome_is i ∷ []) ∙ sym parts.outcomes ∙ ap (λ xs. (run names_of_queues w xs).1) (sym events);
             stands = subst (StandsForWorld new) (sym parts.world ∙ ap (λ xs. (run names_of_queues w xs).0) (sym events)) stands;
           }
-      by (inr (is, stands)) =
+      by (inr (is, here, stands)) =
           let undone : is_done o ≡ false = ap is_done is in
           let events = pushed false undone ∙ append-nil (done_of es os) in
           record {
             one_each = lengths;
+            there = there-push names_of_queues w es os e o before.one_each before.there (λ again. here);
             outcomes_are = told false undone ∙ append-nil (outcomes_of os) ∙ before.outcomes_are ∙ ap (λ xs. (run names_of_queues w xs).1) (sym events);
             stands = subst (λ xs. StandsForWorld new (run names_of_queues w xs).0) (sym events) stands;
           }
 
 -- no event has happened
 pub none-happened : (state : WorldState) (w : World) (outcomes : List Outcome) → outcomes ≡ [] → StandsForWorld state w → HaveHappened state w [] outcomes
-none-happened state w outcomes none stands = subst (HaveHappened state w []) (sym none) (record { one_each = refl; outcomes_are = refl; stands = stands })
+none-happened state w outcomes none stands = subst (HaveHappened state w []) (sym none) (record { one_each = refl; there = refl; outcomes_are = refl; stands = stands })
 
 -- ---- the worlds that sites stand for
 
@@ -234,3 +281,8 @@ new-is-world names_of_queues sites pool count long stands = record {
   reached = subst (λ n. IsReached names_of_queues n (new_world count)) (sym long) (new-reached names_of_queues count);
   stands = stands;
 }
+
+-- the frame of an entry is within the ranges of the format
+pub entry-in-ranges : {T : Type 0} (now : T → Frame) (found : Option T) (state : WorldState) (entry : ℕ) → IsWorld state → option_map now found ≡ slice_get state.pool entry → IfSome found (λ x. IsInRanges (now x))
+entry-in-ranges now None state entry is same = tt
+entry-in-ranges now (Some x) state entry is same = (correspond-get IsFrameOf state.pool is.world.pool is.stands.pool entry (now x) (sym same)).2.ranges

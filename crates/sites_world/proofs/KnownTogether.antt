@@ -10,12 +10,13 @@ use Rattle.sites_world.specs.Histories.{HasHistory, IsHistory, IsHistoryOf, IsIn
 use Rattle.sites_world.specs.Promises.{IsVisibleDotOf, RunsInParts}
 use Rattle.sites_world.specs.Worlds.{World, happens}
 use Rattle.sites_world.proofs.Dots.{member-in, visible-parts}
-use Rattle.sites_world.proofs.Parts.{asserted-part, both-part, consistent-part}
+use Rattle.sites_world.proofs.Parts.{asserted-part, both-part, consistent-part, part-through}
 
 -- each knowledge of a world is a part of its history
 pub part-of : (names_of_queues : List (List ℕ)) (w : World) (h k : Knowledge) → IsHistoryOf names_of_queues w h → IsIn w k → IsPartOf k h
 part-of names_of_queues w h k all (Known site s is e) = subst (λ l. IsPartOf l h) (sym e) (all.sites site s is).known
-part-of names_of_queues w h k all (Buffered site s is e) = subst (λ l. IsPartOf l h) (sym e) (all.sites site s is).buffer
+part-of names_of_queues w h k all (Buffered site s is e) =
+    let known = all.sites site s is in subst (λ l. IsPartOf l h) (sym e) (part-through s.buffer s.known h known.buffer known.known)
 part-of names_of_queues w h k all (Carried entry here e) = subst (λ l. IsPartOf l h) (sym e) (all.pool entry here)
 
 -- any two are consistent together

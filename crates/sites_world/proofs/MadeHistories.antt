@@ -18,7 +18,7 @@ use Rattle.sites_world.specs.Histories.{IsHistory, IsOf, IsSiteIn, Makes, stamp_
 use Rattle.sites_world.proofs.Lists.{map-in, none-some, one-some}
 use Rattle.sites_world.proofs.Dots.{is-asserted, member-in, member-is, older-than, visible-of, visible-parts}
 use Rattle.sites_world.proofs.Parts.{asserted-part, known-asserted, known-named, known-part, named-part}
-use Rattle.sites_world.proofs.GrownHistories.{IsNewDot, IsNext}
+use Rattle.sites_world.proofs.GrownHistories.{IsNewDot, IsNext, makes-pair}
 
 -- ---- numbers that a site has used
 
@@ -68,13 +68,6 @@ makes-count site (Write dots setting stamp older) dot p is = absurd p
 makes-count site (Remove dots) dot p is = absurd p
 makes-count site (Count s queue calls total) dot p is = absurd p
 
--- it asserts the dot
-makes-asserts : (o : Operation) (dot : Dot) → Makes dot o → (m : Member) × Contains (asserted_by o) (dot, m)
-makes-asserts (Add made member stamp penalty pause label older) dot p = (member, subst (λ d. Contains {X = Dot × Member} ((made, member) ∷ []) (d, member)) p.0 (first-in (made, member) []))
-makes-asserts (Write dots setting stamp older) dot p = absurd p
-makes-asserts (Remove dots) dot p = absurd p
-makes-asserts (Count s queue calls total) dot p = absurd p
-
 -- what two tests pass, each passes
 both-true : (a b : Bool) → a ≡ true → b ≡ true → (a && b) ≡ true
 both-true a b p q = (λ i. p i && q i)
@@ -110,7 +103,7 @@ module _ (names_of_queues : List (List ℕ)) (sites site : ℕ) (h : Knowledge) 
   asserted-there dot m here at =
       let w = made.made dot (known-asserted h dot (is-asserted h dot m here)) in
       let known = own.own w.add w.is (makes-of site w.add dot w.makes at) in
-      let p = makes-asserts w.add dot w.makes in
+      let p = makes-pair w.add dot w.makes in
       let there = part-in asserted_by s.known w.add (dot, p.0) known p.1 in
       let same = made.members dot p.0 m (asserted-part s.known h own.known (dot, p.0) there) here in
       subst (λ n. Contains (all_asserted s.known) (dot, n)) same there
@@ -156,6 +149,7 @@ module _ (names_of_queues : List (List ℕ)) (sites site : ℕ) (h : Knowledge) 
       members = λ d m n hm hn. ap (λ p. p.1) (sym (only-in (dot, member) (d, m) hm) ∙ only-in (dot, member) (d, n) hn);
       asserted = λ d m here. inl (subst (λ p. IsNewDot names_of_queues sites h (Add dot member stamp penalty pause label older) p.0 p.1) (only-in (dot, member) (d, m) here) is-new);
       named = λ d is. named-known d (and_parts (is_named s.known d) (is_older (dot ∷ []) d) (sym (a.older_are d) ∙ is)).0;
+      made_once = λ d makes known. let less = is-new.latest d known (ap (λ x. x.site) (sym makes.0)) in let same = ap (λ x. x.count) makes.0 in omega (arith, less, same);
       counts = tt;
       older = λ d earlier m here before same less.
           let pair = only-in (dot, member) (d, m) here in
@@ -186,6 +180,7 @@ module _ (names_of_queues : List (List ℕ)) (sites site : ℕ) (h : Knowledge) 
       members = λ d m n hm hn. one-some m n (sym (w.seen d m hm).1 ∙ (w.seen d n hn).1);
       asserted = λ d m here. inr (seen-asserted d m (w.seen d m here).1);
       named = λ d is. named-known d (and_parts (is_named s.known d) (is_older (each (λ p. p.0) dots) d) (sym (w.older_are d) ∙ is)).0;
+      made_once = λ d makes known. makes;
       counts = tt;
       older = λ d earlier m here before same less.
           w.older_are earlier ∙ both-true _ _ (written-older d earlier m here before same less) (older-than (each (λ p. p.0) dots) d earlier (first-of dots d m here) same less);
@@ -200,6 +195,7 @@ module _ (names_of_queues : List (List ℕ)) (sites site : ℕ) (h : Knowledge) 
     members = λ d m n hm hn. absurd (nothing-in (d, m) hm);
     asserted = λ d m here. absurd (nothing-in (d, m) here);
     named = λ d is. let v = visible-parts s.known d (r.seen d is) in known-part s.known h d own.known (known-asserted s.known d v.0);
+    made_once = λ d makes known. makes;
     counts = tt;
     older = λ d earlier m here before same less. absurd (nothing-in (d, m) here);
   }
@@ -208,6 +204,7 @@ module _ (names_of_queues : List (List ℕ)) (sites site : ℕ) (h : Knowledge) 
     members = λ d m n hm hn. absurd (nothing-in (d, m) hm);
     asserted = λ d m here. absurd (nothing-in (d, m) here);
     named = λ d is. absurd (true≢false (sym is ∙ set.contains-empty dot_cmp d));
+    made_once = λ d makes known. makes;
     counts = c.queue_is;
     older = λ d earlier m here before same less. absurd (nothing-in (d, m) here);
   }

@@ -25,7 +25,7 @@ use Rattle.sites_world.specs.declared.event.Event.TheVariants as event
 use Rattle.sites_world.specs.Histories.{HasHistory, IsHistory, IsHistoryOf, IsOf, IsPartOf, IsSiteIn}
 use Rattle.sites_world.specs.Worlds.{Entry, IsReached, World, after_happening, answered, entries_of, framed, happens, happens_at, happens_where, new_world, run, site_of, taken}
 use Rattle.sites_world.proofs.Lists.{get-replicate, get-set-other, get-set-same, one-some, place-in}
-use Rattle.sites_world.proofs.Parts.{both-part, more-part, none-part}
+use Rattle.sites_world.proofs.Parts.{both-part, more-part, none-part, part-through}
 use Rattle.sites_world.proofs.GrownHistories.{grows}
 use Rattle.sites_world.proofs.MadeHistories.{made-next}
 
@@ -41,6 +41,7 @@ empty-history names_of_queues sites = record {
   stamps = λ o p stamp ho hp eo ep. absurd (nothing-in o ho);
   members = λ dot m n hm hn. absurd (nothing-in (dot, m) hm);
   made = λ dot is. absurd (nothing-known dot is);
+  adds = λ o p dot ho hp makes again. absurd (nothing-in o ho);
   sites_are = λ dot is. absurd (nothing-known dot is);
   queues = λ dot m here. absurd (nothing-in (dot, m) here);
   counts = λ site queue calls total here. absurd (nothing-in (Count site queue calls total) here);
@@ -129,7 +130,7 @@ module _ (names_of_queues : List (List ℕ)) (w : World) (h : Knowledge) (site :
       there : IsSiteIn (o ∷ h) site (after o)
       there = let known = all.sites site s is in record {
         known = more-part o s.known (o ∷ h) (first-in o h) (longer o s.known known.known);
-        buffer = more-part o s.buffer (o ∷ h) (first-in o h) (longer o s.buffer known.buffer);
+        buffer = more-part o s.buffer (o ∷ s.known) (first-in o s.known) (λ p here. later-in o s.known p (known.buffer p here));
         own = own_of;
       }
 
@@ -137,7 +138,7 @@ module _ (names_of_queues : List (List ℕ)) (w : World) (h : Knowledge) (site :
       by j u (inl p) = subst (λ n. IsSiteIn (o ∷ h) n u) (sym p.0) (subst (IsSiteIn (o ∷ h) site) (sym p.1) there)
       by j u (inr p) = let known = all.sites j u p.1 in record {
         known = longer o u.known known.known;
-        buffer = longer o u.buffer known.buffer;
+        buffer = known.buffer;
         own = others j u p.0 known;
       }
 
@@ -150,7 +151,7 @@ record KeepsParts (h : Knowledge) (site : ℕ) (after : SiteKnowledge × steps.O
 
 module _ (h : Knowledge) (site : ℕ) (s : SiteKnowledge) (known : IsSiteIn h site s) where
   -- a frame of a part, with a buffer that is one
-  frame-parts : (frame buffer : Knowledge) → IsPartOf frame h → IsPartOf buffer h → KeepsParts h site (after_frame s frame buffer)
+  frame-parts : (frame buffer : Knowledge) → IsPartOf frame h → IsPartOf buffer s.known → KeepsParts h site (after_frame s frame buffer)
   frame-parts frame buffer part rest = by (nat_lt MOST_COUNT (suc s.frames))
     where
       by : (b : Bool) → KeepsParts h site (if b then (s, steps.NoNumber) else (record { known = s.known; buffer = buffer; frames = suc s.frames }, Framed (suc s.frames) frame))
@@ -160,9 +161,9 @@ module _ (h : Knowledge) (site : ℕ) (s : SiteKnowledge) (known : IsSiteIn h si
         carried = λ entry here. subst (λ e. IsPartOf e.carried h) (only-in _ entry here) part;
       }
 
-  cut-by : (buffer : Knowledge) → IsPartOf buffer h → KeepsParts h site (cut s buffer)
+  cut-by : (buffer : Knowledge) → IsPartOf buffer s.known → KeepsParts h site (cut s buffer)
   cut-by [] part = record { site_in = known; carried = λ entry here. absurd (nothing-in entry here) }
-  cut-by (o ∷ os) part = frame-parts (o ∷ os) [] part (none-part h)
+  cut-by (o ∷ os) part = frame-parts (o ∷ os) [] (part-through (o ∷ os) s.known h part known.known) (none-part s.known)
 
   abbrev taken_by : Knowledge → Bool → Bool → SiteKnowledge × steps.Outcome
   taken_by frame a b = if a then (s, steps.CellsFull) else if b then (s, steps.RunsFull) else (record { known = frame ++ s.known; buffer = s.buffer; frames = s.frames }, steps.Taken)
@@ -176,7 +177,7 @@ module _ (h : Knowledge) (site : ℕ) (s : SiteKnowledge) (known : IsSiteIn h si
       by false true = known
       by false false = record {
         known = both-part frame s.known h part known.known;
-        buffer = known.buffer;
+        buffer = λ o here. Contains-append_right frame s.known o (known.buffer o here);
         own = λ o here of. Contains-append_right frame s.known o (known.own o here of);
       }
 

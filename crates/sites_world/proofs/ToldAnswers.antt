@@ -1,4 +1,5 @@
 -- What comes of asks and frames at one site is told as the world of operations has it, or as want of memory.
+use Rattle.delta_codec.specs.Frames.{IsInRanges}
 use Rattle.std.proofs.Common.{◌≡◌, ◌⊎◌, inl, inr, ℕ, Bool, true, false, List, [], ◌∷◌, ◌++◌, length, Option, Some, Ok, refl, sym, ap, subst, ◌∙◌, true≢false}
 use Rattle.delta.specs.DeltaStates.{DeltaState}
 use Rattle.delta.specs.Joining.{Disagree}
@@ -80,11 +81,11 @@ told-answer worn old new s asked answer stands is (inr (same, (result, e, instea
 -- ---- frames that were made
 
 pub told-frame : (new : SiteState) (s : SiteKnowledge) (old pool : List Frame) (after : SiteKnowledge × steps.Outcome) (frame : Frame) → StandsFor new after.0 → IsFramed frame after.1
-    → frame.maker ≡ new.site → pool ≡ old ++ frame ∷ [] → IsFramedSo new s old pool after (Cut (Ok (Some (length old))))
-told-frame new s old pool after frame stands framed maker grown = inl (
+    → frame.maker ≡ new.site → IsInRanges frame → pool ≡ old ++ frame ∷ [] → IsFramedSo new s old pool after (Cut (Ok (Some (length old))))
+told-frame new s old pool after frame stands framed maker ranges grown = inl (
   ap (λ x. Cut (frame_told (length old) x)) (sym framed.outcome_is),
   stands,
-  subst (HasAdded new.site old pool) (sym framed.outcome_is) (frame, grown, record { maker = maker; number = refl; delta = framed.stands }),
+  subst (HasAdded new.site old pool) (sym framed.outcome_is) (frame, grown, record { maker = maker; number = refl; delta = framed.stands; ranges = ranges }),
 )
 
 -- ---- frames that were taken

@@ -48,6 +48,8 @@ pub record IsHistory (names_of_queues : List (List ℕ)) (sites : ℕ) (h : Know
   pub members : (dot : Dot) (m n : Member) → Contains (all_asserted h) (dot, m) → Contains (all_asserted h) (dot, n) → m ≡ n
   -- each dot that is asserted or named was made by an add at its site
   pub made : (dot : Dot) → set.contains (known_dots h) dot ≡ true → WasMade h dot
+  -- by one alone
+  pub adds : (o p : Operation) (dot : Dot) → Contains h o → Contains h p → Makes dot o → Makes dot p → o ≡ p
   -- at one of the sites
   pub sites_are : (dot : Dot) → set.contains (known_dots h) dot ≡ true → dot.site < sites
   -- members are of queues in the list
@@ -58,10 +60,10 @@ pub record IsHistory (names_of_queues : List (List ℕ)) (sites : ℕ) (h : Know
   pub older : (o : Operation) (dot earlier : Dot) (m : Member) → Contains h o → Contains (asserted_by o) (dot, m)
       → Contains (all_asserted h) (earlier, m) → earlier.site ≡ dot.site → earlier.count < dot.count → names earlier o ≡ true
 
--- a site knows parts of a history, and all that it has made itself
+-- a site knows a part of a history, with all that it has made itself, and its buffer is a part of what it knows
 pub record IsSiteIn (h : Knowledge) (site : ℕ) (s : SiteKnowledge) : Type 0 where
   pub known : IsPartOf s.known h
-  pub buffer : IsPartOf s.buffer h
+  pub buffer : IsPartOf s.buffer s.known
   pub own : (o : Operation) → Contains h o → IsOf site o → Contains s.known o
 
 -- A world with its history: each site knows a part of it, with all that is its own, and each frame carries a part.
@@ -76,10 +78,6 @@ pub record HasHistory (names_of_queues : List (List ℕ)) (w : World) : Type 0 w
   pub is : IsHistoryOf names_of_queues w made
 
 -- ---- the knowledges of a world
-
--- what the site of this number knows
-abbrev pub Knows : World → ℕ → Knowledge → Type 0
-Knows w site k = (s : SiteKnowledge) × (slice_get w.sites site ≡ Some s) × (s.known ≡ k)
 
 -- a knowledge is in a world: a site knows it, or has it in its buffer, or a frame carries it
 pub data IsIn (w : World) (k : Knowledge) : Type 0 where

@@ -1,11 +1,13 @@
 -- What the definition of the world promises.
+use Rattle.sites_world.specs.declared.outcome.Outcome.TheVariants.{Answered}
+use Rattle.status_report.specs.declared.asks.Answer.TheVariants.{Report}
 use Rattle.std.specs.Prelude.{ℕ, ◌≡◌, ◌++◌, true, List, Some, slice_get}
 use Rattle.std.specs.FinSet as set
 use Rattle.dots.specs.declared.member.Member.{Member}
 use Rattle.dots.specs.Values.{Dot}
 use Rattle.dots.specs.Knowledge.{IsConsistent, Knowledge, SameOperations, member_of, visible_dots}
-use Rattle.delta.specs.DeltaStates.{DeltaState}
-use Rattle.delta.specs.Joining.{Agree}
+use Rattle.delta.specs.DeltaStates.{DeltaState, IsSame}
+use Rattle.delta.specs.Joining.{Agree, IsJoinOf}
 use Rattle.delta.specs.Standing.{IsDeltaOf}
 use Rattle.replica.specs.Steps.{SiteKnowledge}
 use Rattle.status_report.specs.declared.asks.Ask.TheVariants.{Status}
@@ -29,16 +31,30 @@ abbrev pub DeltasAgree : Type 0
 DeltasAgree = (names : List (List ℕ)) (sites : ℕ) (w : World) (k l : Knowledge) (x y : DeltaState) → IsReached names sites w → IsIn w k → IsIn w l
     → IsDeltaOf x k → IsDeltaOf y l → Agree x y
 
--- and those of the same operations have the same status
+-- and are joined in either order
+abbrev pub DeltasCommute : Type 0
+DeltasCommute = (names : List (List ℕ)) (sites : ℕ) (w : World) (k l : Knowledge) (x y joint turned : DeltaState) → IsReached names sites w → IsIn w k → IsIn w l
+    → IsDeltaOf x k → IsDeltaOf y l → IsJoinOf x y joint → IsJoinOf y x turned → IsSame joint turned
+
+-- each with the same operations as one of these has the same status
 abbrev pub HaveSameStatus : Type 0
-HaveSameStatus = (names : List (List ℕ)) (sites : ℕ) (w : World) (k l : Knowledge) (request : StatusRequest) → IsReached names sites w → IsIn w k → IsIn w l
+HaveSameStatus = (names : List (List ℕ)) (sites : ℕ) (w : World) (k l : Knowledge) (request : StatusRequest) → IsReached names sites w → IsIn w k
     → SameOperations k l → status_in k names request ≡ status_in l names request
 
--- so two sites that know the same operations give the same answer to one request
+-- so two sites that know the same operations, be it in one world or in two, give the same answer to one request
 abbrev pub GiveSameAnswer : Type 0
-GiveSameAnswer = (names : List (List ℕ)) (sites : ℕ) (w : World) (site other : ℕ) (s t : SiteKnowledge) (request : StatusRequest) → IsReached names sites w
-    → slice_get w.sites site ≡ Some s → slice_get w.sites other ≡ Some t → SameOperations s.known t.known
-    → (happens names w (event.Ask site (Status request))).1 ≡ (happens names w (event.Ask other (Status request))).1
+GiveSameAnswer = (names : List (List ℕ)) (sites : ℕ) (w v : World) (site other : ℕ) (s t : SiteKnowledge) (request : StatusRequest) → IsReached names sites w
+    → slice_get w.sites site ≡ Some s → slice_get v.sites other ≡ Some t → SameOperations s.known t.known
+    → (happens names w (event.Ask site (Status request))).1 ≡ (happens names v (event.Ask other (Status request))).1
+
+-- a status is answered by the status text of what its site knows
+abbrev pub ReportsAreReadings : Type 0
+ReportsAreReadings = (names : List (List ℕ)) (w : World) (site : ℕ) (s : SiteKnowledge) (request : StatusRequest) → slice_get w.sites site ≡ Some s
+    → (happens names w (event.Ask site (Status request))).1 ≡ Answered (Report (status_in s.known names request))
+
+-- a world that events lead to leads to others
+abbrev pub LeadsOn : Type 0
+LeadsOn = (names : List (List ℕ)) (sites : ℕ) (w : World) (events : List Event) → IsReached names sites w → IsReached names sites (run names w events).0
 
 -- a visible dot of a member
 pub record IsVisibleDotOf (k : Knowledge) (m : Member) (dot : Dot) : Type 0 where

@@ -1,5 +1,7 @@
 -- What comes of an event at one site, told as an outcome: as the world of operations has it, or as want of memory, which changes nothing.
-use Rattle.std.specs.Prelude.{ℕ, ◌≡◌, ◌⊎◌, Bool, true, List, [], ◌∷◌, ◌++◌, length, Err}
+use Rattle.sites_world.specs.declared.event.Event.{Event}
+use Rattle.sites_world.specs.declared.event.Event.TheVariants as event
+use Rattle.std.specs.Prelude.{ℕ, ◌≡◌, ◌⊎◌, Bool, true, List, [], ◌∷◌, ◌++◌, length, Err, ⊤, ◌<◌}
 use Rattle.dots.specs.Knowledge.{Knowledge}
 use Rattle.delta.specs.DeltaStates.{DeltaState}
 use Rattle.delta.specs.Joining.{Disagree}
@@ -64,3 +66,8 @@ abbrev pub HasHappenedAt : SiteState → SiteKnowledge → List Frame → List F
 HasHappenedAt new s old pool entries h o =
     ((is_done o ≡ true) × (h.outcome ≡ o) × StandsFor new h.site × Correspond IsFrameOf pool (entries ++ h.added))
     ⊎ ((o ≡ NoMemory) × StandsFor new s × (pool ≡ old))
+
+-- the entry that an event takes, if it takes one, is in the pool
+abbrev pub HasEntry : List Frame → Event → Type 0
+HasEntry pool (event.Take site entry) = entry < length pool
+HasEntry pool other = ⊤

@@ -1,5 +1,6 @@
 -- What contracts see of the sites of one process: their states and the frames in the pool, and which world of operations they stand for.
-use Rattle.std.specs.Prelude.{ℕ, ◌≡◌, ◌⊎◌, true, List, Some, length, slice_get, refl}
+use Rattle.delta_codec.specs.Frames.{IsInRanges}
+use Rattle.std.specs.Prelude.{ℕ, ◌≡◌, ◌⊎◌, true, List, Some, length, slice_get, refl, ◌∷◌, if◌then◌else◌, Bool, ◌&&◌}
 use Rattle.std.specs.Coded.{Coded, code_by, coded×, coded_ℕ, coded_list}
 use Rattle.delta.specs.DeltaStates.{DeltaState, delta_code}
 use Rattle.delta.specs.Standing.{IsDeltaOf}
@@ -10,7 +11,7 @@ use Rattle.replica.specs.Steps.{SiteKnowledge}
 use Rattle.sites_world.specs.declared.event.Event.{Event}
 use Rattle.sites_world.specs.declared.outcome.Outcome.{Outcome}
 use Rattle.sites_world.specs.declared.outcome.Outcome.TheVariants.{NoMemory}
-use Rattle.sites_world.specs.Worlds.{Entry, IsReached, World, done_of, happens, is_done, outcomes_of, run}
+use Rattle.sites_world.specs.Worlds.{Entry, IsReached, World, done_of, happens, is_done, outcomes_of, run, is_there}
 
 -- The names of the queues, the sites by their numbers, and the frames in the pool.
 pub record WorldState : Type 0 where
@@ -34,11 +35,17 @@ pub record IsSiteOf (names : List (List ℕ)) (number : ℕ) (state : SiteState)
   pub names_are : state.names ≡ names
   pub stands : StandsFor state s
 
--- a frame is that of an entry: its delta is the one of what the entry carries
+-- a frame is that of an entry: it has its maker and number, its delta is the one of what the entry carries, and it is within the ranges of the format
 pub record IsFrameOf (place : ℕ) (frame : Frame) (entry : Entry) : Type 0 where
   pub maker : frame.maker ≡ entry.maker
   pub number : frame.number ≡ entry.number
   pub delta : IsDeltaOf frame.delta entry.carried
+  pub ranges : IsInRanges frame
+
+-- no place of a site's state or of its buffer is out of use
+pub record IsFresh (state : SiteState) : Type 0 where
+  pub state_is : state.state.members.retired ≡ 0
+  pub pending_is : state.pending.members.retired ≡ 0
 
 -- two lists correspond: they are of one length, and elements at one place are related
 pub record Correspond {X Y : Type 0} (R : ℕ → X → Y → Type 0) (xs : List X) (ys : List Y) : Type 0 where
@@ -57,13 +64,19 @@ pub record IsWorld (state : WorldState) : Type 0 where
   pub stands : StandsForWorld state world
 
 -- An event has happened: what comes of it is what comes of it in the world of operations, and the states stand for the world after it. Or memory was
--- wanting, and they stand for the world as it was.
+-- wanting at a site that is there, for an entry that is, and they stand for the world as it was.
 abbrev pub HasHappened : WorldState → World → Event → Outcome → Type 0
-HasHappened new w e o = ((is_done o ≡ true) × ((happens new.names w e).1 ≡ o) × StandsForWorld new (happens new.names w e).0) ⊎ ((o ≡ NoMemory) × StandsForWorld new w)
+HasHappened new w e o = ((is_done o ≡ true) × ((happens new.names w e).1 ≡ o) × StandsForWorld new (happens new.names w e).0) ⊎ ((o ≡ NoMemory) × (is_there w e ≡ true) × StandsForWorld new w)
+
+-- whether memory was wanting only for events at sites that are there, and of entries that are
+abbrev pub are_there : List (List ℕ) → World → List Event → List Outcome → Bool
+are_there names w (e ∷ es) (o ∷ os) = if is_done o then are_there names (happens names w e).0 es os else is_there w e && are_there names w es os
+are_there names w es os = true
 
 -- Events have happened: there is one outcome for each; those whose outcome isn't want of memory are done, each with the outcome that it has in the world of
 -- operations, and the states stand for the world after these.
 pub record HaveHappened (new : WorldState) (w : World) (events : List Event) (outcomes : List Outcome) : Type 0 where
   pub one_each : length outcomes ≡ length events
+  pub there : are_there new.names w events outcomes ≡ true
   pub outcomes_are : outcomes_of outcomes ≡ (run new.names w (done_of events outcomes)).1
   pub stands : StandsForWorld new (run new.names w (done_of events outcomes)).0

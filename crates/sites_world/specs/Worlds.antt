@@ -1,6 +1,6 @@
 -- The world of operations: what each site knows, and the frames that were made. A frame that is lost is one that is never taken, and each may be
 -- taken again and in any order (RR-7506: a replica is changed at its source, and merges what it is sent, whenever that comes).
-use Rattle.std.specs.Prelude.{ℕ, ◌≡◌, Bool, true, false, List, [], ◌∷◌, ◌++◌, length, replicate, slice_get, slice_set, Option, Some, None, Result, Ok, Err, if◌then◌else◌}
+use Rattle.std.specs.Prelude.{ℕ, ◌≡◌, Bool, true, false, List, [], ◌∷◌, ◌++◌, length, replicate, slice_get, slice_set, Option, Some, None, Result, Ok, Err, if◌then◌else◌, ◌&&◌, is_some}
 use Rattle.dots.specs.Knowledge.{Knowledge}
 use Rattle.replica.specs.declared.cut_fault.CutFault.{CutFault}
 use Rattle.replica.specs.declared.cut_fault.CutFault.TheVariants.{Exhausted}
@@ -93,12 +93,21 @@ happens_where names w site (Some s) e = let h = happens_at names w.pool s e in (
 abbrev pub happens : List (List ℕ) → World → Event → World × Outcome
 happens names w e = happens_where names w (site_of e) (slice_get w.sites (site_of e)) e
 
+-- whether there is the entry that an event takes, if it takes one
+abbrev pub has_entry : World → Event → Bool
+has_entry w (event.Take site entry) = is_some (slice_get w.pool entry)
+has_entry w other = true
+
+-- whether there is the site at which an event happens, and the entry that it takes
+abbrev pub is_there : World → Event → Bool
+is_there w e = is_some (slice_get w.sites (site_of e)) && has_entry w e
+
 -- events in turn: the world after them, and the outcome of each
 abbrev pub run : List (List ℕ) → World → List Event → World × List Outcome
 run names w [] = (w, [])
 run names w (e ∷ es) = let one = happens names w e in let rest = run names one.0 es in (rest.0, one.1 ∷ rest.1)
 
--- events that lead from sites that know nothing to a world
+-- Events that lead from sites that know nothing to a world. Values past their limits may stand in them; no program has such.
 pub record IsReached (names : List (List ℕ)) (sites : ℕ) (w : World) : Type 0 where
   pub events : List Event
   pub is : (run names (new_world sites) events).0 ≡ w

@@ -1,8 +1,10 @@
 //! What the definition of the world of operations promises. The functions have no body: their contracts are the laws.
 ghost use Rattle.std.specs.Prelude.{ℕ, List};
 ghost use Rattle.sites_world.specs.declared.event.Event.{Event};
-ghost use Rattle.sites_world.specs.Promises.{AreConsistentTogether, DeltasAgree, HaveHistories};
-ghost use Rattle.sites_world.specs.Promises.{GiveSameAnswer, HaveOneDotASite, HaveSameStatus, RunsInParts};
+ghost use Rattle.sites_world.specs.Promises.{AreConsistentTogether, DeltasAgree, DeltasCommute};
+ghost use Rattle.sites_world.specs.Promises.{GiveSameAnswer, HaveHistories, HaveOneDotASite};
+ghost use Rattle.sites_world.specs.Promises.{HaveSameStatus, LeadsOn, ReportsAreReadings};
+ghost use Rattle.sites_world.specs.Promises.{RunsInParts};
 ghost use Rattle.sites_world.specs.Worlds.{World};
 
 /// Each world that events lead to has a history: one list of the operations that were ever made, of which each site knows a part
@@ -17,17 +19,24 @@ pub fn knowledges_of_a_world_are_consistent_together()
     ensures { AreConsistentTogether }
 {}
 
-/// The deltas of any two knowledges of one world agree, so each join of them is the least above both, in any order and however often
-/// it is made (RR-7506: states form a join semilattice).
+/// The deltas of any two knowledges of one world agree, so no join of them is in conflict, and it is all the same which of both is
+/// joined into the other (RR-7506: states form a join semilattice). Of any deltas it makes no difference how they are grouped and how
+/// often one is joined.
 pub fn deltas_of_a_world_agree()
-    ensures { DeltasAgree }
+    ensures agree { DeltasAgree }
+    ensures commute { DeltasCommute }
 {}
 
-/// Two sites of a world that know the same operations have the same status, so they give the same answer to one request (RR-7506:
-/// replicas that have delivered the same updates are equivalent).
+/// Two sites that know the same operations have the same status, so they give the same answer to one request, be it in one world or in
+/// two (RR-7506: replicas that have delivered the same updates are equivalent).
 pub fn sites_that_know_the_same_have_the_same_status()
     ensures status { HaveSameStatus }
     ensures answers { GiveSameAnswer }
+{}
+
+/// A status is answered by the status text of what its site knows then (Asterisk's QueueStatus).
+pub fn a_report_is_the_reading_of_what_its_site_knows()
+    ensures { ReportsAreReadings }
 {}
 
 /// In each knowledge of a world a member has at most one visible dot of each site: an add replaces the site's older ones (this
@@ -36,8 +45,9 @@ pub fn a_member_has_one_visible_dot_of_a_site()
     ensures { HaveOneDotASite }
 {}
 
-/// Events that are run in parts are run as a whole (this project's own).
+/// Events that are run in parts are run as a whole, and lead on from a world that was led to (this project's own).
 pub fn events_are_run_in_parts()
-    ensures { (names : List (List ℕ)) (w : World) (first rest : List Event)
+    ensures parts { (names : List (List ℕ)) (w : World) (first rest : List Event)
         → RunsInParts names w first rest }
+    ensures leads { LeadsOn }
 {}

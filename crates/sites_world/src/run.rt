@@ -7,7 +7,7 @@ ghost use Rattle.delta.specs.Standing.{IsDeltaOf};
 ghost use Rattle.replica.specs.Standing.{StandsFor};
 ghost use Rattle.replica.specs.Steps.{Cut, SiteKnowledge, Take, Whole, step};
 ghost use Rattle.status_report.specs.Knowing.{answer_in};
-ghost use Rattle.sites_world.specs.Telling.{HasHappenedAt, IsAnsweredSo, IsFramedSo, IsTakenSo, MayBeTaken};
+ghost use Rattle.sites_world.specs.Telling.{HasEntry, HasHappenedAt, IsAnsweredSo, IsFramedSo, IsTakenSo, MayBeTaken};
 ghost use Rattle.sites_world.specs.Telling.{answer_told, take_fault_told};
 ghost use Rattle.sites_world.specs.Worlds.{Entry, IsReached, World, happens_at, site_of};
 ghost use Rattle.sites_world.specs.WorldStates.{Correspond, HasHappened, HaveHappened, IsFrameOf, StandsForWorld};
@@ -112,7 +112,7 @@ fn copy_of(frame: &Frame) -> Result<Frame, Memory>
 }
 
 // The frame of an entry, where there is that entry.
-fn frame_at(pool: &[Frame], entry: usize) -> Option<&Frame>
+pub(crate) fn frame_at(pool: &[Frame], entry: usize) -> Option<&Frame>
     ensures { option_map (λ frame. frame.now) result ≡ slice_get pool.now entry }
 {
     pool.get(entry)
@@ -158,6 +158,7 @@ fn happen_at(alloc: Global, replica: &mut Replica, pool: &mut Vec<Frame>, event:
         → MayBeTaken replica.old entry.carried)
         → HasHappenedAt replica.new s pool.old.items pool.new.items entries
         (happens_at replica.old.names entries s event.now) result }
+    ensures entry { result ≡ Outcome.NoMemory → HasEntry pool.old.items event.now }
 {
     match event {
         Event::Ask(_, asked) => ask_site(alloc, replica, asked),

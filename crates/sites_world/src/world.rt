@@ -1,11 +1,13 @@
-ghost use Rattle.std.specs.Prelude.{◌≡◌, ◌≤◌, ◌⊎◌, ◌↔◌, ◌<◌, ℕ, Err, IfOk, OnErr, Some};
+ghost use Rattle.std.specs.Prelude.{◌≡◌, ◌≤◌, ◌⊎◌, ◌↔◌, ◌<◌, ℕ, Err, IfOk, IfSome, OnErr, Some};
 ghost use Rattle.std.specs.Prelude.{length, option_map, slice_get};
+ghost use Rattle.delta_codec.specs.Frames.{IsInRanges};
+ghost use Rattle.replica.specs.Queues.{AreQueues};
 ghost use Rattle.replica.specs.Site.{SiteState};
 ghost use Rattle.sites_world.specs.Worlds.{IsReached, World as world_of_operations, new_world};
-ghost use Rattle.sites_world.specs.WorldStates.{HaveHappened, IsSiteOf, IsWorld, StandsForWorld};
+ghost use Rattle.sites_world.specs.WorldStates.{HaveHappened, IsFresh, IsSiteOf, IsWorld, StandsForWorld};
 ghost use Rattle.replica.specs.Steps.{new_site};
 
-use crate::run::run_all;
+use crate::run::{frame_at, run_all};
 use crate::{Event, Outcome, WorldFault};
 use dots::{Memory, SITES, SiteId};
 use replica::{Frame, QueueList, Replica};
@@ -43,6 +45,8 @@ fn new_sites(alloc: Global, sites: u16, list: &QueueList) -> Result<Vec<Replica>
     ensures count { IfOk result (λ made. length made.items ≡ sites) }
     ensures each { IfOk result (λ made. (site : ℕ) (state : SiteState)
         → slice_get made.items site ≡ Some state → IsSiteOf list.now site state new_site) }
+    ensures fresh { IfOk result (λ made. (site : ℕ) (state : SiteState)
+        → slice_get made.items site ≡ Some state → IsFresh state) }
 {
     let mut made = Vec::new(alloc);
     for number in 0..sites {
@@ -55,10 +59,12 @@ fn new_sites(alloc: Global, sites: u16, list: &QueueList) -> Result<Vec<Replica>
 
 impl World {
     /// So many sites that know nothing yet, 1 to 64, each with these queues, and no frame. Faults, in order: `BadSites`, exactly where
-    /// there are none or more than 64; `Memory`.
+    /// there are none or more than 64; `Memory` (this project's own).
     pub fn new(alloc: Global, sites: u16, list: &QueueList) -> Result<World, WorldFault>
         ensures names { IfOk result (λ world. world.names ≡ list.now) }
         ensures count { IfOk result (λ world. length world.sites ≡ sites) }
+        ensures fresh { IfOk result (λ world. (site : ℕ) (state : SiteState)
+            → slice_get world.sites site ≡ Some state → IsFresh state) }
         ensures meaning { IfOk result (λ world. StandsForWorld world (new_world sites)) }
         ensures bad_sites { (result ≡ Err WorldFault.BadSites) ↔ ((sites ≡ 0) ⊎ (SITES < sites)) }
     {
@@ -78,11 +84,13 @@ impl World {
         }
     }
 
-    /// Does these events in turn, each at its site, and answers what comes of each. An event that memory is wanting for, or that a
-    /// worn site refuses as full, has the outcome `NoMemory` and changes nothing. The other events lead to what they lead to in the
-    /// world of operations, each with the outcome that it has there (RR-7506: what a site shows is the reading of the updates that
-    /// were delivered to it; the events are this project's own). So each report is the status text of what its site knows. The one
-    /// fault is want of memory, before the first event.
+    /// Does these events in turn, each at its site, and answers what comes of each. An event answers `NoSite` exactly where there is no
+    /// such site, else, if it takes, `NoEntry` exactly where there is no such entry. One that memory is wanting for, or that a worn
+    /// site (of more than 1,015,808 places in its state or its buffer that aren't used again) refuses as full, has the outcome
+    /// `NoMemory` and changes nothing. The other events lead to what they lead to in the world of operations, each with the outcome
+    /// that it has there (RR-7506: what a site shows is the reading of the updates that were delivered to it; the events are this
+    /// project's own). So each report is the status text of what its site knows then, and no frame is refused as `NoSuchQueue`,
+    /// `NotMine` or `Conflict`. The one fault is want of memory, before the first event.
     pub fn run(&mut self, events: &[Event]) -> Result<Vec<Outcome>, Memory>
         ensures meaning { IfOk result (λ outcomes. (w : world_of_operations)
             → IsReached self.old.names (length self.old.sites) w → StandsForWorld self.old w
@@ -118,9 +126,10 @@ impl World {
     pub fn entry(&self, entry: usize) -> Option<&Frame>
         ensures value { option_map (λ frame. frame.now) result
             ≡ slice_get self.now.pool entry }
+        ensures in_ranges { IfSome result (λ frame. IsInRanges frame.now) }
         ensures world { IsWorld self.now }
     {
-        self.pool.get(entry)
+        frame_at(self.pool.as_slice(), entry)
     }
 
     /// How many entries the pool has.
@@ -132,8 +141,10 @@ impl World {
 
     /// The queues that each site has.
     pub fn list(&self) -> &QueueList
-        ensures { result.now ≡ self.now.names }
+        ensures value { result.now ≡ self.now.names }
+        ensures queues { AreQueues self.now.names }
     {
+        let _ = self.list.len(); // so that it is known what holds of them
         &self.list
     }
 }

@@ -12,10 +12,10 @@ use Rattle.sites_world.proofs.laws.sites_that_know_the_same_have_the_same_status
 
 pub returns : goal.returns
 returns c = record {
-  status = λ names sites w k l request reached ik il. same-status k l names request (alone names w k (reached-history names sites w reached) ik);
-  answers = λ names sites w site other s t request reached here there same.
+  status = λ names sites w k l request reached ik. same-status k l names request (alone names w k (reached-history names sites w reached) ik);
+  answers = λ names sites w v site other s t request reached here there same.
       let ok = alone names w s.known (reached-history names sites w reached) (Known site s here refl) in
       ap (λ x. (happens_where names w site x (event.Ask site (Status request))).1) here
       ∙ ap (λ text. Answered (Report text)) (same-status s.known t.known names request ok same)
-      ∙ ap (λ x. (happens_where names w other x (event.Ask other (Status request))).1) (sym there);
+      ∙ ap (λ x. (happens_where names v other x (event.Ask other (Status request))).1) (sym there);
 }

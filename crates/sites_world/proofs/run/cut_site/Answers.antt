@@ -1,3 +1,4 @@
+use Rattle.delta_codec.specs.Frames.{IsInRanges}
 use Rattle.std.proofs.Common.{[], ◌∷◌, ◌++◌, IfSome, Ok, Some, length, sym, ap, subst, ◌∙◌}
 use Rattle.replica.specs.Framing.{HasCut, IsMeantCut}
 use Rattle.replica.specs.Steps.{cut}
@@ -14,7 +15,8 @@ returns-in-Ok-Some-clause-meaning c = λ s stands.
     let pool = c.put_frame.new.pool.items in
     let meant = subst (λ made. IsMeantCut new (Ok made) (cut s s.buffer)) c.in-Ok-Some.field-0-is (c.in-Ok-Some.ensures.meaning s stands) in
     let has = subst (λ made. IfSome made (λ frame. HasCut c.args.replica.now frame new)) c.in-Ok-Some.field-0-is c.in-Ok-Some.ensures.frame in
+    let ranges = subst (λ made. IfSome made (λ frame. IsInRanges frame)) c.in-Ok-Some.field-0-is c.in-Ok-Some.ensures.in_ranges in
     let grown = c.put_frame.ensures.pool ∙ ap (λ fs. fs ++ c.in-Ok-Some.frame ∷ []) c.reserve.ensures.items in
     let told = c.put_frame.ensures.told ∙ ap (λ fs. Cut (Ok (Some (length fs)))) c.reserve.ensures.items in
     subst (IsFramedSo new s old pool (cut s s.buffer)) (sym told)
-    (told-frame new s old pool (cut s s.buffer) c.in-Ok-Some.frame meant.0 meant.1 (has.heading.maker ∙ sym has.site) grown)
+    (told-frame new s old pool (cut s s.buffer) c.in-Ok-Some.frame meant.0 meant.1 (has.heading.maker ∙ sym has.site) ranges grown)

@@ -1,6 +1,6 @@
 use Rattle.std.proofs.Common.{length, refl, sym, ◌∙◌, arith, true≢false}
 use Rattle.std.proofs.lemmas.Option.{slice_get_read}
-use Rattle.sites_world.proofs.Happenings.{at-site-happened, may-take-all, no-site-happened}
+use Rattle.sites_world.proofs.Happenings.{at-site-happened, may-take-all, no-site-happened, taken-found}
 use Rattle.sites_world.proofs.Lists.{at-least}
 use Rattle.sites_world.proofs.SteppedHistories.{reached-history}
 use Rattle.sites_world.proofs.run.happen.Goals as goal
@@ -16,7 +16,7 @@ returns-in-Some-clause-meaning c = λ names w reached stands.
     let within = c.in-Some.ensures.variant.0 refl in
     let here = slice_get_read sites (length sites) c.from.result old refl (omega (arith, within, long)) c.in-Some.ensures.value in
     at-site-happened names sites pool w stands c.args.event.now c.from.result old c.happen_at.new.replica c.happen_at.new.pool.items c.happen_at.result at here
-    c.happen_at.ensures.site c.happen_at.ensures.names
+    c.happen_at.ensures.site c.happen_at.ensures.names (λ is. taken-found c.args.event.now c.args.pool.now.items w stands.pool (c.happen_at.ensures.entry is))
     (λ s known. c.happen_at.ensures.meaning s w.pool (stands.sites.each c.from.result old s here known).stands ((stands.sites.each c.from.result old s here known).site ∙ at) stands.pool
     (may-take-all names sites pool w stands (reached-history names (length sites) w reached) c.from.result old s here known))
 

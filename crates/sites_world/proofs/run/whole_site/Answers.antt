@@ -16,4 +16,4 @@ returns-in-Ok-clause-meaning c = λ s stands.
     let grown = c.put_frame.ensures.pool ∙ ap (λ fs. fs ++ c.in-Ok.frame ∷ []) c.reserve.ensures.items in
     let told = c.put_frame.ensures.told ∙ ap (λ fs. Cut (Ok (Some (length fs)))) c.reserve.ensures.items in
     subst (IsFramedSo new s old pool (after_frame s s.known s.buffer)) (sym told)
-    (told-frame new s old pool (after_frame s s.known s.buffer) c.in-Ok.frame meant.0 meant.1 (has.heading.maker ∙ sym has.site) grown)
+    (told-frame new s old pool (after_frame s s.known s.buffer) c.in-Ok.frame meant.0 meant.1 (has.heading.maker ∙ sym has.site) c.in-Ok.ensures.in_ranges grown)
