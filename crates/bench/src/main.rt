@@ -37,7 +37,8 @@ const ASKS: u32 = 10_000;
 // 1 to 4; three dots are dead, each a run; two copies have three live dots each; three entries have the totals 1 to 3; a frame of
 // three cells of 31 bytes, in a run of 17, has 138 bytes, of which 28 are always there, and one of three runs has 79; a frame that is
 // decoded adds its live dots and runs; a site of three members that has added and removed another twice has three live dots in a run of
-// five, and one that has taken two dots of another site five live dots in two runs.
+// five, and one that has taken two dots of another site five live dots in two runs; a session's greeting has 32 bytes, and a report of
+// three members 650.
 fn checksum(alloc: Global, word: &str) -> Result<u64, &'static str> {
     match word {
         "join_3_runs" => joined_often(alloc, 3, 2),

@@ -30,7 +30,10 @@ impl Sink for CountingSink {
 pub fn status_served_often(alloc: Global, members: u64, times: u32) -> Result<u64, &'static str> {
     let mut stream = Vec::new(alloc);
     for _ in 0..times {
-        if stream.extend_from_slice(b"Action: QueueStatus\r\n\r\n").is_err() {
+        if stream
+            .extend_from_slice(b"Action: QueueStatus\r\n\r\n")
+            .is_err()
+        {
             return Err("out of memory");
         }
     }

@@ -1,9 +1,9 @@
 //! Sessions that are served over memory, byte for byte.
-ghost use Rattle.std.specs.Prelude.{◌≡◌, ◌<◌, Unit, false};
+ghost use Rattle.std.specs.Prelude.{◌<◌};
 
 use crate::shared::{assert_text, replica, text};
 use ami_session::Session;
-use ami_text::{MemorySink, MemorySource, Sink, Source};
+use ami_text::{MemorySink, MemorySource};
 use serve::{Desk, DeskDown, ReplicaDesk, ServeFault, serve};
 use status_report::{Answer, Ask};
 use std::alloc::Global;
@@ -73,11 +73,22 @@ fn a_session_from_its_first_byte_to_its_last(rt: HostRuntime) {
         ("", &[GREETING]),
         (ADD_AND_STATUS, &[GREETING, ADDED, REPORT]),
         ("Action: QueueStatus\r\n\r", &[GREETING]),
-        ("Action: Ping\n\nAction: Logoff\n\nAction: Ping\n\n", &[GREETING, UNKNOWN, GOODBYE]),
+        (
+            "Action: Ping\n\nAction: Logoff\n\nAction: Ping\n\n",
+            &[GREETING, UNKNOWN, GOODBYE],
+        ),
     ];
     for (stream, wanted) in trusted {
         for most in [1, 7, 1024] {
-            assert_served(&rt, alloc, Session::trusted(), stream.as_bytes(), most, Ok(()), wanted);
+            assert_served(
+                &rt,
+                alloc,
+                Session::trusted(),
+                stream.as_bytes(),
+                most,
+                Ok(()),
+                wanted,
+            );
         }
     }
     let named: &[(&str, &[&str])] = &[
@@ -89,7 +100,15 @@ fn a_session_from_its_first_byte_to_its_last(rt: HostRuntime) {
     ];
     for (stream, wanted) in named {
         for most in [1, 7, 1024] {
-            assert_served(&rt, alloc, login(&rt), stream.as_bytes(), most, Ok(()), wanted);
+            assert_served(
+                &rt,
+                alloc,
+                login(&rt),
+                stream.as_bytes(),
+                most,
+                Ok(()),
+                wanted,
+            );
         }
     }
 }
@@ -99,17 +118,36 @@ fn a_session_greets_as_it_was_told(rt: HostRuntime) {
     let alloc = rt.alloc();
     let session = Session::trusted().with_greeting(text(&rt, "Asterisk Call Manager/5.0.1"));
     let wanted = ["Asterisk Call Manager/5.0.1\r\n", UNKNOWN];
-    assert_served(&rt, alloc, session, b"Action: Ping\n\n", 100, Ok(()), &wanted);
+    assert_served(
+        &rt,
+        alloc,
+        session,
+        b"Action: Ping\n\n",
+        100,
+        Ok(()),
+        &wanted,
+    );
     let session = login(&rt).with_greeting(text(&rt, ""));
-    assert_served(&rt, alloc, session, b"Action: Ping\n\n", 100, Ok(()), &["\r\n", DENIED]);
+    assert_served(
+        &rt,
+        alloc,
+        session,
+        b"Action: Ping\n\n",
+        100,
+        Ok(()),
+        &["\r\n", DENIED],
+    );
 }
 
 // A Login with one more line, of so many bytes, and a Logoff.
 fn long_login(rt: &impl Abort, alloc: Global, length: usize) -> Vec<u8>
     requires { 3 < length }
 {
-    let mut stream = Vec::from_slice(alloc, b"Action: Login\r\nUsername: admin\r\nSecret: s3\r\nX: ")
-        .expect(rt, "memory");
+    let mut stream = Vec::from_slice(
+        alloc,
+        b"Action: Login\r\nUsername: admin\r\nSecret: s3\r\nX: ",
+    )
+    .expect(rt, "memory");
     for _ in 3..length {
         stream.push(b'a').expect(rt, "memory");
     }
@@ -143,7 +181,15 @@ fn the_longest_line_and_the_longest_message(rt: HostRuntime) {
     assert_served(&rt, alloc, Session::trusted(), &fits, 100, Ok(()), &wanted);
     let many = many_lines(&rt, alloc, 129);
     let fault = Err(ServeFault::TooManyFields);
-    assert_served(&rt, alloc, Session::trusted(), &many, 1_000, fault, &[GREETING, UNKNOWN]);
+    assert_served(
+        &rt,
+        alloc,
+        Session::trusted(),
+        &many,
+        1_000,
+        fault,
+        &[GREETING, UNKNOWN],
+    );
 }
 
 #[test]
@@ -152,7 +198,15 @@ fn nothing_behind_a_logoff_counts(rt: HostRuntime) {
     let mut stream = many_lines(&rt, alloc, 129);
     let mut behind = Vec::from_slice(alloc, b"Action: Logoff\n\n").expect(&rt, "memory");
     behind.append(&mut stream).expect(&rt, "memory");
-    assert_served(&rt, alloc, Session::trusted(), &behind, 1_000, Ok(()), &[GREETING, GOODBYE]);
+    assert_served(
+        &rt,
+        alloc,
+        Session::trusted(),
+        &behind,
+        1_000,
+        Ok(()),
+        &[GREETING, GOODBYE],
+    );
 }
 
 #[test]
@@ -189,7 +243,14 @@ fn assert_read(
 ) {
     let mut reader = MemorySource::failing(LOGIN_AND_LOGOFF.as_bytes(), 1, reads);
     let mut writer = MemorySink::new(alloc, 700);
-    let served = serve(&(), alloc, &mut reader, &mut writer, login(rt), &mut desk(rt, alloc));
+    let served = serve(
+        &(),
+        alloc,
+        &mut reader,
+        &mut writer,
+        login(rt),
+        &mut desk(rt, alloc),
+    );
     assert!(rt; served == end);
     assert_text(rt, writer.as_slice(), wanted);
 }
@@ -202,7 +263,13 @@ fn a_reader_that_fails(rt: HostRuntime) {
         assert_read(&rt, alloc, reads, Err(ServeFault::Read), &[GREETING]);
     }
     for reads in 46..64 {
-        assert_read(&rt, alloc, reads, Err(ServeFault::Read), &[GREETING, ACCEPTED]);
+        assert_read(
+            &rt,
+            alloc,
+            reads,
+            Err(ServeFault::Read),
+            &[GREETING, ACCEPTED],
+        );
     }
     assert_read(&rt, alloc, 64, Ok(()), &[GREETING, ACCEPTED, GOODBYE]);
 }
@@ -217,7 +284,14 @@ fn end_over(
 ) -> (Result<(), ServeFault>, usize) {
     let mut reader = MemorySource::new(LOGIN_AND_LOGOFF.as_bytes(), 1_024);
     let mut writer = MemorySink::failing(alloc, most, writes);
-    let served = serve(&(), alloc, &mut reader, &mut writer, login(rt), &mut desk(rt, alloc));
+    let served = serve(
+        &(),
+        alloc,
+        &mut reader,
+        &mut writer,
+        login(rt),
+        &mut desk(rt, alloc),
+    );
     assert!(rt; is_front(writer.as_slice(), &[GREETING, ACCEPTED, GOODBYE]));
     (served, writer.as_slice().len())
 }
@@ -275,7 +349,14 @@ fn a_desk_that_is_down(rt: HostRuntime) {
             desk: desk(&rt, alloc),
             answers,
         };
-        let served = serve(&(), alloc, &mut reader, &mut writer, Session::trusted(), &mut tired);
+        let served = serve(
+            &(),
+            alloc,
+            &mut reader,
+            &mut writer,
+            Session::trusted(),
+            &mut tired,
+        );
         assert!(rt; served == end);
         assert_text(&rt, writer.as_slice(), wanted);
     }
@@ -289,11 +370,20 @@ fn refused_memory_of_a_session(rt: HostRuntime) {
     let mut reader = MemorySource::new(ADD_AND_STATUS.as_bytes(), 10);
     let mut writer = MemorySink::new(alloc, 700);
     let mut desk = desk(&rt, alloc);
-    let served = serve(&(), alloc, &mut reader, &mut writer, Session::trusted(), &mut desk);
+    let served = serve(
+        &(),
+        alloc,
+        &mut reader,
+        &mut writer,
+        Session::trusted(),
+        &mut desk,
+    );
     let wanting = "Response: Error\r\nMessage: Out of memory\r\n\r\n";
-    assert!(rt; is_front(writer.as_slice(), &[GREETING, ADDED, REPORT])
-        || is_front(writer.as_slice(), &[GREETING, wanting, REPORT])
-        || is_front(writer.as_slice(), &[GREETING, ADDED, wanting]));
+    assert!(rt;
+        is_front(writer.as_slice(), &[GREETING, ADDED, REPORT])
+            || is_front(writer.as_slice(), &[GREETING, wanting, REPORT])
+            || is_front(writer.as_slice(), &[GREETING, ADDED, wanting])
+    );
     match served {
         Ok(()) => {}
         Err(fault) => assert!(rt; fault == ServeFault::Memory || fault == ServeFault::Write),
