@@ -8,3 +8,4 @@ mod KnownTogether
 mod ToldAnswers
 mod MayTake
 mod Happenings
+mod OutcomeLaws

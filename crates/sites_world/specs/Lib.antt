@@ -2,4 +2,5 @@ pub mod Worlds
 pub mod Histories
 pub mod WorldStates
 pub mod Telling
+pub mod Outcomes
 pub mod Promises

@@ -1,4 +1,5 @@
 -- What the definition of the world promises.
+use Rattle.sites_world.specs.Outcomes.{IsOutcomeOf, changes_nothing}
 use Rattle.sites_world.specs.declared.outcome.Outcome.TheVariants.{Answered}
 use Rattle.status_report.specs.declared.asks.Answer.TheVariants.{Report}
 use Rattle.std.specs.Prelude.{ℕ, ◌≡◌, ◌++◌, true, List, Some, slice_get}
@@ -70,3 +71,11 @@ HaveOneDotASite = (names : List (List ℕ)) (sites : ℕ) (w : World) (k : Knowl
 pub record RunsInParts (names : List (List ℕ)) (w : World) (first rest : List Event) : Type 0 where
   pub world : (run names w (first ++ rest)).0 ≡ (run names (run names w first).0 rest).0
   pub outcomes : (run names w (first ++ rest)).1 ≡ (run names w first).1 ++ (run names (run names w first).0 rest).1
+
+-- what comes of an event is of its kind, so it is never want of memory, and no frame is refused but as too much
+abbrev pub AreOfTheirEvents : Type 0
+AreOfTheirEvents = (names : List (List ℕ)) (w : World) (e : Event) → IsOutcomeOf e (happens names w e).1
+
+-- what tells that nothing is changed comes where nothing is
+abbrev pub RefusalsChangeNothing : Type 0
+RefusalsChangeNothing = (names : List (List ℕ)) (w : World) (e : Event) → changes_nothing (happens names w e).1 ≡ true → (happens names w e).0 ≡ w

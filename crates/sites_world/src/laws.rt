@@ -4,7 +4,7 @@ ghost use Rattle.sites_world.specs.declared.event.Event.{Event};
 ghost use Rattle.sites_world.specs.Promises.{AreConsistentTogether, DeltasAgree, DeltasCommute};
 ghost use Rattle.sites_world.specs.Promises.{GiveSameAnswer, HaveHistories, HaveOneDotASite};
 ghost use Rattle.sites_world.specs.Promises.{HaveSameStatus, LeadsOn, ReportsAreReadings};
-ghost use Rattle.sites_world.specs.Promises.{RunsInParts};
+ghost use Rattle.sites_world.specs.Promises.{AreOfTheirEvents, RefusalsChangeNothing, RunsInParts};
 ghost use Rattle.sites_world.specs.Worlds.{World};
 
 /// Each world that events lead to has a history: one list of the operations that were ever made, of which each site knows a part
@@ -32,6 +32,19 @@ pub fn deltas_of_a_world_agree()
 pub fn sites_that_know_the_same_have_the_same_status()
     ensures status { HaveSameStatus }
     ensures answers { GiveSameAnswer }
+{}
+
+/// What comes of an event is of its kind: an ask is answered, and a command never refused for want of memory; a frame that is asked for
+/// is made, or no number is left, or a buffer has nothing to send; a frame is taken, or is too much, and is never refused as
+/// `NoSuchQueue`, `NotMine` or `Conflict`, or there is no such entry; or there is no such site (this project's own).
+pub fn an_outcome_is_of_its_event()
+    ensures { AreOfTheirEvents }
+{}
+
+/// What is refused changes nothing, and nor does a status, a cut of an empty buffer, or an event where there is no such site or
+/// entry (this project's own).
+pub fn what_is_refused_changes_nothing()
+    ensures { RefusalsChangeNothing }
 {}
 
 /// A status is answered by the status text of what its site knows then (Asterisk's QueueStatus).

@@ -1,0 +1,191 @@
+-- Which outcomes come of which events, and that refused ones change nothing.
+use Rattle.replica.specs.Queues.{number_of}
+use Rattle.std.proofs.Common.{◌≡◌, inl, inr, ℕ, suc, Bool, true, false, ◌||◌, nat_lt, List, [], ◌∷◌, ◌++◌, append-nil, length, slice_get, slice_set, Option, Some, None, Ok, Err, refl, sym, ap, ◌∙◌, true≢false, if◌then◌else◌}
+use Rattle.std.specs.FinSet as set
+use Rattle.std.specs.Prelude.{⊤}
+use Rattle.std.proofs.lemmas.List.{set-get_or}
+use Rattle.std.proofs.lemmas.Option.{get_or_from_slice_get}
+use Rattle.dots.specs.declared.limits.TheConstants.{MOST_COUNT, MOST_LIVE, MOST_RUNS}
+use Rattle.dots.specs.declared.member.Member.{Member}
+use Rattle.dots.specs.Values.{Dot}
+use Rattle.dots.specs.DotSets.{run_count}
+use Rattle.dots.specs.Operations.{Operation}
+use Rattle.dots.specs.Knowledge.{Knowledge, known_dots, visible_dots}
+use Rattle.replica.specs.declared.cut_fault.CutFault.TheVariants.{Exhausted}
+use Rattle.replica.specs.declared.refusal.Refusal.TheVariants as refusal
+use Rattle.replica.specs.Changes.{AddMember, Change, CountCall, Makes, Meaning, Refused as refused_meaning, RemoveMember, SetField, change_of, in_queue, is_exhausted, is_full, is_past_total, is_too_long, meaning, meaning_of_setting, where_absent, where_present, within_limits, add_at, count_at, remove_of, write_at}
+use Rattle.replica.specs.SiteViews.{SiteView, site_view, dots_seen}
+use Rattle.replica.specs.Standing.{result_of}
+use Rattle.replica.specs.Steps as steps
+use Rattle.replica.specs.Steps.{SiteKnowledge, Framed, after_frame, after_meaning, cut, take}
+use Rattle.status_report.specs.declared.asks.Ask.{Ask}
+use Rattle.status_report.specs.declared.asks.Ask.TheVariants.{Command as asked_command, Status}
+use Rattle.status_report.specs.Answers.{answer_of}
+use Rattle.status_report.specs.Knowing.{answer_in}
+use Rattle.sites_world.specs.declared.event.Event.{Event}
+use Rattle.sites_world.specs.declared.event.Event.TheVariants as event
+use Rattle.sites_world.specs.declared.outcome.Outcome.TheVariants as outcome
+use Rattle.sites_world.specs.Outcomes.{IsAnswerTo, IsOutcomeOf, IsToldRefusal, changes_nothing}
+use Rattle.sites_world.specs.Worlds.{Entry, Happening, World, answered, framed, happens, happens_at, happens_where, site_of, take_told, taken}
+
+-- ---- which outcomes
+
+-- a meaning that is refused isn't so for want of memory
+abbrev pub IsTold : Meaning → Type 0
+IsTold (refused_meaning r) = IsToldRefusal r
+IsTold (Makes o) = ⊤
+
+-- the meaning of an operation, by whether a site is full, its numbers are used up, or a total is
+abbrev pub by_limits : Operation → Bool → Bool → Bool → Meaning
+by_limits o full exhausted past = if full then refused_meaning refusal.MembersFull else if exhausted then refused_meaning refusal.Exhausted else if past then refused_meaning refusal.TotalFull else Makes o
+
+limits-told : (r buffer : SiteView) (o : Operation) → IsTold (within_limits r buffer o)
+limits-told r buffer o = by (is_full r o || (is_full buffer o || is_too_long o)) (is_exhausted o) (is_past_total o)
+  where
+    by : (a b c : Bool) → IsTold (by_limits o a b c)
+    by true b c = tt
+    by false true c = tt
+    by false false true = tt
+    by false false false = tt
+
+queue-told : (found : Option ℕ) (go : ℕ → Meaning) → ((queue : ℕ) → IsTold (go queue)) → IsTold (in_queue found go)
+queue-told None go all = tt
+queue-told (Some queue) go all = all queue
+
+absent-told : (dots : List (Dot × Member)) (made : Meaning) → IsTold made → IsTold (where_absent dots made)
+absent-told [] made told = told
+absent-told (d ∷ ds) made told = tt
+
+present-told : (dots : List (Dot × Member)) (made : Meaning) → IsTold made → IsTold (where_present dots made)
+present-told [] made told = tt
+present-told (d ∷ ds) made told = told
+
+meaning-told : (site : ℕ) (names : List (List ℕ)) (r buffer : SiteView) (change : Change) → IsTold (meaning site names r buffer change)
+meaning-told site names r buffer (AddMember queue interface penalty paused label) =
+    queue-told (number_of names queue) (λ q. where_absent (dots_seen r.dots (Some q) interface) (within_limits r buffer (add_at site r (record { queue = q; interface = interface }) penalty paused label)))
+    (λ q. absent-told (dots_seen r.dots (Some q) interface) _ (limits-told r buffer (add_at site r (record { queue = q; interface = interface }) penalty paused label)))
+meaning-told site names r buffer (RemoveMember queue interface) =
+    queue-told (number_of names queue) (λ q. where_present (dots_seen r.dots (Some q) interface) (within_limits r buffer (remove_of (dots_seen r.dots (Some q) interface))))
+    (λ q. present-told (dots_seen r.dots (Some q) interface) _ (limits-told r buffer (remove_of (dots_seen r.dots (Some q) interface))))
+meaning-told site names r buffer (SetField None interface setting) =
+    present-told (dots_seen r.dots None interface) _ (limits-told r buffer (write_at site r setting (dots_seen r.dots None interface)))
+meaning-told site names r buffer (SetField (Some queue) interface setting) =
+    queue-told (number_of names queue) (λ q. meaning_of_setting site r buffer setting (dots_seen r.dots (Some q) interface))
+    (λ q. present-told (dots_seen r.dots (Some q) interface) _ (limits-told r buffer (write_at site r setting (dots_seen r.dots (Some q) interface))))
+meaning-told site names r buffer (CountCall queue calls) =
+    queue-told (number_of names queue) (λ q. within_limits r buffer (count_at site r q calls)) (λ q. limits-told r buffer (count_at site r q calls))
+
+-- a frame that is asked for, by whether no number is left
+abbrev pub frame_by : SiteKnowledge → Knowledge → Knowledge → Bool → SiteKnowledge × steps.Outcome
+frame_by s frame buffer none = if none then (s, steps.NoNumber) else (record { known = s.known; buffer = buffer; frames = suc s.frames }, Framed (suc s.frames) frame)
+
+-- a take, by whether there would be too many dots, or too many runs
+abbrev pub take_by : SiteKnowledge → Knowledge → Bool → Bool → SiteKnowledge × steps.Outcome
+take_by s frame cells runs =
+    if cells then (s, steps.CellsFull) else if runs then (s, steps.RunsFull) else (record { known = frame ++ s.known; buffer = s.buffer; frames = s.frames }, steps.Taken)
+
+-- the outcome of an ask
+ask-told : (site : ℕ) (names : List (List ℕ)) (s : SiteKnowledge) (asked : Ask) → IsAnswerTo asked (answer_in site names s asked).1
+ask-told site names s (Status request) = tt
+ask-told site names s (asked_command command) = by (meaning site names (site_view site s.known) (site_view site s.buffer) (change_of command)) (meaning-told site names _ _ (change_of command))
+  where
+    by : (m : Meaning) → IsTold m → IsAnswerTo (asked_command command) (answer_of (result_of (after_meaning s m).1))
+    by (Makes o) told = tt
+    by (refused_meaning r) told = told
+
+frame-told : (e : Event) (site entries : ℕ) (s : SiteKnowledge) (frame buffer : Knowledge)
+    → ((n : ℕ) → IsOutcomeOf e (outcome.Cut (Ok (Some n)))) → IsOutcomeOf e (outcome.Cut (Err Exhausted)) → IsOutcomeOf e (framed site entries (after_frame s frame buffer)).outcome
+frame-told e site entries s frame buffer made none = by (nat_lt MOST_COUNT (suc s.frames))
+  where
+    by : (b : Bool) → IsOutcomeOf e (framed site entries (frame_by s frame buffer b)).outcome
+    by true = none
+    by false = made entries
+
+cut-told : (site entries : ℕ) (s : SiteKnowledge) (buffer : Knowledge) → IsOutcomeOf (event.Cut site) (framed site entries (cut s buffer)).outcome
+cut-told site entries s [] = tt
+cut-told site entries s (o ∷ os) = frame-told (event.Cut site) site entries s (o ∷ os) [] (λ n. tt) refl
+
+take-told : (site place : ℕ) (s : SiteKnowledge) (found : Option Entry) → IsOutcomeOf (event.Take site place) (taken s found).outcome
+take-told site place s None = tt
+take-told site place s (Some entry) = by (nat_lt MOST_LIVE (set.len (visible_dots (entry.carried ++ s.known)))) (nat_lt MOST_RUNS (run_count (known_dots (entry.carried ++ s.known))))
+  where
+    by : (a b : Bool) → IsOutcomeOf (event.Take site place) (outcome.Took (take_told (take_by s entry.carried a b).1))
+    by true b = inl refl
+    by false true = inr refl
+    by false false = tt
+
+at-told : (names : List (List ℕ)) (pool : List Entry) (s : SiteKnowledge) (e : Event) → IsOutcomeOf e (happens_at names pool s e).outcome
+at-told names pool s (event.Ask site asked) = ask-told site names s asked
+at-told names pool s (event.Cut site) = cut-told site (length pool) s s.buffer
+at-told names pool s (event.Whole site) = frame-told (event.Whole site) site (length pool) s s.known s.buffer (λ n. tt) refl
+at-told names pool s (event.Take site place) = take-told site place s (slice_get pool place)
+
+no-site-told : (e : Event) → IsOutcomeOf e outcome.NoSite
+no-site-told (event.Ask site asked) = tt
+no-site-told (event.Cut site) = tt
+no-site-told (event.Whole site) = tt
+no-site-told (event.Take site place) = tt
+
+pub of-their-events : (names : List (List ℕ)) (w : World) (e : Event) → IsOutcomeOf e (happens names w e).1
+of-their-events names w e = by (slice_get w.sites (site_of e))
+  where
+    by : (found : Option SiteKnowledge) → IsOutcomeOf e (happens_where names w (site_of e) found e).1
+    by None = no-site-told e
+    by (Some s) = at-told names w.pool s e
+
+-- ---- what changes nothing
+
+-- a happening that leaves the site, and adds nothing, where its outcome tells so
+record Stays (s : SiteKnowledge) (h : Happening) : Type 0 where
+  site : h.site ≡ s
+  added : h.added ≡ []
+
+ask-stays : (site : ℕ) (names : List (List ℕ)) (s : SiteKnowledge) (asked : Ask) → changes_nothing (outcome.Answered (answer_in site names s asked).1) ≡ true → Stays s (answered (answer_in site names s asked))
+ask-stays site names s (Status request) h = record { site = refl; added = refl }
+ask-stays site names s (asked_command command) h = by (meaning site names (site_view site s.known) (site_view site s.buffer) (change_of command)) h
+  where
+    by : (m : Meaning) → changes_nothing (outcome.Answered (answer_of (result_of (after_meaning s m).1))) ≡ true → Stays s (answered ((after_meaning s m).0, answer_of (result_of (after_meaning s m).1)))
+    by (Makes o) h = absurd (true≢false (sym h))
+    by (refused_meaning r) h = record { site = refl; added = refl }
+
+frame-stays : (site entries : ℕ) (s : SiteKnowledge) (frame buffer : Knowledge) → changes_nothing (framed site entries (after_frame s frame buffer)).outcome ≡ true → Stays s (framed site entries (after_frame s frame buffer))
+frame-stays site entries s frame buffer h = by (nat_lt MOST_COUNT (suc s.frames)) h
+  where
+    by : (b : Bool) → changes_nothing (framed site entries (frame_by s frame buffer b)).outcome ≡ true → Stays s (framed site entries (frame_by s frame buffer b))
+    by true h = record { site = refl; added = refl }
+    by false h = absurd (true≢false (sym h))
+
+cut-stays : (site entries : ℕ) (s : SiteKnowledge) (buffer : Knowledge) → changes_nothing (framed site entries (cut s buffer)).outcome ≡ true → Stays s (framed site entries (cut s buffer))
+cut-stays site entries s [] h = record { site = refl; added = refl }
+cut-stays site entries s (o ∷ os) h = frame-stays site entries s (o ∷ os) [] h
+
+take-stays : (s : SiteKnowledge) (found : Option Entry) → changes_nothing (taken s found).outcome ≡ true → Stays s (taken s found)
+take-stays s None h = record { site = refl; added = refl }
+take-stays s (Some entry) h = by (nat_lt MOST_LIVE (set.len (visible_dots (entry.carried ++ s.known)))) (nat_lt MOST_RUNS (run_count (known_dots (entry.carried ++ s.known)))) h
+  where
+    by : (a b : Bool) → changes_nothing (outcome.Took (take_told (take_by s entry.carried a b).1)) ≡ true
+        → Stays s (record { site = (take_by s entry.carried a b).0; added = []; outcome = outcome.Took (take_told (take_by s entry.carried a b).1) })
+    by true b h = record { site = refl; added = refl }
+    by false true h = record { site = refl; added = refl }
+    by false false h = absurd (true≢false (sym h))
+
+at-stays : (names : List (List ℕ)) (pool : List Entry) (s : SiteKnowledge) (e : Event) → changes_nothing (happens_at names pool s e).outcome ≡ true → Stays s (happens_at names pool s e)
+at-stays names pool s (event.Ask site asked) h = ask-stays site names s asked h
+at-stays names pool s (event.Cut site) h = cut-stays site (length pool) s s.buffer h
+at-stays names pool s (event.Whole site) h = frame-stays site (length pool) s s.known s.buffer h
+at-stays names pool s (event.Take site place) h = take-stays s (slice_get pool place) h
+
+-- the same element put in again
+set-again : {X : Type 0} (xs : List X) (i : ℕ) (x : X) → slice_get xs i ≡ Some x → slice_set xs i x ≡ xs
+set-again xs i x is = ap (slice_set xs i) (sym (get_or_from_slice_get xs i x x is)) ∙ set-get_or xs i x
+
+pub refusals-change-nothing : (names : List (List ℕ)) (w : World) (e : Event) → changes_nothing (happens names w e).1 ≡ true → (happens names w e).0 ≡ w
+refusals-change-nothing names w e h = by (slice_get w.sites (site_of e)) refl h
+  where
+    by : (found : Option SiteKnowledge) → slice_get w.sites (site_of e) ≡ found → changes_nothing (happens_where names w (site_of e) found e).1 ≡ true → (happens_where names w (site_of e) found e).0 ≡ w
+    by None is h = refl
+    by (Some s) is h =
+        let stays = at-stays names w.pool s e h in
+        let sites = ap (slice_set w.sites (site_of e)) stays.site ∙ set-again w.sites (site_of e) s is in
+        let pool = ap (λ added. w.pool ++ added) stays.added ∙ append-nil w.pool in
+        λ i. record { sites = sites i; pool = pool i }
