@@ -1,5 +1,5 @@
 //! Tests of replicas, offers, reports, sessions, actions, copies of asks and answers, sessions that are served, what
-//! histories show and the steps of sites by their public calls. This crate has no code of its own.
+//! histories show, the steps of sites and worlds of sites by their public calls. This crate has no code of its own.
 #![tactic(auto)]
 
 #[cfg(test)]
@@ -22,3 +22,5 @@ mod sessions;
 mod shared;
 #[cfg(test)]
 mod steps;
+#[cfg(test)]
+mod worlds;
