@@ -17,4 +17,4 @@ pub use act::Act;
 pub use dots::Memory;
 pub use pending::Pending;
 pub use session::Session;
-pub use values::{interface_of, queue_of};
+pub use values::{are_digits, interface_of, number_of, queue_of};

@@ -77,14 +77,15 @@ pub fn penalty_of(digits: &[u8]) -> Option<Penalty>
     Penalty::new(number_of(digits)?)
 }
 
-fn are_digits(digits: &[u8]) -> bool
+/// Whether all bytes are decimal digits.
+pub fn are_digits(digits: &[u8]) -> bool
     ensures { result ≡ list_all is_ascii_digit digits.now }
 {
     digits.iter().all(|b| b.is_ascii_digit())
 }
 
-// The number that digits stand for, where it is below 2^32.
-fn number_of(digits: &[u8]) -> Option<u32>
+/// The number that decimal digits stand for, where it is below 2^32.
+pub fn number_of(digits: &[u8]) -> Option<u32>
     requires digits { list_all is_ascii_digit digits.now ≡ true }
     requires some { 0 < length digits.now }
     ensures { SomeIff result (number_of digits.now < 2 ^ 32) (number_of digits.now) }

@@ -5,7 +5,7 @@ use Rattle.std.specs.Option.{MatchOption, option_map}
 use Rattle.std.proofs.lemmas.List.{take_rest}
 use Rattle.ami_text.specs.Lines.{content}
 use Rattle.std.specs.List.{onto_first, slice_split}
-use Rattle.queue_sites.specs.ScriptLines.{behind, is_bar, last_line, lines_after, lines_of, stream_of}
+use Rattle.queue_sites.specs.ScriptLines.{before_blank, behind, behind_blank, is_bar, last_line, lines_after, lines_of, stream_of}
 
 -- two bytes are the same
 abbrev pub same : ℕ → ℕ → Bool
@@ -79,6 +79,21 @@ pub parts-last : (bytes : List ℕ) → IsNowhere 124 bytes → slice_split is_b
 parts-last [] h = refl
 parts-last (b ∷ bytes) h = rw (h 0 (omega arith)) (ap (onto_first b) (parts-last bytes (nowhere-tail 124 b bytes h)))
 
+-- what stands before the first blank, and behind it
+pub blank-cut : (bytes : List ℕ) (n : ℕ) → IsFirstAt 32 bytes n → (before_blank bytes ≡ take n bytes) × (behind_blank bytes ≡ Some (drop (suc n) bytes))
+blank-cut [] n h = absurd (omega (arith, h.0))
+blank-cut (b ∷ bytes) zero h = rw h.2 (refl, refl)
+blank-cut (b ∷ bytes) (suc n) h =
+    let rest = blank-cut bytes n (first-tail 32 b bytes n h) in
+    rw (h.1 0 (omega arith)) (ap (λ t. b ∷ t) rest.0, rest.1)
+
+-- and without a blank
+pub blank-none : (bytes : List ℕ) → IsNowhere 32 bytes → (before_blank bytes ≡ bytes) × (behind_blank bytes ≡ None)
+blank-none [] h = (refl, refl)
+blank-none (b ∷ bytes) h =
+    let rest = blank-none bytes (nowhere-tail 32 b bytes h) in
+    rw (h 0 (omega arith)) (ap (λ t. b ∷ t) rest.0, rest.1)
+
 -- what a search for the front found
 pub behind-found : {A : Type 0} (now : A → List ℕ) (r : Option A) (front bytes : List ℕ)
     → MatchOption r (pointwise same (take (length front) bytes) front ≡ false)
@@ -98,6 +113,9 @@ stream-found bytes n h = rw add-one (stream-cut bytes n h)
 
 pub parts-found : (bytes : List ℕ) (n : ℕ) → IsFirstAt 124 bytes n → slice_split is_bar bytes ≡ take n bytes ∷ slice_split is_bar (drop (n + 1) bytes)
 parts-found bytes n h = rw add-one (parts-cut bytes n h)
+
+pub blank-found : (bytes : List ℕ) (n : ℕ) → IsFirstAt 32 bytes n → (before_blank bytes ≡ take n bytes) × (behind_blank bytes ≡ Some (drop (n + 1) bytes))
+blank-found bytes n h = rw add-one (blank-cut bytes n h)
 
 -- a feed that holds the stream of the fields but for the rest goes on to the next bar
 pub fed-more : (fields held rest new after : List ℕ) (n : ℕ) → held ++ stream_of rest ≡ stream_of fields → IsFirstAt 124 rest n

@@ -1,4 +1,6 @@
 pub mod Cutting
+pub mod Digits
+pub mod Happening
 pub mod OneText
 pub mod Replying
 pub mod Running

@@ -1,3 +1,4 @@
+pub mod Counts
 pub mod ScriptLines
 pub mod Answers
 pub mod Script

@@ -1,6 +1,7 @@
 use crate::exit::Exit;
+use crate::site_count::SiteCount;
 use clap::error::ErrorKind;
-use clap::{Arg, ArgAction, Command, Error};
+use clap::{Arg, ArgAction, Command, Error, value_parser};
 use dots::QueueName;
 use replica::{ListFault, QueueList};
 use std::alloc::{AllocError, Global};
@@ -10,10 +11,17 @@ use std::rt::Env;
 /// What the command line asks.
 #[derive(Drop)]
 pub enum Request {
-    /// To run a script of one site with these queues.
-    Script(QueueList),
+    /// To run a script of so many sites, each with these queues.
+    Script(SiteCount, QueueList),
     /// Nothing more: what was to be said is printed.
     Done(Exit),
+}
+
+// The words of a command line that is right: how many sites there are, and the queues.
+#[derive(Drop)]
+struct ScriptWords<'a> {
+    sites: u16,
+    queues: Vec<&'a str>,
 }
 
 // Why there is no list of queues.
@@ -35,8 +43,8 @@ pub fn read_command_line<R: Env + AllocGlobal + Print + Eprint>(rt: &R) -> io::R
             return Ok(Request::Done(Exit::WrongWords));
         }
     };
-    match queue_words(alloc, words.as_slice()) {
-        Ok(queues) => script_request(rt, &queues),
+    match script_words(alloc, words.as_slice()) {
+        Ok(words) => script_request(rt, &words),
         Err(error) if error.kind() == ErrorKind::OutOfMemory => out_of_memory(rt),
         Err(error) => {
             error.print(rt)?;
@@ -58,23 +66,25 @@ fn words<R: Env + AllocGlobal>(rt: &R) -> io::Result<Vec<String>> {
     Ok(words)
 }
 
-// The queue names of a command line that is right.
-fn queue_words<'a>(alloc: Global, words: &'a [String]) -> Result<Vec<&'a str>, Error> {
+// The words of a command line that is right.
+fn script_words<'a>(alloc: Global, words: &'a [String]) -> Result<ScriptWords<'a>, Error> {
     let matches = command(alloc)?.try_get_matches_from(words)?;
+    let mut sites = 0;
     let mut queues = Vec::new(alloc);
     if let Some(script) = matches.subcommand_matches("script") {
+        sites = script.get_one::<u16>("SITES").unwrap_or(0);
         for queue in script.get_strs("QUEUE").unwrap_or(&[]) {
             queues.push(*queue)?;
         }
     }
-    Ok(queues)
+    Ok(ScriptWords { sites, queues })
 }
 
 fn command<'a>(alloc: Global) -> Result<Command<'a>, AllocError> {
     let sites = Arg::new(alloc, "SITES")
-        .help("How many sites there are")
+        .help("How many sites there are, 1 to 64")
         .required(true)
-        .value_parser(["1"].as_slice());
+        .value_parser(value_parser!(u16).range(1..65));
     let queues = Arg::new(alloc, "QUEUE")
         .help("The names of the queues, in their order")
         .required(true)
@@ -91,9 +101,13 @@ fn command<'a>(alloc: Global) -> Result<Command<'a>, AllocError> {
         .subcommand(script)
 }
 
-fn script_request<R: AllocGlobal + Eprint>(rt: &R, queues: &[&str]) -> io::Result<Request> {
-    match queue_list(rt.alloc(), queues) {
-        Ok(list) => Ok(Request::Script(list)),
+fn script_request<R: AllocGlobal + Eprint>(rt: &R, words: &ScriptWords<'_>) -> io::Result<Request> {
+    let Some(sites) = SiteCount::new(words.sites) else {
+        eprintln!(rt; "queue_sites: bad number of sites")?;
+        return Ok(Request::Done(Exit::WrongWords));
+    };
+    match queue_list(rt.alloc(), &words.queues) {
+        Ok(list) => Ok(Request::Script(sites, list)),
         Err(BadList::Memory) => out_of_memory(rt),
         Err(BadList::Refused) => {
             eprintln!(rt; "queue_sites: bad queue list")?;

@@ -7,12 +7,17 @@ mod devices;
 mod exit;
 mod laws;
 mod line;
+mod line_steps;
 mod message;
+mod numbers;
 mod parts;
 mod script;
 mod script_fault;
+mod site_count;
 #[cfg(test)]
 mod tests;
+#[cfg(test)]
+mod world_scripts;
 
 use crate::command_line::{Request, read_command_line};
 use crate::exit::Exit;
@@ -32,13 +37,13 @@ fn main(rt: HostRuntime) -> ExitCode {
 // Runs the program. `Err`: an error could not be printed.
 fn run<R: Env + AllocGlobal + Print + Eprint + Input>(rt: &R) -> io::Result<Exit> {
     let request = read_command_line(rt)?;
-    let list = match request {
-        Request::Script(list) => list,
+    let (sites, list) = match request {
+        Request::Script(sites, list) => (sites, list),
         Request::Done(exit) => return Ok(exit),
     };
     let mut reader = StdSource::new(rt.reader());
     let mut writer = StdSink::new(io::writer(rt));
-    match run_script(rt.alloc(), &mut reader, &mut writer, list) {
+    match run_script(rt.alloc(), &mut reader, &mut writer, sites, &list) {
         Ok(0) => Ok(Exit::Done),
         Ok(_) => Ok(Exit::NotUnderstood),
         Err(fault) => {

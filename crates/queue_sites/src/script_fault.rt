@@ -1,3 +1,4 @@
+use dots::Memory as NoMemory;
 use thiserror::Error;
 
 /// Why a script was not run to its end (this project's own).
@@ -15,4 +16,15 @@ pub enum ScriptFault {
     /// Memory was wanting, or a command was refused as full at a site that is worn. Nothing, or a front of the output, was written.
     #[error("out of memory")]
     Memory,
+}
+
+impl From<NoMemory> for ScriptFault {
+    ghost use Rattle.std.specs.Prelude.{◌≡◌};
+    ghost use Rattle.queue_sites.specs.declared.script_fault.ScriptFault.TheVariants.{Memory};
+
+    ghost from_gives = { λ memory fault. fault ≡ Memory };
+
+    fn from(_memory: NoMemory) -> Self {
+        ScriptFault::Memory
+    }
 }

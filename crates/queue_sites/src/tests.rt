@@ -3,6 +3,7 @@ ghost use Rattle.std.specs.Prelude.{◌<◌};
 
 use crate::script::run_script;
 use crate::script_fault::ScriptFault;
+use crate::site_count::SiteCount;
 use ami_text::{MemorySink, MemorySource};
 use dots::QueueName;
 use replica::QueueList;
@@ -18,6 +19,10 @@ fn queues(rt: &impl Abort, alloc: Global, names: &[&str]) -> QueueList {
     QueueList::new(alloc, &list).expect(rt, "a list")
 }
 
+fn sites(rt: &impl Abort, count: u16) -> SiteCount {
+    SiteCount::new(count).expect(rt, "a number of sites")
+}
+
 // How a script of the queues `sales` and `support` ends that is given in pieces and written in short writes; it must
 // print what is wanted.
 fn end_of(
@@ -29,7 +34,7 @@ fn end_of(
     let mut reader = MemorySource::new(script, 1000);
     let mut writer = MemorySink::new(alloc, 7);
     let list = queues(rt, alloc, &["sales", "support"]);
-    let end = run_script(alloc, &mut reader, &mut writer, list);
+    let end = run_script(alloc, &mut reader, &mut writer, sites(rt, 1), &list);
     assert_eq!(rt; writer.as_slice(), wanted);
     end
 }
@@ -115,7 +120,13 @@ fn end_over(
 {
     let mut reader = MemorySource::failing(script, most, reads);
     let mut writer = MemorySink::new(alloc, 100);
-    let end = run_script(alloc, &mut reader, &mut writer, queues(rt, alloc, &["a"]));
+    let end = run_script(
+        alloc,
+        &mut reader,
+        &mut writer,
+        sites(rt, 1),
+        &queues(rt, alloc, &["a"]),
+    );
     assert_eq!(rt; writer.as_slice(), b"".as_slice());
     end
 }
@@ -156,7 +167,13 @@ fn the_longest_script(rt: HostRuntime) {
 fn written(rt: &impl Abort, alloc: Global, most: usize, writes: u64) -> Vec<u8> {
     let mut reader = MemorySource::new(b"0 dance\n0 dance\n", 1);
     let mut writer = MemorySink::failing(alloc, most, writes);
-    let end = run_script(alloc, &mut reader, &mut writer, queues(rt, alloc, &["a"]));
+    let end = run_script(
+        alloc,
+        &mut reader,
+        &mut writer,
+        sites(rt, 1),
+        &queues(rt, alloc, &["a"]),
+    );
     assert_eq!(rt; end, Err(ScriptFault::Write));
     Vec::from_slice(alloc, writer.as_slice()).expect(rt, "memory")
 }
@@ -273,7 +290,13 @@ fn check_lines(rt: &impl Abort, alloc: Global, names: &[&str], lines: &[(&str, G
     }
     let mut reader = MemorySource::new(&script, 1000);
     let mut writer = MemorySink::new(alloc, 700);
-    let end = run_script(alloc, &mut reader, &mut writer, queues(rt, alloc, names));
+    let end = run_script(
+        alloc,
+        &mut reader,
+        &mut writer,
+        sites(rt, 1),
+        &queues(rt, alloc, names),
+    );
     assert_eq!(rt; writer.as_slice(), wanted.as_slice());
     assert_eq!(rt; end, Ok(0));
 }

@@ -1,4 +1,4 @@
-mod Lists
+pub mod Lists
 mod Parts
 mod Dots
 mod GrownHistories

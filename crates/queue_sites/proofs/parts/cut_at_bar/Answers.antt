@@ -1,4 +1,4 @@
-use Rattle.std.proofs.Common.{◌∙◌, ap, ◌∷◌, drop, take, length, sym, ◌-◌, ◌+◌}
+use Rattle.std.proofs.Common.{◌∙◌, ap, ◌∷◌, take, sym, ◌+◌}
 use Rattle.std.specs.List.{slice_split}
 use Rattle.std.proofs.lemmas.List.{take_rest}
 use Rattle.bstr.specs.Find.{is_byte}

@@ -1,4 +1,4 @@
-use Rattle.std.proofs.Common.{◌≡◌, ◌<◌, ◌++◌, length, sym, ◌∙◌, ap, subst, append-nil}
+use Rattle.std.proofs.Common.{◌<◌, ◌++◌, length, sym, ◌∙◌, ap, subst, append-nil}
 use Rattle.std.specs.List.{filter_map}
 use Rattle.std.specs.Option.{option_copied}
 use Rattle.ami_session.specs.FieldValues.{name_of}

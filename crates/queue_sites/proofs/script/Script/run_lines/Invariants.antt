@@ -1,9 +1,8 @@
 use Rattle.std.proofs.Common.{◌≡◌, ◌+◌, ◌≤◌, false, length}
-use Rattle.replica.specs.Standing.{StandsFor}
-use Rattle.replica.specs.Steps.{SiteKnowledge}
-use Rattle.queue_sites.specs.LineSteps.{place_of}
+use Rattle.sites_world.specs.Worlds.{World}
+use Rattle.queue_sites.specs.LineSteps.{StandsAt, place_of}
 use Rattle.queue_sites.proofs.Running.{Going}
-use Rattle.queue_sites.proofs.script.run_lines.Given as goal
+use Rattle.queue_sites.proofs.script.Script.run_lines.Given as goal
 
 -- the writer works, the numbers stay small, and the script goes on
 abbrev pub invariant-loop-rest : goal.invariant-loop-rest
@@ -11,9 +10,9 @@ invariant-loop-rest g l = record {
   works : g.W.Sink.failed l.writer ≡ false;
   lines : l.number + length l.rest ≤ 16777216;
   unknown : l.unknown ≤ l.number;
-  place : place_of l.replica ≡ place_of l.fn.replica;
-  going : (s : SiteKnowledge) → StandsFor l.fn.replica s
-      → Going (place_of l.fn.replica) s l.script (g.W.Sink.taken l.fn.writer) l.replica l.rest l.number l.unknown (g.W.Sink.taken l.writer);
+  place : place_of l.self ≡ place_of l.fn.self;
+  going : (w : World) → StandsAt l.fn.self.world w
+      → Going (place_of l.fn.self) w l.text (g.W.Sink.taken l.fn.writer) l.self.world l.rest l.number l.unknown (g.W.Sink.taken l.writer);
 }
 
 abbrev pub decreases-loop-rest : goal.decreases-loop-rest
