@@ -52,6 +52,7 @@ def statuses(program):
     """The statuses of what is done, and of a line that isn't understood."""
     check(program, SCRIPT, 0, printed=b"Event: QueueStatusComplete\r\n", given=b"0 ami Action: QueueStatus\n")
     check(program, SCRIPT, 3, printed=b"line 1: not understood\n", given=b"0 dance")
+    check(program, ["script", "64", "sales"], 0, printed=b"entry 0\ntaken\n", given=b"0 completed sales\n0 cut\n63 take 0\n")
     check(program, ["--help"], 0, printed=b"Usage: queue_sites")
     check(program, ["--version"], 0, printed=b"queue_sites 0.1.0")
 
@@ -61,7 +62,8 @@ def wrong_words(program):
     bad_list = b"queue_sites: bad queue list\n"
     check(program, [], 2, told=b"Usage: queue_sites")
     check(program, ["dance"], 2, told=b"unrecognized subcommand 'dance'")
-    check(program, ["script", "2", "sales"], 2, told=b"invalid value '2' for '<SITES>'")
+    for sites in (b"0", b"65", b"two"):
+        check(program, ["script", sites, "sales"], 2, told=b"invalid value '%b' for '<SITES>'" % sites)
     check(program, ["script", "1"], 2, told=b"required arguments were not provided")
     for queues in (["sales", "sales"], [""], ["a\nb"], ["a" * 81], [*map(str, range(257))]):
         check(program, ["script", "1", *queues], 2, told=bad_list)
