@@ -34,7 +34,7 @@ fn penalty(stamp: Stamp, penalty: Penalty) -> Fields
 }
 
 // Lets a dot be live, with a member of its own and a penalty.
-fn assert_one(set: &mut MemberSet, site: SiteId, count: u64) -> Result<(), JoinFault> {
+pub(crate) fn assert_one(set: &mut MemberSet, site: SiteId, count: u64) -> Result<(), JoinFault> {
     let (Some(dot), Some(stamp)) = (Dot::new(site, count), Stamp::new(count, site)) else {
         return Ok(());
     };

@@ -8,4 +8,6 @@ mod deltas;
 #[cfg(test)]
 mod frames;
 #[cfg(test)]
+mod joins;
+#[cfg(test)]
 mod member_sets;

@@ -15,7 +15,7 @@ pub(crate) const FIRST: ToldDot = (0, 1);
 
 pub(crate) const SECOND: ToldDot = (0, 2);
 
-const OTHER: ToldDot = (1, 1);
+pub(crate) const OTHER: ToldDot = (1, 1);
 
 // A member, told as the number of its queue and its interface.
 pub(crate) type ToldMember = (u16, &'static str);
@@ -65,7 +65,7 @@ pub(crate) fn penalty(rt: &impl Abort, time: u64, number: u32) -> Fields
     fields
 }
 
-fn change(rt: &impl Abort, set: &mut MemberSet, told: Told) -> Result<(), JoinFault> {
+pub(crate) fn change(rt: &impl Abort, set: &mut MemberSet, told: Told) -> Result<(), JoinFault> {
     match told {
         Told::Put(put, of, time, number) => {
             set.assert(dot(rt, put), &member(rt, of), &penalty(rt, time, number))
@@ -88,7 +88,7 @@ pub(crate) fn set_of(rt: &impl Abort, alloc: Global, changes: &[Told]) -> Member
     set
 }
 
-fn copy_of(rt: &impl Abort, set: &MemberSet) -> MemberSet {
+pub(crate) fn copy_of(rt: &impl Abort, set: &MemberSet) -> MemberSet {
     set.copy().expect(rt, "memory")
 }
 
@@ -198,7 +198,7 @@ fn sets_disagree_while_a_dot_is_live_with_two_members(rt: HostRuntime) {
 }
 
 // A set with 16,384 live dots of site 0.
-fn full_set(rt: &impl Abort, alloc: Global) -> MemberSet {
+pub(crate) fn full_set(rt: &impl Abort, alloc: Global) -> MemberSet {
     let mut set = MemberSet::new(alloc);
     for count in 1..16_385 {
         change_all(rt, &mut set, &[Told::Put((0, count), SIP_1, count, 0)]);
@@ -278,7 +278,7 @@ fn a_full_set_is_copied(rt: HostRuntime) {
 }
 
 // Joins each of two sets with a copy of the other.
-fn join_both(rt: &impl Abort, x: &mut MemberSet, y: &mut MemberSet) {
+pub(crate) fn join_both(rt: &impl Abort, x: &mut MemberSet, y: &mut MemberSet) {
     let of_x = copy_of(rt, x);
     assert!(rt; x.join(copy_of(rt, y)).is_ok());
     assert!(rt; y.join(of_x).is_ok());
@@ -334,7 +334,12 @@ fn a_join_keeps_unknown_dots_and_the_latest_fields(rt: HostRuntime) {
 }
 
 // The set that a join gives back, which it has refused for this cause.
-fn refused(rt: &impl Abort, set: &mut MemberSet, other: MemberSet, fault: JoinFault) -> MemberSet {
+pub(crate) fn refused(
+    rt: &impl Abort,
+    set: &mut MemberSet,
+    other: MemberSet,
+    fault: JoinFault,
+) -> MemberSet {
     let Err((cause, back)) = set.join(other) else {
         rt.panic("not refused");
     };
