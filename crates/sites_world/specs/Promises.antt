@@ -84,7 +84,8 @@ abbrev pub HaveFewLiveDots : Type 0
 HaveFewLiveDots = (names : List (List ℕ)) (sites : ℕ) (w : World) (k : Knowledge) (x : DeltaState) → IsReached names sites w → IsIn w k → IsDeltaOf x k
     → map.len x.members.live ≤ set.len (visible_members k) * length w.sites
 
--- a site of one world has taken an entry of its pool, and is so in another: it knows there what the entry carries and what it knew, and nothing else
+-- from one world to another the site of this number has taken the entry at this place of the pool: it knows what the entry carries and what it
+-- knew before, and nothing else
 pub record HasTaken (w after : World) (site place : ℕ) : Type 0 where
   pub before : SiteKnowledge
   pub entry : Entry
