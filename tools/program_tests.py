@@ -103,25 +103,37 @@ def first_example():
     expect(ran.stdout == "".join(f"{line}\r\n" for line in lines).encode(), "it did not write what README shows", ran)
 
 
-def refused_allocations(room):
-    """Refuses each allocation of the stored run in turn. Answers what was done."""
+def refusing(room):
+    """What runs a program with its allocation of a number refused, none where that is 0, and answers the run and how many
+    allocations it made. Nothing where there is no C compiler."""
     compiler = next(filter(None, map(shutil.which, ["cc", "gcc", "clang"])), None)
     if not compiler:
-        return "no allocation was refused: there is no C compiler here"
+        return None
     library, counted = f"{room}/refuse_allocation.so", f"{room}/allocations"
     source = f"{TOP}/tools/refuse_allocation.c"
     subprocess.run([compiler, "-shared", "-fPIC", "-O1", "-o", library, source, "-ldl"], check=True)
-    words, given = stored_words(), read(f"{STORED}/stdin")
 
-    def refusing(number):
+    def run_refusing(number, program, words, given=b""):
         more = {"LD_PRELOAD": library, "REFUSED_ALLOCATION": str(number), "ALLOCATIONS_FILE": counted}
-        return run(BUILT, words, given, more=more)
+        ran = run(program, words, given, more=more)
+        return ran, int(read(counted)) if ran.returncode >= 0 else 0
 
-    whole = refusing(0)
+    return run_refusing
+
+
+NO_COMPILER = "no allocation was refused: there is no C compiler here"
+
+
+def refused_allocations(room):
+    """Refuses each allocation of the stored run in turn. Answers what was done."""
+    run_refusing = refusing(room)
+    if not run_refusing:
+        return NO_COMPILER
+    stored = BUILT, stored_words(), read(f"{STORED}/stdin")
+    whole, allocations = run_refusing(0, *stored)
     expect(whole.stdout == read(f"{STORED}/stdout"), "it did not write what its file stdout has", whole)
-    allocations = int(read(counted))
     for number in range(1, allocations + 1):
-        ran = refusing(number)
+        ran, _ = run_refusing(number, *stored)
         expect(ran.returncode == 1, f"the status is not 1 where allocation {number} is refused", ran)
         expect(ran.stderr == b"queue_sites: out of memory\n", f"it told another text where allocation {number} is refused", ran)
         expect(whole.stdout.startswith(ran.stdout), f"it wrote no front of the output where allocation {number} is refused", ran)

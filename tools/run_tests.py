@@ -1,6 +1,6 @@
 """Runs what must pass, and tells at the end what was run and how long each part of it took.
 
-    ./test                     the whole gate, and the program from the command line
+    ./test                     the whole gate, the program from the command line, and a served session without memory
     ./test CRATE..             what a change of these crates can break: layout, proofs, tests and stored runs of these and
                                of the crates that stand on them, over the work that earlier checks kept, and the
                                must-fail edits of these
@@ -15,6 +15,7 @@ import time
 
 import gate
 import program_tests
+import session_tests
 from build import at_once
 from crates import TOP, all_crates, below, folder, read, with_those_above
 
@@ -50,11 +51,24 @@ def git(*words):
     return ran.stdout if ran.returncode == 0 else ""
 
 
-def program_part():
-    try:
-        return True, [f"    {it}" for it in program_tests.run_all()]
-    except program_tests.Failed as why:
-        return False, [f"    {why}"]
+def part_of(run_all):
+    """What runs tests that answer what they have run, as a part."""
+
+    def part():
+        try:
+            return True, [f"    {it}" for it in run_all()]
+        except program_tests.Failed as why:
+            return False, [f"    {why}"]
+
+    return part
+
+
+def run_program(parts):
+    parts.run("the program from the command line", part_of(program_tests.run_all))
+
+
+def run_session(parts):
+    parts.run("a served session without memory", part_of(session_tests.run_all))
 
 
 def whole():
@@ -69,7 +83,8 @@ def whole():
 
     parts.run("the gate", gate_part)
     if not parts.has_failed:
-        parts.run("the program from the command line", program_part)
+        run_program(parts)
+        run_session(parts)
     print("\n".join(parts.lines))
     if not parts.has_failed and clean and head:
         os.makedirs(os.path.dirname(PASSED), exist_ok=True)
@@ -130,7 +145,9 @@ def of_crates(names, is_program_changed=False):
     if names and not parts.has_failed:
         parts.run(f"must-fail edits of {' '.join(names)}", lambda: (passes(["rt", "must-fail", *names]), []))
     if not parts.has_failed and (is_program_changed or PROGRAM in changed):
-        parts.run("the program from the command line", program_part)
+        run_program(parts)
+    if not parts.has_failed and session_tests.CRATE in changed:
+        run_session(parts)
     print("\n".join(parts.lines))
     return 1 if parts.has_failed else 0
 

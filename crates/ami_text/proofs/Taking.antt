@@ -1,12 +1,17 @@
 -- What a sink has taken, piece by piece.
-use Rattle.std.proofs.Common.{◌≡◌, ℕ, List, ◌++◌, take, drop, refl, sym, ◌∙◌, ap, append_assoc, Option, Some, None, length, ◌-◌}
+use Rattle.std.proofs.Common.{◌≡◌, ℕ, List, [], ◌++◌, take, drop, refl, sym, ◌∙◌, ap, append_assoc, append-nil, Option, Some, None, length, ◌-◌}
 use Rattle.std.proofs.lemmas.List.{take-append-drop, take_rest}
 use Rattle.std.specs.Io.KnownBytes.{append_known}
 
 -- a piece and then another
-taken-more : (known : Option (List ℕ)) (a b : List ℕ) → append_known (append_known known a) b ≡ append_known known (a ++ b)
+pub taken-more : (known : Option (List ℕ)) (a b : List ℕ) → append_known (append_known known a) b ≡ append_known known (a ++ b)
 taken-more None a b = refl
 taken-more (Some xs) a b = ap Some (append_assoc xs a b)
+
+-- nothing
+pub taken-none : (known : Option (List ℕ)) → known ≡ append_known known []
+taken-none None = refl
+taken-none (Some xs) = ap Some (sym (append-nil xs))
 
 -- a front grows by what comes next
 pub front-grows : (bytes front rest : List ℕ) (n : ℕ) → bytes ≡ front ++ rest → bytes ≡ (front ++ take n rest) ++ take (length rest - n) (drop n rest)

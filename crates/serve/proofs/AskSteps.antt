@@ -1,6 +1,7 @@
 -- What is done upon an ask that the desk answers.
 use Rattle.std.proofs.Common.{◌≡◌, ℕ, List, [], ◌∷◌, refl, sym, ◌∙◌, subst, append-nil, Option, Result, Ok, Err, IfErr, OnErr, OnOk}
 use Rattle.std.specs.Io.KnownBytes.{append_known}
+use Rattle.ami_text.proofs.Taking.{taken-none}
 use Rattle.ami_text.specs.Devices.{HasTaken}
 use Rattle.status_report.specs.declared.asks.Answer.{Answer}
 use Rattle.status_report.specs.declared.asks.Ask.{Ask}
@@ -8,7 +9,6 @@ use Rattle.ami_session.specs.Checks.{Asks, Reaction, Waiting, answer_reply}
 use Rattle.serve.specs.declared.serve_fault.ServeFault.{ServeFault}
 use Rattle.serve.specs.declared.serve_fault.ServeFault.TheVariants.{Write}
 use Rattle.serve.specs.Steps.{BreaksOff, HasBegun, HasDone, HasSaid}
-use Rattle.serve.proofs.Taking.{taken-none}
 
 -- the reply upon the answer is to be written
 pub ask-done : {D : Type 0} (Answers : D → Ask → Answer → D → Type 0) (ask : Ask) (waiting : Waiting) (answer : Answer) (d e : D) (text : List ℕ)

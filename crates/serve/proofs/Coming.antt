@@ -1,5 +1,6 @@
 -- What comes of a stream, read by read.
 use Rattle.std.proofs.Common.{◌≡◌, ◌≤◌, ◌⊎◌, ⊎_elim, ℕ, Bool, true, Result, Ok, Err, Some, None, List, [], ◌++◌, sym, ap, subst, arith, append_assoc, append-nil, length, length-append, Option}
+use Rattle.ami_text.proofs.Taking.{taken-grows, taken-none}
 use Rattle.ami_text.specs.Lines.{lines_text}
 use Rattle.ami_text.specs.MessageFields.{NameAndValue}
 use Rattle.ami_text.specs.declared.feed_fault.FeedFault.{FeedFault}
@@ -10,7 +11,6 @@ use Rattle.serve.specs.declared.serve_fault.ServeFault.{ServeFault}
 use Rattle.serve.specs.declared.serve_fault.ServeFault.TheVariants.{Read, Write, LineTooLong, TooManyFields, DeskDown, Turns, Memory}
 use Rattle.serve.specs.Faults.{session_fault}
 use Rattle.serve.specs.Steps.{HasCome, IsHeld, IsNext}
-use Rattle.serve.proofs.Taking.{taken-grows, taken-none}
 
 -- more bytes change no message
 abbrev pub MoreStays : Type 0

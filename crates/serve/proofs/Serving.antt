@@ -1,6 +1,7 @@
 -- How a session goes on, message by message.
 use Rattle.std.proofs.Common.{◌≡◌, ◌≤◌, ⊎_elim, inl, inr, ℕ, ◌+◌, Bool, true, false, List, [], ◌∷◌, ◌++◌, refl, sym, ◌∙◌, ap, subst, arith, append_assoc, append-nil, length, length-append, Option, Ok, Err, Some, None}
 use Rattle.std.specs.Io.KnownBytes.{append_known}
+use Rattle.ami_text.proofs.Taking.{taken-grows, taken-none}
 use Rattle.ami_text.specs.Devices.{HasGiven, HasTaken}
 use Rattle.ami_text.specs.Stream.{Ending, Gives, Reads, Rest}
 use Rattle.status_report.specs.declared.asks.Answer.{Answer}
@@ -13,7 +14,6 @@ use Rattle.serve.specs.declared.serve_fault.ServeFault.TheVariants.{Read, Write,
 use Rattle.serve.specs.Sessions.{AreAnswered, Carries, HasText, IsBegun, IsLeftBy, IsRefused, IsServed}
 use Rattle.serve.specs.Steps.{BreaksOff, HasBegun, HasCome, HasSaid, IsDown, IsNext, IsUntouched}
 use Rattle.serve.proofs.Coming.{LaterFollows, MoreStays}
-use Rattle.serve.proofs.Taking.{taken-grows, taken-none}
 use Rattle.serve.proofs.TextSteps.{after-one, over-one, text-one}
 
 -- the stream of two pieces has the messages of the one, and then those of what that leaves and the other

@@ -35,20 +35,21 @@ impl Incoming {
 
 /// The client's next message, read as far as needed; `None` at the end of what it sends.
 ///
-/// Faults: `LineTooLong` and `TooManyFields` where the stream has them next; `Turns` where no read is left, and `Read` where
-/// one fails; `Memory`.
+/// Faults: `LineTooLong` and `TooManyFields` where the stream has them next; `Turns` where no read
+/// is left, and `Read` where one fails; `Memory`.
 pub fn next_message<S: Source>(
     reader: &mut S,
     incoming: &mut Incoming,
 ) -> Result<Option<Message>, ServeFault>
     requires reader { S.failed reader.old ≡ false }
     requires feed { incoming.old.feed.fault ≡ None }
-    ensures come { HasCome (S.given reader.old) (S.given reader.new) incoming.old.feed.held incoming.old.reads incoming.new.reads
-        (IsNext result incoming.new.feed.held) }
+    ensures come { HasCome (S.given reader.old) (S.given reader.new) incoming.old.feed.held
+        incoming.old.reads incoming.new.reads (IsNext result incoming.new.feed.held) }
     ensures ended { result ≡ Ok None → S.ended reader.new ≡ true }
     ensures works { OnOk result (S.failed reader.new ≡ false) }
     ensures feed { OnOk result (incoming.new.feed.fault ≡ None) }
-    ensures shorter { IfOk result (λ next. IfSome next (λ _. bytes_ahead incoming.new.reads incoming.new.feed.held
+    ensures shorter { IfOk result (λ next. IfSome next (λ _.
+        bytes_ahead incoming.new.reads incoming.new.feed.held
         < bytes_ahead incoming.old.reads incoming.old.feed.held)) }
     ensures read { IsErrOf result ServeFault.Read → S.failed reader.new ≡ true }
     ensures turns { IsErrOf result ServeFault.Turns → incoming.new.reads ≡ 0 }
@@ -68,14 +69,17 @@ pub fn next_message<S: Source>(
     }
 }
 
-// Reads once, and holds what came. It tells whether anything did. Faults: `Turns` where no read is left, `Read`, `Memory`.
+// Reads once, and holds what came. It tells whether anything did. Faults: `Turns` where no read is
+// left, `Read`, `Memory`.
 fn read_piece<S: Source>(reader: &mut S, incoming: &mut Incoming) -> Result<bool, ServeFault>
     requires reader { S.failed reader.old ≡ false }
     requires feed { incoming.old.feed.fault ≡ None }
-    ensures come { HasCome (S.given reader.old) (S.given reader.new) incoming.old.feed.held incoming.old.reads incoming.new.reads
+    ensures come { HasCome (S.given reader.old) (S.given reader.new) incoming.old.feed.held
+        incoming.old.reads incoming.new.reads
         (IsHeld result incoming.old.feed.held incoming.new.feed.held) }
     ensures more { result ≡ Ok true → (incoming.new.reads + 1 ≡ incoming.old.reads)
-        × (bytes_ahead incoming.new.reads incoming.new.feed.held ≤ bytes_ahead incoming.old.reads incoming.old.feed.held) }
+        × (bytes_ahead incoming.new.reads incoming.new.feed.held
+        ≤ bytes_ahead incoming.old.reads incoming.old.feed.held) }
     ensures ended { result ≡ Ok false → S.ended reader.new ≡ true }
     ensures works { OnOk result (S.failed reader.new ≡ false) }
     ensures feed { OnOk result (incoming.new.feed.fault ≡ None) }

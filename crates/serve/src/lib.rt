@@ -1,7 +1,7 @@
 //! Manager sessions from their first byte to the last, over any reader, writer and desk.
 //!
-//! A [`Desk`] is what answers asks. [`serve`] reads a client's messages, asks the desk what they ask, and writes the
-//! replies, whatever the devices do.
+//! A [`Desk`] is what answers asks. [`serve`] reads a client's messages, asks the desk what they
+//! ask, and writes the replies, whatever the devices do.
 #![tactic(auto)]
 
 ghost use Rattle.std.specs.Prelude.{◌≡◌, true, false, IfErr, OnOk, IsErrOf};
@@ -24,15 +24,17 @@ pub use replica_desk::ReplicaDesk;
 pub use serve_fault::ServeFault;
 use std::alloc::Global;
 
-/// Serves one client to the end of its session: writes the session's greeting, reads the client's bytes in pieces of at
-/// most 1,024, and answers each message in turn, by itself or upon the desk's answer (the messages and replies are
-/// Asterisk's Manager Interface, the limits this project's own). `Ok` after a Logoff is answered, or where the reader has
-/// ended; bytes behind a Logoff make no difference. It returns if the desk's calls do.
+/// Serves one client to the end of its session: writes the session's greeting, reads the client's
+/// bytes in pieces of at most 1,024, and answers each message in turn, by itself or upon the desk's
+/// answer (the messages and replies are Asterisk's Manager Interface, the limits this project's
+/// own). `Ok` after a Logoff is answered, or where the reader has ended; bytes behind a Logoff make
+/// no difference. It returns if the desk's calls do.
 ///
-/// Faults, as each comes: `Read` where the reader failed; `Write` where the writer failed, or took none of bytes that
-/// aren't empty; `LineTooLong` and `TooManyFields` where the client's stream has them, once the messages before are
-/// answered; `DeskDown` where the desk gave no answer; `Turns` where 1,000,000 reads gave no end; `Memory`. What was
-/// written is then a front of the session's text: the whole text so far, but for `Write` and `Memory`.
+/// Faults, as each comes: `Read` where the reader failed; `Write` where the writer failed, or took
+/// none of bytes that aren't empty; `LineTooLong` and `TooManyFields` where the client's stream has
+/// them, once the messages before are answered; `DeskDown` where the desk gave no answer; `Turns`
+/// where 1,000,000 reads gave no end; `Memory`. What was written is then a front of the session's
+/// text: the whole text so far, but for `Write` and `Memory`.
 pub fn serve<R, S: Source, W: Sink, D: Desk<R>>(
     rt: &R,
     alloc: Global,
@@ -45,17 +47,21 @@ pub fn serve<R, S: Source, W: Sink, D: Desk<R>>(
     requires writer { W.failed writer.old ≡ false }
 
     // The session's text was written, upon the bytes that were read and the desk's answers.
-    ensures served { OnOk result (Carries (S.given reader.old) (S.given reader.new) (W.taken writer.old) (W.taken writer.new)
+    ensures served { OnOk result (Carries (S.given reader.old) (S.given reader.new)
+        (W.taken writer.old) (W.taken writer.new)
         (IsServed D.answers session desk.old desk.new (S.ended reader.new))) }
 
     // After a fault a front of it was.
-    ensures left { IfErr result (λ fault. Carries (S.given reader.old) (S.given reader.new) (W.taken writer.old) (W.taken writer.new)
+    ensures left { IfErr result (λ fault. Carries (S.given reader.old) (S.given reader.new)
+        (W.taken writer.old) (W.taken writer.new)
         (IsLeftBy D.answers D.refuses session desk.old desk.new fault)) }
 
-    // Each of these faults stands only where its cause does; those of the stream and of the desk say theirs above.
+    // Each of these faults stands only where its cause does; those of the stream and of the desk
+    // say theirs above.
     ensures read { IsErrOf result ServeFault.Read → S.failed reader.new ≡ true }
     ensures write { IsErrOf result ServeFault.Write → W.failed writer.new ≡ true }
-    ensures turns { IsErrOf result ServeFault.Turns → HasGiven (S.given reader.old) (S.given reader.new) 1000000 }
+    ensures turns { IsErrOf result ServeFault.Turns
+        → HasGiven (S.given reader.old) (S.given reader.new) 1000000 }
 {
     messages_so_far();
     stream_of_two_pieces();

@@ -16,11 +16,13 @@ use std::alloc::Global;
 /// Writes the session's greeting. Fault: `Write`; a front of it was written.
 pub fn greet<W: Sink>(writer: &mut W, session: &Session) -> Result<(), ServeFault>
     requires { W.failed writer.old ≡ false }
-    ensures written { OnOk result (W.taken writer.new ≡ append_known (W.taken writer.old) (greeting session.now)) }
+    ensures written { OnOk result (W.taken writer.new
+        ≡ append_known (W.taken writer.old) (greeting session.now)) }
     ensures works { OnOk result (W.failed writer.new ≡ false) }
     ensures fault { IfErr result (λ fault. fault ≡ ServeFault.Write) }
     ensures fails { OnErr result (W.failed writer.new ≡ true) }
-    ensures begun { OnErr result (HasTaken (W.taken writer.old) (W.taken writer.new) (greeting session.now)) }
+    ensures begun { OnErr result
+        (HasTaken (W.taken writer.old) (W.taken writer.new) (greeting session.now)) }
 {
     write(writer, session.greeting())?;
     write(writer, b"\r\n")
@@ -38,11 +40,14 @@ pub fn answer_message<R, W: Sink, D: Desk<R>>(
     message: &Message,
 ) -> Result<bool, ServeFault>
     requires { W.failed writer.old ≡ false }
-    ensures said { OnOk result (HasSaid D.answers (reaction session.old message.now) desk.old desk.new (W.taken writer.old) (W.taken writer.new)) }
+    ensures said { OnOk result (HasSaid D.answers (reaction session.old message.now)
+        desk.old desk.new (W.taken writer.old) (W.taken writer.new)) }
     ensures ends { IfOk result (λ ends. ends ≡ is_end (reaction session.old message.now)) }
     ensures session { OnOk result (session.new ≡ after session.old message.now) }
     ensures works { OnOk result (W.failed writer.new ≡ false) }
-    ensures fault { IfErr result (λ fault. BreaksOff D.answers D.refuses (reaction session.old message.now) desk.old desk.new (W.taken writer.old) (W.taken writer.new) fault) }
+    ensures fault { IfErr result (λ fault.
+        BreaksOff D.answers D.refuses (reaction session.old message.now)
+        desk.old desk.new (W.taken writer.old) (W.taken writer.new) fault) }
     ensures write { IsErrOf result ServeFault.Write → W.failed writer.new ≡ true }
 {
     match session.handle(alloc, message) {
@@ -51,7 +56,8 @@ pub fn answer_message<R, W: Sink, D: Desk<R>>(
     }
 }
 
-// Does what a session does upon a message. It tells whether the session ends with it. Faults: `Write`, `DeskDown`, `Memory`.
+// Does what a session does upon a message. It tells whether the session ends with it. Faults:
+// `Write`, `DeskDown`, `Memory`.
 fn perform<R, W: Sink, D: Desk<R>>(
     rt: &R,
     alloc: Global,
@@ -60,10 +66,12 @@ fn perform<R, W: Sink, D: Desk<R>>(
     act: Act,
 ) -> Result<bool, ServeFault>
     requires { W.failed writer.old ≡ false }
-    ensures said { OnOk result (HasSaid D.answers (reaction_of act) desk.old desk.new (W.taken writer.old) (W.taken writer.new)) }
+    ensures said { OnOk result (HasSaid D.answers (reaction_of act)
+        desk.old desk.new (W.taken writer.old) (W.taken writer.new)) }
     ensures ends { IfOk result (λ ends. ends ≡ is_end (reaction_of act)) }
     ensures works { OnOk result (W.failed writer.new ≡ false) }
-    ensures fault { IfErr result (λ fault. BreaksOff D.answers D.refuses (reaction_of act) desk.old desk.new (W.taken writer.old) (W.taken writer.new) fault) }
+    ensures fault { IfErr result (λ fault. BreaksOff D.answers D.refuses (reaction_of act)
+        desk.old desk.new (W.taken writer.old) (W.taken writer.new) fault) }
     ensures write { IsErrOf result ServeFault.Write → W.failed writer.new ≡ true }
 {
     match act {
@@ -82,7 +90,8 @@ fn perform<R, W: Sink, D: Desk<R>>(
     }
 }
 
-// Asks the desk, and writes the reply that follows from its answer. Faults: `Write`, `DeskDown`, `Memory`.
+// Asks the desk, and writes the reply that follows from its answer. Faults: `Write`, `DeskDown`,
+// `Memory`.
 fn answer_ask<R, W: Sink, D: Desk<R>>(
     rt: &R,
     alloc: Global,
@@ -92,9 +101,11 @@ fn answer_ask<R, W: Sink, D: Desk<R>>(
     pending: Pending,
 ) -> Result<(), ServeFault>
     requires { W.failed writer.old ≡ false }
-    ensures said { OnOk result (HasSaid D.answers (Asks ask pending) desk.old desk.new (W.taken writer.old) (W.taken writer.new)) }
+    ensures said { OnOk result (HasSaid D.answers (Asks ask pending)
+        desk.old desk.new (W.taken writer.old) (W.taken writer.new)) }
     ensures works { OnOk result (W.failed writer.new ≡ false) }
-    ensures fault { IfErr result (λ fault. BreaksOff D.answers D.refuses (Asks ask pending) desk.old desk.new (W.taken writer.old) (W.taken writer.new) fault) }
+    ensures fault { IfErr result (λ fault. BreaksOff D.answers D.refuses (Asks ask pending)
+        desk.old desk.new (W.taken writer.old) (W.taken writer.new) fault) }
     ensures write { IsErrOf result ServeFault.Write → W.failed writer.new ≡ true }
 {
     let answer = match desk.ask(rt, ask) {
@@ -110,7 +121,8 @@ fn answer_ask<R, W: Sink, D: Desk<R>>(
 // Writes all the bytes. Fault: `Write`; a front of them was written.
 fn write<W: Sink>(writer: &mut W, bytes: &[u8]) -> Result<(), ServeFault>
     requires { W.failed writer.old ≡ false }
-    ensures written { OnOk result (W.taken writer.new ≡ append_known (W.taken writer.old) bytes.now) }
+    ensures written { OnOk result (W.taken writer.new
+        ≡ append_known (W.taken writer.old) bytes.now) }
     ensures works { OnOk result (W.failed writer.new ≡ false) }
     ensures fault { IfErr result (λ fault. fault ≡ ServeFault.Write) }
     ensures fails { OnErr result (W.failed writer.new ≡ true) }

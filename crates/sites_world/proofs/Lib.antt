@@ -9,3 +9,5 @@ mod ToldAnswers
 mod MayTake
 mod Happenings
 mod OutcomeLaws
+mod TakenEntries
+mod VisibleCounts

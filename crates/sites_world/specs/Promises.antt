@@ -1,10 +1,13 @@
 -- What the definition of the world promises.
 use Rattle.sites_world.specs.Outcomes.{IsOutcomeOf, changes_nothing}
-use Rattle.sites_world.specs.declared.outcome.Outcome.TheVariants.{Answered}
+use Rattle.sites_world.specs.declared.outcome.Outcome.TheVariants.{Answered, Took}
 use Rattle.status_report.specs.declared.asks.Answer.TheVariants.{Report}
-use Rattle.std.specs.Prelude.{ℕ, ◌≡◌, ◌++◌, true, List, Some, slice_get}
+use Rattle.std.specs.Prelude.{ℕ, ◌≡◌, ◌≤◌, ◌*◌, ◌++◌, true, List, Some, Ok, length, slice_get}
+use Rattle.std.specs.FinMap as map
 use Rattle.std.specs.FinSet as set
+use Rattle.std.specs.List.{filter_map}
 use Rattle.dots.specs.declared.member.Member.{Member}
+use Rattle.dots.specs.Orders.{member_cmp}
 use Rattle.dots.specs.Values.{Dot}
 use Rattle.dots.specs.Knowledge.{IsConsistent, Knowledge, SameOperations, member_of, visible_dots}
 use Rattle.delta.specs.DeltaStates.{DeltaState, IsSame}
@@ -16,8 +19,8 @@ use Rattle.status_report.specs.declared.request.StatusRequest.{StatusRequest}
 use Rattle.status_report.specs.Knowing.{status_in}
 use Rattle.sites_world.specs.declared.event.Event.{Event}
 use Rattle.sites_world.specs.declared.event.Event.TheVariants as event
-use Rattle.sites_world.specs.Histories.{HasHistory, IsIn}
-use Rattle.sites_world.specs.Worlds.{IsReached, World, happens, run}
+use Rattle.sites_world.specs.Histories.{HasHistory, IsIn, IsPartOf}
+use Rattle.sites_world.specs.Worlds.{Entry, IsReached, World, happens, run}
 
 -- each world that events lead to has a history
 abbrev pub HaveHistories : Type 0
@@ -66,6 +69,38 @@ pub record IsVisibleDotOf (k : Knowledge) (m : Member) (dot : Dot) : Type 0 wher
 abbrev pub HaveOneDotASite : Type 0
 HaveOneDotASite = (names : List (List ℕ)) (sites : ℕ) (w : World) (k : Knowledge) (m : Member) (dot other : Dot) → IsReached names sites w → IsIn w k
     → IsVisibleDotOf k m dot → IsVisibleDotOf k m other → dot.site ≡ other.site → dot ≡ other
+
+-- the members that have a visible dot
+unfoldable pub visible_members : Knowledge → set.FinSet member_cmp
+visible_members k = set.from_list (filter_map (member_of k) (set.items (visible_dots k)))
+
+-- so there are at most as many visible dots as members that have one times sites
+abbrev pub HaveFewVisibleDots : Type 0
+HaveFewVisibleDots = (names : List (List ℕ)) (sites : ℕ) (w : World) (k : Knowledge) → IsReached names sites w → IsIn w k
+    → set.len (visible_dots k) ≤ set.len (visible_members k) * length w.sites
+
+-- and so many live dots in what stands for a knowledge
+abbrev pub HaveFewLiveDots : Type 0
+HaveFewLiveDots = (names : List (List ℕ)) (sites : ℕ) (w : World) (k : Knowledge) (x : DeltaState) → IsReached names sites w → IsIn w k → IsDeltaOf x k
+    → map.len x.members.live ≤ set.len (visible_members k) * length w.sites
+
+-- from one world to another the site of this number has taken the entry at this place of the pool: it knows what the entry carries and what it
+-- knew before, and nothing else
+pub record HasTaken (w after : World) (site place : ℕ) : Type 0 where
+  pub before : SiteKnowledge
+  pub entry : Entry
+  pub now : SiteKnowledge
+  pub was : slice_get w.sites site ≡ Some before
+  pub carried : slice_get w.pool place ≡ Some entry
+  pub is : slice_get after.sites site ≡ Some now
+  pub given : IsPartOf entry.carried now.known
+  pub kept : IsPartOf before.known now.known
+  pub no_more : IsPartOf now.known (entry.carried ++ before.known)
+
+-- a take that is told as taken has given every operation of its entry
+abbrev pub TakesGive : Type 0
+TakesGive = (names : List (List ℕ)) (w : World) (site place : ℕ) → (happens names w (event.Take site place)).1 ≡ Took (Ok tt)
+    → HasTaken w (happens names w (event.Take site place)).0 site place
 
 -- events one after the other are run in parts
 pub record RunsInParts (names : List (List ℕ)) (w : World) (first rest : List Event) : Type 0 where

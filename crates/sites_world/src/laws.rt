@@ -3,6 +3,7 @@ ghost use Rattle.std.specs.Prelude.{ℕ, List};
 ghost use Rattle.sites_world.specs.declared.event.Event.{Event};
 ghost use Rattle.sites_world.specs.Promises.{AreConsistentTogether, DeltasAgree, DeltasCommute};
 ghost use Rattle.sites_world.specs.Promises.{GiveSameAnswer, HaveHistories, HaveOneDotASite};
+ghost use Rattle.sites_world.specs.Promises.{HaveFewLiveDots, HaveFewVisibleDots, TakesGive};
 ghost use Rattle.sites_world.specs.Promises.{HaveSameStatus, LeadsOn, ReportsAreReadings};
 ghost use Rattle.sites_world.specs.Promises.{AreOfTheirEvents, RefusalsChangeNothing, RunsInParts};
 ghost use Rattle.sites_world.specs.Worlds.{World};
@@ -56,6 +57,20 @@ pub fn a_report_is_the_reading_of_what_its_site_knows()
 /// project's own).
 pub fn a_member_has_one_visible_dot_of_a_site()
     ensures { HaveOneDotASite }
+{}
+
+/// So there are in each knowledge of a world at most as many visible dots as members that have one
+/// times sites, and as many live dots in what stands for it (this project's own).
+pub fn visible_dots_are_at_most_members_times_sites()
+    ensures visible { HaveFewVisibleDots }
+    ensures live { HaveFewLiveDots }
+{}
+
+/// A take that is told as taken gives its site every operation of the entry: the site knows what the
+/// entry carries and what it knew before, and nothing else (RR-7506: a replica merges what it is
+/// sent).
+pub fn a_take_gives_every_operation_of_its_entry()
+    ensures { TakesGive }
 {}
 
 /// Events that are run in parts are run as a whole, and lead on from a world that was led to (this project's own).

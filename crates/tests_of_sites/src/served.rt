@@ -1,9 +1,10 @@
 //! Sessions that are served over memory, byte for byte.
 ghost use Rattle.std.specs.Prelude.{◌<◌};
 
-use crate::shared::{assert_text, replica, text};
+use crate::shared::{assert_text, name, replica, site, text};
 use ami_session::Session;
-use ami_text::{MemorySink, MemorySource};
+use ami_text::{MemorySink, MemorySource, StdSink, StdSource};
+use replica::{QueueList, Replica};
 use serve::{Desk, DeskDown, ReplicaDesk, ServeFault, serve};
 use status_report::{Answer, Ask};
 use std::alloc::Global;
@@ -368,31 +369,60 @@ fn a_desk_that_is_down(rt: HostRuntime) {
     }
 }
 
-// To be run with each allocation refused in turn: memory is wanting, or the sink fails for it, and what was written is
-// a front of the text. An add or a report that finds no memory is refused, and
-// the session goes on.
-#[test]
-fn refused_memory_of_a_session(rt: HostRuntime) {
-    let alloc = rt.alloc();
-    let mut reader = MemorySource::new(ADD_AND_STATUS.as_bytes(), 10);
-    let mut writer = MemorySink::new(alloc, 700);
-    let mut desk = desk(&rt, alloc);
-    let served = serve(
-        &(),
-        alloc,
-        &mut reader,
-        &mut writer,
-        Session::trusted(),
-        &mut desk,
-    );
-    let wanting = "Response: Error\r\nMessage: Out of memory\r\n\r\n";
-    assert!(rt;
-        is_front(writer.as_slice(), &[GREETING, ADDED, REPORT])
-            || is_front(writer.as_slice(), &[GREETING, wanting, EMPTY_REPORT])
-            || is_front(writer.as_slice(), &[GREETING, ADDED, wanting])
-    );
-    match served {
-        Ok(()) => {}
-        Err(fault) => assert!(rt; fault == ServeFault::Memory || fault == ServeFault::Write),
+const WANTING: &str = "Response: Error\r\nMessage: Out of memory\r\n\r\n";
+
+// Whether these texts, one behind the other, are the bytes.
+fn is_text(given: &[u8], texts: &[&str]) -> bool {
+    let mut rest = given;
+    for text in texts {
+        match rest.strip_prefix(text.as_bytes()) {
+            Some(behind) => rest = behind,
+            None => return false,
+        }
     }
+    rest.is_empty()
+}
+
+// How a session upon an add and a status has ended that lacked memory at most once, as a word. What was written is a front
+// of the text; or the desk lacked memory, the reply tells so, and the session went on.
+fn end_of(rt: &impl Abort, served: Result<(), ServeFault>, written: &[u8]) -> &'static str {
+    let whole = [GREETING, ADDED, REPORT];
+    if let Err(fault) = served {
+        assert!(rt; fault == ServeFault::Memory && is_front(written, &whole));
+        return "fault";
+    }
+    if is_text(written, &whole) {
+        return "whole";
+    }
+    assert!(rt;
+        is_text(written, &[GREETING, WANTING, EMPTY_REPORT])
+            || is_text(written, &[GREETING, ADDED, WANTING])
+    );
+    "reply"
+}
+
+// The desk of a site with one queue, and room for what a session writes; none where memory is wanting.
+fn desk_and_room(rt: &impl Abort, alloc: Global) -> Option<(ReplicaDesk, Vec<u8>)> {
+    let list = QueueList::new(alloc, &[name(rt, b"sales")]).ok()?;
+    let room = Vec::with_capacity(alloc, 1_024).ok()?;
+    let replica = Replica::new(alloc, site(rt, 0), list);
+    Some((ReplicaDesk::new(alloc, replica), room))
+}
+
+// Serves a session over a reader and a writer of std's that take no memory, and prints how it ended; tools/session_tests.py
+// runs this test with each allocation refused in turn.
+#[test]
+fn memory_of_a_session(rt: HostRuntime) {
+    let alloc = rt.alloc();
+    let end = match desk_and_room(&rt, alloc) {
+        None => "no desk",
+        Some((mut desk, room)) => {
+            let mut reader = StdSource::new(ADD_AND_STATUS.as_bytes());
+            let mut writer = StdSink::new(room);
+            let session = Session::trusted();
+            let served = serve(&(), alloc, &mut reader, &mut writer, session, &mut desk);
+            end_of(&rt, served, &writer.into_inner())
+        }
+    };
+    assert!(rt; println!(rt; "{end}").is_ok());
 }
