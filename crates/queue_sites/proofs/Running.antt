@@ -6,7 +6,7 @@ use Rattle.sites_world.specs.WorldStates.{WorldState}
 use Rattle.queue_sites.specs.ScriptLines.{lines_of}
 use Rattle.queue_sites.specs.Script.{AreBegun, AreGiven, HasBegun, HasWritten, Place, unknown_in}
 use Rattle.queue_sites.specs.LineSteps.{BeganLine, GaveLine, StandsAt}
-use Rattle.queue_sites.proofs.Taking.{taken-grows, taken-none}
+use Rattle.ami_text.proofs.Taking.{taken-grows, taken-none}
 
 -- nothing is begun of any lines
 pub begun-nothing : (place : Place) (w : World) (number : ℕ) (lines : List (List ℕ)) → AreBegun place w number lines []
