@@ -50,10 +50,12 @@ pub fn run_script<S: Source, W: Sink>(
     requires reader { S.failed reader.old ≡ false }
     requires writer { W.failed writer.old ≡ false }
     ensures ended { OnOk result (S.ended reader.new ≡ true) }
+    ensures whole { IsErrOf result ScriptFault.Write → S.ended reader.new ≡ true }
 
     // The script's text was written, and so many lines were not understood.
     ensures text { IfOk result (λ unknown. IsRun (listed_place sites list.now)
-        (S.given reader.old) (S.given reader.new) (W.taken writer.old) (W.taken writer.new) unknown) }
+        (S.given reader.old) (S.given reader.new)
+        (W.taken writer.old) (W.taken writer.new) unknown) }
 
     // Each of these faults stands only where its cause does.
     ensures read { IsErrOf result ScriptFault.Read → (S.failed reader.new ≡ true)
@@ -67,12 +69,12 @@ pub fn run_script<S: Source, W: Sink>(
     ensures too_long { IsErrOf result ScriptFault.TooLong
         → W.taken writer.new ≡ W.taken writer.old }
 
-    // After these the text was begun; or memory was wanting before the script was run, and nothing was written.
+    // After these the reader has ended and the text was begun; or nothing was written.
     ensures unwritten { IsErrOf result ScriptFault.Write → IsRunInPart (listed_place sites list.now)
         (S.given reader.old) (S.given reader.new) (W.taken writer.old) (W.taken writer.new) }
     ensures memory { IsErrOf result ScriptFault.Memory → (W.taken writer.new ≡ W.taken writer.old)
-        ⊎ IsRunInPart (listed_place sites list.now) (S.given reader.old) (S.given reader.new)
-        (W.taken writer.old) (W.taken writer.new) }
+        ⊎ ((S.ended reader.new ≡ true) × IsRunInPart (listed_place sites list.now)
+        (S.given reader.old) (S.given reader.new) (W.taken writer.old) (W.taken writer.new)) }
 {
     let text = read_script(alloc, reader)?;
     let mut script = Script::new(alloc, sites, list)?;

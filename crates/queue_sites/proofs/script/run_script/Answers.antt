@@ -55,4 +55,4 @@ returns-clause-memory g c = λ is.
     let short : length text ≤ 16777216 = omega (arith, c.in_ok-text.ensures.limit, c.deref.ensures.len) in
     let read : g.S.Source.given c.read_script.new.reader ≡ append_known (g.S.Source.given c.args.reader.now) text =
     c.in_ok-text.ensures.whole ∙ ap (append_known (g.S.Source.given c.args.reader.now)) (sym c.deref.ensures.value) in
-    inr (run-in-part _ c.in_ok-script.script text _ _ _ _ c.in_ok-script.ensures.place c.in_ok-script.ensures.stands short read (rw is at c.run_lines.ensures.err))
+    inr (c.in_ok-text.ensures.ended, run-in-part _ c.in_ok-script.script text _ _ _ _ c.in_ok-script.ensures.place c.in_ok-script.ensures.stands short read (rw is at c.run_lines.ensures.err))
