@@ -10,10 +10,12 @@ pub enum ScriptFault {
     /// The script has more than 16,777,216 bytes. Nothing was written.
     #[error("script too long")]
     TooLong,
-    /// The writer failed, or took no bytes. A front of the output was written.
+    /// The writer failed, or took no bytes. The output of the first lines was written, and a front of the
+    /// next one's.
     #[error("write failed")]
     Write,
-    /// Memory was wanting, or a command was refused as full at a site that is worn. Nothing, or a front of the output, was written.
+    /// Memory was wanting, or something was refused as full at a site that is worn. Nothing was written, or the output of the first
+    /// lines.
     #[error("out of memory")]
     Memory,
 }
