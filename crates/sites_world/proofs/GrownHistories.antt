@@ -9,7 +9,7 @@ use Rattle.dots.specs.Values.{Dot, Stamp}
 use Rattle.dots.specs.Operations.{Operation, Add, Write, Remove, Count, asserted_by}
 use Rattle.dots.specs.Knowledge.{Knowledge, all_asserted, is_named, known_dots, names}
 use Rattle.dots.proofs.Membership.{cases-in, first-in, later-in, part-in}
-use Rattle.sites_world.specs.Histories.{IsHistory, Makes, WasMade, stamp_of}
+use Rattle.sites_world.specs.Histories.{IsHistory, IsOf, Makes, WasMade, stamp_of}
 use Rattle.sites_world.proofs.Dots.{is-asserted, pair-of}
 use Rattle.sites_world.proofs.Parts.{known-asserted, known-cases, known-named}
 
@@ -23,6 +23,7 @@ CountsIn names_of_queues (Count site queue calls total) = queue < length names_o
 -- a dot is new to a history: an operation makes it, later than all that are known of its site
 pub record IsNewDot (names_of_queues : List (List ℕ)) (sites : ℕ) (h : Knowledge) (o : Operation) (dot : Dot) (m : Member) : Type 0 where
   pub makes : Makes dot o
+  pub at_site : IsOf dot.site o
   pub latest : (q : Dot) → set.contains (known_dots h) q ≡ true → q.site ≡ dot.site → q.count < dot.count
   pub site : dot.site < sites
   pub queue : m.queue < length names_of_queues
@@ -40,14 +41,14 @@ pub record IsNext (names_of_queues : List (List ℕ)) (sites : ℕ) (h : Knowled
 
 -- an add asserts the dot that it makes
 pub makes-pair : (o : Operation) (dot : Dot) → Makes dot o → (m : Member) × Contains (asserted_by o) (dot, m)
-makes-pair (Add made member stamp penalty pause label older) dot p = (member, subst (λ d. Contains {X = Dot × Member} ((made, member) ∷ []) (d, member)) p.0 (first-in (made, member) []))
+makes-pair (Add made member stamp penalty pause label older) dot p = (member, subst (λ d. Contains {X = Dot × Member} ((made, member) ∷ []) (d, member)) p (first-in (made, member) []))
 makes-pair (Write dots setting stamp older) dot p = absurd p
 makes-pair (Remove dots) dot p = absurd p
 makes-pair (Count site queue calls total) dot p = absurd p
 
 -- an operation makes one dot
 one-made : (o : Operation) (dot other : Dot) → Makes dot o → Makes other o → dot ≡ other
-one-made (Add made member stamp penalty pause label older) dot other p q = sym p.0 ∙ q.0
+one-made (Add made member stamp penalty pause label older) dot other p q = sym p ∙ q
 one-made (Write dots setting stamp older) dot other p q = absurd p
 one-made (Remove dots) dot other p q = absurd p
 one-made (Count site queue calls total) dot other p q = absurd p
@@ -106,7 +107,7 @@ module _ (names_of_queues : List (List ℕ)) (sites : ℕ) (h : Knowledge) (o : 
 
   -- what was made stays so
   still-made : (dot : Dot) → WasMade h dot → WasMade (o ∷ h) dot
-  still-made dot w = record { add = w.add; is = later-in o h w.add w.is; makes = w.makes }
+  still-made dot w = record { add = w.add; is = later-in o h w.add w.is; makes = w.makes; at_site = w.at_site }
 
   stamps-next : (a b : Operation) (stamp : Stamp) → Contains (o ∷ h) a → Contains (o ∷ h) b → stamp_of a ≡ Some stamp → stamp_of b ≡ Some stamp → a ≡ b
   stamps-next a b stamp ha hb ea eb = by (cases-in o h a ha) (cases-in o h b hb)
@@ -161,7 +162,7 @@ module _ (names_of_queues : List (List ℕ)) (sites : ℕ) (h : Knowledge) (o : 
     stamps = stamps-next;
     members = members-next;
     made = λ dot is. elim (known-next dot is) [
-      | inl new ↦ record { add = o; is = first-in o h; makes = new.1.makes }
+      | inl new ↦ record { add = o; is = first-in o h; makes = new.1.makes; at_site = new.1.at_site }
       | inr was ↦ still-made dot (made.made dot was)
     ];
     adds = adds-next;

@@ -1,16 +1,17 @@
 -- The knowledges of a world that has a history: they are consistent together, and a member has at most one visible dot of a site.
-use Rattle.std.proofs.Common.{◌≡◌, ◌<◌, ◌⊎◌, inl, inr, ℕ, List, [], ◌∷◌, ◌++◌, length, refl, sym, ap, subst, ◌∙◌, true≢false, arith}
+use Rattle.std.proofs.Common.{◌≡◌, ◌<◌, ◌⊎◌, inl, inr, ℕ, List, [], ◌∷◌, ◌++◌, Contains, length, refl, sym, ap, subst, ◌∙◌, true≢false, arith}
 use Rattle.dots.specs.declared.member.Member.{Member}
 use Rattle.dots.specs.Values.{Dot}
-use Rattle.dots.specs.Operations.{asserted_by}
+use Rattle.dots.specs.Operations.{Operation, asserted_by}
 use Rattle.dots.specs.Knowledge.{IsConsistent, Knowledge, names}
-use Rattle.dots.proofs.Membership.{any-in, in-part}
+use Rattle.dots.proofs.Membership.{any-in, in-part, part-in}
 use Rattle.sites_world.specs.declared.event.Event.{Event}
-use Rattle.sites_world.specs.Histories.{HasHistory, IsHistory, IsHistoryOf, IsIn, IsPartOf, Buffered, Carried, Known}
+use Rattle.sites_world.specs.Histories.{HasHistory, IsHistory, IsHistoryOf, IsIn, IsOf, IsPartOf, Makes, Buffered, Carried, Known}
 use Rattle.sites_world.specs.Promises.{IsVisibleDotOf, RunsInParts}
 use Rattle.sites_world.specs.Worlds.{World, happens}
-use Rattle.sites_world.proofs.Dots.{member-in, visible-parts}
-use Rattle.sites_world.proofs.Parts.{asserted-part, both-part, consistent-part, part-through}
+use Rattle.sites_world.proofs.Dots.{is-asserted, member-in, visible-parts}
+use Rattle.sites_world.proofs.GrownHistories.{makes-pair}
+use Rattle.sites_world.proofs.Parts.{asserted-part, both-part, consistent-part, known-asserted, part-through}
 
 -- each knowledge of a world is a part of its history
 pub part-of : (names_of_queues : List (List ℕ)) (w : World) (h k : Knowledge) → IsHistoryOf names_of_queues w h → IsIn w k → IsPartOf k h
@@ -28,6 +29,13 @@ together names_of_queues w k l has ik il =
 -- and each is consistent
 pub alone : (names_of_queues : List (List ℕ)) (w : World) (k : Knowledge) → HasHistory names_of_queues w → IsIn w k → IsConsistent k
 alone names_of_queues w k has ik = consistent-part names_of_queues (length w.sites) has.made k has.is.history (part-of names_of_queues w has.made k has.is ik)
+
+-- an add of a history was made at its dot's site
+pub made-at-site : (names_of_queues : List (List ℕ)) (sites : ℕ) (h : Knowledge) (o : Operation) (dot : Dot) → IsHistory names_of_queues sites h → Contains h o → Makes dot o → IsOf dot.site o
+made-at-site names_of_queues sites h o dot made here makes =
+    let p = makes-pair o dot makes in
+    let was = made.made dot (known-asserted h dot (is-asserted h dot p.0 (part-in asserted_by h o (dot, p.0) here p.1))) in
+    subst (IsOf dot.site) (made.adds was.add o dot was.is here was.makes makes) was.at_site
 
 module _ (names_of_queues : List (List ℕ)) (sites : ℕ) (h k : Knowledge) (made : IsHistory names_of_queues sites h) (part : IsPartOf k h) (m : Member) where
   -- of two visible dots of a member and a site none is earlier

@@ -51,18 +51,11 @@ stamped-time site (Write dots setting s older) stamp e is = own-time site s stam
 stamped-time site (Remove dots) stamp e is = absurd (none-some stamp e)
 stamped-time site (Count s queue calls total) stamp e is = absurd (none-some stamp e)
 
--- an add that makes a dot of a site is of that site
-pub makes-of : (site : ℕ) (o : Operation) (dot : Dot) → Makes dot o → dot.site ≡ site → IsOf site o
-makes-of site (Add made member stamp penalty pause label older) dot p is = p.1 ∙ is
-makes-of site (Write dots setting stamp older) dot p is = absurd p
-makes-of site (Remove dots) dot p is = absurd p
-makes-of site (Count s queue calls total) dot p is = absurd p
-
--- and its count is used
+-- the count of a dot of a site is used by the add of it
 pub makes-count : (site : ℕ) (o : Operation) (dot : Dot) → Makes dot o → dot.site ≡ site → count_used site o ≡ dot.count
 makes-count site (Add made member stamp penalty pause label older) dot p is =
-    let same = ap (λ d. d.site) p.0 in
-    let count = ap (λ d. d.count) p.0 in
+    let same = ap (λ d. d.site) p in
+    let count = ap (λ d. d.count) p in
     grind (arith, nat_tests, same, count, is)
 makes-count site (Write dots setting stamp older) dot p is = absurd p
 makes-count site (Remove dots) dot p is = absurd p
@@ -85,7 +78,7 @@ module _ (names_of_queues : List (List ℕ)) (sites site : ℕ) (h : Knowledge) 
   pub count-used : (q : Dot) → set.contains (known_dots h) q ≡ true → q.site ≡ site → q.count ≤ greatest (count_used site) s.known
   count-used q is at =
       let w = made.made q is in
-      let known = own.own w.add w.is (makes-of site w.add q w.makes at) in
+      let known = own.own w.add w.is (subst (λ n. IsOf n w.add) at w.at_site) in
       let used = below-greatest (count_used site) s.known w.add known in
       let is_count = makes-count site w.add q w.makes at in
       omega (arith, used, is_count)
@@ -102,7 +95,7 @@ module _ (names_of_queues : List (List ℕ)) (sites site : ℕ) (h : Knowledge) 
   asserted-there : (dot : Dot) (m : Member) → Contains (all_asserted h) (dot, m) → dot.site ≡ site → Contains (all_asserted s.known) (dot, m)
   asserted-there dot m here at =
       let w = made.made dot (known-asserted h dot (is-asserted h dot m here)) in
-      let known = own.own w.add w.is (makes-of site w.add dot w.makes at) in
+      let known = own.own w.add w.is (subst (λ n. IsOf n w.add) at w.at_site) in
       let p = makes-pair w.add dot w.makes in
       let there = part-in asserted_by s.known w.add (dot, p.0) known p.1 in
       let same = made.members dot p.0 m (asserted-part s.known h own.known (dot, p.0) there) here in
@@ -120,7 +113,8 @@ module _ (names_of_queues : List (List ℕ)) (sites site : ℕ) (h : Knowledge) 
 
     is-new : IsNewDot names_of_queues sites h o dot member
     is-new = record {
-      makes = (refl, ap (λ x. x.site) a.stamp_is ∙ sym at-site);
+      makes = refl;
+      at_site = ap (λ x. x.site) a.stamp_is ∙ sym at-site;
       latest = λ q known same. let used = count-used q known (same ∙ at-site) in omega (arith, used, the-count);
       site = omega (arith, there, at-site);
       queue = a.queue;
@@ -149,7 +143,7 @@ module _ (names_of_queues : List (List ℕ)) (sites site : ℕ) (h : Knowledge) 
       members = λ d m n hm hn. ap (λ p. p.1) (sym (only-in (dot, member) (d, m) hm) ∙ only-in (dot, member) (d, n) hn);
       asserted = λ d m here. inl (subst (λ p. IsNewDot names_of_queues sites h (Add dot member stamp penalty pause label older) p.0 p.1) (only-in (dot, member) (d, m) here) is-new);
       named = λ d is. named-known d (and_parts (is_named s.known d) (is_older (dot ∷ []) d) (sym (a.older_are d) ∙ is)).0;
-      made_once = λ d makes known. let less = is-new.latest d known (ap (λ x. x.site) (sym makes.0)) in let same = ap (λ x. x.count) makes.0 in omega (arith, less, same);
+      made_once = λ d makes known. let less = is-new.latest d known (ap (λ x. x.site) (sym makes)) in let same = ap (λ x. x.count) makes in omega (arith, less, same);
       counts = tt;
       older = λ d earlier m here before same less.
           let pair = only-in (dot, member) (d, m) here in

@@ -27,18 +27,19 @@ IsOf site (Write dots setting stamp older) = stamp.site ≡ site
 IsOf site (Remove dots) = ⊥
 IsOf site (Count s queue calls total) = s ≡ site
 
--- an operation is the add that makes this dot, at the dot's site
+-- an operation is an add of this dot
 abbrev pub Makes : Dot → Operation → Type 0
-Makes dot (Add made member stamp penalty pause label older) = (made ≡ dot) × (stamp.site ≡ dot.site)
+Makes dot (Add made member stamp penalty pause label older) = made ≡ dot
 Makes dot (Write dots setting stamp older) = ⊥
 Makes dot (Remove dots) = ⊥
 Makes dot (Count site queue calls total) = ⊥
 
--- a dot was made by an add
+-- a dot was made by an add, at the dot's site
 pub record WasMade (h : Knowledge) (dot : Dot) : Type 0 where
   pub add : Operation
   pub is : Contains h add
   pub makes : Makes dot add
+  pub at_site : IsOf dot.site add
 
 -- A history, made at so many sites with the queues of these names.
 pub record IsHistory (names_of_queues : List (List ℕ)) (sites : ℕ) (h : Knowledge) : Type 0 where

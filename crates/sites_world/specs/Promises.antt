@@ -2,13 +2,14 @@
 use Rattle.sites_world.specs.Outcomes.{IsOutcomeOf, changes_nothing}
 use Rattle.sites_world.specs.declared.outcome.Outcome.TheVariants.{Answered, Took}
 use Rattle.status_report.specs.declared.asks.Answer.TheVariants.{Report}
-use Rattle.std.specs.Prelude.{ℕ, ◌≡◌, ◌≤◌, ◌*◌, ◌++◌, true, List, Some, Ok, length, slice_get}
+use Rattle.std.specs.Prelude.{ℕ, ◌≡◌, ◌≤◌, ◌*◌, ◌++◌, true, Contains, List, Some, Ok, length, slice_get}
 use Rattle.std.specs.FinMap as map
 use Rattle.std.specs.FinSet as set
 use Rattle.std.specs.List.{filter_map}
 use Rattle.dots.specs.declared.member.Member.{Member}
 use Rattle.dots.specs.Orders.{member_cmp}
 use Rattle.dots.specs.Values.{Dot}
+use Rattle.dots.specs.Operations.{Operation}
 use Rattle.dots.specs.Knowledge.{IsConsistent, Knowledge, SameOperations, member_of, visible_dots}
 use Rattle.delta.specs.DeltaStates.{DeltaState, IsSame}
 use Rattle.delta.specs.Joining.{Agree, IsJoinOf}
@@ -19,12 +20,22 @@ use Rattle.status_report.specs.declared.request.StatusRequest.{StatusRequest}
 use Rattle.status_report.specs.Knowing.{status_in}
 use Rattle.sites_world.specs.declared.event.Event.{Event}
 use Rattle.sites_world.specs.declared.event.Event.TheVariants as event
-use Rattle.sites_world.specs.Histories.{HasHistory, IsIn, IsPartOf}
+use Rattle.sites_world.specs.Histories.{HasHistory, IsIn, IsOf, IsPartOf, Makes}
 use Rattle.sites_world.specs.Worlds.{Entry, IsReached, World, happens, run}
 
 -- each world that events lead to has a history
 abbrev pub HaveHistories : Type 0
 HaveHistories = (names : List (List ℕ)) (sites : ℕ) (w : World) → IsReached names sites w → HasHistory names w
+
+-- adds of one dot, in any two knowledges of one, are one operation
+abbrev pub HaveOneAddADot : Type 0
+HaveOneAddADot = (names : List (List ℕ)) (sites : ℕ) (w : World) (k l : Knowledge) (o p : Operation) (dot : Dot) → IsReached names sites w → IsIn w k → IsIn w l
+    → Contains k o → Contains l p → Makes dot o → Makes dot p → o ≡ p
+
+-- which was made at the dot's site
+abbrev pub AddAtTheirSites : Type 0
+AddAtTheirSites = (names : List (List ℕ)) (sites : ℕ) (w : World) (k : Knowledge) (o : Operation) (dot : Dot) → IsReached names sites w → IsIn w k
+    → Contains k o → Makes dot o → IsOf dot.site o
 
 -- any two knowledges of one are consistent together
 abbrev pub AreConsistentTogether : Type 0

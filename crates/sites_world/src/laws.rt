@@ -1,7 +1,8 @@
 //! What the definition of the world of operations promises. The functions have no body: their contracts are the laws.
 ghost use Rattle.std.specs.Prelude.{ℕ, List};
 ghost use Rattle.sites_world.specs.declared.event.Event.{Event};
-ghost use Rattle.sites_world.specs.Promises.{AreConsistentTogether, DeltasAgree, DeltasCommute};
+ghost use Rattle.sites_world.specs.Promises.{AddAtTheirSites, AreConsistentTogether, HaveOneAddADot};
+ghost use Rattle.sites_world.specs.Promises.{DeltasAgree, DeltasCommute};
 ghost use Rattle.sites_world.specs.Promises.{GiveSameAnswer, HaveHistories, HaveOneDotASite};
 ghost use Rattle.sites_world.specs.Promises.{HaveFewLiveDots, HaveFewVisibleDots, TakesGive};
 ghost use Rattle.sites_world.specs.Promises.{HaveSameStatus, LeadsOn, ReportsAreReadings};
@@ -12,6 +13,13 @@ ghost use Rattle.sites_world.specs.Worlds.{World};
 /// with all that is its own, and each frame carries a part (RR-7506: the causal history of a replica).
 pub fn a_world_has_a_history()
     ensures { HaveHistories }
+{}
+
+/// A dot is made once: adds of one dot, in any two knowledges of one world, are one operation, which was made at the dot's site
+/// (RR-8083: each add has a tag of its own).
+pub fn a_dot_is_made_once()
+    ensures once { HaveOneAddADot }
+    ensures site { AddAtTheirSites }
 {}
 
 /// Any two knowledges of one world are consistent together: each dot is of one member, and each stamp gives a field of a dot one value
