@@ -1,5 +1,6 @@
 //! The message that a script's line has for the site.
-ghost use Rattle.std.specs.Prelude.{◌≡◌, ◌≢◌, ℕ, List, [], ◌++◌, None, Some, Ok, IfOk, OnOk, OnErr, IfSome, codes};
+ghost use Rattle.std.specs.Prelude.{◌≡◌, ◌≢◌, ℕ, List, [], ◌++◌, None, Some, Ok};
+ghost use Rattle.std.specs.Prelude.{IfOk, OnOk, OnErr, IfSome, codes};
 ghost use Rattle.ami_session.specs.FieldValues.{Fields};
 ghost use Rattle.ami_text.specs.Stream.{Gives, IsRest};
 ghost use Rattle.queue_sites.specs.ScriptLines.{IsMessage, stream_of};
@@ -43,7 +44,8 @@ fn feed_of(alloc: Global, fields: &[u8]) -> Result<Feed, Memory>
 // Feeds one line, with its end.
 fn feed_line(feed: &mut Feed, line: &[u8]) -> Result<(), Memory>
     requires { feed.old.fault ≡ None }
-    ensures { OnOk result (feed.new ≡ record { held = feed.old.held ++ line.now ++ codes "\r\n"; fault = None }) }
+    ensures { OnOk result (feed.new
+        ≡ record { held = feed.old.held ++ line.now ++ codes "\r\n"; fault = None }) }
 {
     feed.feed(line)?;
     feed.feed(b"\r\n")
@@ -53,7 +55,8 @@ fn feed_line(feed: &mut Feed, line: &[u8]) -> Result<(), Memory>
 fn only_message(feed: Feed, message: Message) -> Result<Option<Message>, Memory>
     requires { feed.fault ≡ None }
     ensures one { IfOk result (λ found. IfSome found (λ only. only ≡ message)) }
-    ensures rest { IfOk result (λ found. IfSome found (λ _. (rest : List ℕ) × Gives feed.held [] rest × IsRest rest)) }
+    ensures rest { IfOk result (λ found. IfSome found
+        (λ _. (rest : List ℕ) × Gives feed.held [] rest × IsRest rest)) }
     ensures none { result ≡ Ok None → (rest : List ℕ) → Gives feed.held [] rest → IsRest rest → ⊥ }
 {
     let mut feed = feed;

@@ -10,7 +10,8 @@ use replica::QueueList;
 use std::alloc::Global;
 use std::process::Abort;
 
-fn queues(rt: &impl Abort, alloc: Global, names: &[&str]) -> QueueList {
+// The list of the queues of these names.
+pub(crate) fn queues(rt: &impl Abort, alloc: Global, names: &[&str]) -> QueueList {
     let mut list = Vec::new(alloc);
     for name in names {
         let name = QueueName::new(name.as_bytes()).expect(rt, "a name");

@@ -1,9 +1,8 @@
 //! Scripts of several sites over memory, with what each line must print.
 use crate::script::run_script;
 use crate::site_count::SiteCount;
+use crate::tests::queues;
 use ami_text::{MemorySink, MemorySource};
-use dots::QueueName;
-use replica::QueueList;
 use std::alloc::Global;
 use std::process::Abort;
 
@@ -15,15 +14,6 @@ type Script = (u16, &'static str, u64, &'static str);
 
 const SALES: &[&str] = &["sales"];
 
-fn list(rt: &impl Abort, alloc: Global, queues: &[&str]) -> QueueList {
-    let mut names = Vec::new(alloc);
-    for queue in queues {
-        let name = QueueName::new(queue.as_bytes()).expect(rt, "a name");
-        names.push(name).expect(rt, "memory");
-    }
-    QueueList::new(alloc, &names).expect(rt, "a list")
-}
-
 // Runs a script of so many sites with these queues: it must print what is wanted, and so many lines aren't understood.
 fn assert_script(
     rt: &impl Abort,
@@ -33,9 +23,9 @@ fn assert_script(
     unknown: u64,
     wanted: &[u8],
 ) {
-    let (sites, queues) = world;
+    let (sites, names) = world;
     let sites = SiteCount::new(sites).expect(rt, "a number of sites");
-    let list = list(rt, alloc, queues);
+    let list = queues(rt, alloc, names);
     let mut reader = MemorySource::new(script, 1000);
     let mut writer = MemorySink::new(alloc, 700);
     let end = run_script(alloc, &mut reader, &mut writer, sites, &list);
