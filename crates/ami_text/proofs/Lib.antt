@@ -3,7 +3,6 @@ pub mod ByteSearch
 pub mod Existence
 pub mod Feeding
 pub mod FieldLemmas
-pub mod Lists
 pub mod Outcome
 pub mod Parsing
 pub mod Outcomes

@@ -1,25 +1,38 @@
--- What a sink has taken, piece by piece.
+-- What a source has left and what a sink has taken, piece by piece.
 use Rattle.std.proofs.Common.{◌≡◌, ℕ, List, [], ◌++◌, take, drop, refl, sym, ◌∙◌, ap, append_assoc, append-nil, Option, Some, None, length, ◌-◌}
 use Rattle.std.proofs.lemmas.List.{take-append-drop, take_rest}
-use Rattle.std.specs.Io.KnownBytes.{append_known}
+use Rattle.std.specs.Io.KnownBytes.{Appends, Consumes}
 
--- a piece and then another
-pub taken-more : (known : Option (List ℕ)) (a b : List ℕ) → append_known (append_known known a) b ≡ append_known known (a ++ b)
-taken-more None a b = refl
-taken-more (Some xs) a b = ap Some (append_assoc xs a b)
+-- a sink has taken nothing
+pub taken-none : (known : Option (List ℕ)) → Appends known known []
+taken-none None = tt
+taken-none (Some held) = sym (append-nil held)
 
--- nothing
-pub taken-none : (known : Option (List ℕ)) → known ≡ append_known known []
-taken-none None = refl
-taken-none (Some xs) = ap Some (sym (append-nil xs))
+-- it has taken a front, and then a piece
+pub taken-grows : (before now after : Option (List ℕ)) (front piece : List ℕ) → Appends before now front → Appends now after piece
+    → Appends before after (front ++ piece)
+taken-grows None now after front piece first then = tt
+taken-grows (Some held) (Some more) (Some all) front piece first then =
+    then ∙ ap (λ t. t ++ piece) first ∙ append_assoc held front piece
+taken-grows (Some held) (Some more) None front piece first then = absurd then
+taken-grows (Some held) None after front piece first then = absurd first
 
--- a front grows by what comes next
+-- a source has given nothing
+pub given-none : (known : Option (List ℕ)) → Consumes known known []
+given-none None = tt
+given-none (Some left) = refl
+
+-- it has given a front, and then a piece
+pub given-grows : (before now after : Option (List ℕ)) (front piece : List ℕ) → Consumes before now front → Consumes now after piece
+    → Consumes before after (front ++ piece)
+given-grows None now after front piece first then = tt
+given-grows (Some all) (Some more) (Some left) front piece first then =
+    first ∙ ap (λ t. front ++ t) then ∙ sym (append_assoc front piece left)
+given-grows (Some all) (Some more) None front piece first then = absurd then
+given-grows (Some all) None after front piece first then = absurd first
+
+-- a front of bytes grows by what comes next
 pub front-grows : (bytes front rest : List ℕ) (n : ℕ) → bytes ≡ front ++ rest → bytes ≡ (front ++ take n rest) ++ take (length rest - n) (drop n rest)
 front-grows bytes front rest n is =
     is ∙ ap (λ t. front ++ t) (sym (take-append-drop n rest)) ∙ sym (append_assoc front (take n rest) (drop n rest))
     ∙ ap (λ t. (front ++ take n rest) ++ t) (sym (take_rest rest n))
-
--- and a sink has taken it
-pub taken-grows : (before now after : Option (List ℕ)) (front piece : List ℕ) → now ≡ append_known before front → after ≡ append_known now piece
-    → after ≡ append_known before (front ++ piece)
-taken-grows before now after front piece taken more = more ∙ ap (λ known. append_known known piece) taken ∙ taken-more before front piece

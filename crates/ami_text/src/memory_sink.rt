@@ -75,11 +75,11 @@ impl Sink for MemorySink {
         requires { self.old.failed ≡ false }
         ensures count { IfOk result (λ n. n ≤ length bytes.now) }
         ensures bytes { IfOk result (λ n.
-            Some self.new.taken ≡ Some (self.old.taken ++ take n bytes.now)) }
+            self.new.taken ≡ self.old.taken ++ take n bytes.now) }
         ensures works { IfOk result (λ n. 0 < n → self.new.failed ≡ false) }
         ensures stuck { IfOk result (λ n. n ≡ 0 → self.new.failed ≡ nat_lt 0 (length bytes.now)) }
         ensures fails { OnErr result (self.new.failed ≡ true) }
-        ensures err_bytes { OnErr result (Some self.new.taken ≡ Some self.old.taken) }
+        ensures err_bytes { OnErr result (self.new.taken ≡ self.old.taken) }
 
         // It takes as much as one write may take, until the write that is to fail.
         ensures most { IfOk result (λ n. n ≡ min (length bytes.now) self.old.most) }

@@ -9,8 +9,7 @@ use std::marker::Model;
 /// its reads.
 #[derive(Drop)]
 pub struct MemorySource<'a> {
-    bytes: &'a [u8],
-    at: usize,
+    left: &'a [u8],
     most: usize,
     reads_left: Option<u64>,
     ended: bool,
@@ -18,34 +17,32 @@ pub struct MemorySource<'a> {
 }
 
 impl<'a> Model for MemorySource<'a> {
-    ghost use Rattle.std.specs.Prelude.{◌<◌, ◌≤◌, length, take, drop};
+    ghost use Rattle.std.specs.Prelude.{◌<◌};
     ghost use Rattle.ami_text.specs.Devices.{SourceState};
 
     ghost Value = { SourceState };
 
     ghost view = { λ s. record {
-      given = take s.at s.bytes.now;
-      left = drop s.at s.bytes.now;
+      left = s.left.now;
       most = s.most;
       reads_left = s.reads_left;
       ended = s.ended;
       failed = s.failed;
     } };
 
-    ghost invariant = { λ s. (s.at ≤ length s.bytes.now) × (0 < s.most) };
+    ghost invariant = { λ s. 0 < s.most };
 }
 
 impl<'a> MemorySource<'a> {
     /// A source that gives these bytes, at most `most` of them a read.
     pub fn new(bytes: &'a [u8], most: usize) -> Self
         requires { 0 < most }
-        ensures bytes { (result.given ≡ []) × (result.left ≡ bytes.now) }
+        ensures bytes { result.left ≡ bytes.now }
         ensures reads { (result.most ≡ most) × (result.reads_left ≡ None) }
         ensures fresh { (result.ended ≡ false) × (result.failed ≡ false) }
     {
         MemorySource {
-            bytes,
-            at: 0,
+            left: bytes,
             most,
             reads_left: None,
             ended: false,
@@ -56,13 +53,12 @@ impl<'a> MemorySource<'a> {
     /// The same, where so many reads succeed and the next one fails.
     pub fn failing(bytes: &'a [u8], most: usize, reads: u64) -> Self
         requires { 0 < most }
-        ensures bytes { (result.given ≡ []) × (result.left ≡ bytes.now) }
+        ensures bytes { result.left ≡ bytes.now }
         ensures reads { (result.most ≡ most) × (result.reads_left ≡ Some reads) }
         ensures fresh { (result.ended ≡ false) × (result.failed ≡ false) }
     {
         MemorySource {
-            bytes,
-            at: 0,
+            left: bytes,
             most,
             reads_left: Some(reads),
             ended: false,
@@ -72,7 +68,7 @@ impl<'a> MemorySource<'a> {
 }
 
 impl<'a> Source for MemorySource<'a> {
-    ghost given = { λ s. Some s.given };
+    ghost left = { λ s. Some s.left };
 
     ghost ended = { λ s. s.ended };
 
@@ -86,17 +82,16 @@ impl<'a> Source for MemorySource<'a> {
         requires { self.old.failed ≡ false }
         ensures count { IfOk result (λ n. n ≤ length piece.new) }
         ensures bytes { IfOk result (λ n.
-            Some self.new.given ≡ Some (self.old.given ++ take n piece.new)) }
+            self.old.left ≡ take n piece.new ++ self.new.left) }
         ensures end { IfOk result (λ n. 0 < length piece.old → self.new.ended ≡ (n == 0)) }
+        ensures all { IfOk result (λ n. n ≡ 0 → 0 < length piece.old → self.new.left ≡ []) }
         ensures no_room { OnOk result (length piece.old ≡ 0 → self.new.ended ≡ self.old.ended) }
         ensures works { OnOk result (self.new.failed ≡ false) }
         ensures fails { OnErr result (self.new.failed ≡ true) }
-        ensures err_bytes { OnErr result (Some self.new.given ≡ Some self.old.given) }
+        ensures err_bytes { OnErr result (self.new.left ≡ self.old.left) }
         ensures err_end { OnErr result (self.new.ended ≡ self.old.ended) }
 
-        // What is given comes from what is left, as much as one read may give, until the read that
-        // is to fail.
-        ensures all { self.new.given ++ self.new.left ≡ self.old.given ++ self.old.left }
+        // It gives as much as one read may give, until the read that is to fail.
         ensures most { IfOk result (λ n.
             n ≡ min (min (length self.old.left) self.old.most) (length piece.old)) }
         ensures due { IsErr result ↔ (self.old.reads_left ≡ Some 0) }
@@ -107,8 +102,8 @@ impl<'a> Source for MemorySource<'a> {
             self.failed = true;
             return Err(Failed);
         }
-        let count = copy_front(&self.bytes[self.at..], self.most, piece);
-        self.at += count;
+        let count = copy_front(self.left, self.most, piece);
+        self.left = &self.left[count..];
         if !piece.is_empty() {
             self.ended = count == 0;
         }

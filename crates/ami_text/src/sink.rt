@@ -1,5 +1,5 @@
 ghost use Rattle.std.specs.Prelude.{◌≡◌, ◌<◌, ◌≤◌, nat_lt, ℕ, List, Bool, true, false, Option, length, take, IfOk, OnErr};
-ghost use Rattle.std.specs.Io.KnownBytes.{append_known};
+ghost use Rattle.std.specs.Io.KnownBytes.{Appends, Keeps};
 
 use crate::Failed;
 
@@ -19,11 +19,11 @@ pub trait Sink {
         requires { failed self.old ≡ false }
         ensures count { IfOk result (λ n. n ≤ length bytes.now) }
         ensures bytes { IfOk result (λ n.
-            taken self.new ≡ append_known (taken self.old) (take n bytes.now)) }
+            Appends (taken self.old) (taken self.new) (take n bytes.now)) }
         ensures works { IfOk result (λ n. 0 < n → failed self.new ≡ false) }
 
         // Nothing taken of bytes that aren't empty is a failure; nothing taken of none isn't.
         ensures stuck { IfOk result (λ n. n ≡ 0 → failed self.new ≡ nat_lt 0 (length bytes.now)) }
         ensures fails { OnErr result (failed self.new ≡ true) }
-        ensures err_bytes { OnErr result (taken self.new ≡ taken self.old) };
+        ensures err_bytes { OnErr result (Keeps (taken self.old) (taken self.new)) };
 }

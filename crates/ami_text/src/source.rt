@@ -1,12 +1,12 @@
 ghost use Rattle.std.specs.Prelude.{◌≡◌, ◌<◌, ◌≤◌, ◌==◌, ℕ, List, Bool, true, false, Option, length, take, IfOk, OnOk, OnErr};
-ghost use Rattle.std.specs.Io.KnownBytes.{append_known};
+ghost use Rattle.std.specs.Io.KnownBytes.{Consumes, IsAtEnd, Keeps};
 
 use crate::Failed;
 
 /// A device that gives bytes.
 pub trait Source {
-    /// The bytes that it has given so far, where it tells them.
-    ghost given: { Self → Option (List ℕ) };
+    /// The bytes that it has left to give, where it tells them.
+    ghost left: { Self → Option (List ℕ) };
 
     /// Whether it has ended: its last read for a piece that isn't empty gave no byte.
     ghost ended: { Self → Bool };
@@ -22,14 +22,17 @@ pub trait Source {
     fn read(&mut self, piece: &mut [u8]) -> Result<usize, Failed>
         requires { failed self.old ≡ false }
         ensures count { IfOk result (λ n. n ≤ length piece.new) }
+
+        // They are the first of those that it had left.
         ensures bytes { IfOk result (λ n.
-            given self.new ≡ append_known (given self.old) (take n piece.new)) }
+            Consumes (left self.old) (left self.new) (take n piece.new)) }
         ensures end { IfOk result (λ n. 0 < length piece.old → ended self.new ≡ (n == 0)) }
+        ensures all { IfOk result (λ n. n ≡ 0 → 0 < length piece.old → IsAtEnd (left self.new)) }
 
         // A piece of length 0 tells nothing of the end.
         ensures no_room { OnOk result (length piece.old ≡ 0 → ended self.new ≡ ended self.old) }
         ensures works { OnOk result (failed self.new ≡ false) }
         ensures fails { OnErr result (failed self.new ≡ true) }
-        ensures err_bytes { OnErr result (given self.new ≡ given self.old) }
+        ensures err_bytes { OnErr result (Keeps (left self.old) (left self.new)) }
         ensures err_end { OnErr result (ended self.new ≡ ended self.old) };
 }

@@ -1,5 +1,5 @@
-ghost use Rattle.std.specs.Prelude.{◌≡◌, ◌<◌, ◌≤◌, true, false, None, length, nat_lt, IfOk, OnErr};
-ghost use Rattle.std.specs.Io.KnownBytes.{WriteAppends};
+ghost use Rattle.std.specs.Prelude.{◌≡◌, ◌<◌, ◌≤◌, true, false, length, nat_lt, take, IfOk, OnErr};
+ghost use Rattle.std.specs.Io.KnownBytes.{Appends, Keeps, WriteAppends};
 ghost use Rattle.ami_text.specs.StdDevices.{sink_writer, sink_failed};
 
 use crate::{Failed, Sink};
@@ -8,8 +8,8 @@ use std::io::{ErrorKind, Write};
 /// How often one write that is interrupted is tried before the device counts as failed.
 pub const WRITE_TRIES: u32 = 1000;
 
-/// A sink over a writer of std's. It doesn't tell which bytes it has taken; that the writer has
-/// them is a clause of its `write`.
+/// A sink over a writer of std's. The bytes that it has taken are those that the writer holds, where
+/// the writer tells them, so with what it held before.
 #[derive(Drop)]
 pub struct StdSink<W> {
     writer: W,
@@ -37,7 +37,7 @@ impl<W> StdSink<W> {
 }
 
 impl<W: Write> Sink for StdSink<W> {
-    ghost taken = { λ _. None };
+    ghost taken = { λ s. W.contents (sink_writer s) };
 
     ghost failed = { λ s. sink_failed s };
 
@@ -48,13 +48,13 @@ impl<W: Write> Sink for StdSink<W> {
     fn write(&mut self, bytes: &[u8]) -> Result<usize, Failed>
         requires { sink_failed self.old ≡ false }
         ensures count { IfOk result (λ n. n ≤ length bytes.now) }
+        ensures bytes { IfOk result (λ n. Appends (W.contents (sink_writer self.old))
+            (W.contents (sink_writer self.new)) (take n bytes.now)) }
         ensures works { IfOk result (λ n. 0 < n → sink_failed self.new ≡ false) }
         ensures stuck { IfOk result (λ n. n ≡ 0 → sink_failed self.new ≡ nat_lt 0 (length bytes.now)) }
         ensures fails { OnErr result (sink_failed self.new ≡ true) }
-
-        // The writer has the bytes, where it tells them.
-        ensures writer { WriteAppends (W.contents (sink_writer self.old))
-            (W.contents (sink_writer self.new)) result bytes.now }
+        ensures err_bytes { OnErr result (Keeps (W.contents (sink_writer self.old))
+            (W.contents (sink_writer self.new))) }
     {
         match write_retrying(&mut self.writer, bytes) {
             Ok(count) => {

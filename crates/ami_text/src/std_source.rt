@@ -1,5 +1,5 @@
-ghost use Rattle.std.specs.Prelude.{◌≡◌, ◌<◌, ◌≤◌, ◌==◌, true, false, None, length, IfOk, OnOk, OnErr};
-ghost use Rattle.std.specs.Io.KnownBytes.{ReadConsumes};
+ghost use Rattle.std.specs.Prelude.{◌≡◌, ◌<◌, ◌≤◌, ◌==◌, true, false, length, take, IfOk, OnOk, OnErr};
+ghost use Rattle.std.specs.Io.KnownBytes.{Consumes, IsAtEnd, Keeps, ReadConsumes};
 ghost use Rattle.ami_text.specs.StdDevices.{source_reader, source_ended, source_failed};
 
 use crate::{Failed, Source};
@@ -8,8 +8,8 @@ use std::io::{ErrorKind, Read};
 /// How often one read that is interrupted is tried before the device counts as failed.
 pub const READ_TRIES: u32 = 1000;
 
-/// A source over a reader of std's. It doesn't tell which bytes it has given; that they are the
-/// reader's is a clause of its `read`.
+/// A source over a reader of std's. The bytes that it has left are those that the reader has, where
+/// the reader tells them.
 #[derive(Drop)]
 pub struct StdSource<R> {
     reader: R,
@@ -40,7 +40,7 @@ impl<R> StdSource<R> {
 }
 
 impl<R: Read> Source for StdSource<R> {
-    ghost given = { λ _. None };
+    ghost left = { λ s. R.remaining (source_reader s) };
 
     ghost ended = { λ s. source_ended s };
 
@@ -53,16 +53,18 @@ impl<R: Read> Source for StdSource<R> {
     fn read(&mut self, piece: &mut [u8]) -> Result<usize, Failed>
         requires { source_failed self.old ≡ false }
         ensures count { IfOk result (λ n. n ≤ length piece.new) }
+        ensures bytes { IfOk result (λ n. Consumes (R.remaining (source_reader self.old))
+            (R.remaining (source_reader self.new)) (take n piece.new)) }
         ensures end { IfOk result (λ n. 0 < length piece.old → source_ended self.new ≡ (n == 0)) }
+        ensures all { IfOk result (λ n. n ≡ 0 → 0 < length piece.old
+            → IsAtEnd (R.remaining (source_reader self.new))) }
         ensures no_room { OnOk result (length piece.old ≡ 0 →
             source_ended self.new ≡ source_ended self.old) }
         ensures works { OnOk result (source_failed self.new ≡ false) }
         ensures fails { OnErr result (source_failed self.new ≡ true) }
+        ensures err_bytes { OnErr result (Keeps (R.remaining (source_reader self.old))
+            (R.remaining (source_reader self.new))) }
         ensures err_end { OnErr result (source_ended self.new ≡ source_ended self.old) }
-
-        // The bytes are those that the reader had left, where it tells them.
-        ensures reader { ReadConsumes (R.remaining (source_reader self.old))
-            (R.remaining (source_reader self.new)) result piece.new }
     {
         match read_retrying(&mut self.reader, piece) {
             Ok(count) => {

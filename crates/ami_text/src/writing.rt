@@ -1,6 +1,6 @@
 //! Bytes are written whole, in as many writes as the sink makes of them.
 ghost use Rattle.std.specs.Prelude.{◌≡◌, true, false, OnOk, OnErr};
-ghost use Rattle.std.specs.Io.KnownBytes.{append_known};
+ghost use Rattle.std.specs.Io.KnownBytes.{Appends};
 ghost use Rattle.ami_text.specs.Devices.{HasTaken};
 
 use crate::{Failed, Sink};
@@ -11,8 +11,7 @@ use crate::{Failed, Sink};
 /// them, and may not be written to again.
 pub fn write_all<W: Sink>(writer: &mut W, bytes: &[u8]) -> Result<(), Failed>
     requires { W.failed writer.old ≡ false }
-    ensures written { OnOk result (W.taken writer.new
-        ≡ append_known (W.taken writer.old) bytes.now) }
+    ensures written { OnOk result (Appends (W.taken writer.old) (W.taken writer.new) bytes.now) }
     ensures works { OnOk result (W.failed writer.new ≡ false) }
     ensures fails { OnErr result (W.failed writer.new ≡ true) }
     ensures begun { OnErr result (HasTaken (W.taken writer.old) (W.taken writer.new) bytes.now) }

@@ -1,6 +1,6 @@
 -- How a script goes on, line by line.
-use Rattle.std.proofs.Common.{◌≡◌, ℕ, ◌+◌, inl, inr, Bool, cond, List, [], ◌∷◌, ◌++◌, refl, sym, ◌∙◌, ap, subst, arith, append_assoc, append-nil, Option, length}
-use Rattle.std.specs.Io.KnownBytes.{append_known}
+use Rattle.std.proofs.Common.{◌≡◌, ℕ, ◌+◌, inl, inr, Bool, cond, List, [], ◌∷◌, ◌++◌, refl, sym, ap, subst, arith, append_assoc, append-nil, Option, length}
+use Rattle.std.specs.Io.KnownBytes.{Appends}
 use Rattle.sites_world.specs.Worlds.{World}
 use Rattle.sites_world.specs.WorldStates.{WorldState}
 use Rattle.queue_sites.specs.ScriptLines.{lines_of}
@@ -19,7 +19,7 @@ pub record Going (place : Place) (start : World) (script : List ℕ) (before : O
   pub w : World
   pub stands : StandsAt state w
   pub text : List ℕ
-  pub taken : now ≡ append_known before text
+  pub taken : Appends before now text
   pub goes_on : (more : List ℕ) (others : ℕ) → AreGiven place w (number + 1) (lines_of rest) more others → AreGiven place start 1 (lines_of script) (text ++ more) (unknown + others)
   pub is_begun : (more : List ℕ) → AreBegun place w (number + 1) (lines_of rest) more → AreBegun place start 1 (lines_of script) (text ++ more)
 
@@ -74,7 +74,7 @@ going-end place start script before state [] number unknown now was empty =
     record {
       text = was.text ++ [];
       is_text = subst (λ (n : ℕ). AreGiven place start 1 (lines_of script) (was.text ++ []) n) (omega arith) all;
-      taken = was.taken ∙ ap (append_known before) (sym (append-nil was.text));
+      taken = subst (Appends before now) (sym (append-nil was.text)) was.taken;
     }
 
 -- a script that stops before a line
@@ -83,7 +83,7 @@ pub going-stops : (place : Place) (start : World) (script : List ℕ) (before : 
 going-stops place start script before state rest number unknown now after was same = record {
   text = was.text ++ [];
   is_begun = was.is_begun [] (begun-nothing place was.w (number + 1) (lines_of rest));
-  taken = same ∙ was.taken ∙ ap (append_known before) (sym (append-nil was.text));
+  taken = subst (λ t. Appends before t (was.text ++ [])) (sym same) (subst (Appends before now) (sym (append-nil was.text)) was.taken);
 }
 
 -- a script that stops in a line

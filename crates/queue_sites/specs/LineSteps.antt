@@ -1,7 +1,7 @@
 -- What single steps of a script do to sites that stand for a world of operations.
 use Rattle.std.specs.Prelude.{ℕ, ◌≡◌, Bool, false, List, [], ◌++◌, length, Option, Some, None, codes, decimal}
 use Rattle.std.specs.List.{slice_split}
-use Rattle.std.specs.Io.KnownBytes.{append_known}
+use Rattle.std.specs.Io.KnownBytes.{Appends}
 use Rattle.ami_text.specs.Devices.{HasTaken}
 use Rattle.sites_world.specs.declared.event.Event.{Event}
 use Rattle.sites_world.specs.declared.outcome.Outcome.{Outcome}
@@ -57,7 +57,7 @@ pub record GaveLine (place : Place) (w : World) (number : ℕ) (line : List ℕ)
   pub given : Given
   pub gives : LineGives place w number line given
   pub stands : StandsAt new given.after
-  pub taken : after ≡ append_known before given.text
+  pub taken : Appends before after given.text
   pub is : understood ≡ given.understood
 
 -- a line was run, and the front of what it gives was written

@@ -1,7 +1,7 @@
 -- The text of a script: what its lines write, one after another, over the world of operations (this project's own).
 use Rattle.std.specs.Prelude.{ℕ, ◌≡◌, ◌≤◌, ◌+◌, ◌⊎◌, Bool, true, false, List, [], ◌∷◌, ◌++◌, length, slice_get, Option, Some, None, codes, decimal, if◌then◌else◌}
 use Rattle.std.specs.Option.{option_and_then}
-use Rattle.std.specs.Io.KnownBytes.{append_known}
+use Rattle.std.specs.Io.KnownBytes.{Appends, Consumes}
 use Rattle.delta_codec.specs.declared.frame.Frame.{Frame}
 use Rattle.delta_codec.specs.Frames.{Spells}
 use Rattle.dots.specs.declared.calls.Calls.{Calls}
@@ -148,26 +148,26 @@ AreBegun place w number (line ∷ lines) text =
 pub record HasWritten (place : Place) (w : World) (script : List ℕ) (before after : Option (List ℕ)) (unknown : ℕ) : Type 0 where
   pub text : List ℕ
   pub is_text : AreGiven place w 1 (lines_of script) text unknown
-  pub taken : after ≡ append_known before text
+  pub taken : Appends before after text
 
 -- a device has taken what was begun of a script's lines
 pub record HasBegun (place : Place) (w : World) (script : List ℕ) (before after : Option (List ℕ)) : Type 0 where
   pub text : List ℕ
   pub is_begun : AreBegun place w 1 (lines_of script) text
-  pub taken : after ≡ append_known before text
+  pub taken : Appends before after text
 
 -- a script of at most 16,777,216 bytes was read, and its text was written, over sites that knew nothing
-pub record IsRun (place : Place) (given_before given_after taken_before taken_after : Option (List ℕ)) (unknown : ℕ) : Type 0 where
+pub record IsRun (place : Place) (left_before left_after taken_before taken_after : Option (List ℕ)) (unknown : ℕ) : Type 0 where
   pub script : List ℕ
   pub short : length script ≤ 16777216
-  pub read : given_after ≡ append_known given_before script
+  pub read : Consumes left_before left_after script
   pub written : HasWritten place (new_world place.sites) script taken_before taken_after unknown
 
 -- a script of at most 16,777,216 bytes was read, and its text was begun
-pub record IsRunInPart (place : Place) (given_before given_after taken_before taken_after : Option (List ℕ)) : Type 0 where
+pub record IsRunInPart (place : Place) (left_before left_after taken_before taken_after : Option (List ℕ)) : Type 0 where
   pub script : List ℕ
   pub short : length script ≤ 16777216
-  pub read : given_after ≡ append_known given_before script
+  pub read : Consumes left_before left_after script
   pub written : HasBegun place (new_world place.sites) script taken_before taken_after
 
 -- lines have at most one text and one number of lines that aren't understood, and what was begun of them is a front of that text

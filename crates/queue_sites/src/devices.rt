@@ -1,7 +1,7 @@
 //! A script is read whole before any of its lines is run.
 ghost use Rattle.std.specs.Prelude.{◌≡◌, ◌≢◌, ◌≤◌, true, false, vec_len, IfOk, IfErr, OnOk, IsErrOf, ◌⊎◌, ◌+◌};
-ghost use Rattle.std.specs.Io.KnownBytes.{append_known};
-ghost use Rattle.ami_text.specs.Devices.{HasGiven};
+ghost use Rattle.std.specs.Io.KnownBytes.{Consumes};
+ghost use Rattle.ami_text.specs.Devices.{HasEnded, HasGiven};
 
 use crate::script_fault::ScriptFault;
 use ami_text::Source;
@@ -20,12 +20,15 @@ pub const MOST_BYTES: usize = 16_777_216;
 /// 1,000,000 reads; `TooLong` where there are more than 16,777,216 bytes; `Memory`.
 pub fn read_script<S: Source>(alloc: Global, reader: &mut S) -> Result<Vec<u8>, ScriptFault>
     requires { S.failed reader.old ≡ false }
-    ensures whole { IfOk result (λ script. S.given reader.new ≡ append_known (S.given reader.old) script.items) }
-    ensures ended { OnOk result (S.ended reader.new ≡ true) }
+    ensures whole { IfOk result (λ script.
+        Consumes (S.left reader.old) (S.left reader.new) script.items) }
+    ensures ended { OnOk result (HasEnded (S.ended reader.new) (S.left reader.new)) }
     ensures limit { IfOk result (λ script. vec_len script ≤ 16777216) }
     ensures fault { IfErr result (λ fault. fault ≢ ScriptFault.Write) }
-    ensures read { IsErrOf result ScriptFault.Read → (S.failed reader.new ≡ true) ⊎ HasGiven (S.given reader.old) (S.given reader.new) 1000000 }
-    ensures too_long { IsErrOf result ScriptFault.TooLong → HasGiven (S.given reader.old) (S.given reader.new) (16777216 + 1) }
+    ensures read { IsErrOf result ScriptFault.Read → (S.failed reader.new ≡ true)
+        ⊎ HasGiven (S.left reader.old) (S.left reader.new) 1000000 }
+    ensures too_long { IsErrOf result ScriptFault.TooLong
+        → HasGiven (S.left reader.old) (S.left reader.new) (16777216 + 1) }
 {
     let mut script = Vec::new(alloc);
     let mut piece = [0u8; PIECE];

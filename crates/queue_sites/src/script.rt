@@ -1,6 +1,6 @@
 //! Scripts: the lines of a script, run over all sites in one process (this project's own).
 ghost use Rattle.std.specs.Prelude.{◌≡◌, ◌≤◌, ◌+◌, ◌⊎◌, false, length, IfOk, IfErr, OnOk, IsErrOf, true};
-ghost use Rattle.ami_text.specs.Devices.{HasGiven};
+ghost use Rattle.ami_text.specs.Devices.{HasEnded, HasGiven};
 ghost use Rattle.sites_world.specs.Worlds.{World as world_of_operations, new_world};
 ghost use Rattle.queue_sites.specs.ScriptLines.{sense_of};
 ghost use Rattle.queue_sites.specs.Script.{HasBegun, HasWritten, IsRun, IsRunInPart};
@@ -49,19 +49,20 @@ pub fn run_script<S: Source, W: Sink>(
 ) -> Result<u64, ScriptFault>
     requires reader { S.failed reader.old ≡ false }
     requires writer { W.failed writer.old ≡ false }
-    ensures ended { OnOk result (S.ended reader.new ≡ true) }
-    ensures whole { IsErrOf result ScriptFault.Write → S.ended reader.new ≡ true }
+    ensures ended { OnOk result (HasEnded (S.ended reader.new) (S.left reader.new)) }
+    ensures whole { IsErrOf result ScriptFault.Write
+        → HasEnded (S.ended reader.new) (S.left reader.new) }
 
     // The script's text was written, and so many lines were not understood.
     ensures text { IfOk result (λ unknown. IsRun (listed_place sites list.now)
-        (S.given reader.old) (S.given reader.new)
+        (S.left reader.old) (S.left reader.new)
         (W.taken writer.old) (W.taken writer.new) unknown) }
 
     // Each of these faults stands only where its cause does.
     ensures read { IsErrOf result ScriptFault.Read → (S.failed reader.new ≡ true)
-        ⊎ HasGiven (S.given reader.old) (S.given reader.new) 1000000 }
+        ⊎ HasGiven (S.left reader.old) (S.left reader.new) 1000000 }
     ensures length { IsErrOf result ScriptFault.TooLong
-        → HasGiven (S.given reader.old) (S.given reader.new) (16777216 + 1) }
+        → HasGiven (S.left reader.old) (S.left reader.new) (16777216 + 1) }
     ensures write { IsErrOf result ScriptFault.Write → W.failed writer.new ≡ true }
 
     // After these two nothing was written.
@@ -71,10 +72,11 @@ pub fn run_script<S: Source, W: Sink>(
 
     // After these the reader has ended and the text was begun; or nothing was written.
     ensures unwritten { IsErrOf result ScriptFault.Write → IsRunInPart (listed_place sites list.now)
-        (S.given reader.old) (S.given reader.new) (W.taken writer.old) (W.taken writer.new) }
+        (S.left reader.old) (S.left reader.new) (W.taken writer.old) (W.taken writer.new) }
     ensures memory { IsErrOf result ScriptFault.Memory → (W.taken writer.new ≡ W.taken writer.old)
-        ⊎ ((S.ended reader.new ≡ true) × IsRunInPart (listed_place sites list.now)
-        (S.given reader.old) (S.given reader.new) (W.taken writer.old) (W.taken writer.new)) }
+        ⊎ (HasEnded (S.ended reader.new) (S.left reader.new)
+        × IsRunInPart (listed_place sites list.now)
+        (S.left reader.old) (S.left reader.new) (W.taken writer.old) (W.taken writer.new)) }
 {
     let text = read_script(alloc, reader)?;
     let mut script = Script::new(alloc, sites, list)?;

@@ -1,6 +1,6 @@
 -- What is done upon an ask that the desk answers.
 use Rattle.std.proofs.Common.{◌≡◌, ℕ, List, [], ◌∷◌, refl, sym, ◌∙◌, subst, append-nil, Option, Result, Ok, Err, IfErr, OnErr, OnOk}
-use Rattle.std.specs.Io.KnownBytes.{append_known}
+use Rattle.std.specs.Io.KnownBytes.{Appends}
 use Rattle.ami_text.proofs.Taking.{taken-none}
 use Rattle.ami_text.specs.Devices.{HasTaken}
 use Rattle.status_report.specs.declared.asks.Answer.{Answer}
@@ -21,7 +21,7 @@ ask-done Answers ask waiting answer d e text answered is = record {
 
 -- it was written
 pub all-said : {D T E : Type 0} (Answers : D → Ask → Answer → D → Type 0) (r : Reaction) (d e : D) (old new : Option (List ℕ)) (text : List ℕ) (result : Result T E)
-    → HasDone Answers r d e text → OnOk result (new ≡ append_known old text) → OnOk result (HasSaid Answers r d e old new)
+    → HasDone Answers r d e text → OnOk result (Appends old new text) → OnOk result (HasSaid Answers r d e old new)
 all-said Answers r d e old new text (Ok x) done taken = record { text = text; done = done; taken = taken }
 all-said Answers r d e old new text (Err f) done taken = tt
 

@@ -1,6 +1,6 @@
 -- What comes of a stream, read by read.
 use Rattle.std.proofs.Common.{◌≡◌, ◌≤◌, ◌⊎◌, ⊎_elim, ℕ, Bool, true, Result, Ok, Err, Some, None, List, [], ◌++◌, sym, ap, subst, arith, append_assoc, append-nil, length, length-append, Option}
-use Rattle.ami_text.proofs.Taking.{taken-grows, taken-none}
+use Rattle.ami_text.proofs.Taking.{given-grows, given-none}
 use Rattle.ami_text.specs.Lines.{lines_text}
 use Rattle.ami_text.specs.MessageFields.{NameAndValue}
 use Rattle.ami_text.specs.declared.feed_fault.FeedFault.{FeedFault}
@@ -24,7 +24,7 @@ LaterFollows = (bytes held rest : List ℕ) (messages later : List (List NameAnd
 pub come-none : (given : Option (List ℕ)) (held : List ℕ) (reads : ℕ) → ((bytes : List ℕ) → Gives bytes [] bytes) → HasCome given given held reads reads (λ stream. Gives stream [] held)
 come-none given held reads none = record {
   bytes = [];
-  given = taken-none given;
+  given = given-none given;
   many = omega arith;
   holds = subst (λ t. Gives t [] held) (sym (append-nil held)) (none held);
 }
@@ -40,7 +40,7 @@ pub come-more : (given now after : Option (List ℕ)) (held rest : List ℕ) (re
     → HasCome given after held reads last (λ stream. (piece : List ℕ) × Gives stream [] (rest ++ piece) × K (rest ++ piece))
 come-more given now after held rest reads left last K stays come more = record {
   bytes = come.bytes ++ more.bytes;
-  given = taken-grows given now after come.bytes more.bytes come.given more.given;
+  given = given-grows given now after come.bytes more.bytes come.given more.given;
   many = omega (arith, come.many, more.many, length-append come.bytes more.bytes);
   holds = (more.bytes, subst (λ t. Gives t [] (rest ++ more.bytes)) (append_assoc held come.bytes more.bytes) (stays (held ++ come.bytes) more.bytes rest [] come.holds), more.holds);
 }

@@ -1,8 +1,8 @@
 -- How a session goes on, message by message.
 use Rattle.std.proofs.Common.{◌≡◌, ◌≤◌, ⊎_elim, inl, inr, ℕ, ◌+◌, Bool, true, false, List, [], ◌∷◌, ◌++◌, refl, sym, ◌∙◌, ap, subst, arith, append_assoc, append-nil, length, length-append, Option, Ok, Err, Some, None}
-use Rattle.std.specs.Io.KnownBytes.{append_known}
-use Rattle.ami_text.proofs.Taking.{taken-grows, taken-none}
-use Rattle.ami_text.specs.Devices.{HasGiven, HasTaken}
+use Rattle.std.specs.Io.KnownBytes.{Appends}
+use Rattle.ami_text.proofs.Taking.{given-grows, given-none, taken-grows}
+use Rattle.ami_text.specs.Devices.{HasEnded, HasGiven, HasTaken}
 use Rattle.ami_text.specs.Stream.{Ending, Gives, Reads, Rest}
 use Rattle.status_report.specs.declared.asks.Answer.{Answer}
 use Rattle.status_report.specs.declared.asks.Ask.{Ask}
@@ -35,11 +35,11 @@ greeted Answers s d = record { answers = []; run = refl; is = sym (append-nil (g
 
 -- it begins with the greeting
 pub going-start : {D : Type 0} (Answers : D → Ask → Answer → D → Type 0) (s : SessionState) (d : D) (given old new : Option (List ℕ)) (held : List ℕ) (reads : ℕ) → ((bytes : List ℕ) → Gives bytes [] bytes)
-    → held ≡ [] → reads ≡ 1000000 → new ≡ append_known old (greeting s) → Carries given given old new (Going Answers s d d s held reads)
+    → held ≡ [] → reads ≡ 1000000 → Appends old new (greeting s) → Carries given given old new (Going Answers s d d s held reads)
 going-start Answers s d given old new held reads none is_held is_reads taken = record {
   bytes = [];
   text = greeting s;
-  given = taken-none given;
+  given = given-none given;
   taken = taken;
   holds = record {
     messages = [];
@@ -57,7 +57,7 @@ greeting-begun : {D : Type 0} (Answers : D → Ask → Answer → D → Type 0) 
 greeting-begun Answers s d given old new none taken = record {
   bytes = [];
   text = taken.front;
-  given = taken-none given;
+  given = given-none given;
   taken = taken.taken;
   holds = record {
     messages = [];
@@ -92,7 +92,7 @@ reads-on : (given now after old new : Option (List ℕ)) (held : List ℕ) (read
 reads-on given now after old new held reads left H K c come = record {
   bytes = c.bytes ++ come.bytes;
   text = c.text;
-  given = taken-grows given now after c.bytes come.bytes c.given come.given;
+  given = given-grows given now after c.bytes come.bytes c.given come.given;
   taken = c.taken;
   holds = record { first = c.bytes; piece = come.bytes; is = refl; before = c.holds; more = come.holds; many = come.many };
 }
@@ -125,9 +125,9 @@ begun-before Answers s now d e held reads left K bytes text stays x =
 
 -- the reader has ended
 pub served-at-end : {D : Type 0} (Answers : D → Ask → Answer → D → Type 0) (s now : SessionState) (d e : D) (given before after old new : Option (List ℕ)) (held rest : List ℕ)
-    (reads left : ℕ) (ended : Bool) → PiecesJoin → ended ≡ true
+    (reads left : ℕ) (ended : Bool) → PiecesJoin → HasEnded ended after
     → Carries given before old new (Going Answers s d e now held reads) → HasCome before after held reads left (IsNext (Ok None) rest)
-    → Carries given after old new (IsServed Answers s d e ended)
+    → Carries given after old new (IsServed Answers s d e ended after)
 served-at-end Answers s now d e given before after old new held rest reads left ended join is c come =
     carries-so given after old new _ _
     (λ bytes text x.
@@ -164,7 +164,7 @@ pub turns-over : {D : Type 0} (Answers : D → Ask → Answer → D → Type 0) 
     → HasGiven given after 1000000
 turns-over Answers s now d e given before after old new held reads left K none c come = record {
   bytes = c.bytes ++ come.bytes;
-  given = taken-grows given before after c.bytes come.bytes c.given come.given;
+  given = given-grows given before after c.bytes come.bytes c.given come.given;
   many = omega (arith, c.holds.many, come.many, none, length-append c.bytes come.bytes);
 }
 
@@ -250,7 +250,7 @@ pub served-by-end : {D : Type 0} (Answers : D → Ask → Answer → D → Type 
     (reads left : ℕ) (ended : Bool) → MoreStays → LaterFollows
     → Carries given before old written (Going Answers s d mid now held reads) → HasCome before after held reads left (IsNext (Ok (Some message)) rest)
     → HasSaid Answers (reaction now message) mid e written new → is_end (reaction now message) ≡ true
-    → Carries given after old new (IsServed Answers s d e ended)
+    → Carries given after old new (IsServed Answers s d e ended after)
 served-by-end Answers s now d mid e given before after old written new held rest message reads left ended stays later c come has over =
     carries-so given after old new _ _
     (λ bytes text x. record {
@@ -296,7 +296,7 @@ untouched Answers s now d mid e given before after old written new held rest mes
       bytes = so.bytes;
       text = so.text;
       given = so.given;
-      taken = same.taken ∙ so.taken;
+      taken = subst (λ t. Appends old t so.text) (sym same.taken) so.taken;
       holds = subst (λ t. IsBegun Answers s d t so.bytes so.text) (sym same.desk) so.holds;
     }
 
@@ -310,7 +310,7 @@ refused Answers Refuses s now d mid e given after old before new rest message le
       bytes = c.bytes;
       text = c.text;
       given = c.given;
-      taken = down.taken ∙ c.taken;
+      taken = subst (λ t. Appends old t c.text) (sym down.taken) c.taken;
       holds = record {
         messages = x.messages;
         last = message;

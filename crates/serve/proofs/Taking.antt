@@ -1,6 +1,6 @@
 -- What a sink has taken, piece by piece.
-use Rattle.std.proofs.Common.{◌≡◌, ℕ, List, ◌++◌, sym, ◌∙◌, ap, append_assoc, Option}
-use Rattle.std.specs.Io.KnownBytes.{append_known}
+use Rattle.std.proofs.Common.{ℕ, List, ◌++◌, sym, ◌∙◌, ap, append_assoc, Option}
+use Rattle.std.specs.Io.KnownBytes.{Appends}
 use Rattle.ami_text.proofs.Taking.{taken-grows}
 use Rattle.ami_text.specs.Devices.{HasTaken}
 
@@ -14,7 +14,7 @@ begun-first before after first then begun = record {
 }
 
 -- a front of what comes behind it
-pub begun-then : (before now after : Option (List ℕ)) (first then : List ℕ) → now ≡ append_known before first → HasTaken now after then
+pub begun-then : (before now after : Option (List ℕ)) (first then : List ℕ) → Appends before now first → HasTaken now after then
     → HasTaken before after (first ++ then)
 begun-then before now after first then taken begun = record {
   front = first ++ begun.front;

@@ -1,6 +1,7 @@
 -- What a session that is served over devices and a desk has read, asked and written (this project's own).
 use Rattle.std.specs.Prelude.{ℕ, ◌≡◌, ◌⊎◌, Bool, true, List, [], ◌∷◌, ◌++◌, Option}
-use Rattle.std.specs.Io.KnownBytes.{append_known}
+use Rattle.std.specs.Io.KnownBytes.{Appends, Consumes}
+use Rattle.ami_text.specs.Devices.{HasEnded}
 use Rattle.ami_text.specs.declared.feed_fault.FeedFault.TheVariants as feed
 use Rattle.ami_text.specs.Stream.{Ending, Fault, Gives, IsRest, Reads, Rest}
 use Rattle.status_report.specs.declared.asks.Answer.{Answer}
@@ -12,12 +13,12 @@ use Rattle.serve.specs.declared.serve_fault.ServeFault.{ServeFault}
 use Rattle.serve.specs.declared.serve_fault.ServeFault.TheVariants.{Read, Write, LineTooLong, TooManyFields, DeskDown, Turns, Memory}
 use Rattle.serve.specs.Desks.{DeskRun}
 
--- a source has given bytes and a sink has taken a text, of which this holds
-pub record Carries (given_old given_new taken_old taken_new : Option (List ℕ)) (Holds : List ℕ → List ℕ → Type 0) : Type 0 where
+-- a source has given bytes and a sink has taken a text, of which this holds; the source tells what it has left, and the sink what it has taken
+pub record Carries (left_old left_new taken_old taken_new : Option (List ℕ)) (Holds : List ℕ → List ℕ → Type 0) : Type 0 where
   pub bytes : List ℕ
   pub text : List ℕ
-  pub given : given_new ≡ append_known given_old bytes
-  pub taken : taken_new ≡ append_known taken_old text
+  pub given : Consumes left_old left_new bytes
+  pub taken : Appends taken_old taken_new text
   pub holds : Holds bytes text
 
 -- the session's text upon these messages, where a desk answers what they ask and comes from one state to another
@@ -26,13 +27,13 @@ pub record HasText {D : Type 0} (Answers : D → Ask → Answer → D → Type 0
   pub run : DeskRun Answers d (asks s messages) answers e
   pub is : text ≡ session_text s messages answers
 
--- a session was served: the text is that of the messages of the bytes, up to a Logoff, or to the end of a reader that has ended
-pub record IsServed {D : Type 0} (Answers : D → Ask → Answer → D → Type 0) (s : SessionState) (d e : D) (ended : Bool) (bytes text : List ℕ) : Type 0 where
+-- a session was served: the text is that of the messages of the bytes, up to a Logoff, or to the end of a reader that has ended with nothing left
+pub record IsServed {D : Type 0} (Answers : D → Ask → Answer → D → Type 0) (s : SessionState) (d e : D) (ended : Bool) (left : Option (List ℕ)) (bytes text : List ℕ) : Type 0 where
   pub messages : List Fields
   pub rest : List ℕ
   pub gives : Gives bytes messages rest
   pub has_text : HasText Answers s d e messages text
-  pub at_end : (is_over s messages ≡ true) ⊎ (IsRest rest × (ended ≡ true))
+  pub at_end : (is_over s messages ≡ true) ⊎ (IsRest rest × HasEnded ended left)
 
 -- all messages of the bytes are answered, and nothing but this ending stands behind them
 pub record AreAnswered {D : Type 0} (Answers : D → Ask → Answer → D → Type 0) (s : SessionState) (d e : D) (ending : Ending) (bytes text : List ℕ) : Type 0 where

@@ -1,6 +1,6 @@
 -- What single steps of a session do.
 use Rattle.std.specs.Prelude.{ℕ, ◌≡◌, ◌≤◌, ◌+◌, ◌*◌, ◌⊎◌, Bool, true, false, List, [], ◌∷◌, ◌++◌, length, Option, Some, None, Result, Ok, Err}
-use Rattle.std.specs.Io.KnownBytes.{append_known}
+use Rattle.std.specs.Io.KnownBytes.{Appends, Consumes}
 use Rattle.ami_text.specs.declared.feed_fault.FeedFault.TheVariants as feed
 use Rattle.ami_text.specs.Devices.{HasTaken}
 use Rattle.ami_text.specs.Stream.{Fault, Gives, Reads, Rest}
@@ -19,9 +19,9 @@ bytes_ahead reads held = 1024 * reads + length held
 
 -- A source has given bytes, at least one for each read that was used, and this holds of the stream that they make with
 -- those held before.
-pub record HasCome (given_old given_new : Option (List ℕ)) (held : List ℕ) (reads_old reads_new : ℕ) (Holds : List ℕ → Type 0) : Type 0 where
+pub record HasCome (left_old left_new : Option (List ℕ)) (held : List ℕ) (reads_old reads_new : ℕ) (Holds : List ℕ → Type 0) : Type 0 where
   pub bytes : List ℕ
-  pub given : given_new ≡ append_known given_old bytes
+  pub given : Consumes left_old left_new bytes
   pub many : reads_old ≤ reads_new + length bytes
   pub holds : Holds (held ++ bytes)
 
@@ -59,7 +59,7 @@ pub record HasDone {D : Type 0} (Answers : D → Ask → Answer → D → Type 0
 pub record HasSaid {D : Type 0} (Answers : D → Ask → Answer → D → Type 0) (r : Reaction) (d e : D) (taken_old taken_new : Option (List ℕ)) : Type 0 where
   pub text : List ℕ
   pub done : HasDone Answers r d e text
-  pub taken : taken_new ≡ append_known taken_old text
+  pub taken : Appends taken_old taken_new text
 
 -- the same, and a sink has taken a front of the text
 pub record HasBegun {D : Type 0} (Answers : D → Ask → Answer → D → Type 0) (r : Reaction) (d e : D) (taken_old taken_new : Option (List ℕ)) : Type 0 where

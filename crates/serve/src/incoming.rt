@@ -1,5 +1,6 @@
 //! The messages that come in, read as they are needed.
 ghost use Rattle.std.specs.Prelude.{◌≡◌, ◌≤◌, ◌<◌, ◌+◌, [], None, Ok, true, false, IfOk, IfSome, OnOk, IsErrOf};
+ghost use Rattle.ami_text.specs.Devices.{HasEnded};
 ghost use Rattle.serve.specs.Steps.{HasCome, IsHeld, IsNext, bytes_ahead};
 
 use crate::ServeFault;
@@ -43,9 +44,9 @@ pub fn next_message<S: Source>(
 ) -> Result<Option<Message>, ServeFault>
     requires reader { S.failed reader.old ≡ false }
     requires feed { incoming.old.feed.fault ≡ None }
-    ensures come { HasCome (S.given reader.old) (S.given reader.new) incoming.old.feed.held
+    ensures come { HasCome (S.left reader.old) (S.left reader.new) incoming.old.feed.held
         incoming.old.reads incoming.new.reads (IsNext result incoming.new.feed.held) }
-    ensures ended { result ≡ Ok None → S.ended reader.new ≡ true }
+    ensures ended { result ≡ Ok None → HasEnded (S.ended reader.new) (S.left reader.new) }
     ensures works { OnOk result (S.failed reader.new ≡ false) }
     ensures feed { OnOk result (incoming.new.feed.fault ≡ None) }
     ensures shorter { IfOk result (λ next. IfSome next (λ _.
@@ -74,13 +75,13 @@ pub fn next_message<S: Source>(
 fn read_piece<S: Source>(reader: &mut S, incoming: &mut Incoming) -> Result<bool, ServeFault>
     requires reader { S.failed reader.old ≡ false }
     requires feed { incoming.old.feed.fault ≡ None }
-    ensures come { HasCome (S.given reader.old) (S.given reader.new) incoming.old.feed.held
+    ensures come { HasCome (S.left reader.old) (S.left reader.new) incoming.old.feed.held
         incoming.old.reads incoming.new.reads
         (IsHeld result incoming.old.feed.held incoming.new.feed.held) }
     ensures more { result ≡ Ok true → (incoming.new.reads + 1 ≡ incoming.old.reads)
         × (bytes_ahead incoming.new.reads incoming.new.feed.held
         ≤ bytes_ahead incoming.old.reads incoming.old.feed.held) }
-    ensures ended { result ≡ Ok false → S.ended reader.new ≡ true }
+    ensures ended { result ≡ Ok false → HasEnded (S.ended reader.new) (S.left reader.new) }
     ensures works { OnOk result (S.failed reader.new ≡ false) }
     ensures feed { OnOk result (incoming.new.feed.fault ≡ None) }
     ensures read { IsErrOf result ServeFault.Read → S.failed reader.new ≡ true }

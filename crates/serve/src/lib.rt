@@ -47,12 +47,12 @@ pub fn serve<R, S: Source, W: Sink, D: Desk<R>>(
     requires writer { W.failed writer.old ≡ false }
 
     // The session's text was written, upon the bytes that were read and the desk's answers.
-    ensures served { OnOk result (Carries (S.given reader.old) (S.given reader.new)
+    ensures served { OnOk result (Carries (S.left reader.old) (S.left reader.new)
         (W.taken writer.old) (W.taken writer.new)
-        (IsServed D.answers session desk.old desk.new (S.ended reader.new))) }
+        (IsServed D.answers session desk.old desk.new (S.ended reader.new) (S.left reader.new))) }
 
     // After a fault a front of it was.
-    ensures left { IfErr result (λ fault. Carries (S.given reader.old) (S.given reader.new)
+    ensures left { IfErr result (λ fault. Carries (S.left reader.old) (S.left reader.new)
         (W.taken writer.old) (W.taken writer.new)
         (IsLeftBy D.answers D.refuses session desk.old desk.new fault)) }
 
@@ -61,7 +61,7 @@ pub fn serve<R, S: Source, W: Sink, D: Desk<R>>(
     ensures read { IsErrOf result ServeFault.Read → S.failed reader.new ≡ true }
     ensures write { IsErrOf result ServeFault.Write → W.failed writer.new ≡ true }
     ensures turns { IsErrOf result ServeFault.Turns
-        → HasGiven (S.given reader.old) (S.given reader.new) 1000000 }
+        → HasGiven (S.left reader.old) (S.left reader.new) 1000000 }
 {
     messages_so_far();
     stream_of_two_pieces();

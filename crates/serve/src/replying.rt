@@ -1,6 +1,6 @@
 //! What is done upon a message: the desk is asked, and the reply is written.
 ghost use Rattle.std.specs.Prelude.{◌≡◌, true, false, IfOk, IfErr, OnOk, OnErr, IsErrOf};
-ghost use Rattle.std.specs.Io.KnownBytes.{append_known};
+ghost use Rattle.std.specs.Io.KnownBytes.{Appends};
 ghost use Rattle.ami_text.specs.Devices.{HasTaken};
 ghost use Rattle.ami_session.specs.Checks.{Asks, after, reaction};
 ghost use Rattle.ami_session.specs.Text.{greeting, is_end};
@@ -16,8 +16,8 @@ use std::alloc::Global;
 /// Writes the session's greeting. Fault: `Write`; a front of it was written.
 pub fn greet<W: Sink>(writer: &mut W, session: &Session) -> Result<(), ServeFault>
     requires { W.failed writer.old ≡ false }
-    ensures written { OnOk result (W.taken writer.new
-        ≡ append_known (W.taken writer.old) (greeting session.now)) }
+    ensures written { OnOk result
+        (Appends (W.taken writer.old) (W.taken writer.new) (greeting session.now)) }
     ensures works { OnOk result (W.failed writer.new ≡ false) }
     ensures fault { IfErr result (λ fault. fault ≡ ServeFault.Write) }
     ensures fails { OnErr result (W.failed writer.new ≡ true) }
@@ -121,8 +121,7 @@ fn answer_ask<R, W: Sink, D: Desk<R>>(
 // Writes all the bytes. Fault: `Write`; a front of them was written.
 fn write<W: Sink>(writer: &mut W, bytes: &[u8]) -> Result<(), ServeFault>
     requires { W.failed writer.old ≡ false }
-    ensures written { OnOk result (W.taken writer.new
-        ≡ append_known (W.taken writer.old) bytes.now) }
+    ensures written { OnOk result (Appends (W.taken writer.old) (W.taken writer.new) bytes.now) }
     ensures works { OnOk result (W.failed writer.new ≡ false) }
     ensures fault { IfErr result (λ fault. fault ≡ ServeFault.Write) }
     ensures fails { OnErr result (W.failed writer.new ≡ true) }

@@ -1,5 +1,7 @@
 //! Sessions that are served over memory, byte for byte.
-ghost use Rattle.std.specs.Prelude.{◌<◌};
+ghost use Rattle.std.specs.Prelude.{◌<◌, Bool, IfOk, Some};
+ghost use Rattle.serve.specs.Replicas.{AnswersAs};
+ghost use Rattle.serve.specs.Sessions.{Carries, IsServed};
 
 use crate::shared::{assert_text, name, replica, site, text};
 use ami_session::Session;
@@ -407,6 +409,38 @@ fn desk_and_room(rt: &impl Abort, alloc: Global) -> Option<(ReplicaDesk, Vec<u8>
     let room = Vec::with_capacity(alloc, 1_024).ok()?;
     let replica = Replica::new(alloc, site(rt, 0), list);
     Some((ReplicaDesk::new(alloc, replica), room))
+}
+
+// Serves a session over a slice, and answers what is left of it, and what was written behind what a vector held. Its contract is what
+// `serve` tells of a reader and a writer of std's.
+fn served_over_a_slice<'a>(
+    alloc: Global,
+    bytes: &'a [u8],
+    held: Vec<u8>,
+    session: Session,
+    desk: &mut ReplicaDesk,
+) -> Result<(&'a [u8], Vec<u8>), ServeFault>
+    ensures { IfOk result (λ got. Carries (Some bytes.now) (Some got.0.now)
+        (Some held.items) (Some got.1.items) (λ read written. (ended : Bool)
+        × IsServed (λ old asked answer new. AnswersAs old.replica asked answer new.replica)
+        session desk.old desk.new ended (Some got.0.now) read written)) }
+{
+    let mut reader = StdSource::new(bytes);
+    let mut writer = StdSink::new(held);
+    serve(&(), alloc, &mut reader, &mut writer, session, desk)?;
+    Ok((reader.into_inner(), writer.into_inner()))
+}
+
+#[test]
+fn a_session_over_a_slice_and_a_vector(rt: HostRuntime) {
+    let alloc = rt.alloc();
+    let mut desk = desk(&rt, alloc);
+    let held = Vec::new(alloc);
+    let stream = LOGIN_AND_LOGOFF.as_bytes();
+    let served = served_over_a_slice(alloc, stream, held, login(&rt), &mut desk);
+    let (left, written) = served.expect(&rt, "served");
+    assert!(rt; left.is_empty());
+    assert_text(&rt, &written, &[GREETING, ACCEPTED, GOODBYE]);
 }
 
 // Serves a session over a reader and a writer of std's that take no memory, and prints how it ended; tools/session_tests.py

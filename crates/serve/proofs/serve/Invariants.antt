@@ -10,7 +10,7 @@ invariant-messages g l = record {
   reader : g.S.Source.failed l.reader ≡ false;
   writer : g.W.Sink.failed l.writer ≡ false;
   feed : l.incoming.feed.fault ≡ None;
-  going : Carries (g.S.Source.given l.fn.reader) (g.S.Source.given l.reader) (g.W.Sink.taken l.fn.writer) (g.W.Sink.taken l.writer)
+  going : Carries (g.S.Source.left l.fn.reader) (g.S.Source.left l.reader) (g.W.Sink.taken l.fn.writer) (g.W.Sink.taken l.writer)
       (Going g.D.Desk.answers l.fn.session l.fn.desk l.desk l.session l.incoming.feed.held l.incoming.reads);
 }
 

@@ -1,6 +1,6 @@
-use Rattle.std.proofs.Common.{◌≡◌, ◌≤◌, ◌∙◌, ℕ, List, Option, ap, arith, inr, length, subst, sym}
+use Rattle.std.proofs.Common.{◌≡◌, ◌≤◌, ℕ, List, Option, arith, inr, length, subst, sym}
 use Rattle.std.proofs.lemmas.Result.{IfOk-weaker}
-use Rattle.std.specs.Io.KnownBytes.{append_known}
+use Rattle.std.specs.Io.KnownBytes.{Consumes}
 use Rattle.sites_world.specs.Worlds.{World, new_world}
 use Rattle.queue_sites.specs.declared.script.Script.{Script}
 use Rattle.queue_sites.specs.LineSteps.{StandsAt, place_of}
@@ -8,11 +8,11 @@ use Rattle.queue_sites.specs.Script.{HasBegun, HasWritten, IsRun, IsRunInPart, P
 use Rattle.queue_sites.proofs.script.run_script.Goals as goal
 
 -- a script that was read, and whose lines were run over new sites, was run
-run-whole : (place : Place) (script : Script) (text : List ℕ) (given given_new taken taken_new : Option (List ℕ)) (unknown : ℕ)
-    → place_of script ≡ place → StandsAt script.world (new_world place.sites) → length text ≤ 16777216 → given_new ≡ append_known given text
+run-whole : (place : Place) (script : Script) (text : List ℕ) (left left_new taken taken_new : Option (List ℕ)) (unknown : ℕ)
+    → place_of script ≡ place → StandsAt script.world (new_world place.sites) → length text ≤ 16777216 → Consumes left left_new text
     → ((w : World) → StandsAt script.world w → HasWritten (place_of script) w text taken taken_new unknown)
-    → IsRun place given given_new taken taken_new unknown
-run-whole place script text given given_new taken taken_new unknown same stands short read written = record {
+    → IsRun place left left_new taken taken_new unknown
+run-whole place script text left left_new taken taken_new unknown same stands short read written = record {
   script = text;
   short = short;
   read = read;
@@ -20,11 +20,11 @@ run-whole place script text given given_new taken taken_new unknown same stands 
 }
 
 -- one whose lines were begun there was run in part
-run-in-part : (place : Place) (script : Script) (text : List ℕ) (given given_new taken taken_new : Option (List ℕ))
-    → place_of script ≡ place → StandsAt script.world (new_world place.sites) → length text ≤ 16777216 → given_new ≡ append_known given text
+run-in-part : (place : Place) (script : Script) (text : List ℕ) (left left_new taken taken_new : Option (List ℕ))
+    → place_of script ≡ place → StandsAt script.world (new_world place.sites) → length text ≤ 16777216 → Consumes left left_new text
     → ((w : World) → StandsAt script.world w → HasBegun (place_of script) w text taken taken_new)
-    → IsRunInPart place given given_new taken taken_new
-run-in-part place script text given given_new taken taken_new same stands short read begun = record {
+    → IsRunInPart place left left_new taken taken_new
+run-in-part place script text left left_new taken taken_new same stands short read begun = record {
   script = text;
   short = short;
   read = read;
@@ -35,8 +35,8 @@ pub returns-clause-text : goal.returns-clause-text
 returns-clause-text g c =
     let text = c.deref.result.now in
     let short : length text ≤ 16777216 = omega (arith, c.in_ok-text.ensures.limit, c.deref.ensures.len) in
-    let read : g.S.Source.given c.read_script.new.reader ≡ append_known (g.S.Source.given c.args.reader.now) text =
-    c.in_ok-text.ensures.whole ∙ ap (append_known (g.S.Source.given c.args.reader.now)) (sym c.deref.ensures.value) in
+    let read : Consumes (g.S.Source.left c.args.reader.now) (g.S.Source.left c.read_script.new.reader) text =
+    subst (Consumes (g.S.Source.left c.args.reader.now) (g.S.Source.left c.read_script.new.reader)) (sym c.deref.ensures.value) c.in_ok-text.ensures.whole in
     IfOk-weaker c.run_lines.result _ _
     (λ unknown written. run-whole _ c.in_ok-script.script text _ _ _ _ unknown c.in_ok-script.ensures.place c.in_ok-script.ensures.stands short read written)
     c.run_lines.ensures.ok
@@ -45,14 +45,14 @@ pub returns-clause-unwritten : goal.returns-clause-unwritten
 returns-clause-unwritten g c = λ is.
     let text = c.deref.result.now in
     let short : length text ≤ 16777216 = omega (arith, c.in_ok-text.ensures.limit, c.deref.ensures.len) in
-    let read : g.S.Source.given c.read_script.new.reader ≡ append_known (g.S.Source.given c.args.reader.now) text =
-    c.in_ok-text.ensures.whole ∙ ap (append_known (g.S.Source.given c.args.reader.now)) (sym c.deref.ensures.value) in
+    let read : Consumes (g.S.Source.left c.args.reader.now) (g.S.Source.left c.read_script.new.reader) text =
+    subst (Consumes (g.S.Source.left c.args.reader.now) (g.S.Source.left c.read_script.new.reader)) (sym c.deref.ensures.value) c.in_ok-text.ensures.whole in
     run-in-part _ c.in_ok-script.script text _ _ _ _ c.in_ok-script.ensures.place c.in_ok-script.ensures.stands short read (rw is at c.run_lines.ensures.err)
 
 pub returns-clause-memory : goal.returns-clause-memory
 returns-clause-memory g c = λ is.
     let text = c.deref.result.now in
     let short : length text ≤ 16777216 = omega (arith, c.in_ok-text.ensures.limit, c.deref.ensures.len) in
-    let read : g.S.Source.given c.read_script.new.reader ≡ append_known (g.S.Source.given c.args.reader.now) text =
-    c.in_ok-text.ensures.whole ∙ ap (append_known (g.S.Source.given c.args.reader.now)) (sym c.deref.ensures.value) in
+    let read : Consumes (g.S.Source.left c.args.reader.now) (g.S.Source.left c.read_script.new.reader) text =
+    subst (Consumes (g.S.Source.left c.args.reader.now) (g.S.Source.left c.read_script.new.reader)) (sym c.deref.ensures.value) c.in_ok-text.ensures.whole in
     inr (c.in_ok-text.ensures.ended, run-in-part _ c.in_ok-script.script text _ _ _ _ c.in_ok-script.ensures.place c.in_ok-script.ensures.stands short read (rw is at c.run_lines.ensures.err))

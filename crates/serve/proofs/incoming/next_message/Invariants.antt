@@ -8,7 +8,7 @@ abbrev pub invariant-pieces : goal.invariant-pieces
 invariant-pieces g l = record {
   works : g.S.Source.failed l.reader ≡ false;
   feed : l.incoming.feed.fault ≡ None;
-  come : HasCome (g.S.Source.given l.fn.reader) (g.S.Source.given l.reader) l.fn.incoming.feed.held l.fn.incoming.reads l.incoming.reads (λ stream. Gives stream [] l.incoming.feed.held);
+  come : HasCome (g.S.Source.left l.fn.reader) (g.S.Source.left l.reader) l.fn.incoming.feed.held l.fn.incoming.reads l.incoming.reads (λ stream. Gives stream [] l.incoming.feed.held);
   ahead : bytes_ahead l.incoming.reads l.incoming.feed.held ≤ bytes_ahead l.fn.incoming.reads l.fn.incoming.feed.held;
 }
 
