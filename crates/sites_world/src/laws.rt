@@ -1,8 +1,8 @@
 //! What the definition of the world of operations promises. The functions have no body: their contracts are the laws.
 ghost use Rattle.std.specs.Prelude.{ℕ, List};
 ghost use Rattle.sites_world.specs.declared.event.Event.{Event};
-ghost use Rattle.sites_world.specs.Promises.{AddAtTheirSites, AreConsistentTogether, HaveOneAddADot};
-ghost use Rattle.sites_world.specs.Promises.{DeltasAgree, DeltasCommute};
+ghost use Rattle.sites_world.specs.Promises.{AddAtTheirSites, AreConsistentTogether};
+ghost use Rattle.sites_world.specs.Promises.{DeltasAgree, DeltasCommute, HaveOneAddADot};
 ghost use Rattle.sites_world.specs.Promises.{GiveSameAnswer, HaveHistories, HaveOneDotASite};
 ghost use Rattle.sites_world.specs.Promises.{HaveFewLiveDots, HaveFewVisibleDots, TakesGive};
 ghost use Rattle.sites_world.specs.Promises.{HaveSameStatus, LeadsOn, ReportsAreReadings};
