@@ -31,6 +31,8 @@ mod seen;
 mod set_builder;
 mod site_walk;
 mod taken_cells;
+#[cfg(test)]
+mod worn;
 
 pub use cell::Cell;
 pub use cells_lent::Cells;
