@@ -1,5 +1,5 @@
-"""Runs a program so often, and prints the least time of a processor that it took, in seconds, and what it printed:
-cpu_time.py TIMES PROGRAM WORD.."""
+"""Runs a program with each of some words in turn, and all of them so often, so that each word meets the machine as the others do. For each
+word it prints the least time of a processor that a run took, in seconds, and what it printed: cpu_time.py TIMES PROGRAM WORD.."""
 import resource
 import subprocess
 import sys
@@ -19,9 +19,11 @@ def timed(command):
 
 
 def main():
-    runs = [timed(sys.argv[2:]) for _ in range(int(sys.argv[1]))]
-    seconds, answer = min(runs)
-    print(f"{seconds:.4f} {answer}", end="")
+    times, program, words = int(sys.argv[1]), sys.argv[2], sys.argv[3:]
+    runs = [[timed([program, word]) for word in words] for _ in range(times)]
+    for of_word in zip(*runs):
+        seconds, answer = min(of_word)
+        print(f"{seconds:.6f} {answer}", end="")
 
 
 main()

@@ -17,7 +17,7 @@ use joins::joined_often;
 use replicas::{commands_done_often, frames_taken_often};
 use sessions::status_served_often;
 use sets::{dead_told_often, rows_read, sets_copied_often, sets_joined_often};
-use single_dots::singles_joined;
+use single_dots::{Singles, singles_joined};
 use std::alloc::Global;
 use std::{env, io};
 use totals::totals_joined_often;
@@ -31,7 +31,7 @@ const TURNS: u32 = 333;
 const FRAMES: u32 = 1_000;
 
 // How many sets of one dot are joined, one by one.
-const DOTS: u32 = 1_000;
+const DOTS: u64 = 1_000;
 
 // How many asks a session has.
 const ASKS: u32 = 10_000;
@@ -43,7 +43,7 @@ const ASKS: u32 = 10_000;
 // three cells of 31 bytes, in a run of 17, has 138 bytes, of which 28 are always there, and one of three runs has 79; a frame that is
 // decoded adds its live dots and runs; a site of three members that has added and removed another twice has three live dots in a run of
 // five, and one that has taken two dots of another site five live dots in two runs; a session's greeting has 32 bytes, and a report of
-// three members 650; two sets of one dot each make four live dots six, in two runs.
+// three members 650; two sets of one dot each make four live dots six, in one run where they are the next ones, and else in two.
 fn checksum(alloc: Global, word: &str) -> Result<u64, &'static str> {
     match word {
         "join_3_runs" => joined_often(alloc, 3, 2),
@@ -62,7 +62,8 @@ fn checksum(alloc: Global, word: &str) -> Result<u64, &'static str> {
         "commands_at_3" => commands_done_often(alloc, 3, 2),
         "frames_at_3" => frames_taken_often(alloc, 3, 2),
         "serve_2_statuses_of_3" => status_served_often(alloc, 3, 2),
-        "join_2_of_3_dots_behind_4" => singles_joined(alloc, (0, 1), 4, 3, 2),
+        "join_2_dots_behind_4" => singles_joined(alloc, Singles::Behind, 4, 2, true),
+        "join_2_dots_before_4" => singles_joined(alloc, Singles::Before, 4, 2, true),
         "join_65536_runs" => joined_often(alloc, 65_536, TIMES),
         "join_32768_runs" => joined_often(alloc, 32_768, TIMES),
         "join_16384_cells" => sets_joined_often(alloc, (0, 0), 16_384, TIMES),
@@ -85,12 +86,12 @@ fn checksum(alloc: Global, word: &str) -> Result<u64, &'static str> {
         "frames_at_4096" => frames_taken_often(alloc, 4_096, FRAMES),
         "frames_at_15000" => frames_taken_often(alloc, 15_000, FRAMES),
         "serve_10000_statuses_of_100" => status_served_often(alloc, 100, ASKS),
-        "make_256_and_1000_dots" => singles_joined(alloc, (0, 1), 256, 1_000, 0),
-        "make_15000_and_1000_dots" => singles_joined(alloc, (0, 1), 15_000, 1_000, 0),
-        "join_1000_dots_behind_256" => singles_joined(alloc, (0, 1), 256, 1_000, DOTS),
-        "join_1000_dots_behind_15000" => singles_joined(alloc, (0, 1), 15_000, 1_000, DOTS),
-        "join_1000_dots_before_256" => singles_joined(alloc, (1, 0), 256, 1_000, DOTS),
-        "join_1000_dots_before_15000" => singles_joined(alloc, (1, 0), 15_000, 1_000, DOTS),
+        "make_256_and_1000_dots" => singles_joined(alloc, Singles::Behind, 256, DOTS, false),
+        "make_15000_and_1000_dots" => singles_joined(alloc, Singles::Behind, 15_000, DOTS, false),
+        "join_1000_dots_behind_256" => singles_joined(alloc, Singles::Behind, 256, DOTS, true),
+        "join_1000_dots_behind_15000" => singles_joined(alloc, Singles::Behind, 15_000, DOTS, true),
+        "join_1000_dots_before_256" => singles_joined(alloc, Singles::Before, 256, DOTS, true),
+        "join_1000_dots_before_15000" => singles_joined(alloc, Singles::Before, 15_000, DOTS, true),
         _ => Err("no such workload"),
     }
 }

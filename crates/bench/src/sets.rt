@@ -35,13 +35,23 @@ fn penalty(stamp: Stamp, penalty: Penalty) -> Fields
 
 // Lets a dot be live, with a member of its own and a penalty.
 pub(crate) fn assert_one(set: &mut MemberSet, site: SiteId, count: u64) -> Result<(), JoinFault> {
+    assert_of(set, site, count, count)
+}
+
+// Lets a dot be live, with the member of a number and a penalty.
+pub(crate) fn assert_of(
+    set: &mut MemberSet,
+    site: SiteId,
+    count: u64,
+    of: u64,
+) -> Result<(), JoinFault> {
     let (Some(dot), Some(stamp)) = (Dot::new(site, count), Stamp::new(count, site)) else {
         return Ok(());
     };
     let Some(number) = Penalty::new((count % 1_000) as u32) else {
         return Ok(());
     };
-    set.assert(dot, &member(count)?, &penalty(stamp, number))
+    set.assert(dot, &member(of)?, &penalty(stamp, number))
 }
 
 // A set in which so many dots of a site are live, each of a member of its own.

@@ -143,7 +143,7 @@ pub(crate) fn take_all(
     ensures { IsJoinedWith (set.contains known.now.dots) cells.old others.live cells.new }
 {
     let mut left = others.into_cells();
-    while let Some(cell) = left.take_last() {
+    while let Some(cell) = left.take_first() {
         take_in(known, cells, cell);
     }
 }

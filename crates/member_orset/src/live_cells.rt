@@ -221,12 +221,12 @@ impl<const LAST: u32> LiveCells<LAST> {
         Ok(LiveCells { placed, members })
     }
 
-    // The cells of all live dots, to be taken one by one from the last on.
+    // The cells of all live dots, to be taken one by one from the first on.
     pub(crate) fn into_cells(self) -> TakenCells<LAST>
         ensures { result ≡ map.entries self.entry.live }
     {
         let LiveCells { placed, members: _ } = self;
-        TakenCells::of(placed)
+        placed.into_cells()
     }
 }
 

@@ -10,7 +10,7 @@ ghost use Rattle.op_arena.specs.Ids.{id_of};
 ghost use Rattle.member_orset.specs.declared.live_dot.LiveDot.{LiveDot as live_dot};
 ghost use Rattle.member_orset.specs.declared.placed.Placed.{Placed as placed_dot};
 ghost use Rattle.member_orset.specs.CellIds.{retired_of};
-ghost use Rattle.member_orset.specs.LiveLists.{IsAt, IsGap};
+ghost use Rattle.member_orset.specs.LiveLists.{IsAt, IsGap, entries_of};
 ghost use Rattle.member_orset.specs.Members.{most_places};
 ghost use Rattle.member_orset.specs.PlacedStates.{IsPlaced, cells_of, joined_with};
 ghost use Rattle.member_orset.specs.PlacedLists.{id_entries};
@@ -18,6 +18,7 @@ ghost use Rattle.member_orset.specs.PlacedLists.{id_entries};
 use crate::insertion::put_in;
 use crate::live_dot::LiveDot;
 use crate::placed::Placed;
+use crate::taken_cells::TakenCells;
 use dots::{Dot, Memory};
 use lww_registers::Fields;
 use op_arena::{Arena, ArenaFault, CellId};
@@ -264,5 +265,13 @@ impl<const LAST: u32> PlacedCells<LAST> {
             copy.insert(place, self.cell_at(place).copy());
         }
         Ok(copy)
+    }
+
+    // The cells of all that are placed, to be taken one by one from the first on.
+    pub(crate) fn into_cells(self) -> TakenCells<LAST>
+        ensures { result ≡ entries_of (cells_of self.entry) }
+    {
+        let PlacedCells { dots, cells } = self;
+        TakenCells::of(dots, cells)
     }
 }

@@ -1,15 +1,18 @@
-ghost use Rattle.std.specs.Prelude.{◌≡◌, ◌++◌, [], ◌∷◌, IfSome, None};
+ghost use Rattle.std.specs.Prelude.{◌≡◌, [], ◌∷◌, IfSome, None};
 ghost use Rattle.member_orset.specs.LiveLists.{entries_of, entry_of};
-ghost use Rattle.member_orset.specs.PlacedStates.{IsPlaced, cells_of};
+ghost use Rattle.member_orset.specs.PlacedStates.{ArePlaced, cells_at, ids_of};
 
 use crate::live_dot::LiveDot;
-use crate::placed_cells::PlacedCells;
+use crate::placed::Placed;
+use op_arena::Arena;
+use std::collections::VecDeque;
 use std::marker::Model;
 
-// The cells of dots that are left to be taken.
+// The cells of dots that are left to be taken, and the dots in their order.
 #[derive(Drop)]
 pub(crate) struct TakenCells<const LAST: u32> {
-    placed: PlacedCells<LAST>,
+    dots: VecDeque<Placed>,
+    cells: Arena<LiveDot, LAST>,
 }
 
 impl<const LAST: u32> Model for TakenCells<LAST> {
@@ -25,31 +28,31 @@ impl<const LAST: u32> Model for TakenCells<LAST> {
     ghost coded = { coded_list (coded× dot_code (coded× member_code fields_code)) };
 
     ghost use Rattle.member_orset.specs.LiveLists.{entries_of};
-    ghost use Rattle.member_orset.specs.PlacedStates.{IsPlaced, cells_of};
+    ghost use Rattle.member_orset.specs.PlacedStates.{ArePlaced, cells_at, ids_of};
 
-    ghost view = { λ c. entries_of (cells_of c.placed) };
+    ghost view = { λ c. entries_of (cells_at c.cells.held (ids_of c.dots.items)) };
 
-    ghost invariant = { λ c. IsPlaced c.placed };
+    ghost invariant = { λ c. ArePlaced c.dots.items c.cells.held c.cells.spent };
 }
 
 impl<const LAST: u32> TakenCells<LAST> {
-    // Those that are placed.
-    pub(crate) fn of(placed: PlacedCells<LAST>) -> Self
-        requires { IsPlaced placed }
-        ensures { result ≡ entries_of (cells_of placed.entry) }
+    // Those of placed dots.
+    pub(crate) fn of(dots: Vec<Placed>, cells: Arena<LiveDot, LAST>) -> Self
+        requires { ArePlaced dots.items cells.held cells.spent }
+        ensures { result ≡ entries_of (cells_at cells.entry.held (ids_of dots.items)) }
     {
-        TakenCells { placed }
+        TakenCells {
+            dots: VecDeque::from_vec(dots),
+            cells,
+        }
     }
 
-    // The cell of the last dot that is left.
-    pub(crate) fn take_last(&mut self) -> Option<LiveDot>
+    // The cell of the first dot that is left.
+    pub(crate) fn take_first(&mut self) -> Option<LiveDot>
         ensures none { result ≡ None → self.old ≡ [] }
-        ensures some { IfSome result (λ cell. self.old ≡ self.new ++ entry_of cell ∷ []) }
+        ensures some { IfSome result (λ cell. self.old ≡ entry_of cell ∷ self.new) }
     {
-        let left = self.placed.len();
-        if left == 0 {
-            return None;
-        }
-        Some(self.placed.remove(left - 1))
+        let placed = self.dots.pop_front()?;
+        Some(self.cells.take(placed.id).unwrap())
     }
 }

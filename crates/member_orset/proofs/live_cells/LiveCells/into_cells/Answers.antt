@@ -8,4 +8,4 @@ use Rattle.member_orset.proofs.live_cells.LiveCells.into_cells.Goals as goal
 pub returns : goal.returns
 returns g c =
     let s = c.self.inside.placed in
-    c.of.ensures ∙ sym (entries-live_of (cells_of s) (rise s.dots s.held s.spent c.self.invariant.placed)) ∙ ap (λ x. map.entries x.live) c.self.view_is
+    c.into_cells.ensures ∙ sym (entries-live_of (cells_of s) (rise s.dots s.held s.spent c.self.invariant.placed)) ∙ ap (λ x. map.entries x.live) c.self.view_is
