@@ -1,5 +1,5 @@
 //! A script is read whole before any of its lines is run.
-ghost use Rattle.std.specs.Prelude.{◌≡◌, ◌≢◌, ◌≤◌, true, false, vec_len, IfOk, IfErr, OnOk, IsErrOf, ◌⊎◌, ◌+◌};
+ghost use Rattle.std.specs.Prelude.{◌≡◌, ◌≢◌, ◌≤◌, false, vec_len, IfOk, IfErr, OnOk, IsErrOf, ◌⊎◌, ◌+◌};
 ghost use Rattle.std.specs.Io.KnownBytes.{Consumes};
 ghost use Rattle.ami_text.specs.Devices.{HasEnded, HasGiven};
 
@@ -23,10 +23,12 @@ pub fn read_script<S: Source>(alloc: Global, reader: &mut S) -> Result<Vec<u8>, 
     ensures whole { IfOk result (λ script.
         Consumes (S.left reader.old) (S.left reader.new) script.items) }
     ensures ended { OnOk result (HasEnded (S.ended reader.new) (S.left reader.new)) }
+    ensures works { OnOk result (S.failed reader.new ≡ false) }
     ensures limit { IfOk result (λ script. vec_len script ≤ 16777216) }
     ensures fault { IfErr result (λ fault. fault ≢ ScriptFault.Write) }
     ensures read { IsErrOf result ScriptFault.Read → (S.failed reader.new ≡ true)
-        ⊎ HasGiven (S.left reader.old) (S.left reader.new) 1000000 }
+        ⊎ ((S.ended reader.new ≡ false)
+        × HasGiven (S.left reader.old) (S.left reader.new) 1000000) }
     ensures too_long { IsErrOf result ScriptFault.TooLong
         → HasGiven (S.left reader.old) (S.left reader.new) (16777216 + 1) }
 {

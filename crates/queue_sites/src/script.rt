@@ -50,6 +50,7 @@ pub fn run_script<S: Source, W: Sink>(
     requires reader { S.failed reader.old ≡ false }
     requires writer { W.failed writer.old ≡ false }
     ensures ended { OnOk result (HasEnded (S.ended reader.new) (S.left reader.new)) }
+    ensures works { OnOk result ((S.failed reader.new ≡ false) × (W.failed writer.new ≡ false)) }
     ensures whole { IsErrOf result ScriptFault.Write
         → HasEnded (S.ended reader.new) (S.left reader.new) }
 
@@ -60,7 +61,8 @@ pub fn run_script<S: Source, W: Sink>(
 
     // Each of these faults stands only where its cause does.
     ensures read { IsErrOf result ScriptFault.Read → (S.failed reader.new ≡ true)
-        ⊎ HasGiven (S.left reader.old) (S.left reader.new) 1000000 }
+        ⊎ ((S.ended reader.new ≡ false)
+        × HasGiven (S.left reader.old) (S.left reader.new) 1000000) }
     ensures length { IsErrOf result ScriptFault.TooLong
         → HasGiven (S.left reader.old) (S.left reader.new) (16777216 + 1) }
     ensures write { IsErrOf result ScriptFault.Write → W.failed writer.new ≡ true }
@@ -110,6 +112,7 @@ impl Script {
         ensures err { IfErr result (λ _. (w : world_of_operations)
             → StandsAt self.old.world w → HasBegun (place_of self.old) w text.now
             (W.taken writer.old) (W.taken writer.new)) }
+        ensures works { OnOk result (W.failed writer.new ≡ false) }
         ensures write { IsErrOf result ScriptFault.Write → W.failed writer.new ≡ true }
         ensures fault { IfErr result
             (λ fault. (fault ≡ ScriptFault.Write) ⊎ (fault ≡ ScriptFault.Memory)) }

@@ -65,6 +65,7 @@ greeting-begun Answers s d given old new none taken = record {
     gives = none [];
     more = taken.rest;
     has_text = subst (λ t. HasText Answers s d d [] t) taken.is (greeted Answers s d);
+    ends = inl refl;
   };
 }
 
@@ -107,6 +108,7 @@ ended-by Answers s now d e held reads left K bytes text ending join so x =
     record {
       messages = going.messages;
       reads = subst (λ ms. Reads bytes ms ending) (append-nil going.messages) (subst (λ t. Reads t (going.messages ++ []) ending) (sym x.is) all);
+      goes_on = going.goes_on;
       has_text = going.has_text;
     }
 
@@ -121,6 +123,7 @@ begun-before Answers s now d e held reads left K bytes text stays x =
       gives = subst (λ t. Gives t going.messages (held ++ x.piece)) (sym x.is) (stays x.first x.piece held going.messages going.gives);
       more = [];
       has_text = subst (λ t. HasText Answers s d e going.messages t) (sym (append-nil text)) going.has_text;
+      ends = inr (inl (going.goes_on, refl));
     }
 
 -- the reader has ended
@@ -281,6 +284,17 @@ begun Answers s now d mid e given after old before new rest message left c has =
         more = has.taken.rest;
         has_text = subst (λ t. HasText Answers s d e (x.messages ++ message ∷ []) t)
             (ap (λ t. c.text ++ t) has.taken.is ∙ sym (append_assoc c.text has.taken.front has.taken.rest)) all;
+        ends = inr (inr (record {
+          before = x.messages;
+          last = message;
+          are = refl;
+          goes_on = x.goes_on;
+          left = mid;
+          written = c.text;
+          part = has.taken.front;
+          has_text = x.has_text;
+          is = refl;
+        }));
       };
     }
 
@@ -317,6 +331,7 @@ refused Answers Refuses s now d mid e given after old before new rest message le
         rest = rest;
         gives = x.gives;
         left = mid;
+        goes_on = x.goes_on;
         has_text = x.has_text;
         ask = down.ask;
         waiting = down.waiting;

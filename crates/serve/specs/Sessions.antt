@@ -1,5 +1,5 @@
 -- What a session that is served over devices and a desk has read, asked and written (this project's own).
-use Rattle.std.specs.Prelude.{ℕ, ◌≡◌, ◌⊎◌, Bool, true, List, [], ◌∷◌, ◌++◌, Option}
+use Rattle.std.specs.Prelude.{ℕ, ◌≡◌, ◌⊎◌, Bool, true, false, List, [], ◌∷◌, ◌++◌, Option}
 use Rattle.std.specs.Io.KnownBytes.{Appends, Consumes}
 use Rattle.ami_text.specs.Devices.{HasEnded}
 use Rattle.ami_text.specs.declared.feed_fault.FeedFault.TheVariants as feed
@@ -35,27 +35,44 @@ pub record IsServed {D : Type 0} (Answers : D → Ask → Answer → D → Type 
   pub has_text : HasText Answers s d e messages text
   pub at_end : (is_over s messages ≡ true) ⊎ (IsRest rest × HasEnded ended left)
 
--- all messages of the bytes are answered, and nothing but this ending stands behind them
+-- all messages of the bytes are answered, none of them has ended the session, and nothing but this ending stands behind them
 pub record AreAnswered {D : Type 0} (Answers : D → Ask → Answer → D → Type 0) (s : SessionState) (d e : D) (ending : Ending) (bytes text : List ℕ) : Type 0 where
   pub messages : List Fields
   pub reads : Reads bytes messages ending
+  pub goes_on : is_over s messages ≡ false
   pub has_text : HasText Answers s d e messages text
 
--- the text is a front of that of the messages that were answered
+-- all messages but the last are answered, none of these has ended the session, and of what is written upon the last there is a part
+pub record IsAtLast {D : Type 0} (Answers : D → Ask → Answer → D → Type 0) (s : SessionState) (d : D) (messages : List Fields) (text : List ℕ) : Type 0 where
+  pub before : List Fields
+  pub last : Fields
+  pub are : messages ≡ before ++ last ∷ []
+  pub goes_on : is_over s before ≡ false
+  pub left : D
+  pub written : List ℕ
+  pub part : List ℕ
+  pub has_text : HasText Answers s d left before written
+  pub is : text ≡ written ++ part
+
+-- the text is a front of that of the messages that were answered; it ends in the greeting, behind all that is written upon them, or in
+-- what is written upon the last
 pub record IsBegun {D : Type 0} (Answers : D → Ask → Answer → D → Type 0) (s : SessionState) (d e : D) (bytes text : List ℕ) : Type 0 where
   pub messages : List Fields
   pub rest : List ℕ
   pub gives : Gives bytes messages rest
   pub more : List ℕ
   pub has_text : HasText Answers s d e messages (text ++ more)
+  pub ends : (messages ≡ []) ⊎ (((is_over s messages ≡ false) × (more ≡ [])) ⊎ IsAtLast Answers s d messages text)
 
--- all messages before the last are answered, and what that asks the desk refused in the state in which they left it
+-- all messages before the last are answered, none of them has ended the session, and what the last asks the desk refused in the state in
+-- which they left it
 pub record IsRefused {D : Type 0} (Answers : D → Ask → Answer → D → Type 0) (Refuses : D → Ask → D → Type 0) (s : SessionState) (d e : D) (bytes text : List ℕ) : Type 0 where
   pub messages : List Fields
   pub last : Fields
   pub rest : List ℕ
   pub gives : Gives bytes (messages ++ last ∷ []) rest
   pub left : D
+  pub goes_on : is_over s messages ≡ false
   pub has_text : HasText Answers s d left messages text
   pub ask : Ask
   pub waiting : Waiting

@@ -44,8 +44,11 @@ pub fn next_message<S: Source>(
 ) -> Result<Option<Message>, ServeFault>
     requires reader { S.failed reader.old ≡ false }
     requires feed { incoming.old.feed.fault ≡ None }
+    requires goes_on { incoming.old.reads < 1000000 → S.ended reader.old ≡ false }
     ensures come { HasCome (S.left reader.old) (S.left reader.new) incoming.old.feed.held
         incoming.old.reads incoming.new.reads (IsNext result incoming.new.feed.held) }
+    ensures goes_on { IfOk result (λ next. IfSome next (λ _.
+        incoming.new.reads < 1000000 → S.ended reader.new ≡ false)) }
     ensures ended { result ≡ Ok None → HasEnded (S.ended reader.new) (S.left reader.new) }
     ensures works { OnOk result (S.failed reader.new ≡ false) }
     ensures feed { OnOk result (incoming.new.feed.fault ≡ None) }
@@ -53,7 +56,8 @@ pub fn next_message<S: Source>(
         bytes_ahead incoming.new.reads incoming.new.feed.held
         < bytes_ahead incoming.old.reads incoming.old.feed.held)) }
     ensures read { IsErrOf result ServeFault.Read → S.failed reader.new ≡ true }
-    ensures turns { IsErrOf result ServeFault.Turns → incoming.new.reads ≡ 0 }
+    ensures turns { IsErrOf result ServeFault.Turns
+        → (incoming.new.reads ≡ 0) × (S.ended reader.new ≡ false) }
 {
     messages_so_far();
     'pieces: loop {
@@ -75,17 +79,20 @@ pub fn next_message<S: Source>(
 fn read_piece<S: Source>(reader: &mut S, incoming: &mut Incoming) -> Result<bool, ServeFault>
     requires reader { S.failed reader.old ≡ false }
     requires feed { incoming.old.feed.fault ≡ None }
+    requires goes_on { incoming.old.reads < 1000000 → S.ended reader.old ≡ false }
     ensures come { HasCome (S.left reader.old) (S.left reader.new) incoming.old.feed.held
         incoming.old.reads incoming.new.reads
         (IsHeld result incoming.old.feed.held incoming.new.feed.held) }
     ensures more { result ≡ Ok true → (incoming.new.reads + 1 ≡ incoming.old.reads)
         × (bytes_ahead incoming.new.reads incoming.new.feed.held
         ≤ bytes_ahead incoming.old.reads incoming.old.feed.held) }
+    ensures goes_on { result ≡ Ok true → S.ended reader.new ≡ false }
     ensures ended { result ≡ Ok false → HasEnded (S.ended reader.new) (S.left reader.new) }
     ensures works { OnOk result (S.failed reader.new ≡ false) }
     ensures feed { OnOk result (incoming.new.feed.fault ≡ None) }
     ensures read { IsErrOf result ServeFault.Read → S.failed reader.new ≡ true }
-    ensures turns { IsErrOf result ServeFault.Turns → incoming.new.reads ≡ 0 }
+    ensures turns { IsErrOf result ServeFault.Turns
+        → (incoming.new.reads ≡ 0) × (S.ended reader.new ≡ false) }
 {
     if incoming.reads == 0 {
         return Err(ServeFault::Turns);

@@ -60,8 +60,11 @@ pub fn serve<R, S: Source, W: Sink, D: Desk<R>>(
     // say theirs above.
     ensures read { IsErrOf result ServeFault.Read → S.failed reader.new ≡ true }
     ensures write { IsErrOf result ServeFault.Write → W.failed writer.new ≡ true }
-    ensures turns { IsErrOf result ServeFault.Turns
-        → HasGiven (S.left reader.old) (S.left reader.new) 1000000 }
+    ensures turns { IsErrOf result ServeFault.Turns → (S.ended reader.new ≡ false)
+        × HasGiven (S.left reader.old) (S.left reader.new) 1000000 }
+
+    // At Ok both devices work.
+    ensures works { OnOk result ((S.failed reader.new ≡ false) × (W.failed writer.new ≡ false)) }
 {
     messages_so_far();
     stream_of_two_pieces();

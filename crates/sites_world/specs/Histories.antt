@@ -61,13 +61,13 @@ pub record IsHistory (names_of_queues : List (List ℕ)) (sites : ℕ) (h : Know
   pub older : (o : Operation) (dot earlier : Dot) (m : Member) → Contains h o → Contains (asserted_by o) (dot, m)
       → Contains (all_asserted h) (earlier, m) → earlier.site ≡ dot.site → earlier.count < dot.count → names earlier o ≡ true
 
--- a site knows a part of a history, with all that it has made itself, and its buffer is a part of what it knows
+-- a site knows a part of a history, with every add, write and count of its own, and its buffer is a part of what it knows
 pub record IsSiteIn (h : Knowledge) (site : ℕ) (s : SiteKnowledge) : Type 0 where
   pub known : IsPartOf s.known h
   pub buffer : IsPartOf s.buffer s.known
   pub own : (o : Operation) → Contains h o → IsOf site o → Contains s.known o
 
--- A world with its history: each site knows a part of it, with all that is its own, and each frame carries a part.
+-- A world with its history: each site knows a part of it, with every add, write and count of its own, and each frame carries a part.
 pub record IsHistoryOf (names_of_queues : List (List ℕ)) (w : World) (h : Knowledge) : Type 0 where
   pub history : IsHistory names_of_queues (length w.sites) h
   pub sites : (site : ℕ) (s : SiteKnowledge) → slice_get w.sites site ≡ Some s → IsSiteIn h site s

@@ -27,7 +27,7 @@ IsAnswerTo (Status request) (Report bytes) = ⊤
 IsAnswerTo (Status request) Done = ⊥
 IsAnswerTo (Status request) (Refused r) = ⊥
 
--- what may come of an event at a site that is there; a frame is too much, or is taken
+-- what may come of an event; a frame is too much, or is taken
 abbrev pub IsOutcomeOf : Event → Outcome → Type 0
 IsOutcomeOf e outcome.NoSite = ⊤
 IsOutcomeOf (event.Ask site asked) (outcome.Answered answer) = IsAnswerTo asked answer

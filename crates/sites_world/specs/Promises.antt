@@ -56,7 +56,7 @@ abbrev pub HaveSameStatus : Type 0
 HaveSameStatus = (names : List (List ℕ)) (sites : ℕ) (w : World) (k l : Knowledge) (request : StatusRequest) → IsReached names sites w → IsIn w k
     → SameOperations k l → status_in k names request ≡ status_in l names request
 
--- so two sites that know the same operations, be it in one world or in two, give the same answer to one request
+-- so two sites that know the same operations, be it in one world or in two with the same queues, give the same answer to one status request
 abbrev pub GiveSameAnswer : Type 0
 GiveSameAnswer = (names : List (List ℕ)) (sites : ℕ) (w v : World) (site other : ℕ) (s t : SiteKnowledge) (request : StatusRequest) → IsReached names sites w
     → slice_get w.sites site ≡ Some s → slice_get v.sites other ≡ Some t → SameOperations s.known t.known

@@ -9,8 +9,8 @@ ghost use Rattle.sites_world.specs.Promises.{HaveSameStatus, LeadsOn, ReportsAre
 ghost use Rattle.sites_world.specs.Promises.{AreOfTheirEvents, RefusalsChangeNothing, RunsInParts};
 ghost use Rattle.sites_world.specs.Worlds.{World};
 
-/// Each world that events lead to has a history: one list of the operations that were ever made, of which each site knows a part
-/// with all that is its own, and each frame carries a part (RR-7506: the causal history of a replica).
+/// Each world that events lead to has a history: one list of operations, of which each site knows a part with every add, write and count
+/// of its own, and each frame carries a part (RR-7506: the causal history of a replica).
 pub fn a_world_has_a_history()
     ensures { HaveHistories }
 {}
@@ -29,15 +29,15 @@ pub fn knowledges_of_a_world_are_consistent_together()
 {}
 
 /// The deltas of any two knowledges of one world agree, so no join of them is in conflict, and it is all the same which of both is
-/// joined into the other (RR-7506: states form a join semilattice). Of any deltas it makes no difference how they are grouped and how
-/// often one is joined.
+/// joined into the other (RR-7506: states form a join semilattice). That it makes no difference how any deltas are grouped and how
+/// often one is joined are laws of `delta`.
 pub fn deltas_of_a_world_agree()
     ensures agree { DeltasAgree }
     ensures commute { DeltasCommute }
 {}
 
-/// Two sites that know the same operations have the same status, so they give the same answer to one request, be it in one world or in
-/// two (RR-7506: replicas that have delivered the same updates are equivalent).
+/// Two sites that know the same operations have the same status, so they give the same answer to one status request, be it in one world
+/// or in two with the same queues (RR-7506: replicas that have delivered the same updates are equivalent).
 pub fn sites_that_know_the_same_have_the_same_status()
     ensures status { HaveSameStatus }
     ensures answers { GiveSameAnswer }

@@ -1,4 +1,4 @@
-use Rattle.std.proofs.Common.{◌≡◌, ◌∙◌, Bool, Result, Ok, Err, ap, refl, sym}
+use Rattle.std.proofs.Common.{◌≡◌, ◌∙◌, Bool, Result, Ok, Err, ap, refl, sym, arith}
 use Rattle.ami_text.specs.FeedStates.{FeedState}
 use Rattle.serve.specs.declared.serve_fault.ServeFault.{ServeFault}
 use Rattle.serve.proofs.Coming.{next-so}
@@ -23,6 +23,7 @@ messages-init g c =
       reader = c.requires.reader;
       writer = c.in-Ok.ensures.works;
       feed = ap (λ (f : FeedState). f.fault) feed;
+      goes_on = λ less. absurd (omega (arith, less, c.new-incoming.ensures.reads));
       going = going-start g.D.Desk.answers c.args.session c.args.desk.now _ _ _ _ _ c.messages_so_far.ensures.none (ap (λ (f : FeedState). f.held) feed) c.new-incoming.ensures.reads c.in-Ok.ensures.written;
     }
 
@@ -39,7 +40,8 @@ returns-in-Err-next_message-clause-left g c =
 
 pub returns-in-Err-next_message-clause-turns : goal.returns-in-Err-next_message-clause-turns
 returns-in-Err-next_message-clause-turns g c = λ turns.
-    turns-over g.D.Desk.answers _ _ _ _ _ _ _ _ _ _ _ _ _ (c.in-Err-next_message.ensures.turns (ap Err (err-is _ _ _ refl turns))) c.messages.invariant.going c.next_message.ensures.come
+    let told = c.in-Err-next_message.ensures.turns (ap Err (err-is _ _ _ refl turns)) in
+    (told.1, turns-over g.D.Desk.answers _ _ _ _ _ _ _ _ _ _ _ _ _ told.0 c.messages.invariant.going c.next_message.ensures.come)
 
 pub returns-in-Ok-true-clause-served : goal.returns-in-Ok-true-clause-served
 returns-in-Ok-true-clause-served g c =
@@ -63,6 +65,7 @@ messages-preserved g c =
       reader = c.in-Ok-Some.ensures.works;
       writer = c.in-Ok-false.ensures.works;
       feed = c.in-Ok-Some.ensures.feed;
+      goes_on = rw c.in-Ok-Some.field-0-is at c.in-Ok-Some.ensures.goes_on;
       going = going-on g.D.Desk.answers _ _ _ _ _ _ _ _ _ _ _ _ _ _ c.in-Ok-Some.message _ _ laws.more laws.later
           c.messages.invariant.going (next-so _ _ _ _ _ _ _ _ is c.next_message.ensures.come) c.in-Ok-false.ensures.said c.in-Ok-false.ensures.session (as-told _ _ _ c.in-Ok-false.ensures.ends c.in-Ok-false.field-0-test);
     }

@@ -30,6 +30,7 @@ pieces-preserved g c =
     record {
       works = c.in-Ok-true.ensures.works;
       feed = c.in-Ok-true.ensures.feed;
+      goes_on = λ less. c.read_piece.ensures.goes_on is;
       come = piece-came _ _ _ _ left _ _ _ _ laws.more before (held-so _ _ left _ _ _ _ _ is c.read_piece.ensures.come);
       ahead = omega (arith, more.1, left-within held left rest.0, c.pieces.invariant.ahead);
     }
