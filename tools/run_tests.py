@@ -1,6 +1,6 @@
 """Runs what must pass, and tells at the end what was run and how long each part of it took.
 
-    ./test                     the whole gate, the program from the command line, and a served session without memory
+    ./test                     the whole gate, the program from the command line, and tests with each allocation refused
     ./test CRATE..             what a change of these crates can break: layout, proofs, tests and stored runs of these and
                                of the crates that stand on them, over the work that earlier checks kept, and the
                                must-fail edits of these
@@ -14,8 +14,8 @@ import sys
 import time
 
 import gate
+import memory_tests
 import program_tests
-import session_tests
 from build import at_once
 from crates import TOP, all_crates, below, folder, read, with_those_above
 
@@ -67,8 +67,9 @@ def run_program(parts):
     parts.run("the program from the command line", part_of(program_tests.run_all))
 
 
-def run_session(parts):
-    parts.run("a served session without memory", part_of(session_tests.run_all))
+def run_without_memory(parts, crates):
+    if any(test.crate in crates for test in memory_tests.TESTS):
+        parts.run("tests with each allocation refused", part_of(lambda: memory_tests.run_all(crates)))
 
 
 def whole():
@@ -84,7 +85,7 @@ def whole():
     parts.run("the gate", gate_part)
     if not parts.has_failed:
         run_program(parts)
-        run_session(parts)
+        run_without_memory(parts, all_crates())
     print("\n".join(parts.lines))
     if not parts.has_failed and clean and head:
         os.makedirs(os.path.dirname(PASSED), exist_ok=True)
@@ -146,8 +147,8 @@ def of_crates(names, is_program_changed=False):
         parts.run(f"must-fail edits of {' '.join(names)}", lambda: (passes(["rt", "must-fail", *names]), []))
     if not parts.has_failed and (is_program_changed or PROGRAM in changed):
         run_program(parts)
-    if not parts.has_failed and session_tests.CRATE in changed:
-        run_session(parts)
+    if not parts.has_failed:
+        run_without_memory(parts, changed)
     print("\n".join(parts.lines))
     return 1 if parts.has_failed else 0
 

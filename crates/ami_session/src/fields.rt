@@ -1,9 +1,11 @@
 //! What the messages of the actions ask, field by field.
-ghost use Rattle.std.specs.Prelude.{◌≡◌, true, false, codes, Some, None, unwrap_or, MatchOption, MatchResult, IfOk};
+ghost use Rattle.std.specs.Prelude.{◌≡◌, true, false, codes, Some, None, unwrap_or, MatchOption};
+ghost use Rattle.std.specs.Prelude.{MatchResult, IfOk};
 ghost use Rattle.std.specs.Option.{option_map};
 ghost use Rattle.ami_text.specs.MessageFields.{value_of};
 ghost use Rattle.ami_session.specs.FieldValues.{id_of, penalty_of};
-ghost use Rattle.ami_session.specs.Actions.{AsksBy, Name, Text, absent_in, is_unread, row_of, says_yes, text_at, unread_in};
+ghost use Rattle.ami_session.specs.Actions.{AsksBy, Name, Text, absent_in, is_unread, row_of};
+ghost use Rattle.ami_session.specs.Actions.{says_yes, text_at, unread_in};
 
 use crate::action::Action;
 use crate::values::{id_of, interface_of, is_yes, penalty_of, queue_of, text_of};

@@ -37,7 +37,8 @@ pub fn message_reply(
     action_id: &Bytes,
     message: &[u8],
 ) -> Result<Vec<u8>, Memory>
-    ensures { IfOk result (λ out. out.items ≡ reply (response_text response) action_id.now message.now) }
+    ensures { IfOk result
+        (λ out. out.items ≡ reply (response_text response) action_id.now message.now) }
 {
     let mut out = Vec::new(alloc);
     push_field(&mut out, "Response", response.text())?;
@@ -56,7 +57,9 @@ pub fn field_error(
     name: &str,
     after: &str,
 ) -> Result<Vec<u8>, Memory>
-    ensures { IfOk result (λ out. out.items ≡ reply (codes "Error") action_id.now (before.now ++ name.now ++ after.now)) }
+    ensures { IfOk result
+        (λ out. out.items
+        ≡ reply (codes "Error") action_id.now (before.now ++ name.now ++ after.now)) }
 {
     let mut message = Vec::from_slice(alloc, before.as_bytes())?;
     message.extend_from_slice(name.as_bytes())?;

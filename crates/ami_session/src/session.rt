@@ -1,8 +1,10 @@
-ghost use Rattle.std.specs.Prelude.{◌≡◌, Some, None, true, false, codes, IfOk, OnOk, OnErr, MatchResult};
+ghost use Rattle.std.specs.Prelude.{◌≡◌, Some, None, true, false, codes, IfOk, OnOk, OnErr};
+ghost use Rattle.std.specs.Prelude.{MatchResult};
 ghost use Rattle.ami_session.specs.Actions.{AsksBy, absent_in, row_of, unread_in};
 ghost use Rattle.ami_session.specs.FieldValues.{id_of};
 ghost use Rattle.ami_session.specs.Replies.{reply};
-ghost use Rattle.ami_session.specs.Checks.{accepts, Replies, Ends, login_reaction, named_reaction, reaction, reaction_to, after, after_action};
+ghost use Rattle.ami_session.specs.Checks.{accepts, Replies, Ends, login_reaction, named_reaction};
+ghost use Rattle.ami_session.specs.Checks.{reaction, reaction_to, after, after_action};
 ghost use Rattle.ami_session.specs.Text.{own_greeting};
 ghost use Rattle.ami_session.specs.Views.{reaction_of};
 
@@ -59,7 +61,11 @@ impl Model for Session {
 impl Session {
     /// A session that isn't logged in, for this user and secret. It greets with `Queue Sites Call Manager/1.0.0`.
     pub fn new(user: Text80, secret: Text80) -> Session
-        ensures { result ≡ record { greeting = own_greeting; login = Some (record { user = user; secret = secret }); logged_in = false } }
+        ensures { result ≡ record {
+          greeting = own_greeting;
+          login = Some (record { user = user; secret = secret });
+          logged_in = false;
+        } }
     {
         Session {
             greeting: None,
@@ -127,7 +133,8 @@ impl Session {
         id: Bytes,
     ) -> Result<Act, Memory>
         requires { id ≡ id_of message.now }
-        ensures reaction { IfOk result (λ act. reaction_of act ≡ reaction_to self.old message.now (Some name.now)) }
+        ensures reaction { IfOk result
+            (λ act. reaction_of act ≡ reaction_to self.old message.now (Some name.now)) }
         ensures after { OnOk result (self.new ≡ after_action self.old message.now (Some name.now)) }
         ensures err { OnErr result (self.new ≡ self.old) }
     {
@@ -149,9 +156,13 @@ impl Session {
     // A Login: accepted, or an error that leaves the session as it was.
     fn login(&mut self, alloc: Global, message: &Message, id: &Bytes) -> Result<Act, Memory>
         requires { id.now ≡ id_of message.now }
-        ensures reaction { IfOk result (λ act. reaction_of act ≡ login_reaction self.old message.now) }
-        ensures accepted { OnOk result (accepts self.old.login message.now ≡ true → self.new ≡ record self.old { logged_in = true }) }
-        ensures refused { OnOk result (accepts self.old.login message.now ≡ false → self.new ≡ self.old) }
+        ensures reaction { IfOk result
+            (λ act. reaction_of act ≡ login_reaction self.old message.now) }
+        ensures accepted { OnOk result
+            (accepts self.old.login message.now ≡ true
+            → self.new ≡ record self.old { logged_in = true }) }
+        ensures refused { OnOk result
+            (accepts self.old.login message.now ≡ false → self.new ≡ self.old) }
         ensures err { OnErr result (self.new ≡ self.old) }
     {
         if !self.accepts(message) {
@@ -177,14 +188,17 @@ impl Session {
 }
 
 fn error(alloc: Global, id: &Bytes, text: &str) -> Result<Act, Memory>
-    ensures { IfOk result (λ act. reaction_of act ≡ Replies (reply (codes "Error") id.now text.now)) }
+    ensures { IfOk result
+        (λ act. reaction_of act ≡ Replies (reply (codes "Error") id.now text.now)) }
 {
     let bytes = message_reply(alloc, Response::Error, id, text.as_bytes())?;
     Ok(Act::Reply(bytes))
 }
 
 fn goodbye(alloc: Global, id: &Bytes) -> Result<Act, Memory>
-    ensures { IfOk result (λ act. reaction_of act ≡ Ends (reply (codes "Goodbye") id.now (codes "Thanks for all the fish."))) }
+    ensures { IfOk result
+        (λ act. reaction_of act
+        ≡ Ends (reply (codes "Goodbye") id.now (codes "Thanks for all the fish."))) }
 {
     let bytes = message_reply(alloc, Response::Goodbye, id, b"Thanks for all the fish.")?;
     Ok(Act::End(bytes))

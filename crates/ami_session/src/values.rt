@@ -3,7 +3,8 @@ ghost use Rattle.std.specs.Prelude.{◌≡◌, ◌<◌, ◌^◌, length, true, u
 ghost use Rattle.std.specs.Option.{SomeIff};
 ghost use Rattle.std.specs.List.{list_all, list_any};
 ghost use Rattle.std.specs.Char.{is_ascii_digit};
-ghost use Rattle.ami_session.specs.FieldValues.{is_word, is_yes, is_bad_in_id, clean_id, id_of, text_of, name_of, penalty_of, number_of};
+ghost use Rattle.ami_session.specs.FieldValues.{is_word, is_yes, is_bad_in_id, clean_id, id_of};
+ghost use Rattle.ami_session.specs.FieldValues.{text_of, name_of, penalty_of, number_of};
 
 use ami_text::Message;
 use dots::{Interface, Penalty, QueueName, Text80};

@@ -1,4 +1,6 @@
-ghost use Rattle.std.specs.Prelude.{◌≡◌, ◌≢◌, ℕ, List, ◌<◌, ◌≤◌, ◌⊎◌, ◌↔◌, ◌++◌, [], ◌∷◌, None, Some, Ok, Err, drop, length, vec_len, is_ok, if◌then◌else◌, IsOk, IsErrOf, OnErr, OnOk, IfErr, IfOk, IfSome};
+ghost use Rattle.std.specs.Prelude.{◌≡◌, ◌≢◌, ℕ, List, ◌<◌, ◌≤◌, ◌⊎◌, ◌↔◌, ◌++◌, [], ◌∷◌, None};
+ghost use Rattle.std.specs.Prelude.{Some, Ok, Err, drop, length, vec_len, is_ok, if◌then◌else◌};
+ghost use Rattle.std.specs.Prelude.{IsOk, IsErrOf, OnErr, OnOk, IfErr, IfOk, IfSome};
 ghost use Rattle.ami_text.specs.declared.feed_fault.FeedFault.{FeedFault};
 ghost use Rattle.ami_text.specs.MessageFields.{NameAndValue};
 ghost use Rattle.ami_text.specs.FeedStates.{IsStreamFault};
@@ -63,7 +65,8 @@ impl Feed {
     ///
     /// `Memory`: memory was refused, and the feed is as before.
     pub fn feed(&mut self, piece: &[u8]) -> Result<(), Memory>
-        ensures fed { OnOk result (self.old.fault ≡ None → self.new.held ≡ self.old.held ++ piece.now) }
+        ensures fed { OnOk result
+            (self.old.fault ≡ None → self.new.held ≡ self.old.held ++ piece.now) }
         ensures failed { self.old.fault ≢ None → IsOk result × (self.new ≡ self.old) }
         ensures fault { self.new.fault ≡ self.old.fault }
         ensures err { OnErr result (self.new ≡ self.old) }
@@ -87,7 +90,8 @@ impl Feed {
             FirstMessage self.old.held m self.new.held)) }
         ensures shorter { IfOk result (λ next. IfSome next (λ _.
             length self.new.held < length self.old.held)) }
-        ensures rest { result ≡ Ok None → Gives self.old.held [] self.new.held × IsRest self.new.held }
+        ensures rest { result ≡ Ok None
+            → Gives self.old.held [] self.new.held × IsRest self.new.held }
         ensures rest_length { result ≡ Ok None → length self.new.held ≤ 132353 }
         ensures fault { IfErr result (λ f. IsStreamFault (Some f) →
             (self.old.fault ≡ Some f) ⊎ HasFault f self.old.held) }

@@ -3,7 +3,8 @@
 ghost use Rattle.std.specs.Prelude.{◌≡◌, ℕ, List};
 ghost use Rattle.std.specs.Option.{option_map};
 ghost use Rattle.std.specs.Borrow.{Bor};
-ghost use Rattle.ami_text.specs.MessageFields.{field_of, trim_of, trimmed_end as trimmed_end_of, trimmed_front as trimmed_front_of};
+ghost use Rattle.ami_text.specs.MessageFields.{field_of, trim_of, trimmed_end as trimmed_end_of};
+ghost use Rattle.ami_text.specs.MessageFields.{trimmed_front as trimmed_front_of};
 ghost use Rattle.ami_text.specs.LineKind.{HasKind};
 ghost use Rattle.ami_text.specs.Lines.{content as content_of};
 

@@ -1,4 +1,5 @@
-ghost use Rattle.std.specs.Prelude.{◌≡◌, ◌<◌, ◌≤◌, min, [], ◌++◌, nat_lt, true, false, Some, None, length, take, IsErr, IfOk, OnErr};
+ghost use Rattle.std.specs.Prelude.{◌≡◌, ◌<◌, ◌≤◌, min, [], ◌++◌, nat_lt, true, false, Some, None};
+ghost use Rattle.std.specs.Prelude.{length, take, IsErr, IfOk, OnErr};
 ghost use Rattle.ami_text.specs.Devices.{one_less};
 
 use crate::calls_left::count_down;

@@ -1,4 +1,5 @@
-ghost use Rattle.std.specs.Prelude.{◌≡◌, ◌<◌, ◌≤◌, ◌==◌, ◌↔◌, min, [], ◌++◌, true, false, Some, None, length, take, IsErr, IfOk, OnOk, OnErr};
+ghost use Rattle.std.specs.Prelude.{◌≡◌, ◌<◌, ◌≤◌, ◌==◌, ◌↔◌, min, [], ◌++◌, true, false, Some};
+ghost use Rattle.std.specs.Prelude.{None, length, take, IsErr, IfOk, OnOk, OnErr};
 ghost use Rattle.ami_text.specs.Devices.{one_less};
 
 use crate::calls_left::count_down;

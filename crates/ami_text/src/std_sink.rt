@@ -51,7 +51,8 @@ impl<W: Write> Sink for StdSink<W> {
         ensures bytes { IfOk result (λ n. Appends (W.contents (sink_writer self.old))
             (W.contents (sink_writer self.new)) (take n bytes.now)) }
         ensures works { IfOk result (λ n. 0 < n → sink_failed self.new ≡ false) }
-        ensures stuck { IfOk result (λ n. n ≡ 0 → sink_failed self.new ≡ nat_lt 0 (length bytes.now)) }
+        ensures stuck { IfOk result
+            (λ n. n ≡ 0 → sink_failed self.new ≡ nat_lt 0 (length bytes.now)) }
         ensures fails { OnErr result (sink_failed self.new ≡ true) }
         ensures err_bytes { OnErr result (Keeps (W.contents (sink_writer self.old))
             (W.contents (sink_writer self.new))) }

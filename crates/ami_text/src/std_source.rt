@@ -1,4 +1,5 @@
-ghost use Rattle.std.specs.Prelude.{◌≡◌, ◌<◌, ◌≤◌, ◌==◌, true, false, length, take, IfOk, OnOk, OnErr};
+ghost use Rattle.std.specs.Prelude.{◌≡◌, ◌<◌, ◌≤◌, ◌==◌, true, false, length, take, IfOk, OnOk};
+ghost use Rattle.std.specs.Prelude.{OnErr};
 ghost use Rattle.std.specs.Io.KnownBytes.{Consumes, IsAtEnd, Keeps, ReadConsumes};
 ghost use Rattle.ami_text.specs.StdDevices.{source_reader, source_ended, source_failed};
 
@@ -84,7 +85,8 @@ impl<R: Read> Source for StdSource<R> {
 // Reads once, and tries again where the read is interrupted.
 fn read_retrying<R: Read>(reader: &mut R, piece: &mut [u8]) -> Result<usize, Failed>
     ensures count { IfOk result (λ n. n ≤ length piece.new) }
-    ensures reader { ReadConsumes (R.remaining reader.old) (R.remaining reader.new) result piece.new }
+    ensures reader { ReadConsumes (R.remaining reader.old)
+        (R.remaining reader.new) result piece.new }
 {
     for _ in 0..READ_TRIES {
         match reader.read(piece) {

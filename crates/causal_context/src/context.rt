@@ -1,4 +1,5 @@
-ghost use Rattle.std.specs.Prelude.{◌≡◌, ◌≢◌, ◌+◌, ◌≤◌, ◌<◌, ◌↔◌, true, IfErr, IfOk, IsOk, IsTrue, OnErr, OnOk, length};
+ghost use Rattle.std.specs.Prelude.{◌≡◌, ◌≢◌, ◌+◌, ◌≤◌, ◌<◌, ◌↔◌, true, IfErr, IfOk, IsOk, IsTrue};
+ghost use Rattle.std.specs.Prelude.{OnErr, OnOk, length};
 ghost use Rattle.std.specs.FinSet as set;
 ghost use Rattle.std.specs.List.{All};
 ghost use Rattle.std.specs.Slice.Iter.{iter_rest};
@@ -47,7 +48,7 @@ impl Context {
         }
     }
 
-    /// Whether the dot is in. It takes no memory, like all that only reads.
+    /// Whether the dot is in. It takes no memory, like all that only reads and has no fault.
     pub fn contains(&self, dot: Dot) -> bool
         ensures { result ≡ set.contains self.now.dots dot }
     {
@@ -117,8 +118,8 @@ impl Context {
         unite_run(&mut self.runs, run)
     }
 
-    /// Adds the dots of a site from a first count to a last. No fault changes the dots. 1 `RunsFull`, exactly where
-    /// there would be more than 65,536 runs; 2 `Memory`.
+    /// Adds the dots of a site from a first count to a last; 1 ≤ first ≤ last ≤ 2^40. No fault changes the dots. 1 `RunsFull`,
+    /// exactly where there would be more than 65,536 runs; 2 `Memory`.
     pub fn insert_run(&mut self, site: SiteId, first: u64, last: u64) -> Result<(), ContextFault>
         requires least { 1 ≤ first }
         requires ordered { first ≤ last }

@@ -15,23 +15,32 @@ pub fn contexts_are_joined()
 
 /// That one context covers another is the order of subsets.
 pub fn covers_by_subset()
-    ensures members { (a b : set.FinSet dot_cmp) → IsTrue (set.is_subset a b) ↔ ((d : Dot) → IsTrue (set.contains a d) → IsTrue (set.contains b d)) }
+    ensures members { (a b : set.FinSet dot_cmp)
+        → IsTrue (set.is_subset a b)
+        ↔ ((d : Dot) → IsTrue (set.contains a d) → IsTrue (set.contains b d)) }
     ensures reflexive { (a : set.FinSet dot_cmp) → IsTrue (set.is_subset a a) }
-    ensures antisymmetric { (a b : set.FinSet dot_cmp) → IsTrue (set.is_subset a b) → IsTrue (set.is_subset b a) → a ≡ b }
-    ensures transitive { (a b c : set.FinSet dot_cmp) → IsTrue (set.is_subset a b) → IsTrue (set.is_subset b c) → IsTrue (set.is_subset a c) }
-    ensures by_union { (a b : set.FinSet dot_cmp) → IsTrue (set.is_subset a b) ↔ (set.union a b ≡ b) }
+    ensures antisymmetric { (a b : set.FinSet dot_cmp) → IsTrue (set.is_subset a b)
+        → IsTrue (set.is_subset b a) → a ≡ b }
+    ensures transitive { (a b c : set.FinSet dot_cmp) → IsTrue (set.is_subset a b)
+        → IsTrue (set.is_subset b c) → IsTrue (set.is_subset a c) }
+    ensures by_union { (a b : set.FinSet dot_cmp)
+        → IsTrue (set.is_subset a b) ↔ (set.union a b ≡ b) }
 {}
 
 /// A set of dots has one list of runs, so that equal contexts have equal slices, and its length is how many runs the
 /// set has.
 pub fn has_one_list_of_runs()
-    ensures unique { (a b : List Run) (dots : set.FinSet dot_cmp) → IsRunsOf a dots → IsRunsOf b dots → a ≡ b }
-    ensures counted { (a : List Run) (dots : set.FinSet dot_cmp) → IsRunsOf a dots → run_count dots ≡ length a }
+    ensures unique { (a b : List Run) (dots : set.FinSet dot_cmp) → IsRunsOf a dots
+        → IsRunsOf b dots → a ≡ b }
+    ensures counted { (a : List Run) (dots : set.FinSet dot_cmp) → IsRunsOf a dots
+        → run_count dots ≡ length a }
 {}
 
 /// The runs of a set are its longest runs: neither the dot past the last one of a run nor the dot before its first
 /// one is in the set.
 pub fn has_longest_runs()
-    ensures past { (a : List Run) (dots : set.FinSet dot_cmp) → IsRunsOf a dots → All (λ run. set.contains dots (next_dot (last_dot run)) ≡ false) a }
-    ensures before { (a : List Run) (dots : set.FinSet dot_cmp) → IsRunsOf a dots → All (λ run. (d : Dot) → next_dot d ≡ first_dot run → set.contains dots d ≡ false) a }
+    ensures past { (a : List Run) (dots : set.FinSet dot_cmp) → IsRunsOf a dots
+        → All (λ run. set.contains dots (next_dot (last_dot run)) ≡ false) a }
+    ensures before { (a : List Run) (dots : set.FinSet dot_cmp) → IsRunsOf a dots
+        → All (λ run. (d : Dot) → next_dot d ≡ first_dot run → set.contains dots d ≡ false) a }
 {}

@@ -29,7 +29,7 @@ pub record IsSame (d e : DeltaState) : Type 0 where
   pub known : d.members.known ≡ e.members.known
   pub totals : d.totals.entries ≡ e.totals.entries
 
--- a delta says the same as before, and as many places aren't used again; its rooms may have grown
+-- a delta says the same as before, and as many places aren't used again; of its rooms nothing is said
 pub record IsUnchanged (old new : DeltaState) : Type 0 where
   pub members : sets.IsUnchanged old.members new.members
   pub totals : new.totals.entries ≡ old.totals.entries

@@ -3,7 +3,8 @@ ghost use Rattle.std.specs.FinMap as map;
 ghost use Rattle.std.specs.FinSet as set;
 ghost use Rattle.member_orset.specs.Members.{KeepsIds};
 ghost use Rattle.delta.specs.DeltaStates.{IsEmpty, IsSame, IsUnchanged, KeepsRoom};
-ghost use Rattle.delta.specs.Joining.{Agree, Disagree, IsJoinOf, IsPrepared, IsRefusedFor, IsRefusedJoin};
+ghost use Rattle.delta.specs.Joining.{Agree, Disagree, IsJoinOf, IsPrepared, IsRefusedFor};
+ghost use Rattle.delta.specs.Joining.{IsRefusedJoin};
 
 use crate::parts::{
     absorb_members, absorb_totals, has_prepared_members, has_prepared_totals, knows_nothing,
@@ -38,6 +39,7 @@ impl Delta {
     /// The delta of nothing. It takes no memory.
     pub fn empty(alloc: Global) -> Delta
         ensures empty { IsEmpty result }
+        ensures spent { result.members.spent ≡ set.empty }
         ensures retired { result.members.retired ≡ 0 }
     {
         Delta {
@@ -62,7 +64,7 @@ impl Delta {
         (self.members, self.totals)
     }
 
-    /// Its set of members. It takes no memory, like all that only reads.
+    /// Its set of members. It takes no memory, like all that only reads and has no fault.
     pub fn members(&self) -> &MemberSet
         ensures { result.now ≡ self.now.members }
     {
@@ -157,6 +159,7 @@ impl Delta {
     /// Another delta that says the same. The one fault is want of memory.
     pub fn copy(&self) -> Result<Delta, Memory>
         ensures same { IfOk result (λ copy. IsSame self.now copy) }
+        ensures spent { IfOk result (λ copy. copy.members.spent ≡ set.empty) }
         ensures retired { IfOk result (λ copy. copy.members.retired ≡ 0) }
     {
         let members = self.members.copy()?;

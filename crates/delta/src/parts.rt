@@ -3,7 +3,8 @@ ghost use Rattle.std.specs.Prelude.{◌≡◌, ◌≢◌, ◌↔◌, ◌≤◌, 
 ghost use Rattle.std.specs.FinMap as map;
 ghost use Rattle.std.specs.FinSet as set;
 ghost use Rattle.dots.specs.Totals.{join_of};
-ghost use Rattle.member_orset.specs.Members.{IsJoinOf, IsPrepared, IsUnchanged, IsWithinLimits, KeepsIds};
+ghost use Rattle.member_orset.specs.Members.{IsJoinOf, IsPrepared, IsUnchanged, IsWithinLimits};
+ghost use Rattle.member_orset.specs.Members.{KeepsIds};
 ghost use Rattle.member_orset.specs.Refusals.{IsRefusedJoin};
 ghost use Rattle.site_totals.specs.Tally.{HasRoomFor};
 

@@ -2,7 +2,8 @@ ghost use Rattle.std.specs.Prelude.{◌≡◌, ◌≤◌, Err, IfOk, length};
 ghost use Rattle.delta_codec.specs.declared.limits.TheConstants.{MOST_LENGTH};
 ghost use Rattle.delta_codec.specs.declared.decode_fault.DecodeFault.{DecodeFault};
 ghost use Rattle.delta_codec.specs.Decoding.{IsFrontFault, IsFrontFrame, frame_kept};
-ghost use Rattle.delta_codec.specs.Reading.{Gives, GivesWithMemory, content_in, heading_at, kept_at, kept_in, opening_at, opening_in, within_at};
+ghost use Rattle.delta_codec.specs.Reading.{Gives, GivesWithMemory, content_in, heading_at};
+ghost use Rattle.delta_codec.specs.Reading.{kept_at, kept_in, opening_at, opening_in, within_at};
 
 use crate::elements::{read_cells, read_runs, read_totals};
 use crate::numbers::{read_count, read_site};
@@ -15,7 +16,8 @@ use std::alloc::Global;
 // Who made a frame, and its number.
 #[tactic(auto, unfolding(crate::specs::Reading::heading_at))]
 fn read_heading(reader: &mut Reader<'_>) -> Result<(SiteId, u64), DecodeFault>
-    ensures { Gives (λ x. (record { maker = x.0; number = x.1 }, reader.new)) result (heading_at reader.old) }
+    ensures { Gives (λ x. (record { maker = x.0; number = x.1 }, reader.new)) result
+        (heading_at reader.old) }
 {
     let maker = read_site(reader)?;
     let number = read_count(reader)?;

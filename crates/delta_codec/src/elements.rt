@@ -1,5 +1,6 @@
 //! The runs, the cells and the totals of a frame at the front of bytes, each kept as it is read.
-ghost use Rattle.std.specs.Prelude.{◌≡◌, ◌↔◌, ◌≤◌, ◌<◌, IfErr, IfOk, IsSome, IsTrue, None, OnOk, true};
+ghost use Rattle.std.specs.Prelude.{◌≡◌, ◌↔◌, ◌≤◌, ◌<◌, IfErr, IfOk, IsSome, IsTrue, None, OnOk};
+ghost use Rattle.std.specs.Prelude.{true};
 ghost use Rattle.std.specs.declared.cmp.Ordering.TheVariants.{Less};
 ghost use Rattle.std.specs.FinMap as map;
 ghost use Rattle.std.specs.FinSet as set;
@@ -10,7 +11,11 @@ ghost use Rattle.dots.specs.Values.{Dot};
 ghost use Rattle.causal_context.specs.Contexts.{IsRun};
 ghost use Rattle.member_orset.specs.Members.{HasField};
 ghost use Rattle.delta_codec.specs.Elements.{cell_read, total_read};
-ghost use Rattle.delta_codec.specs.Reading.{Gives, GivesWithMemory, run_at, dot_at, place_at, cell_at, total_at, next_at, elements_at, runs_at, cells_at, totals_at, made, order_fault, is_dot_before, run_elements, cell_elements, total_elements, known_of, live_of, totals_of, with_run, with_cell, with_total};
+ghost use Rattle.delta_codec.specs.Reading.{Gives, GivesWithMemory, run_at, dot_at, place_at};
+ghost use Rattle.delta_codec.specs.Reading.{cell_at, total_at, next_at, elements_at, runs_at};
+ghost use Rattle.delta_codec.specs.Reading.{cells_at, totals_at, made, order_fault, is_dot_before};
+ghost use Rattle.delta_codec.specs.Reading.{run_elements, cell_elements, total_elements, known_of};
+ghost use Rattle.delta_codec.specs.Reading.{live_of, totals_of, with_run, with_cell, with_total};
 
 use crate::fields::{read_fields, read_interface};
 use crate::numbers::{read_calls, read_count, read_last, read_queue, read_site, read_size};
@@ -111,7 +116,8 @@ fn read_counted_runs(
 // The runs, as the context of their dots.
 #[tactic(auto, unfolding(crate::specs::Reading::list_at))]
 pub(crate) fn read_runs(alloc: Global, reader: &mut Reader<'_>) -> Result<Context, DecodeFault>
-    ensures { GivesWithMemory (λ x. (x.dots, reader.new)) result (made known_of (runs_at reader.old)) }
+    ensures { GivesWithMemory (λ x. (x.dots, reader.new)) result
+        (made known_of (runs_at reader.old)) }
 {
     let count = read_size(MOST_RUNS, reader)?;
     read_counted_runs(alloc, count, reader)
@@ -135,7 +141,8 @@ fn read_dot(reader: &mut Reader<'_>) -> Result<Dot, DecodeFault>
 // A dot and the number of its queue.
 #[tactic(auto, unfolding(crate::specs::Reading::place_at))]
 fn read_place(reader: &mut Reader<'_>) -> Result<(Dot, u16), DecodeFault>
-    ensures { Gives (λ x. (record { dot = x.0; queue = x.1 }, reader.new)) result (place_at reader.old) }
+    ensures { Gives (λ x. (record { dot = x.0; queue = x.1 }, reader.new)) result
+        (place_at reader.old) }
 {
     let dot = read_dot(reader)?;
     let queue = read_queue(reader)?;
@@ -195,7 +202,8 @@ fn read_next_cell(
 // Gives a cell to a builder.
 fn keep_cell(builder: &mut SetBuilder, cell: &CellRead) -> Result<(), DecodeFault>
     requires known { set.contains builder.old.known cell.now.dot ≡ true }
-    requires greater { (q : Dot) → IsSome (map.get builder.old.live q) → dot_cmp q cell.now.dot ≡ Less }
+    requires greater { (q : Dot) → IsSome (map.get builder.old.live q)
+        → dot_cmp q cell.now.dot ≡ Less }
     requires some { HasField cell.now.fields }
     requires room { map.len builder.old.live < MOST_LIVE }
     ensures ok { OnOk result (builder.new.live ≡ with_cell builder.old.live (cell_read cell.now)) }
@@ -218,7 +226,8 @@ fn read_counted_cells(
     requires fresh { builder.old.live ≡ map.empty }
     ensures known { builder.new.known ≡ builder.old.known }
     ensures cells { GivesWithMemory (λ _. (builder.new.live, reader.new)) result
-        (made live_of (elements_at (cell_elements (set.contains builder.old.known)) count None reader.old)) }
+        (made live_of
+        (elements_at (cell_elements (set.contains builder.old.known)) count None reader.old)) }
 {
     let mut last = None;
     for _ in 0..count {
@@ -295,7 +304,8 @@ fn keep_total(totals: &mut Totals, total: &TotalRead) -> Result<(), DecodeFault>
     requires queue { total.now.key.queue < QUEUES }
     requires completed { total.now.totals.completed ≤ MOST_CALLS }
     requires abandoned { total.now.totals.abandoned ≤ MOST_CALLS }
-    ensures ok { OnOk result (totals.new.entries ≡ with_total totals.old.entries (total_read total.now)) }
+    ensures ok { OnOk result
+        (totals.new.entries ≡ with_total totals.old.entries (total_read total.now)) }
     ensures err { IfErr result (λ fault. fault ≡ DecodeFault.Memory) }
 {
     match totals.reach(total.key.site(), total.key.queue(), total.totals) {

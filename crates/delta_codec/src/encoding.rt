@@ -2,7 +2,8 @@ ghost use Rattle.std.specs.Prelude.{◌≡◌, ◌++◌, ◌≤◌, IfOk, OnOk, 
 ghost use Rattle.std.specs.FinMap as map;
 ghost use Rattle.std.specs.List.{All};
 ghost use Rattle.dots.specs.declared.limits.TheConstants.{MOST_RUNS};
-ghost use Rattle.delta_codec.specs.Frames.{Spells, content_bytes, frame_bytes, IsInRanges, parts_with};
+ghost use Rattle.delta_codec.specs.Frames.{Spells, content_bytes, frame_bytes, IsInRanges};
+ghost use Rattle.delta_codec.specs.Frames.{parts_with};
 ghost use Rattle.delta_codec.specs.Measures.{IsMeasured};
 
 use crate::sizes::content_size;
@@ -27,7 +28,8 @@ fn put_content(out: &mut Vec<u8>, frame: &Frame, runs: &[Run]) -> Result<(), Mem
 // The bytes of a frame whose context has these runs.
 fn encode_with(alloc: Global, frame: &Frame, runs: &[Run]) -> Result<Vec<u8>, Memory>
     requires { length runs.now ≤ MOST_RUNS }
-    ensures value { IfOk result (λ bytes. bytes.items ≡ frame_bytes (parts_with frame.now runs.now)) }
+    ensures value { IfOk result
+        (λ bytes. bytes.items ≡ frame_bytes (parts_with frame.now runs.now)) }
     ensures within { All IsMeasured (map.entries frame.now.delta.members.live) }
 {
     let size = content_size(frame, runs);

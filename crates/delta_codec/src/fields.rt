@@ -1,7 +1,9 @@
 //! Texts, and the fields of a dot, at the front of bytes.
 ghost use Rattle.std.specs.Prelude.{◌≡◌, ◌≤◌, [], length, is_some, IfOk};
 ghost use Rattle.member_orset.specs.Members.{HasField};
-ghost use Rattle.delta_codec.specs.Reading.{Gives, text_at, no_reason_at, stamp_at, reason_at, pause_at, label_at, field_at, penalty_at, set_fields_at, fields_at};
+ghost use Rattle.delta_codec.specs.Reading.{Gives, text_at, no_reason_at, stamp_at, reason_at};
+ghost use Rattle.delta_codec.specs.Reading.{pause_at, label_at, field_at, penalty_at};
+ghost use Rattle.delta_codec.specs.Reading.{set_fields_at, fields_at};
 ghost use Rattle.delta_codec.specs.Faults.{IsFlags, penalty_flag, pause_flag, label_flag};
 
 use crate::DecodeFault;

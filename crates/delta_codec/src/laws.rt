@@ -1,12 +1,14 @@
 //! Laws of the spelling of frames. The functions have no body: their contracts are the laws.
 ghost use Rattle.std.specs.Prelude.{◌≡◌, ◌≢◌, ◌⊎◌, ◌≤◌, ◌++◌, ℕ, List, [], length, take};
 ghost use Rattle.delta_codec.specs.declared.decode_fault.DecodeFault.{DecodeFault};
-ghost use Rattle.delta_codec.specs.declared.decode_fault.DecodeFault.TheVariants.{Memory, Truncated};
+ghost use Rattle.delta_codec.specs.declared.decode_fault.DecodeFault.TheVariants.{Memory};
+ghost use Rattle.delta_codec.specs.declared.decode_fault.DecodeFault.TheVariants.{Truncated};
 ghost use Rattle.delta_codec.specs.declared.frame.Frame.{Frame};
 ghost use Rattle.delta_codec.specs.declared.limits.TheConstants.{LEAST_LENGTH, MOST_LENGTH};
 ghost use Rattle.delta_codec.specs.Decoding.{AreBytes, BeginsWithFrame, IsAtFault, IsSameFrame};
 ghost use Rattle.delta_codec.specs.Faults.{HasFault};
-ghost use Rattle.delta_codec.specs.Frames.{AreParts, FrameParts, Spells, content_bytes, frame_bytes};
+ghost use Rattle.delta_codec.specs.Frames.{AreParts, FrameParts, Spells, content_bytes};
+ghost use Rattle.delta_codec.specs.Frames.{frame_bytes};
 
 /// Each frame has one spelling: frames of one maker and number whose deltas say the same have equal bytes.
 pub fn each_frame_has_one_spelling()

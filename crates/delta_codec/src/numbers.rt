@@ -3,7 +3,8 @@ ghost use Rattle.std.specs.Prelude.{◌≡◌, ◌≤◌, ◌<◌, IfOk};
 ghost use Rattle.dots.specs.declared.limits.TheConstants.{MOST_CALLS, MOST_COUNT, QUEUES};
 ghost use Rattle.dots.specs.Values.{IsCount};
 ghost use Rattle.delta_codec.specs.Faults.{IsFlags};
-ghost use Rattle.delta_codec.specs.Reading.{Gives, site_at, count_at, last_at, queue_at, penalty_at, calls_at, bit_at, flags_at, size_at};
+ghost use Rattle.delta_codec.specs.Reading.{Gives, site_at, count_at, last_at, queue_at};
+ghost use Rattle.delta_codec.specs.Reading.{penalty_at, calls_at, bit_at, flags_at, size_at};
 
 use crate::DecodeFault;
 use crate::reader::Reader;

@@ -3,7 +3,8 @@ ghost use Rattle.std.specs.Int.{w16, w32, w64};
 ghost use Rattle.dots.specs.declared.limits.TheConstants.{TEXT_BYTES};
 ghost use Rattle.delta_codec.specs.Frames.{magic};
 ghost use Rattle.delta_codec.specs.declared.limits.TheConstants.{VERSION};
-ghost use Rattle.delta_codec.specs.Reading.{Gives, byte_at, magic_at, number_at, text_of, version_at};
+ghost use Rattle.delta_codec.specs.Reading.{Gives, byte_at, magic_at, number_at, text_of};
+ghost use Rattle.delta_codec.specs.Reading.{version_at};
 
 use crate::{DecodeFault, VERSION};
 use dots::Text80;

@@ -8,7 +8,9 @@ ghost use Rattle.dots.specs.WithinLimits.{IsDot, IsLabel, IsPause, IsStamp};
 ghost use Rattle.delta_codec.specs.declared.limits.TheConstants.{MOST_LENGTH, MOST_TOTALS};
 ghost use Rattle.delta_codec.specs.Frames.{content_bytes, parts_with};
 ghost use Rattle.delta_codec.specs.Measures.{IsMeasured, most_cell};
-ghost use Rattle.delta_codec.specs.Parts.{IsField, cell_bytes, field_bytes, fields_bytes, label_bytes, pause_bytes, penalty_bytes, stamp_bytes, text_bytes, total_bytes};
+ghost use Rattle.delta_codec.specs.Parts.{IsField, cell_bytes, field_bytes, fields_bytes};
+ghost use Rattle.delta_codec.specs.Parts.{label_bytes, pause_bytes, penalty_bytes, stamp_bytes};
+ghost use Rattle.delta_codec.specs.Parts.{text_bytes, total_bytes};
 
 use crate::Frame;
 use causal_context::Run;

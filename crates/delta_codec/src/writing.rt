@@ -5,7 +5,10 @@ ghost use Rattle.std.specs.FinMap as map;
 ghost use Rattle.std.specs.Int.{w16, w32, w64, to_be_bytes};
 ghost use Rattle.dots.specs.declared.limits.TheConstants.{MOST_RUNS};
 ghost use Rattle.delta_codec.specs.Frames.{opening_bytes};
-ghost use Rattle.delta_codec.specs.Parts.{byte, cell_bytes, dot_bytes, field_bytes, fields_bytes, flags_of, label_bytes, list_bytes, pause_bytes, penalty_bytes, run_bytes, stamp_bytes, text_bytes, total_bytes};
+ghost use Rattle.delta_codec.specs.Parts.{byte, cell_bytes, dot_bytes, field_bytes, fields_bytes};
+ghost use Rattle.delta_codec.specs.Parts.{flags_of, label_bytes, list_bytes, pause_bytes};
+ghost use Rattle.delta_codec.specs.Parts.{penalty_bytes, run_bytes, stamp_bytes, text_bytes};
+ghost use Rattle.delta_codec.specs.Parts.{total_bytes};
 
 use crate::sizes::count_of;
 use crate::{Memory, VERSION};
@@ -140,7 +143,8 @@ fn put_dot(out: &mut Vec<u8>, dot: Dot) -> Result<(), Memory>
 
 // A cell.
 fn put_cell(out: &mut Vec<u8>, dot: Dot, member: &Member, fields: &Fields) -> Result<(), Memory>
-    ensures { OnOk result (out.new.items ≡ out.old.items ++ cell_bytes (dot, (member.now, fields.now))) }
+    ensures { OnOk result
+        (out.new.items ≡ out.old.items ++ cell_bytes (dot, (member.now, fields.now))) }
 {
     put_dot(out, dot)?;
     put_number2(out, member.queue)?;
@@ -232,7 +236,9 @@ pub(crate) fn put_total_list(out: &mut Vec<u8>, totals: &Totals) -> Result<(), M
 
 // The letters that begin each frame, the version, who made it, and its number.
 pub(crate) fn put_opening(out: &mut Vec<u8>, maker: SiteId, number: u64) -> Result<(), Memory>
-    ensures { OnOk result (out.new.items ≡ out.old.items ++ opening_bytes (record { maker = maker; number = number })) }
+    ensures { OnOk result
+        (out.new.items
+        ≡ out.old.items ++ opening_bytes (record { maker = maker; number = number })) }
 {
     out.extend_from_slice(&[b'Q', b'D', VERSION])?;
     put_site(out, maker)?;

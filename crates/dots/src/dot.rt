@@ -81,7 +81,8 @@ impl Ord for Dot {
 impl PartialOrd for Dot {
     ghost partial_cmp = { as_partial_cmp dot_cmp };
 
-    ghost laws = { partial_order_from_own_ties (Prim.search (comparing, rules)) (Prim.search (comparing, rules)) };
+    ghost laws = { partial_order_from_own_ties (Prim.search (comparing, rules))
+        (Prim.search (comparing, rules)) };
 
     fn partial_cmp(&self, other: &Dot) -> Option<Ordering> {
         Some(self.cmp(other))

@@ -90,7 +90,8 @@ impl Ord for Interface {
 impl PartialOrd for Interface {
     ghost partial_cmp = { as_partial_cmp text_cmp };
 
-    ghost laws = { partial_order_from_own_ties (Prim.search (comparing, rules)) (Prim.search (comparing, rules)) };
+    ghost laws = { partial_order_from_own_ties (Prim.search (comparing, rules))
+        (Prim.search (comparing, rules)) };
 
     fn partial_cmp(&self, other: &Interface) -> Option<Ordering> {
         Some(self.cmp(other))

@@ -1,5 +1,6 @@
 //! What the definitions of a knowledge promise. The functions have no body: their contracts are the laws.
-ghost use Rattle.std.specs.Prelude.{◌≡◌, ◌↔◌, ◌≤◌, ◌<◌, ℕ, true, false, Option, Some, None, IsSome, ◌++◌};
+ghost use Rattle.std.specs.Prelude.{◌≡◌, ◌↔◌, ◌≤◌, ◌<◌, ℕ, true, false, Option, Some, None, IsSome};
+ghost use Rattle.std.specs.Prelude.{◌++◌};
 ghost use Rattle.std.specs.FinSet as set;
 ghost use Rattle.dots.specs.declared.calls.Calls.{Calls};
 ghost use Rattle.dots.specs.declared.member.Member.{Member};
@@ -7,12 +8,15 @@ ghost use Rattle.dots.specs.Values.{Dot};
 ghost use Rattle.dots.specs.Orders.{dot_cmp};
 ghost use Rattle.dots.specs.Totals.{Entries, sum_below};
 ghost use Rattle.dots.specs.Joins.{IsJoin, IsOrder, IsLeastAbove};
-ghost use Rattle.dots.specs.Conditions.{Condition, Dead, ConditionsAgree, IsConditionBelow, Represents, IsOne, condition_joined};
+ghost use Rattle.dots.specs.Conditions.{Condition, Dead, ConditionsAgree, IsConditionBelow};
+ghost use Rattle.dots.specs.Conditions.{Represents, IsOne, condition_joined};
 ghost use Rattle.dots.specs.Operations.{penalty_field, pause_field, label_field};
-ghost use Rattle.dots.specs.Knowledge.{Knowledge, SameOperations, IsConsistent, is_named, visible_dots, member_of};
+ghost use Rattle.dots.specs.Knowledge.{Knowledge, SameOperations, IsConsistent, is_named};
+ghost use Rattle.dots.specs.Knowledge.{visible_dots, member_of};
 ghost use Rattle.dots.specs.Rows.{DotView, MemberRow, ShowAlike, dot_view, row_of, rows_of};
 ghost use Rattle.dots.specs.Counts.{site_total, queue_total};
-ghost use Rattle.dots.specs.Shown.{IsVisible, IsComputed, HasVisibleDot, HasValues, ShowsField, ShowsLatest, ShowTheSame, IsGreatestCount};
+ghost use Rattle.dots.specs.Shown.{IsVisible, IsComputed, HasVisibleDot, HasValues, ShowsField};
+ghost use Rattle.dots.specs.Shown.{ShowsLatest, ShowTheSame, IsGreatestCount};
 
 use crate::limits::SITES;
 
@@ -89,7 +93,8 @@ pub fn a_join_of_conditions_is_the_least_above_both()
 pub fn conditions_are_joined()
     ensures join { IsJoin ConditionsAgree condition_joined }
     ensures dead_wins { (x : Option Condition)
-        → (condition_joined (Some Dead) x ≡ Some Dead) × (condition_joined x (Some Dead) ≡ Some Dead) }
+        → (condition_joined (Some Dead) x ≡ Some Dead)
+        × (condition_joined x (Some Dead) ≡ Some Dead) }
     ensures unknown_is_neutral { (x : Option Condition)
         → (condition_joined None x ≡ x) × (condition_joined x None ≡ x) }
 {}

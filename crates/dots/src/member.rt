@@ -49,7 +49,8 @@ impl Ord for Member {
 impl PartialOrd for Member {
     ghost partial_cmp = { as_partial_cmp member_cmp };
 
-    ghost laws = { partial_order_from_own_ties (Prim.search (comparing, rules)) (Prim.search (comparing, rules)) };
+    ghost laws = { partial_order_from_own_ties (Prim.search (comparing, rules))
+        (Prim.search (comparing, rules)) };
 
     fn partial_cmp(&self, other: &Member) -> Option<Ordering> {
         Some(self.cmp(other))

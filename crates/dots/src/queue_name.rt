@@ -91,7 +91,8 @@ impl Ord for QueueName {
 impl PartialOrd for QueueName {
     ghost partial_cmp = { as_partial_cmp text_cmp };
 
-    ghost laws = { partial_order_from_own_ties (Prim.search (comparing, rules)) (Prim.search (comparing, rules)) };
+    ghost laws = { partial_order_from_own_ties (Prim.search (comparing, rules))
+        (Prim.search (comparing, rules)) };
 
     fn partial_cmp(&self, other: &QueueName) -> Option<Ordering> {
         Some(self.cmp(other))

@@ -79,7 +79,8 @@ impl Ord for Stamp {
 impl PartialOrd for Stamp {
     ghost partial_cmp = { as_partial_cmp stamp_cmp };
 
-    ghost laws = { partial_order_from_own_ties (Prim.search (comparing, rules)) (Prim.search (comparing, rules)) };
+    ghost laws = { partial_order_from_own_ties (Prim.search (comparing, rules))
+        (Prim.search (comparing, rules)) };
 
     fn partial_cmp(&self, other: &Stamp) -> Option<Ordering> {
         Some(self.cmp(other))

@@ -14,7 +14,8 @@ pub fn join_keeps_latest<T>()
 /// with two registers agrees with their join, also where these two don't agree.
 pub fn registers_are_joined<T>()
     ensures join { IsJoin {T = Option (Entry T)} Agree join_of }
-    ensures keeps_agreement { (x y z : Option (Entry T)) → Agree x z → Agree y z → Agree (join_of x y) z }
+    ensures keeps_agreement { (x y z : Option (Entry T)) → Agree x z → Agree y z
+        → Agree (join_of x y) z }
     ensures ordered { IsOrder (IsBelow {T = T}) }
     ensures least { (x y : Option (Entry T)) → Agree x y → IsLeastAbove IsBelow x y (join_of x y) }
 {}
@@ -23,5 +24,6 @@ pub fn registers_are_joined<T>()
 /// don't agree.
 pub fn fields_are_joined()
     ensures join { IsJoin FieldsAgree fields_joined }
-    ensures keeps_agreement { (x y z : DotFields) → FieldsAgree x z → FieldsAgree y z → FieldsAgree (fields_joined x y) z }
+    ensures keeps_agreement { (x y z : DotFields) → FieldsAgree x z → FieldsAgree y z
+        → FieldsAgree (fields_joined x y) z }
 {}

@@ -58,7 +58,7 @@ pub record SaysTheSame (s t : Members) : Type 0 where
   pub known : t.known ≡ s.known
   pub live : t.live ≡ s.live
 
--- a set says the same as before, and each id is as before; its rooms may have grown
+-- a set says the same as before, and each id is as before; of its rooms nothing is said
 pub record IsUnchanged (old new : Members) : Type 0 where
   pub known : new.known ≡ old.known
   pub live : new.live ≡ old.live

@@ -1,5 +1,6 @@
 //! What is done with one dot that is asserted.
-ghost use Rattle.std.specs.Prelude.{◌≡◌, ◌≢◌, ◌≤◌, ◌<◌, ◌+◌, ◌↔◌, IfSome, IsFalse, IsOk, IsTrue, OnErr, OnOk, Err, None, true, false};
+ghost use Rattle.std.specs.Prelude.{◌≡◌, ◌≢◌, ◌≤◌, ◌<◌, ◌+◌, ◌↔◌, IfSome, IsFalse, IsOk, IsTrue};
+ghost use Rattle.std.specs.Prelude.{OnErr, OnOk, Err, None, true, false};
 ghost use Rattle.std.specs.FinMap as map;
 ghost use Rattle.std.specs.FinSet as set;
 ghost use Rattle.dots.specs.DotSets.{run_count};

@@ -9,7 +9,8 @@ ghost use Rattle.member_orset.specs.CellIds.{retired_of};
 ghost use Rattle.member_orset.specs.Members.{most_places};
 ghost use Rattle.member_orset.specs.LiveLists.{HoldingsAgree, holding};
 ghost use Rattle.member_orset.specs.PlacedLists.{AreRising};
-ghost use Rattle.member_orset.specs.Joining.{AgreeWith, IsJoinedWith, IsNextDead, IsTakenIn, IsThinned, dead_in_run, dead_in_runs};
+ghost use Rattle.member_orset.specs.Joining.{AgreeWith, IsJoinedWith, IsNextDead, IsTakenIn};
+ghost use Rattle.member_orset.specs.Joining.{IsThinned, dead_in_run, dead_in_runs};
 
 use crate::JoinFault;
 use crate::live_cells::LiveCells;

@@ -1,4 +1,5 @@
-ghost use Rattle.std.specs.Prelude.{◌≡◌, ◌+◌, ◌<◌, ◌≤◌, ◌↔◌, ◌≢◌, ◌++◌, [], ◌∷◌, IsOk, IsTrue, IfOk, IfSome, OnOk, Err, None};
+ghost use Rattle.std.specs.Prelude.{◌≡◌, ◌+◌, ◌<◌, ◌≤◌, ◌↔◌, ◌≢◌, ◌++◌, [], ◌∷◌, IsOk, IsTrue};
+ghost use Rattle.std.specs.Prelude.{IfOk, IfSome, OnOk, Err, None};
 ghost use Rattle.std.specs.Prelude.{map as each};
 ghost use Rattle.std.specs.Option.{option_map};
 ghost use Rattle.std.specs.FinMap as map;
@@ -118,6 +119,7 @@ impl<const LAST: u32> LiveCells<LAST> {
     pub(crate) fn at(&self, id: CellId) -> Option<Cell<'_>>
         ensures some { IfSome result (λ cell. HasId self.now id (cell_read cell)) }
         ensures none { result ≡ None → (dot : Dot) → map.get self.now.ids dot ≢ Some id }
+        ensures spent { IsTrue (set.contains self.now.spent id) → result ≡ None }
     {
         let cell = self.placed.cell(id)?;
         Some(cell.lent())
@@ -166,7 +168,8 @@ impl<const LAST: u32> LiveCells<LAST> {
     pub(crate) fn insert(&mut self, cell: LiveDot) -> CellId
         requires new { map.get self.old.live cell.dot ≡ None }
         requires room { map.len self.old.live < self.old.room }
-        ensures live { self.new.live ≡ map.insert self.old.live cell.dot (cell.member, cell.fields) }
+        ensures live { self.new.live
+            ≡ map.insert self.old.live cell.dot (cell.member, cell.fields) }
         ensures ids { self.new.ids ≡ map.insert self.old.ids cell.dot result }
         ensures new { IsNew self.old.ids self.old.spent self.old.spent result }
         ensures spent { self.new.spent ≡ self.old.spent }

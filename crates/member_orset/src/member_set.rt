@@ -1,4 +1,5 @@
-ghost use Rattle.std.specs.Prelude.{◌≡◌, ◌≢◌, ◌↔◌, ◌<◌, ◌≤◌, Err, None, true, IfErr, IfOk, IfSome, IsFalse, IsOk, IsTrue, OnOk, OnErr};
+ghost use Rattle.std.specs.Prelude.{◌≡◌, ◌≢◌, ◌↔◌, ◌<◌, ◌≤◌, Err, None, true, IfErr, IfOk, IfSome};
+ghost use Rattle.std.specs.Prelude.{IsFalse, IsOk, IsTrue, OnOk, OnErr};
 ghost use Rattle.std.specs.Option.{option_map};
 ghost use Rattle.std.specs.FinMap as map;
 ghost use Rattle.std.specs.FinSet as set;
@@ -74,6 +75,7 @@ impl MemberSet {
     pub fn new(alloc: Global) -> MemberSet
         ensures known { result.known ≡ set.empty }
         ensures live { result.live ≡ map.empty }
+        ensures ids { result.ids ≡ map.empty }
         ensures spent { result.spent ≡ set.empty }
         ensures retired { result.retired ≡ 0 }
     {
@@ -95,7 +97,7 @@ impl MemberSet {
         MemberSet { context, cells }
     }
 
-    /// The dots that it knows. It takes no memory, like all that only reads.
+    /// The dots that it knows. It takes no memory, like all that only reads and has no fault.
     pub fn context(&self) -> &Context
         ensures { result.now.dots ≡ self.now.known }
     {
@@ -173,10 +175,11 @@ impl MemberSet {
         self.cells.id(dot)
     }
 
-    /// The member and the fields of the live dot that has an id, where one has it.
+    /// The member and the fields of the live dot that has an id, where one has it: that of a dead dot answers `None` for good.
     pub fn at(&self, id: CellId) -> Option<Cell<'_>>
         ensures some { IfSome result (λ cell. HasId self.now id (cell_read cell)) }
         ensures none { result ≡ None → (dot : Dot) → map.get self.now.ids dot ≢ Some id }
+        ensures spent { IsTrue (set.contains self.now.spent id) → result ≡ None }
     {
         self.cells.at(id)
     }

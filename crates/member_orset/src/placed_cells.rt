@@ -1,4 +1,5 @@
-ghost use Rattle.std.specs.Prelude.{ℕ, ◌≡◌, ◌+◌, ◌<◌, ◌≤◌, ◌↔◌, [], true, false, length, IfErr, IfOk, IsOk, IsTrue, OnOk, slice_index_or, slice_set};
+ghost use Rattle.std.specs.Prelude.{ℕ, ◌≡◌, ◌+◌, ◌<◌, ◌≤◌, ◌↔◌, [], true, false, length, IfErr};
+ghost use Rattle.std.specs.Prelude.{IfOk, IsOk, IsTrue, OnOk, slice_index_or, slice_set};
 ghost use Rattle.std.specs.FinMap as map;
 ghost use Rattle.std.specs.FinSet as set;
 ghost use Rattle.std.specs.List.{AllWithin, insert, remove};
@@ -165,7 +166,8 @@ impl<const LAST: u32> PlacedCells<LAST> {
 
     // The cell of an id, where it has one.
     pub(crate) fn cell(&self, id: CellId) -> Option<&LiveDot>
-        ensures { option_copied result ≡ map.get self.now.held id }
+        ensures value { option_copied result ≡ map.get self.now.held id }
+        ensures spent { IsTrue (set.contains self.now.spent id) → result ≡ None }
     {
         self.cells.get(id)
     }

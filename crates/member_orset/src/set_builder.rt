@@ -1,10 +1,11 @@
-ghost use Rattle.std.specs.Prelude.{◌≡◌, ◌<◌, IfOk, IsOk, IsSome, OnErr, OnOk, true};
+ghost use Rattle.std.specs.Prelude.{◌≡◌, ◌<◌, IfOk, IsSome, OnErr, OnOk, true};
 ghost use Rattle.std.specs.FinMap as map;
 ghost use Rattle.std.specs.FinSet as set;
 ghost use Rattle.std.specs.declared.cmp.Ordering.TheVariants.{Less};
 ghost use Rattle.dots.specs.Values.{Dot};
 ghost use Rattle.dots.specs.Orders.{dot_cmp};
-ghost use Rattle.member_orset.specs.Members.{HasField, KeepsIds, SaysTheSame};
+ghost use Rattle.member_orset.specs.CellIds.{IsNew};
+ghost use Rattle.member_orset.specs.Members.{HasField, SaysTheSame};
 
 use crate::MemberSet;
 use crate::live_cells::LiveCells;
@@ -32,12 +33,15 @@ impl Model for SetBuilder {
 
     ghost coded = { members_code };
 
+    ghost use Rattle.member_orset.specs.CellIds.{retired_of};
+    ghost use Rattle.member_orset.specs.declared.places.TheConstants.{LAST_GENERATION};
+
     ghost view = { λ b. record {
       known = b.context.dots;
       live = b.cells.live;
       ids = b.cells.ids;
       spent = b.cells.spent;
-      retired = 0;
+      retired = retired_of LAST_GENERATION b.cells.spent;
       cell_room = b.cells.room;
       run_room = b.context.room;
     } };
@@ -57,7 +61,7 @@ impl SetBuilder {
         ensures known { result.known ≡ context.dots }
         ensures live { result.live ≡ map.empty }
         ensures ids { result.ids ≡ map.empty }
-        ensures retired { result.retired ≡ 0 }
+        ensures spent { result.spent ≡ set.empty }
     {
         SetBuilder {
             context,
@@ -74,7 +78,7 @@ impl SetBuilder {
 
     /// Makes a dot live, with its member and fields, and answers its id. It is one of the context and greater than those
     /// before, a field is set, and fewer than 16,384 dots are live so far. The one fault is want of memory, which changes
-    /// nothing, and comes only where there is no room for one more live dot.
+    /// nothing.
     pub fn cell(&mut self, dot: Dot, member: &Member, fields: &Fields) -> Result<CellId, Memory>
         requires in_context { set.contains self.old.known dot ≡ true }
         requires greater { (q : Dot) → IsSome (map.get self.old.live q) → dot_cmp q dot ≡ Less }
@@ -84,9 +88,9 @@ impl SetBuilder {
             self.new.live ≡ map.insert self.old.live dot (member.now, fields.now)
             ) }
         ensures id { IfOk result (λ id. self.new.ids ≡ map.insert self.old.ids dot id) }
-        ensures with_room { map.len self.old.live < self.old.cell_room → IsOk result }
+        ensures new { IfOk result (λ id. IsNew self.old.ids self.old.spent self.new.spent id) }
         ensures known { self.new.known ≡ self.old.known }
-        ensures retired { self.new.retired ≡ self.old.retired }
+        ensures spent { self.new.spent ≡ self.old.spent }
         ensures err { OnErr result (self.new.live ≡ self.old.live) }
         ensures err_ids { OnErr result (self.new.ids ≡ self.old.ids) }
     {
@@ -106,6 +110,7 @@ impl SetBuilder {
     pub fn finish(self) -> MemberSet
         ensures same { SaysTheSame self result }
         ensures ids { result.ids ≡ self.ids }
+        ensures spent { result.spent ≡ set.empty }
         ensures retired { result.retired ≡ 0 }
     {
         let SetBuilder { context, cells } = self;

@@ -1,5 +1,6 @@
 //! The walk over the dots of a site: which of them are given or dead. It goes over the site's runs and live dots once.
-ghost use Rattle.std.specs.Prelude.{ℕ, ◌≡◌, ◌+◌, ◌-◌, ◌*◌, ◌<◌, ◌≤◌, ◌^◌, IsTrue, length, true, false};
+ghost use Rattle.std.specs.Prelude.{ℕ, ◌≡◌, ◌+◌, ◌-◌, ◌*◌, ◌<◌, ◌≤◌, ◌^◌, IsTrue, length, true};
+ghost use Rattle.std.specs.Prelude.{false};
 ghost use Rattle.std.specs.List.{All, AllWithin};
 ghost use Rattle.std.specs.Ordering.{is_lt};
 ghost use Rattle.std.specs.FinMap as map;
@@ -9,7 +10,8 @@ ghost use Rattle.dots.specs.DotSets.{AreApart, IsRunsOf, in_runs};
 ghost use Rattle.causal_context.specs.Contexts.{IsRun};
 ghost use Rattle.causal_context.specs.RunLists.{is_below};
 ghost use Rattle.member_orset.specs.PlacedLists.{AreRising, is_placed};
-ghost use Rattle.member_orset.specs.Gathering.{AreToName, IsGathered, IsPiece, is_given, is_to_name, part_before};
+ghost use Rattle.member_orset.specs.Gathering.{AreToName, IsGathered, IsPiece, is_given};
+ghost use Rattle.member_orset.specs.Gathering.{is_to_name, part_before};
 
 use crate::gathered::Gathered;
 use crate::piece::Piece;

@@ -1,4 +1,6 @@
-ghost use Rattle.std.specs.Prelude.{◌≡◌, ℕ, ◌+◌, ◌-◌, ◌^◌, ◌<◌, ◌≤◌, ◌↔◌, cond, nat_lt, ◌&&◌, is_some, option_copied, IsTrue, IsOk, OnOk, Err, None, Some, true, false};
+ghost use Rattle.std.specs.Prelude.{◌≡◌, ℕ, ◌+◌, ◌-◌, ◌^◌, ◌<◌, ◌≤◌, ◌↔◌, cond, nat_lt, ◌&&◌};
+ghost use Rattle.std.specs.Prelude.{is_some, option_copied, IsTrue, IsOk, OnOk, Err, None, Some};
+ghost use Rattle.std.specs.Prelude.{true, false};
 ghost use Rattle.std.specs.Option.{option_copied_mut};
 ghost use Rattle.std.specs.Borrow.{sem};
 ghost use Rattle.std.specs.FinMap as map;
@@ -37,7 +39,11 @@ impl<T, const LAST: u32> Model for Arena<T, LAST> {
     ghost use Rattle.std.specs.Prelude.{◌-◌, ◌+◌};
     ghost use Rattle.op_arena.specs.Slots.{held_in, spent_in, IsArena};
 
-    ghost view = { λ a. record { held = held_in a.slots.items; spent = spent_in a.slots.items; spare = a.slots.capacity - (a.held + a.retired) } };
+    ghost view = { λ a. record {
+      held = held_in a.slots.items;
+      spent = spent_in a.slots.items;
+      spare = a.slots.capacity - (a.held + a.retired);
+    } };
 
     ghost invariant = { λ a. IsArena LAST a.slots.items a.slots.capacity a.free a.held a.retired };
 }
@@ -93,7 +99,8 @@ impl<T, const LAST: u32> Arena<T, LAST> {
         ensures room { OnOk result (n ≤ self.new.spare) }
         ensures grows { self.old.spare ≤ self.new.spare }
         ensures had_room { n ≤ self.old.spare → IsOk result }
-        ensures full { (result ≡ Err ArenaFault.Full) ↔ (2 ^ 20 < cells_len self.old + cells_retired LAST self.old + n) }
+        ensures full { (result ≡ Err ArenaFault.Full)
+            ↔ (2 ^ 20 < cells_len self.old + cells_retired LAST self.old + n) }
     {
         let used = self.held + self.retired;
         let wanted = n as usize;
@@ -114,7 +121,8 @@ impl<T, const LAST: u32> Arena<T, LAST> {
         ensures spare { self.new.spare + 1 ≡ self.old.spare }
         ensures was_not_held { map.get self.old.held result ≡ None }
         ensures was_not_spent { set.contains self.old.spent result ≡ false }
-        ensures lesser_spent { (g : ℕ) → g < result.generation → set.contains self.old.spent (id_of result.index g) ≡ true }
+        ensures lesser_spent { (g : ℕ) → g < result.generation
+            → set.contains self.old.spent (id_of result.index g) ≡ true }
         ensures last { result.generation ≤ LAST }
     {
         match self.free {
@@ -185,8 +193,10 @@ impl<T, const LAST: u32> Arena<T, LAST> {
     pub fn take(&mut self, id: CellId) -> Option<T>
         ensures value { result ≡ map.get self.old.held id }
         ensures held { self.new.held ≡ map.remove self.old.held id }
-        ensures spent { self.new.spent ≡ cond (is_some result) (set.insert self.old.spent id) self.old.spent }
-        ensures spare { self.new.spare ≡ self.old.spare + cond (is_some result && nat_lt id.generation LAST) 1 0 }
+        ensures spent { self.new.spent
+            ≡ cond (is_some result) (set.insert self.old.spent id) self.old.spent }
+        ensures spare { self.new.spare
+            ≡ self.old.spare + cond (is_some result && nat_lt id.generation LAST) 1 0 }
         ensures unchanged { result ≡ None → self.new ≡ self.old }
         ensures was_spent { IsTrue (set.contains self.old.spent id) → result ≡ None }
     {

@@ -69,7 +69,8 @@ impl Ord for CellId {
 impl PartialOrd for CellId {
     ghost partial_cmp = { as_partial_cmp id_cmp };
 
-    ghost laws = { partial_order_from_own_ties (Prim.search (comparing, rules)) (Prim.search (comparing, rules)) };
+    ghost laws = { partial_order_from_own_ties (Prim.search (comparing, rules))
+        (Prim.search (comparing, rules)) };
 
     fn partial_cmp(&self, other: &CellId) -> Option<Ordering> {
         Some(self.cmp(other))

@@ -1,5 +1,6 @@
 //! A chunk: memory for a fixed number of values, which are added one after another and never move.
-ghost use Rattle.std.specs.Prelude.{◌≡◌, ℕ, ◌+◌, ◌<◌, ◌++◌, ◌∷◌, [], None, Some, length, map, replicate, slice_get, IfOk};
+ghost use Rattle.std.specs.Prelude.{◌≡◌, ℕ, ◌+◌, ◌<◌, ◌++◌, ◌∷◌, [], None, Some, length, map};
+ghost use Rattle.std.specs.Prelude.{replicate, slice_get, IfOk};
 ghost use Rattle.std.specs.Borrow.{sem};
 ghost use Rattle.op_arena.specs.CellRows.{IsFilled};
 ghost use Rattle.op_arena.specs.Columns.{column};
@@ -30,7 +31,9 @@ impl<T> Model for Chunk<T> {
 
     ghost view = { λ c. column (values c.places.slots) c.capacity };
 
-    ghost invariant = { λ c. IsFilled c.places.slots c.len c.capacity × (c.lease.first ≡ c.places.first) × (c.lease.count ≡ c.capacity) × (c.lease.alloc ≡ c.alloc) };
+    ghost invariant = { λ c. IsFilled c.places.slots c.len c.capacity
+        × (c.lease.first ≡ c.places.first) × (c.lease.count ≡ c.capacity)
+        × (c.lease.alloc ≡ c.alloc) };
 }
 
 // Drops the values in the first `len` places, from the front.

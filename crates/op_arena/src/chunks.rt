@@ -1,5 +1,6 @@
 //! All chunks of an arena: one list of values that grows by whole chunks, so that no value ever moves.
-ghost use Rattle.std.specs.Prelude.{◌≡◌, ℕ, ◌+◌, ◌^◌, ◌<◌, ◌≤◌, ◌++◌, ◌∷◌, [], Some, length, slice_get, IsOk, OnOk};
+ghost use Rattle.std.specs.Prelude.{◌≡◌, ℕ, ◌+◌, ◌^◌, ◌<◌, ◌≤◌, ◌++◌, ◌∷◌, [], Some, length};
+ghost use Rattle.std.specs.Prelude.{slice_get, IsOk, OnOk};
 ghost use Rattle.std.specs.Borrow.{sem};
 ghost use Rattle.op_arena.specs.Columns.{column};
 ghost use Rattle.op_arena.specs.Sizes.{IsAt};
@@ -32,7 +33,8 @@ impl<T> Model for Chunks<T> {
 
     ghost view = { λ c. column (all_items c.chunks.items) c.capacity };
 
-    ghost invariant = { λ c. IsLaid 0 c.len c.chunks.items × (c.capacity ≡ total (length c.chunks.items)) × (length c.chunks.items ≤ 17) };
+    ghost invariant = { λ c. IsLaid 0 c.len c.chunks.items
+        × (c.capacity ≡ total (length c.chunks.items)) × (length c.chunks.items ≤ 17) };
 }
 
 // The chunk that the value at `index` is in, and its place there.

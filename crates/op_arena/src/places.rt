@@ -1,7 +1,8 @@
 //! The memory of one chunk: places side by side, each empty or holding a value.
 //!
 //! This module alone holds raw pointers, in six functions. Each is safe to call where its conditions hold.
-ghost use Rattle.std.specs.Prelude.{◌≡◌, ℕ, ◌<◌, List, Option, Some, None, length, replicate, get_or, slice_set, IfOk};
+ghost use Rattle.std.specs.Prelude.{◌≡◌, ℕ, ◌<◌, List, Option, Some, None, length, replicate};
+ghost use Rattle.std.specs.Prelude.{get_or, slice_set, IfOk};
 ghost use Rattle.std.specs.Borrow.{sem};
 ghost use Rattle.std.specs.Vec.Ownership.{FitsInBlock};
 ghost use base.Fml.{ftrue};
@@ -56,7 +57,9 @@ impl<T> Places<T> {
         count: usize,
     ) -> Result<(Places<T>, Lease<T, A>), AllocError>
         requires { FitsInBlock T.row count }
-        ensures { IfOk result (λ r. (r.0.slots ≡ replicate count None) × (r.1.first ≡ r.0.first) × (r.1.count ≡ count) × (r.1.alloc ≡ alloc.now)) }
+        ensures { IfOk result
+            (λ r. (r.0.slots ≡ replicate count None) × (r.1.first ≡ r.0.first) × (r.1.count ≡ count)
+            × (r.1.alloc ≡ alloc.now)) }
     {
         match alloc.allocate(count * size_of::<T>(), align_of::<T>()) {
             Ok(block) => {
@@ -77,7 +80,8 @@ impl<T> Places<T> {
     // Puts `value` into the empty place at `index`.
     pub(crate) fn place(&mut self, index: usize, value: T)
         requires { (index < length self.old.slots) × (get_or self.old.slots index None ≡ None) }
-        ensures { (self.new.first ≡ self.old.first) × (self.new.slots ≡ slice_set self.old.slots index (Some value)) }
+        ensures { (self.new.first ≡ self.old.first)
+            × (self.new.slots ≡ slice_set self.old.slots index (Some value)) }
     {
         unsafe { self.first.add(index).write(value) }
     }
@@ -102,14 +106,17 @@ impl<T> Places<T> {
     // Moves the value at `index` out, and leaves the place empty.
     pub(crate) fn take(&mut self, index: usize) -> T
         requires { Holds self.old.slots index }
-        ensures { (get_or self.old.slots index None ≡ Some result) × (self.new.first ≡ self.old.first) × (self.new.slots ≡ slice_set self.old.slots index None) }
+        ensures { (get_or self.old.slots index None ≡ Some result)
+            × (self.new.first ≡ self.old.first)
+            × (self.new.slots ≡ slice_set self.old.slots index None) }
     {
         unsafe { self.first.add(index).read() }
     }
 
     // Gives the memory of the places, all empty, back to `alloc`.
     pub(crate) fn release<A: Allocator>(self, lease: Lease<T, A>, alloc: &A, count: usize)
-        requires { (self.slots ≡ replicate count None) × (lease.first ≡ self.first) × (lease.count ≡ count) × (lease.alloc ≡ alloc.now) }
+        requires { (self.slots ≡ replicate count None) × (lease.first ≡ self.first)
+            × (lease.count ≡ count) × (lease.alloc ≡ alloc.now) }
     {
         let Places { first } = self;
         let Lease { marker: _ } = lease;

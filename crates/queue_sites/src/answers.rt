@@ -1,8 +1,10 @@
 //! The lines that a script writes of what comes of its lines (this project's own).
 ghost use Rattle.std.specs.Prelude.{◌≡◌, codes, IfOk};
 ghost use Rattle.std.specs.Result.{result_ok};
-ghost use Rattle.queue_sites.specs.Answers.{answer_text, cut_fault_name, entry_text, frame_text, no_entry};
-ghost use Rattle.queue_sites.specs.Answers.{offer_line, offer_text, outcome_text, refusal_name, refused_text, take_fault_name};
+ghost use Rattle.queue_sites.specs.Answers.{answer_text, cut_fault_name, entry_text, frame_text};
+ghost use Rattle.queue_sites.specs.Answers.{no_entry};
+ghost use Rattle.queue_sites.specs.Answers.{offer_line, offer_text, outcome_text, refusal_name};
+ghost use Rattle.queue_sites.specs.Answers.{refused_text, take_fault_name};
 
 use dots::Memory;
 use itoa::Buffer;

@@ -1,5 +1,6 @@
 //! What single lines of a script do at its sites.
-ghost use Rattle.std.specs.Prelude.{◌≡◌, ℕ, List, true, [], ◌∷◌, Some, length, slice_get, IfOk, IfErr};
+ghost use Rattle.std.specs.Prelude.{◌≡◌, ℕ, List, true, [], ◌∷◌, Some, length, slice_get, IfOk};
+ghost use Rattle.std.specs.Prelude.{IfErr};
 ghost use Rattle.delta_codec.specs.Frames.{IsInRanges, Spells};
 ghost use Rattle.replica.specs.Standing.{StandsFor};
 ghost use Rattle.replica.specs.Steps.{SiteKnowledge};
@@ -9,7 +10,8 @@ ghost use Rattle.ami_session.specs.Views.{reaction_of};
 ghost use Rattle.queue_sites.specs.ScriptLines.{Message as asks_message, queue_in, tried_in};
 ghost use Rattle.queue_sites.specs.Answers.{frame_text};
 ghost use Rattle.queue_sites.specs.Script.{IsShown, count_of, given_by_count, given_by_event};
-ghost use Rattle.queue_sites.specs.Script.{given_by_message, given_by_reaction, text_of_offer, waited_reply};
+ghost use Rattle.queue_sites.specs.Script.{given_by_message, given_by_reaction, text_of_offer};
+ghost use Rattle.queue_sites.specs.Script.{waited_reply};
 ghost use Rattle.queue_sites.specs.LineSteps.{Holds, IsHappening, IsOutput, IsUnknown};
 ghost use Rattle.queue_sites.specs.LineSteps.{StandsAt, place_of};
 

@@ -1,5 +1,6 @@
 //! Scripts: the lines of a script, run over all sites in one process (this project's own).
-ghost use Rattle.std.specs.Prelude.{◌≡◌, ◌≤◌, ◌+◌, ◌⊎◌, false, length, IfOk, IfErr, OnOk, IsErrOf, true};
+ghost use Rattle.std.specs.Prelude.{◌≡◌, ◌≤◌, ◌+◌, ◌⊎◌, false, length, IfOk, IfErr, OnOk, IsErrOf};
+ghost use Rattle.std.specs.Prelude.{true};
 ghost use Rattle.ami_text.specs.Devices.{HasEnded, HasGiven};
 ghost use Rattle.sites_world.specs.Worlds.{World as world_of_operations, new_world};
 ghost use Rattle.queue_sites.specs.ScriptLines.{sense_of};

@@ -88,7 +88,8 @@ fn named_with(
 
 // How many of the first dots aren't among the second.
 fn count_missing(first: &BTreeSet<PlainDot>, second: &BTreeSet<PlainDot>) -> usize
-    ensures value { result ≡ count_by (λ dot. not (list_any (is_dot dot) second.now.keys)) first.now.keys }
+    ensures value { result
+        ≡ count_by (λ dot. not (list_any (is_dot dot) second.now.keys)) first.now.keys }
     ensures ordered { IsStrictlySortedBy dot_cmp first.now.keys }
 {
     first.iter().filter(|dot| !second.contains(*dot)).count()

@@ -3,7 +3,8 @@ ghost use Rattle.std.specs.Prelude.{◌≡◌, ◌||◌, not, filter, option_map
 ghost use Rattle.std.specs.List.{list_any};
 ghost use Rattle.std.specs.List.Sorted.{IsStrictlySortedBy};
 ghost use Rattle.dots.specs.Values.{Dot};
-ghost use Rattle.dots.specs.Knowledge.{is_dot, asserts, is_asserted, is_named, member_of, visible_dots};
+ghost use Rattle.dots.specs.Knowledge.{is_dot, asserts, is_asserted, is_named, member_of};
+ghost use Rattle.dots.specs.Knowledge.{visible_dots};
 ghost use Rattle.dots.specs.Orders.{dot_cmp};
 ghost use Rattle.dots.specs.Rows.{dot_view, dots_of, is_of};
 ghost use Rattle.dots.specs.SetItems.{in_order};
@@ -51,7 +52,9 @@ pub(crate) fn asserted_dots(
     alloc: Global,
     operations: &[Operation],
 ) -> Result<BTreeSet<Dot>, Memory>
-    ensures { IfOk result (λ found. (dot : Dot) → list_any (is_dot dot) found.keys ≡ is_asserted (knowledge_of operations.now) dot) }
+    ensures { IfOk result
+        (λ found. (dot : Dot)
+        → list_any (is_dot dot) found.keys ≡ is_asserted (knowledge_of operations.now) dot) }
 {
     let mut found = BTreeSet::new(alloc);
     for operation in operations {
@@ -73,7 +76,9 @@ pub(crate) fn insert_each(found: &mut BTreeSet<Dot>, dots: &[Dot]) -> Result<(),
 
 // The dots that some operation names.
 pub(crate) fn named_dots(alloc: Global, operations: &[Operation]) -> Result<BTreeSet<Dot>, Memory>
-    ensures { IfOk result (λ found. (dot : Dot) → list_any (is_dot dot) found.keys ≡ is_named (knowledge_of operations.now) dot) }
+    ensures { IfOk result
+        (λ found. (dot : Dot)
+        → list_any (is_dot dot) found.keys ≡ is_named (knowledge_of operations.now) dot) }
 {
     let mut found = BTreeSet::new(alloc);
     for operation in operations {
@@ -88,7 +93,9 @@ fn unnamed(
     operations: &[Operation],
     found: &BTreeSet<Dot>,
 ) -> Result<Vec<Dot>, Memory>
-    ensures value { IfOk result (λ dots. dots.items ≡ filter (λ dot. not (is_named (knowledge_of operations.now) dot)) found.now.keys) }
+    ensures value { IfOk result
+        (λ dots. dots.items
+        ≡ filter (λ dot. not (is_named (knowledge_of operations.now) dot)) found.now.keys) }
     ensures ordered { IsStrictlySortedBy dot_cmp found.now.keys }
 {
     found
@@ -100,7 +107,8 @@ fn unnamed(
 
 // The dots that some operation asserts and none names, in their order.
 pub(crate) fn visible_dots(alloc: Global, operations: &[Operation]) -> Result<Vec<Dot>, Memory>
-    ensures { IfOk result (λ dots. dots.items ≡ in_order (visible_dots (knowledge_of operations.now))) }
+    ensures { IfOk result
+        (λ dots. dots.items ≡ in_order (visible_dots (knowledge_of operations.now))) }
 {
     let found = asserted_dots(alloc, operations)?;
     unnamed(alloc, operations, &found)
@@ -134,7 +142,8 @@ pub fn dots_of_member(
     operations: &[Operation],
     member: &Member,
 ) -> Result<Vec<Dot>, Memory>
-    ensures { IfOk result (λ dots. dots.items ≡ dots_of (dot_view (knowledge_of operations.now)) member.now) }
+    ensures { IfOk result
+        (λ dots. dots.items ≡ dots_of (dot_view (knowledge_of operations.now)) member.now) }
 {
     let dots = visible_dots(alloc, operations)?;
     dots.iter()

@@ -16,7 +16,8 @@ pub(crate) fn later<T: Copy>(
     first: &Option<Entry<T>>,
     second: &Option<Entry<T>>,
 ) -> Option<Entry<T>>
-    ensures { entry_of (λ v. v) result ≡ join_of (entry_of (λ v. v) first.now) (entry_of (λ v. v) second.now) }
+    ensures { entry_of (λ v. v) result
+        ≡ join_of (entry_of (λ v. v) first.now) (entry_of (λ v. v) second.now) }
 {
     match first {
         None => *second,

@@ -40,7 +40,9 @@ impl<'a> Fields<'a> {
 
     // The row of these fields; what was never set has its default.
     pub(crate) fn row(&self) -> Row<'a>
-        ensures { row_view result ≡ row_of_fields (fields_of self.now).penalty (fields_of self.now).pause (fields_of self.now).label }
+        ensures { row_view result
+            ≡ row_of_fields (fields_of self.now).penalty (fields_of self.now).pause
+            (fields_of self.now).label }
     {
         let penalty = match &self.penalty {
             Some(entry) => entry.value.get(),

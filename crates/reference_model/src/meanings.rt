@@ -1,11 +1,14 @@
 // What changes mean.
 ghost use Rattle.std.specs.Prelude.{◌≡◌, ◌||◌, ℕ, [], map as each, IfOk};
 ghost use Rattle.dots.specs.Operations as defined;
-ghost use Rattle.replica.specs.Changes.{add_at, count_at, is_full, is_too_long, meaning, meaning_of_setting, remove_of, where_absent, where_present, within_limits, write_at};
+ghost use Rattle.replica.specs.Changes.{add_at, count_at, is_full, is_too_long, meaning};
+ghost use Rattle.replica.specs.Changes.{meaning_of_setting, remove_of, where_absent, where_present};
+ghost use Rattle.replica.specs.Changes.{within_limits, write_at};
 ghost use Rattle.replica.specs.SiteViews.{dots_seen, site_view};
 ghost use Rattle.dots.specs.Rows.{dot_view};
 ghost use Rattle.reference_model.specs.Plain.{knowledge_of, setting_of};
-ghost use Rattle.reference_model.specs.Sites.{Touches, buffer_view, change_meant, known_view, meaning_of};
+ghost use Rattle.reference_model.specs.Sites.{Touches, buffer_view, change_meant, known_view};
+ghost use Rattle.reference_model.specs.Sites.{meaning_of};
 
 use crate::dot_sets::dots_and_runs;
 use crate::members_seen::dots_seen;
@@ -29,7 +32,8 @@ fn is_full(
     asserted: &[PlainDot],
     named: &[Dot],
 ) -> Result<bool, Memory>
-    ensures { IfOk result (λ full. (site : ℕ) (o : defined.Operation) → Touches o asserted.now named.now
+    ensures { IfOk result
+        (λ full. (site : ℕ) (o : defined.Operation) → Touches o asserted.now named.now
         → full ≡ is_full (site_view site (knowledge_of operations.now)) o) }
 {
     a_site_view_foresees_one_operation_more();
@@ -39,7 +43,9 @@ fn is_full(
 
 // Whether an operation that asserts and names these dots has too many runs.
 fn is_too_long(alloc: Global, asserted: &[PlainDot], named: &[Dot]) -> Result<bool, Memory>
-    ensures { IfOk result (λ long. (o : defined.Operation) → Touches o asserted.now named.now → long ≡ is_too_long o) }
+    ensures { IfOk result
+        (λ long. (o : defined.Operation) → Touches o asserted.now named.now
+        → long ≡ is_too_long o) }
 {
     let (_, runs) = dots_and_runs(alloc, &[], asserted, named)?;
     Ok(runs > MOST_RUNS)
@@ -52,8 +58,10 @@ fn is_past_limits(
     asserted: &[PlainDot],
     named: &[Dot],
 ) -> Result<bool, Memory>
-    ensures { IfOk result (λ past. (site : ℕ) (o : defined.Operation) → Touches o asserted.now named.now
-        → past ≡ (is_full (known_view site old.now) o || (is_full (buffer_view site old.now) o || is_too_long o))) }
+    ensures { IfOk result
+        (λ past. (site : ℕ) (o : defined.Operation) → Touches o asserted.now named.now
+        → past ≡ (is_full (known_view site old.now) o
+        || (is_full (buffer_view site old.now) o || is_too_long o))) }
 {
     let known = is_full(alloc, &old.known, asserted, named)?;
     let buffer = is_full(alloc, &old.buffer, asserted, named)?;
@@ -71,7 +79,8 @@ fn add_at(
     paused: bool,
     label: &Label,
 ) -> Result<Meaning, Memory>
-    ensures { IfOk result (λ m. meaning_of m ≡ within_limits (known_view site old.now) (buffer_view site old.now)
+    ensures { IfOk result
+        (λ m. meaning_of m ≡ within_limits (known_view site old.now) (buffer_view site old.now)
         (add_at site (known_view site old.now) member penalty paused label.now)) }
 {
     let count = last_count(&old.known, site) + 1;
@@ -122,7 +131,8 @@ fn write_at(
     setting: &Setting,
     dots: Vec<(Dot, Member)>,
 ) -> Result<Meaning, Memory>
-    ensures { IfOk result (λ m. meaning_of m ≡ within_limits (known_view site old.now) (buffer_view site old.now)
+    ensures { IfOk result
+        (λ m. meaning_of m ≡ within_limits (known_view site old.now) (buffer_view site old.now)
         (write_at site (known_view site old.now) (setting_of setting.now) dots.items)) }
 {
     let own = last_time(&old.known, site);
@@ -146,7 +156,8 @@ fn write_at(
 // A remove of dots.
 fn remove_of(alloc: Global, old: &SiteKnowledge, dots: &[(Dot, Member)]) -> Result<Meaning, Memory>
     ensures { IfOk result (λ m. (site : ℕ)
-        → meaning_of m ≡ within_limits (known_view site old.now) (buffer_view site old.now) (remove_of dots.now)) }
+        → meaning_of m
+        ≡ within_limits (known_view site old.now) (buffer_view site old.now) (remove_of dots.now)) }
 {
     let named = dots_alone(alloc, dots)?;
     if is_past_limits(alloc, old, &[], &named)? {
@@ -163,7 +174,8 @@ fn count_at(
     queue: u16,
     calls: Calls,
 ) -> Result<Meaning, Memory>
-    ensures { IfOk result (λ m. meaning_of m ≡ within_limits (known_view site old.now) (buffer_view site old.now)
+    ensures { IfOk result
+        (λ m. meaning_of m ≡ within_limits (known_view site old.now) (buffer_view site old.now)
         (count_at site (known_view site old.now) queue calls)) }
 {
     let number = site_total(&old.known, site.number(), queue, calls) + 1;
@@ -191,7 +203,10 @@ fn add_member(
     paused: bool,
     label: &Label,
 ) -> Result<Meaning, Memory>
-    ensures { IfOk result (λ m. meaning_of m ≡ where_absent (dots_seen (known_view site old.now).dots (Some member.queue) member.interface)
+    ensures { IfOk result
+        (λ m. meaning_of m
+        ≡ where_absent
+        (dots_seen (known_view site old.now).dots (Some member.queue) member.interface)
         (within_limits (known_view site old.now) (buffer_view site old.now)
         (add_at site (known_view site old.now) member penalty paused label.now))) }
 {
@@ -210,7 +225,10 @@ fn remove_member(
     queue: u16,
     interface: &Interface,
 ) -> Result<Meaning, Memory>
-    ensures { IfOk result (λ m. (site : ℕ) → meaning_of m ≡ where_present (dots_seen (known_view site old.now).dots (Some queue) interface.now)
+    ensures { IfOk result
+        (λ m. (site : ℕ)
+        → meaning_of m
+        ≡ where_present (dots_seen (known_view site old.now).dots (Some queue) interface.now)
         (within_limits (known_view site old.now) (buffer_view site old.now)
         (remove_of (dots_seen (known_view site old.now).dots (Some queue) interface.now)))) }
 {
@@ -231,7 +249,10 @@ fn set_field(
     interface: &Interface,
     setting: &Setting,
 ) -> Result<Meaning, Memory>
-    ensures { IfOk result (λ m. meaning_of m ≡ meaning_of_setting site (known_view site old.now) (buffer_view site old.now) (setting_of setting.now)
+    ensures { IfOk result
+        (λ m. meaning_of m
+        ≡ meaning_of_setting site (known_view site old.now) (buffer_view site old.now)
+        (setting_of setting.now)
         (dots_seen (known_view site old.now).dots queue interface.now)) }
 {
     let dots = dots_seen(alloc, &old.known, queue, interface)?;
@@ -251,7 +272,10 @@ pub fn meaning_at(
     old: &SiteKnowledge,
     change: &Change,
 ) -> Result<Meaning, Memory>
-    ensures { IfOk result (λ m. meaning_of m ≡ meaning site list.now (known_view site old.now) (buffer_view site old.now) (change_meant change.now)) }
+    ensures { IfOk result
+        (λ m. meaning_of m
+        ≡ meaning site list.now (known_view site old.now) (buffer_view site old.now)
+        (change_meant change.now)) }
 {
     match change {
         Change::AddMember {

@@ -25,7 +25,9 @@ pub fn row<'a>(
     operations: &'a [Operation],
     member: &Member,
 ) -> Result<Option<Row<'a>>, Memory>
-    ensures { IfOk result (λ row. option_map row_view row ≡ row_of (dot_view (knowledge_of operations.now)) member.now) }
+    ensures { IfOk result
+        (λ row. option_map row_view row
+        ≡ row_of (dot_view (knowledge_of operations.now)) member.now) }
 {
     let dots = dots_of_member(alloc, operations, member)?;
     if dots.is_empty() {
@@ -41,7 +43,9 @@ pub fn rows(
     operations: &[Operation],
     queue: u16,
 ) -> Result<Vec<(&Interface, Row<'_>)>, Memory>
-    ensures { IfOk result (λ listed. each listed_row_view listed.items ≡ rows_of (dot_view (knowledge_of operations.now)) queue) }
+    ensures { IfOk result
+        (λ listed. each listed_row_view listed.items
+        ≡ rows_of (dot_view (knowledge_of operations.now)) queue) }
 {
     let interfaces = interfaces_of(alloc, operations, queue)?;
     let mut listed = Vec::new(alloc);
@@ -63,7 +67,9 @@ fn interfaces_of(
     operations: &[Operation],
     queue: u16,
 ) -> Result<Vec<&Interface>, Memory>
-    ensures { IfOk result (λ found. each (λ i. i.now) found.items ≡ in_order (interfaces_of (dot_view (knowledge_of operations.now)) queue)) }
+    ensures { IfOk result
+        (λ found. each (λ i. i.now) found.items
+        ≡ in_order (interfaces_of (dot_view (knowledge_of operations.now)) queue)) }
 {
     let dots = visible_dots(alloc, operations)?;
     let found = interfaces_at(alloc, operations, &dots, queue)?;
@@ -85,8 +91,12 @@ fn interfaces_at<'a>(
     dots: &[Dot],
     queue: u16,
 ) -> Result<BTreeSet<&'a Interface>, Memory>
-    ensures { IfOk result (λ found. (q : List ℕ) → list_any (eq_by_cmp text_cmp q) (each (λ i. i.now) found.keys)
-        ≡ list_any (eq_by_cmp text_cmp q) (filter_map (λ dot. option_and_then (interface_in queue) (member_of (knowledge_of operations.now) dot)) dots.now)) }
+    ensures { IfOk result
+        (λ found. (q : List ℕ) → list_any (eq_by_cmp text_cmp q) (each (λ i. i.now) found.keys)
+        ≡ list_any (eq_by_cmp text_cmp q)
+        (filter_map
+        (λ dot. option_and_then (interface_in queue)
+        (member_of (knowledge_of operations.now) dot)) dots.now)) }
 {
     let mut found = BTreeSet::new(alloc);
     for dot in dots {
@@ -99,7 +109,8 @@ fn interfaces_at<'a>(
 
 // The interface of a dot's member, where that is in the queue.
 fn interface_of(operations: &[Operation], dot: Dot, queue: u16) -> Option<&Interface>
-    ensures { option_map (λ i. i.now) result ≡ option_and_then (interface_in queue) (member_of (knowledge_of operations.now) dot) }
+    ensures { option_map (λ i. i.now) result
+        ≡ option_and_then (interface_in queue) (member_of (knowledge_of operations.now) dot) }
 {
     let member = member_of(operations, dot)?;
     if member.queue == queue {

@@ -41,7 +41,10 @@ fn of_interface(
     dots: &[Dot],
     interface: &Interface,
 ) -> Result<Vec<(Dot, Member)>, Memory>
-    ensures { IfOk result (λ seen. seen.items ≡ filter_map (with_interface (dot_view (knowledge_of operations.now)) interface.now) dots.now) }
+    ensures { IfOk result
+        (λ seen. seen.items
+        ≡ filter_map
+        (with_interface (dot_view (knowledge_of operations.now)) interface.now) dots.now) }
 {
     dots.iter()
         .filter_map(|dot| with_interface(operations, interface, *dot))
@@ -55,7 +58,9 @@ pub(crate) fn dots_seen(
     queue: Option<u16>,
     interface: &Interface,
 ) -> Result<Vec<(Dot, Member)>, Memory>
-    ensures { IfOk result (λ seen. seen.items ≡ dots_seen (dot_view (knowledge_of operations.now)) queue interface.now) }
+    ensures { IfOk result
+        (λ seen. seen.items
+        ≡ dots_seen (dot_view (knowledge_of operations.now)) queue interface.now) }
 {
     match queue {
         Some(queue) => {

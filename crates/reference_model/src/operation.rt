@@ -80,7 +80,8 @@ fn has_dot(dots: &[Dot], dot: Dot) -> bool
 
 // The member of the first of these dots that is this one.
 fn find_member(dots: &[(Dot, Member)], dot: Dot) -> Option<&Member>
-    ensures { option_map (λ m. m.now) result ≡ option_map (λ p. p.1) (find (λ p. is_dot dot p.0) dots.now) }
+    ensures { option_map (λ m. m.now) result
+        ≡ option_map (λ p. p.1) (find (λ p. is_dot dot p.0) dots.now) }
 {
     for (other, member) in dots {
         if is_dot(dot, *other) {
@@ -114,7 +115,9 @@ fn members_copied(alloc: Global, dots: &[(Dot, Member)]) -> Result<Vec<(Dot, Mem
 impl Operation {
     // The member of a dot that it asserts.
     pub(crate) fn member_of(&self, dot: Dot) -> Option<&Member>
-        ensures { option_map (λ m. m.now) result ≡ option_map (λ p. p.1) (find (λ p. is_dot dot p.0) (asserted_by (operation_of self.now))) }
+        ensures { option_map (λ m. m.now) result
+            ≡ option_map (λ p. p.1)
+            (find (λ p. is_dot dot p.0) (asserted_by (operation_of self.now))) }
     {
         match self {
             Operation::Add {

@@ -61,7 +61,10 @@ pub(crate) fn older_dots(
     operations: &[Operation],
     dots: &[PlainDot],
 ) -> Result<Vec<Dot>, Memory>
-    ensures { IfOk result (λ older. (site : ℕ) → set.from_list older.items ≡ older_dots (site_view site (knowledge_of operations.now)) dots.now) }
+    ensures { IfOk result
+        (λ older. (site : ℕ)
+        → set.from_list older.items
+        ≡ older_dots (site_view site (knowledge_of operations.now)) dots.now) }
 {
     older_dots_are_named();
     let named = named_dots(alloc, operations)?;

@@ -84,7 +84,8 @@ impl Ord for PlainDot {
 impl PartialOrd for PlainDot {
     ghost partial_cmp = { as_partial_cmp dot_cmp };
 
-    ghost laws = { partial_order_from_own_ties (Prim.search (comparing, rules)) (Prim.search (comparing, rules)) };
+    ghost laws = { partial_order_from_own_ties (Prim.search (comparing, rules))
+        (Prim.search (comparing, rules)) };
 
     fn partial_cmp(&self, other: &PlainDot) -> Option<Ordering> {
         Some(self.cmp(other))

@@ -24,7 +24,8 @@ fn time_of<T: Copy>(entry: &Option<Entry<T>>) -> u64
 
 // The time of what a setting replaces on a dot.
 fn time_replaced(operations: &[Operation], setting: &Setting, dot: Dot) -> u64
-    ensures value { result ≡ time_replaced (dot_view (knowledge_of operations.now)) (setting_of setting.now) dot }
+    ensures value { result
+        ≡ time_replaced (dot_view (knowledge_of operations.now)) (setting_of setting.now) dot }
     ensures limit { result ≤ MOST_COUNT }
 {
     let fields = fields_in(operations, dot);
@@ -41,7 +42,10 @@ pub(crate) fn last_replaced(
     setting: &Setting,
     dots: &[(Dot, Member)],
 ) -> u64
-    ensures value { result ≡ greatest (λ d. time_replaced (dot_view (knowledge_of operations.now)) (setting_of setting.now) d.0) dots.now }
+    ensures value { result
+        ≡ greatest
+        (λ d. time_replaced (dot_view (knowledge_of operations.now))
+        (setting_of setting.now) d.0) dots.now }
     ensures limit { result ≤ MOST_COUNT }
 {
     let mut last = 0;

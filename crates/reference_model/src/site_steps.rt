@@ -19,7 +19,8 @@ fn push_each(
     all: &mut Vec<Operation>,
     operations: &[Operation],
 ) -> Result<(), Memory>
-    ensures { OnOk result (knowledge_of all.new.items ≡ knowledge_of all.old.items ++ knowledge_of operations.now) }
+    ensures { OnOk result
+        (knowledge_of all.new.items ≡ knowledge_of all.old.items ++ knowledge_of operations.now) }
 {
     for operation in operations {
         all.push(operation.copy(alloc)?)?;
@@ -29,7 +30,8 @@ fn push_each(
 
 // Operations, and those behind them.
 fn joined(alloc: Global, front: &[Operation], back: &[Operation]) -> Result<Vec<Operation>, Memory>
-    ensures { IfOk result (λ all. knowledge_of all.items ≡ knowledge_of front.now ++ knowledge_of back.now) }
+    ensures { IfOk result
+        (λ all. knowledge_of all.items ≡ knowledge_of front.now ++ knowledge_of back.now) }
 {
     let mut all = Vec::new(alloc);
     push_each(alloc, &mut all, front)?;
@@ -59,7 +61,9 @@ fn same(alloc: Global, old: &SiteKnowledge) -> Result<SiteKnowledge, Memory>
 
 // A site after a command of this meaning.
 fn after_meaning(alloc: Global, old: &SiteKnowledge, meaning: Meaning) -> Result<After, Memory>
-    ensures { IfOk result (λ after. (site_of after.0, outcome_of after.1) ≡ after_meaning (site_of old.now) (meaning_of meaning)) }
+    ensures { IfOk result
+        (λ after. (site_of after.0, outcome_of after.1)
+        ≡ after_meaning (site_of old.now) (meaning_of meaning)) }
 {
     match meaning {
         Meaning::Refused(refusal) => Ok((same(alloc, old)?, Outcome::Denied(refusal))),
@@ -82,7 +86,9 @@ fn framed(
     frame: &[Operation],
     buffer: &[Operation],
 ) -> Result<After, Memory>
-    ensures { IfOk result (λ after. (site_of after.0, outcome_of after.1) ≡ after_frame (site_of old.now) (knowledge_of frame.now) (knowledge_of buffer.now)) }
+    ensures { IfOk result
+        (λ after. (site_of after.0, outcome_of after.1)
+        ≡ after_frame (site_of old.now) (knowledge_of frame.now) (knowledge_of buffer.now)) }
 {
     if old.frames >= MOST_COUNT {
         return Ok((same(alloc, old)?, Outcome::NoNumber));
@@ -99,7 +105,9 @@ fn framed(
 
 // A site that cuts its buffer.
 fn cut(alloc: Global, old: &SiteKnowledge) -> Result<After, Memory>
-    ensures { IfOk result (λ after. (site_of after.0, outcome_of after.1) ≡ cut (site_of old.now) (site_of old.now).buffer) }
+    ensures { IfOk result
+        (λ after. (site_of after.0, outcome_of after.1)
+        ≡ cut (site_of old.now) (site_of old.now).buffer) }
 {
     if old.buffer.is_empty() {
         return Ok((same(alloc, old)?, Outcome::Nothing));
@@ -109,7 +117,9 @@ fn cut(alloc: Global, old: &SiteKnowledge) -> Result<After, Memory>
 
 // A site that takes what a frame carries.
 fn take(alloc: Global, old: &SiteKnowledge, frame: &[Operation]) -> Result<After, Memory>
-    ensures { IfOk result (λ after. (site_of after.0, outcome_of after.1) ≡ take (site_of old.now) (knowledge_of frame.now)) }
+    ensures { IfOk result
+        (λ after. (site_of after.0, outcome_of after.1)
+        ≡ take (site_of old.now) (knowledge_of frame.now)) }
 {
     let known = joined(alloc, frame, &old.known)?;
     let (dots, runs) = dots_and_runs(alloc, &known, &[], &[])?;
@@ -136,7 +146,9 @@ pub fn after_step(
     old: &SiteKnowledge,
     event: &Step,
 ) -> Result<(SiteKnowledge, Outcome), Memory>
-    ensures { IfOk result (λ after. (site_of after.0, outcome_of after.1) ≡ step site list.now (site_of old.now) (step_of event.now)) }
+    ensures { IfOk result
+        (λ after. (site_of after.0, outcome_of after.1)
+        ≡ step site list.now (site_of old.now) (step_of event.now)) }
 {
     match event {
         Step::Do(change) => {

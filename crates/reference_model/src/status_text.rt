@@ -44,7 +44,8 @@ pub fn status(
     list: &QueueList,
     request: &StatusRequest,
 ) -> Result<Vec<u8>, Memory>
-    ensures { IfOk result (λ out. out.items ≡ status_in (knowledge_of operations.now) list.now request.now) }
+    ensures { IfOk result
+        (λ out. out.items ≡ status_in (knowledge_of operations.now) list.now request.now) }
 {
     write_report(alloc, &Known { list, operations }, request)
 }

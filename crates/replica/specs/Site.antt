@@ -54,7 +54,7 @@ rows_of s queue = rows_read (dot_view_of s.state.members) queue
 abbrev pub sums_of : SiteState → ℕ → CallTotals
 sums_of s queue = sum_of s.state.totals.entries queue
 
--- a site says the same as before; the rooms of its deltas may have grown
+-- a site says the same as before; of the rooms of its deltas nothing is said
 pub record IsUnchanged (old new : SiteState) : Type 0 where
   pub site : new.site ≡ old.site
   pub names : new.names ≡ old.names

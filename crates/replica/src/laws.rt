@@ -2,7 +2,9 @@
 ghost use Rattle.std.specs.Prelude.{◌≡◌, ℕ, List};
 ghost use Rattle.dots.specs.Operations.{Operation};
 ghost use Rattle.dots.specs.Knowledge.{Knowledge};
-ghost use Rattle.replica.specs.Promises.{ForeseesOneMore, OlderAreNamed, MakesTraces, MakesWithinLimits, MeansTheSame, AreAlike, AreAsFull, MeansTheSameAlike, RefusalsChangeNothing};
+ghost use Rattle.replica.specs.Promises.{ForeseesOneMore, OlderAreNamed, MakesTraces};
+ghost use Rattle.replica.specs.Promises.{MakesWithinLimits, MeansTheSame, AreAlike, AreAsFull};
+ghost use Rattle.replica.specs.Promises.{MeansTheSameAlike, RefusalsChangeNothing};
 ghost use Rattle.replica.specs.Changes.{Change, Makes, meaning};
 ghost use Rattle.replica.specs.MadeOperations.{IsMadeAt};
 ghost use Rattle.replica.specs.Site.{IsUnchanged, SiteState};

@@ -1,4 +1,5 @@
-ghost use Rattle.std.specs.Prelude.{◌≡◌, ◌↔◌, ◌<◌, ◌≤◌, length, Some, slice_get, option_map, Contains, IfSome, IfNone, IfOk, OnOk, IsErrOf};
+ghost use Rattle.std.specs.Prelude.{◌≡◌, ◌↔◌, ◌<◌, ◌≤◌, length, Some, slice_get, option_map};
+ghost use Rattle.std.specs.Prelude.{Contains, IfSome, IfNone, IfOk, OnOk, IsErrOf};
 ghost use Rattle.replica.specs.Queues.{AreDistinct, AreQueues, number_of};
 
 use dots::{Memory, QUEUES, QueueName};

@@ -91,7 +91,7 @@ impl Replica {
         }
     }
 
-    /// The site whose replica it is. It takes no memory, like all that only reads.
+    /// The site whose replica it is. It takes no memory, like all that only reads and has no fault.
     pub fn site(&self) -> SiteId
         ensures { result ≡ self.now.site }
     {

@@ -1,5 +1,6 @@
 //! The messages that come in, read as they are needed.
-ghost use Rattle.std.specs.Prelude.{◌≡◌, ◌≤◌, ◌<◌, ◌+◌, [], None, Ok, true, false, IfOk, IfSome, OnOk, IsErrOf};
+ghost use Rattle.std.specs.Prelude.{◌≡◌, ◌≤◌, ◌<◌, ◌+◌, [], None, Ok, true, false, IfOk, IfSome};
+ghost use Rattle.std.specs.Prelude.{OnOk, IsErrOf};
 ghost use Rattle.ami_text.specs.Devices.{HasEnded};
 ghost use Rattle.serve.specs.Steps.{HasCome, IsHeld, IsNext, bytes_ahead};
 

@@ -2,7 +2,8 @@
 ghost use Rattle.std.specs.Prelude.{◌≡◌, ◌+◌, ℕ};
 ghost use Rattle.dots.specs.declared.calls.Calls.{Calls};
 ghost use Rattle.dots.specs.Joins.{IsJoin};
-ghost use Rattle.dots.specs.Totals.{Entries, InLimits, Key, join_of, single, totals_at, totals_of, greater};
+ghost use Rattle.dots.specs.Totals.{Entries, InLimits, Key, join_of, single, totals_at, totals_of};
+ghost use Rattle.dots.specs.Totals.{greater};
 ghost use Rattle.site_totals.specs.Raising.{alone, number_of, raised_totals};
 
 /// Totals are joined in any order (RR-7506's grow-only counter). Each two agree.

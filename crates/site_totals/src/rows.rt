@@ -1,10 +1,12 @@
 // Entries in the order of their keys, in a slice or a vector.
-ghost use Rattle.std.specs.Prelude.{◌≡◌, ◌↔◌, ◌+◌, ◌-◌, ◌<◌, ◌≤◌, IsTrue, IsSome, IsOk, IfOk, IfErr, OnOk, OnErr};
+ghost use Rattle.std.specs.Prelude.{◌≡◌, ◌↔◌, ◌+◌, ◌-◌, ◌<◌, ◌≤◌, IsTrue, IsSome, IsOk, IfOk};
+ghost use Rattle.std.specs.Prelude.{IfErr, OnOk, OnErr};
 ghost use Rattle.std.specs.Vec.{vec_capacity, vec_len};
 ghost use Rattle.std.specs.FinMap as map;
 ghost use Rattle.dots.specs.Values.{IsSite};
 ghost use Rattle.dots.specs.SortedEntries.{IsRising, IsAt, IsGapFor};
-ghost use Rattle.dots.specs.Totals.{InLimits, key_cmp, greater, totals_at, join_of, single, count_missing};
+ghost use Rattle.dots.specs.Totals.{InLimits, key_cmp, greater, totals_at, join_of, single};
+ghost use Rattle.dots.specs.Totals.{count_missing};
 ghost use Rattle.site_totals.specs.TotalLists.{IsKept, row_totals, entries_of};
 ghost use Rattle.site_totals.specs.Raising.{number_of, raised_totals};
 
@@ -110,7 +112,8 @@ pub(crate) fn raise_one(rows: &mut Vec<Row>, key: TotalKey, calls: Calls) -> Res
     ensures full { (result ≡ Err TotalFault.TotalFull)
         ↔ (number_of calls (totals_at (entries_of rows.old.items) key) ≡ MOST_CALLS) }
     ensures memory { result ≡ Err TotalFault.Memory
-        → (map.get (entries_of rows.old.items) key ≡ None) × (vec_capacity rows.old ≤ vec_len rows.old) }
+        → (map.get (entries_of rows.old.items) key ≡ None)
+        × (vec_capacity rows.old ≤ vec_len rows.old) }
     ensures err { OnErr result (rows.new.items ≡ rows.old.items) }
 {
     let had = row_totals(rows, key);

@@ -74,7 +74,8 @@ impl Ord for TotalKey {
 impl PartialOrd for TotalKey {
     ghost partial_cmp = { as_partial_cmp key_cmp };
 
-    ghost laws = { partial_order_from_own_ties (Prim.search (comparing, rules)) (Prim.search (comparing, rules)) };
+    ghost laws = { partial_order_from_own_ties (Prim.search (comparing, rules))
+        (Prim.search (comparing, rules)) };
 
     fn partial_cmp(&self, other: &TotalKey) -> Option<Ordering> {
         Some(self.cmp(other))

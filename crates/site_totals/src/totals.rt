@@ -1,4 +1,5 @@
-ghost use Rattle.std.specs.Prelude.{◌≡◌, ◌↔◌, ◌+◌, ◌*◌, ◌<◌, ◌≤◌, All, None, IsTrue, IsOk, IfOk, OnOk, OnErr, IsErrOf};
+ghost use Rattle.std.specs.Prelude.{◌≡◌, ◌↔◌, ◌+◌, ◌*◌, ◌<◌, ◌≤◌, All, None, IsTrue, IsOk, IfOk};
+ghost use Rattle.std.specs.Prelude.{OnOk, OnErr, IsErrOf};
 ghost use Rattle.std.specs.FinMap as map;
 ghost use Rattle.dots.specs.Totals.{InLimits, IsTotal, totals_of, sum_of, join_of, single};
 ghost use Rattle.site_totals.specs.Tally.{HasRoomFor};
@@ -28,7 +29,10 @@ impl Model for Totals {
 
     ghost coded = { tally_code };
 
-    ghost view = { λ t. record { entries = entries_of t.rows.items; room = vec_capacity t.rows - vec_len t.rows } };
+    ghost view = { λ t. record {
+      entries = entries_of t.rows.items;
+      room = vec_capacity t.rows - vec_len t.rows;
+    } };
 
     ghost invariant = { λ t. IsKept t.rows.items };
 }
@@ -105,7 +109,8 @@ impl Totals {
         ensures full { (result ≡ Err TotalFault.TotalFull)
             ↔ (number_of calls (totals_of self.old.entries site queue) ≡ MOST_CALLS) }
         ensures memory { result ≡ Err TotalFault.Memory
-            → (map.get self.old.entries (record { site = site; queue = queue }) ≡ None) × (self.old.room ≡ 0) }
+            → (map.get self.old.entries (record { site = site; queue = queue }) ≡ None)
+            × (self.old.room ≡ 0) }
         ensures err { OnErr result (self.new.entries ≡ self.old.entries) }
     {
         raise_one(&mut self.rows, TotalKey::new(site, queue), calls)
@@ -121,7 +126,8 @@ impl Totals {
         ensures ok { OnOk result (self.new.entries
             ≡ join_of self.old.entries (single (record { site = site; queue = queue }) totals)) }
         ensures err { OnErr result (self.new.entries ≡ self.old.entries) }
-        ensures succeeds { HasRoomFor self.old (single (record { site = site; queue = queue }) totals)
+        ensures succeeds { HasRoomFor self.old
+            (single (record { site = site; queue = queue }) totals)
             → IsOk result }
     {
         join_one(&mut self.rows, TotalKey::new(site, queue), totals)

@@ -1,6 +1,6 @@
 -- Which outcomes come of which events, and that refused ones change nothing.
 use Rattle.replica.specs.Queues.{number_of}
-use Rattle.std.proofs.Common.{◌≡◌, inl, inr, ℕ, suc, Bool, true, false, ◌||◌, nat_lt, List, [], ◌∷◌, ◌++◌, append-nil, length, slice_get, slice_set, Option, Some, None, Ok, Err, refl, sym, ap, ◌∙◌, true≢false, if◌then◌else◌}
+use Rattle.std.proofs.Common.{◌≡◌, ◌≢◌, ◌↔◌, inl, inr, ℕ, suc, Bool, true, false, ◌||◌, nat_lt, List, [], ◌∷◌, ◌++◌, append-nil, length, slice_get, slice_set, Option, Some, None, Ok, Err, refl, sym, ap, ◌∙◌, true≢false, if◌then◌else◌, is_some}
 use Rattle.std.specs.FinSet as set
 use Rattle.std.specs.Prelude.{⊤}
 use Rattle.std.proofs.lemmas.List.{set-get_or}
@@ -26,7 +26,9 @@ use Rattle.sites_world.specs.declared.event.Event.{Event}
 use Rattle.sites_world.specs.declared.event.Event.TheVariants as event
 use Rattle.sites_world.specs.declared.outcome.Outcome.TheVariants as outcome
 use Rattle.sites_world.specs.Outcomes.{IsAnswerTo, IsOutcomeOf, IsToldRefusal, changes_nothing}
-use Rattle.sites_world.specs.Worlds.{Entry, Happening, World, answered, framed, happens, happens_at, happens_where, site_of, take_told, taken}
+use Rattle.sites_world.specs.Worlds.{Entry, Happening, World, answered, framed, happens, happens_at, happens_where, has_entry, site_of, take_told, taken}
+use Rattle.sites_world.specs.Promises.{TellNoEntry, TellNoSite}
+use Rattle.sites_world.proofs.Lists.{none-some}
 
 -- ---- which outcomes
 
@@ -132,6 +134,44 @@ of-their-events names w e = by (slice_get w.sites (site_of e))
     by : (found : Option SiteKnowledge) → IsOutcomeOf e (happens_where names w (site_of e) found e).1
     by None = no-site-told e
     by (Some s) = at-told names w.pool s e
+
+-- ---- no such site, and no such entry
+
+-- no event at a site that is there tells that it isn't
+there-told : (names : List (List ℕ)) (pool : List Entry) (s : SiteKnowledge) (e : Event) → (happens_at names pool s e).outcome ≡ outcome.NoSite → ⊥
+there-told names pool s (event.Ask site asked) told = (cc)
+there-told names pool s (event.Cut site) told = (cc)
+there-told names pool s (event.Whole site) told = (cc)
+there-told names pool s (event.Take site place) told = by (slice_get pool place) told
+  where
+    by : (found : Option Entry) → (taken s found).outcome ≡ outcome.NoSite → ⊥
+    by None told = (cc)
+    by (Some entry) told = (cc)
+
+pub tell-no-site : TellNoSite
+tell-no-site names w e = by (slice_get w.sites (site_of e))
+  where
+    by : (found : Option SiteKnowledge) → ((happens_where names w (site_of e) found e).1 ≡ outcome.NoSite) ↔ (found ≡ None)
+    by None = ((λ told. refl), (λ is. refl))
+    by (Some s) = ((λ told. absurd (there-told names w.pool s e told)), (λ is. absurd (none-some s (sym is))))
+
+-- an event at a site that is there tells that there is no such entry exactly where it takes one that isn't there
+entry-told : (names : List (List ℕ)) (w : World) (s : SiteKnowledge) (e : Event) → ((happens_at names w.pool s e).outcome ≡ outcome.NoEntry) ↔ (has_entry w e ≡ false)
+entry-told names w s (event.Ask site asked) = ((λ told. absurd (cc)), (λ is. absurd (true≢false is)))
+entry-told names w s (event.Cut site) = ((λ told. absurd (cc)), (λ is. absurd (true≢false is)))
+entry-told names w s (event.Whole site) = ((λ told. absurd (cc)), (λ is. absurd (true≢false is)))
+entry-told names w s (event.Take site place) = by (slice_get w.pool place)
+  where
+    by : (found : Option Entry) → ((taken s found).outcome ≡ outcome.NoEntry) ↔ (is_some found ≡ false)
+    by None = ((λ told. refl), (λ is. refl))
+    by (Some entry) = ((λ told. absurd (cc)), (λ is. absurd (true≢false is)))
+
+pub tell-no-entry : TellNoEntry
+tell-no-entry names w e = by (slice_get w.sites (site_of e))
+  where
+    by : (found : Option SiteKnowledge) → ((happens_where names w (site_of e) found e).1 ≡ outcome.NoEntry) ↔ ((found ≢ None) × (has_entry w e ≡ false))
+    by None = ((λ told. absurd (cc)), (λ is. absurd (is.0 refl)))
+    by (Some s) = let at = entry-told names w s e in ((λ told. ((λ none. none-some s (sym none)), at.0 told)), (λ is. at.1 is.1))
 
 -- ---- what changes nothing
 

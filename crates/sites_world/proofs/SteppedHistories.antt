@@ -22,10 +22,10 @@ use Rattle.status_report.specs.Knowing.{answer_in}
 use Rattle.replica.specs.MadeOperations.{IsMadeAt}
 use Rattle.sites_world.specs.declared.event.Event.{Event}
 use Rattle.sites_world.specs.declared.event.Event.TheVariants as event
-use Rattle.sites_world.specs.Histories.{HasHistory, IsHistory, IsHistoryOf, IsOf, IsPartOf, IsSiteIn}
+use Rattle.sites_world.specs.Histories.{HasHistory, IsHistory, IsHistoryOf, IsKnown, IsOf, IsPartOf, IsSiteIn}
 use Rattle.sites_world.specs.Worlds.{Entry, IsReached, World, after_happening, answered, entries_of, framed, happens, happens_at, happens_where, new_world, run, site_of, taken}
 use Rattle.sites_world.proofs.Lists.{get-replicate, get-set-other, get-set-same, one-some, place-in}
-use Rattle.sites_world.proofs.Parts.{both-part, more-part, none-part, part-through}
+use Rattle.sites_world.proofs.Parts.{both-part, more-part, none-part, part-through, second-part}
 use Rattle.sites_world.proofs.GrownHistories.{grows}
 use Rattle.sites_world.proofs.MadeHistories.{made-next}
 
@@ -57,7 +57,17 @@ new-history names_of_queues sites = record {
   history = empty-history names_of_queues _;
   sites = λ site s is. new-site-in site s (get-replicate sites new_site site s is);
   pool = λ entry here. absurd (nothing-in entry here);
+  known = λ o here. absurd (nothing-in o here);
 }
+
+-- a site after a step knows a part of the history, and what it knew
+record KeepsSite (h : Knowledge) (site : ℕ) (s t : SiteKnowledge) : Type 0 where
+  site_in : IsSiteIn h site t
+  more : IsPartOf s.known t.known
+
+-- a site that stays does
+same-site : (h : Knowledge) (site : ℕ) (s : SiteKnowledge) → IsSiteIn h site s → KeepsSite h site s s
+same-site h site s known = record { site_in = known; more = λ o here. here }
 
 -- ---- the site of a step
 
@@ -76,17 +86,31 @@ module _ (names_of_queues : List (List ℕ)) (w : World) (h : Knowledge) (site :
       by (inl e) = inl (e, one-some u t (sym here ∙ ap (slice_get (slice_set w.sites site t)) e ∙ get-set-same w.sites site t within))
       by (inr apart) = inr (apart, sym (get-set-other w.sites site j t apart) ∙ here)
 
+  -- what a site knows stays known where this one knows as much
+  still-known : (t : SiteKnowledge) (added : List Entry) → IsPartOf s.known t.known → (o : Operation) → IsKnown w o → IsKnown (record { sites = slice_set w.sites site t; pool = w.pool ++ added }) o
+  still-known t added more o k = by (same-place k.site)
+    where
+      by : ((k.site ≡ site) ⊎ (k.site ≡ site → ⊥)) → IsKnown (record { sites = slice_set w.sites site t; pool = w.pool ++ added }) o
+      by (inl e) = record {
+        site = site;
+        knows = t;
+        is = get-set-same w.sites site t within;
+        known = more o (subst (λ u. Contains u.known o) (one-some k.knows s (sym k.is ∙ ap (slice_get w.sites) e ∙ is)) k.known);
+      }
+      by (inr apart) = record { site = k.site; knows = k.knows; is = get-set-other w.sites site k.site t apart ∙ k.is; known = k.known }
+
   -- where no operation is made the history stays
-  pub kept-history : (t : SiteKnowledge) (added : List Entry) → IsSiteIn h site t → ((entry : Entry) → Contains added entry → IsPartOf entry.carried h)
+  pub kept-history : (t : SiteKnowledge) (added : List Entry) → KeepsSite h site s t → ((entry : Entry) → Contains added entry → IsPartOf entry.carried h)
       → IsHistoryOf names_of_queues (record { sites = slice_set w.sites site t; pool = w.pool ++ added }) h
-  kept-history t added known carried = record {
+  kept-history t added keeps carried = record {
     history = subst (λ n. IsHistory names_of_queues n h) (sym (length-set w.sites site t)) all.history;
     sites = λ j u here. by j u (put-cases t j u here);
     pool = λ entry here. elim (Contains-append_cases w.pool added entry here) [ inl a ↦ all.pool entry a | inr b ↦ carried entry b ];
+    known = λ o here. still-known t added keeps.more o (all.known o here);
   }
     where
       by : (j : ℕ) (u : SiteKnowledge) → (((j ≡ site) × (u ≡ t)) ⊎ ((j ≡ site → ⊥) × (slice_get w.sites j ≡ Some u))) → IsSiteIn h j u
-      by j u (inl p) = subst (λ n. IsSiteIn h n u) (sym p.0) (subst (IsSiteIn h site) (sym p.1) known)
+      by j u (inl p) = subst (λ n. IsSiteIn h n u) (sym p.0) (subst (IsSiteIn h site) (sym p.1) keeps.site_in)
       by j u (inr p) = all.sites j u p.1
 
   -- an operation that the site makes is its own alone
@@ -112,6 +136,10 @@ module _ (names_of_queues : List (List ℕ)) (w : World) (h : Knowledge) (site :
     pool = λ entry here. elim (Contains-append_cases w.pool [] entry here) [
       | inl a ↦ longer o entry.carried (all.pool entry a)
       | inr b ↦ absurd (nothing-in entry b)
+    ];
+    known = λ p here. elim (cases-in o h p here) [
+      | inl e ↦ record { site = site; knows = after o; is = get-set-same w.sites site (after o) within; known = subst (Contains (o ∷ s.known)) e (first-in o s.known) }
+      | inr r ↦ still-known (after o) [] (later-in o s.known) p (all.known p r)
     ];
   }
     where
@@ -144,41 +172,44 @@ module _ (names_of_queues : List (List ℕ)) (w : World) (h : Knowledge) (site :
 
 -- ---- steps that make no operation
 
--- a site after a step knows a part of the history, and so does the frame that was made, if one was
-record KeepsParts (h : Knowledge) (site : ℕ) (after : SiteKnowledge × steps.Outcome) : Type 0 where
-  site_in : IsSiteIn h site after.0
+-- and the frame that was made, if one was, carries a part
+record KeepsParts (h : Knowledge) (site : ℕ) (s : SiteKnowledge) (after : SiteKnowledge × steps.Outcome) : Type 0 where
+  keeps : KeepsSite h site s after.0
   carried : (entry : Entry) → Contains (entries_of site after.1) entry → IsPartOf entry.carried h
 
 module _ (h : Knowledge) (site : ℕ) (s : SiteKnowledge) (known : IsSiteIn h site s) where
   -- a frame of a part, with a buffer that is one
-  frame-parts : (frame buffer : Knowledge) → IsPartOf frame h → IsPartOf buffer s.known → KeepsParts h site (after_frame s frame buffer)
+  frame-parts : (frame buffer : Knowledge) → IsPartOf frame h → IsPartOf buffer s.known → KeepsParts h site s (after_frame s frame buffer)
   frame-parts frame buffer part rest = by (nat_lt MOST_COUNT (suc s.frames))
     where
-      by : (b : Bool) → KeepsParts h site (if b then (s, steps.NoNumber) else (record { known = s.known; buffer = buffer; frames = suc s.frames }, Framed (suc s.frames) frame))
-      by true = record { site_in = known; carried = λ entry here. absurd (nothing-in entry here) }
+      by : (b : Bool) → KeepsParts h site s (if b then (s, steps.NoNumber) else (record { known = s.known; buffer = buffer; frames = suc s.frames }, Framed (suc s.frames) frame))
+      by true = record { keeps = same-site h site s known; carried = λ entry here. absurd (nothing-in entry here) }
       by false = record {
-        site_in = record { known = known.known; buffer = rest; own = known.own };
+        keeps = record { site_in = record { known = known.known; buffer = rest; own = known.own }; more = λ o here. here };
         carried = λ entry here. subst (λ e. IsPartOf e.carried h) (only-in _ entry here) part;
       }
 
-  cut-by : (buffer : Knowledge) → IsPartOf buffer s.known → KeepsParts h site (cut s buffer)
-  cut-by [] part = record { site_in = known; carried = λ entry here. absurd (nothing-in entry here) }
+  cut-by : (buffer : Knowledge) → IsPartOf buffer s.known → KeepsParts h site s (cut s buffer)
+  cut-by [] part = record { keeps = same-site h site s known; carried = λ entry here. absurd (nothing-in entry here) }
   cut-by (o ∷ os) part = frame-parts (o ∷ os) [] (part-through (o ∷ os) s.known h part known.known) (none-part s.known)
 
   abbrev taken_by : Knowledge → Bool → Bool → SiteKnowledge × steps.Outcome
   taken_by frame a b = if a then (s, steps.CellsFull) else if b then (s, steps.RunsFull) else (record { known = frame ++ s.known; buffer = s.buffer; frames = s.frames }, steps.Taken)
 
   -- a site that takes a part
-  take-parts : (frame : Knowledge) → IsPartOf frame h → IsSiteIn h site (take s frame).0
+  take-parts : (frame : Knowledge) → IsPartOf frame h → KeepsSite h site s (take s frame).0
   take-parts frame part = by (nat_lt MOST_LIVE (set.len (visible_dots (frame ++ s.known)))) (nat_lt MOST_RUNS (run_count (known_dots (frame ++ s.known))))
     where
-      by : (a b : Bool) → IsSiteIn h site (taken_by frame a b).0
-      by true b = known
-      by false true = known
+      by : (a b : Bool) → KeepsSite h site s (taken_by frame a b).0
+      by true b = same-site h site s known
+      by false true = same-site h site s known
       by false false = record {
-        known = both-part frame s.known h part known.known;
-        buffer = λ o here. Contains-append_right frame s.known o (known.buffer o here);
-        own = λ o here of. Contains-append_right frame s.known o (known.own o here of);
+        site_in = record {
+          known = both-part frame s.known h part known.known;
+          buffer = λ o here. Contains-append_right frame s.known o (known.buffer o here);
+          own = λ o here of. Contains-append_right frame s.known o (known.own o here of);
+        };
+        more = second-part frame s.known;
       }
 
 -- ---- events
@@ -190,7 +221,7 @@ module _ (names_of_queues : List (List ℕ)) (w : World) (h : Knowledge) (all : 
 
     -- nothing changes
     same-history : HasHistory names_of_queues (record { sites = slice_set w.sites site s; pool = w.pool ++ [] })
-    same-history = record { made = h; is = kept-history names_of_queues w h site s all is s [] (all.sites site s is) no-entry }
+    same-history = record { made = h; is = kept-history names_of_queues w h site s all is s [] (same-site h site s (all.sites site s is)) no-entry }
 
     command-history : (change : Change) → HasHistory names_of_queues (record { sites = slice_set w.sites site (step site names_of_queues s (steps.Do change)).0; pool = w.pool ++ [] })
     command-history change = by (meaning site names_of_queues (site_view site s.known) (site_view site s.buffer) change) refl
@@ -204,8 +235,8 @@ module _ (names_of_queues : List (List ℕ)) (w : World) (h : Knowledge) (all : 
     ask-history (asked_command command) = command-history (change_of command)
     ask-history (Status request) = same-history
 
-    frame-history : (after : SiteKnowledge × steps.Outcome) → KeepsParts h site after → HasHistory names_of_queues (after_happening w site (framed site (length w.pool) after))
-    frame-history after parts = record { made = h; is = kept-history names_of_queues w h site s all is after.0 (entries_of site after.1) parts.site_in parts.carried }
+    frame-history : (after : SiteKnowledge × steps.Outcome) → KeepsParts h site s after → HasHistory names_of_queues (after_happening w site (framed site (length w.pool) after))
+    frame-history after parts = record { made = h; is = kept-history names_of_queues w h site s all is after.0 (entries_of site after.1) parts.keeps parts.carried }
 
     taken-history : (found : Option Entry) → ((entry : Entry) → found ≡ Some entry → IsPartOf entry.carried h) → HasHistory names_of_queues (after_happening w site (taken s found))
     taken-history None carried = same-history

@@ -67,11 +67,20 @@ pub record IsSiteIn (h : Knowledge) (site : ℕ) (s : SiteKnowledge) : Type 0 wh
   pub buffer : IsPartOf s.buffer s.known
   pub own : (o : Operation) → Contains h o → IsOf site o → Contains s.known o
 
--- A world with its history: each site knows a part of it, with every add, write and count of its own, and each frame carries a part.
+-- a site of a world knows an operation
+pub record IsKnown (w : World) (o : Operation) : Type 0 where
+  pub site : ℕ
+  pub knows : SiteKnowledge
+  pub is : slice_get w.sites site ≡ Some knows
+  pub known : Contains knows.known o
+
+-- A world with its history, which is all that any site knows: each site knows a part of it, with every add, write and count of its own, and each frame
+-- carries a part.
 pub record IsHistoryOf (names_of_queues : List (List ℕ)) (w : World) (h : Knowledge) : Type 0 where
   pub history : IsHistory names_of_queues (length w.sites) h
   pub sites : (site : ℕ) (s : SiteKnowledge) → slice_get w.sites site ≡ Some s → IsSiteIn h site s
   pub pool : (entry : Entry) → Contains w.pool entry → IsPartOf entry.carried h
+  pub known : (o : Operation) → Contains h o → IsKnown w o
 
 -- a world has a history
 pub record HasHistory (names_of_queues : List (List ℕ)) (w : World) : Type 0 where

@@ -1,8 +1,8 @@
 -- What the definition of the world promises.
 use Rattle.sites_world.specs.Outcomes.{IsOutcomeOf, changes_nothing}
-use Rattle.sites_world.specs.declared.outcome.Outcome.TheVariants.{Answered, Took}
+use Rattle.sites_world.specs.declared.outcome.Outcome.TheVariants.{Answered, NoEntry, NoSite, Took}
 use Rattle.status_report.specs.declared.asks.Answer.TheVariants.{Report}
-use Rattle.std.specs.Prelude.{ℕ, ◌≡◌, ◌≤◌, ◌*◌, ◌++◌, true, Contains, List, Some, Ok, length, slice_get}
+use Rattle.std.specs.Prelude.{ℕ, ◌≡◌, ◌≢◌, ◌↔◌, ◌≤◌, ◌*◌, ◌++◌, true, false, Contains, List, Some, None, Ok, length, slice_get}
 use Rattle.std.specs.FinMap as map
 use Rattle.std.specs.FinSet as set
 use Rattle.std.specs.List.{filter_map}
@@ -21,7 +21,7 @@ use Rattle.status_report.specs.Knowing.{status_in}
 use Rattle.sites_world.specs.declared.event.Event.{Event}
 use Rattle.sites_world.specs.declared.event.Event.TheVariants as event
 use Rattle.sites_world.specs.Histories.{HasHistory, IsIn, IsOf, IsPartOf, Makes}
-use Rattle.sites_world.specs.Worlds.{Entry, IsReached, World, happens, run}
+use Rattle.sites_world.specs.Worlds.{Entry, IsReached, World, happens, has_entry, run, site_of}
 
 -- each world that events lead to has a history
 abbrev pub HaveHistories : Type 0
@@ -121,6 +121,14 @@ pub record RunsInParts (names : List (List ℕ)) (w : World) (first rest : List 
 -- what comes of an event is of its kind, so it is never want of memory, and no frame is refused but as too much
 abbrev pub AreOfTheirEvents : Type 0
 AreOfTheirEvents = (names : List (List ℕ)) (w : World) (e : Event) → IsOutcomeOf e (happens names w e).1
+
+-- which tells that there is no such site exactly where there is none
+abbrev pub TellNoSite : Type 0
+TellNoSite = (names : List (List ℕ)) (w : World) (e : Event) → ((happens names w e).1 ≡ NoSite) ↔ (slice_get w.sites (site_of e) ≡ None)
+
+-- and that there is no such entry exactly where there is that site and not that entry
+abbrev pub TellNoEntry : Type 0
+TellNoEntry = (names : List (List ℕ)) (w : World) (e : Event) → ((happens names w e).1 ≡ NoEntry) ↔ ((slice_get w.sites (site_of e) ≢ None) × (has_entry w e ≡ false))
 
 -- what tells that nothing is changed comes where nothing is
 abbrev pub RefusalsChangeNothing : Type 0

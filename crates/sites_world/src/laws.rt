@@ -7,10 +7,11 @@ ghost use Rattle.sites_world.specs.Promises.{GiveSameAnswer, HaveHistories, Have
 ghost use Rattle.sites_world.specs.Promises.{HaveFewLiveDots, HaveFewVisibleDots, TakesGive};
 ghost use Rattle.sites_world.specs.Promises.{HaveSameStatus, LeadsOn, ReportsAreReadings};
 ghost use Rattle.sites_world.specs.Promises.{AreOfTheirEvents, RefusalsChangeNothing, RunsInParts};
+ghost use Rattle.sites_world.specs.Promises.{TellNoEntry, TellNoSite};
 ghost use Rattle.sites_world.specs.Worlds.{World};
 
-/// Each world that events lead to has a history: one list of operations, of which each site knows a part with every add, write and count
-/// of its own, and each frame carries a part (RR-7506: the causal history of a replica).
+/// Each world that events lead to has a history: one list of all operations that any site knows. Each site knows a part of it, with every
+/// add, write and count of its own, and each frame carries a part (RR-7506: the causal history of a replica).
 pub fn a_world_has_a_history()
     ensures { HaveHistories }
 {}
@@ -45,9 +46,12 @@ pub fn sites_that_know_the_same_have_the_same_status()
 
 /// What comes of an event is of its kind: an ask is answered, and a command never refused for want of memory; a frame that is asked for
 /// is made, or no number is left, or a buffer has nothing to send; a frame is taken, or is too much, and is never refused as
-/// `NoSuchQueue`, `NotMine` or `Conflict`, or there is no such entry; or there is no such site (this project's own).
+/// `NoSuchQueue`, `NotMine` or `Conflict`. Else it is that there is no such site, exactly where there is none, or that there is no such
+/// entry, exactly where there is the site and no entry to take (this project's own).
 pub fn an_outcome_is_of_its_event()
-    ensures { AreOfTheirEvents }
+    ensures kind { AreOfTheirEvents }
+    ensures no_site { TellNoSite }
+    ensures no_entry { TellNoEntry }
 {}
 
 /// What is refused changes nothing, and nor does a status, a cut of an empty buffer, or an event where there is no such site or

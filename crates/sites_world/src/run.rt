@@ -7,10 +7,12 @@ ghost use Rattle.delta.specs.Standing.{IsDeltaOf};
 ghost use Rattle.replica.specs.Standing.{StandsFor};
 ghost use Rattle.replica.specs.Steps.{Cut, SiteKnowledge, Take, Whole, step};
 ghost use Rattle.status_report.specs.Knowing.{answer_in};
-ghost use Rattle.sites_world.specs.Telling.{HasEntry, HasHappenedAt, IsAnsweredSo, IsFramedSo, IsTakenSo, MayBeTaken};
+ghost use Rattle.sites_world.specs.Telling.{HasEntry, HasHappenedAt, IsAnsweredSo, IsFramedSo};
+ghost use Rattle.sites_world.specs.Telling.{IsTakenSo, MayBeTaken};
 ghost use Rattle.sites_world.specs.Telling.{answer_told, take_fault_told};
 ghost use Rattle.sites_world.specs.Worlds.{Entry, IsReached, World, happens_at, site_of};
-ghost use Rattle.sites_world.specs.WorldStates.{Correspond, HasHappened, HaveHappened, IsFrameOf, StandsForWorld};
+ghost use Rattle.sites_world.specs.WorldStates.{Correspond, HasHappened, HaveHappened, IsFrameOf};
+ghost use Rattle.sites_world.specs.WorldStates.{StandsForWorld};
 
 use crate::{Event, Outcome};
 use dots::{Memory, SiteId};
@@ -175,7 +177,8 @@ fn happen_at(alloc: Global, replica: &mut Replica, pool: &mut Vec<Frame>, event:
 fn happen(alloc: Global, sites: &mut Vec<Replica>, pool: &mut Vec<Frame>, event: &Event) -> Outcome
     ensures meaning { (names : List (List ℕ)) (w : World)
         → IsReached names (length sites.old.items) w
-        → StandsForWorld (record { names = names; sites = sites.old.items; pool = pool.old.items }) w
+        → StandsForWorld
+        (record { names = names; sites = sites.old.items; pool = pool.old.items }) w
         → HasHappened (record { names = names; sites = sites.new.items; pool = pool.new.items })
         w event.now result }
     ensures count { length sites.new.items ≡ length sites.old.items }
@@ -198,7 +201,8 @@ pub(crate) fn run_all(
     requires none { outcomes.old.items ≡ [] }
     ensures meaning { (names : List (List ℕ)) (w : World)
         → IsReached names (length sites.old.items) w
-        → StandsForWorld (record { names = names; sites = sites.old.items; pool = pool.old.items }) w
+        → StandsForWorld
+        (record { names = names; sites = sites.old.items; pool = pool.old.items }) w
         → HaveHappened (record { names = names; sites = sites.new.items; pool = pool.new.items })
         w events.now outcomes.new.items }
     ensures count { length sites.new.items ≡ length sites.old.items }

@@ -4,7 +4,8 @@ ghost use Rattle.delta_codec.specs.Frames.{IsInRanges};
 ghost use Rattle.replica.specs.Queues.{AreQueues};
 ghost use Rattle.replica.specs.Site.{SiteState};
 ghost use Rattle.sites_world.specs.Worlds.{IsReached, World as world_of_operations, new_world};
-ghost use Rattle.sites_world.specs.WorldStates.{HaveHappened, IsFresh, IsSiteOf, IsWorld, StandsForWorld};
+ghost use Rattle.sites_world.specs.WorldStates.{HaveHappened, IsFresh, IsSiteOf, IsWorld};
+ghost use Rattle.sites_world.specs.WorldStates.{StandsForWorld};
 ghost use Rattle.replica.specs.Steps.{new_site};
 
 use crate::run::{frame_at, run_all};

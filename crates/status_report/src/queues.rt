@@ -30,7 +30,8 @@ pub trait Queues {
     /// The members of the queue of this number with their rows, in the order of their interfaces' bytes. The one
     /// fault is want of memory.
     fn rows(&self, alloc: Global, number: u16) -> Result<Vec<(&Interface, Row<'_>)>, Memory>
-        ensures { IfOk result (λ listed. each listed_row_view listed.items ≡ rows self.now number) };
+        ensures { IfOk result
+            (λ listed. each listed_row_view listed.items ≡ rows self.now number) };
 }
 
 // What a replica shows.

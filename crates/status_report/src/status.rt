@@ -1,10 +1,13 @@
-ghost use Rattle.std.specs.Prelude.{◌≡◌, ◌≤◌, ◌+◌, ◌++◌, length, map as each, slice_get, IfOk, OnOk};
+ghost use Rattle.std.specs.Prelude.{◌≡◌, ◌≤◌, ◌+◌, ◌++◌, length, map as each, slice_get, IfOk};
+ghost use Rattle.std.specs.Prelude.{OnOk};
 ghost use Rattle.std.specs.List.{concat};
 ghost use Rattle.dots.specs.Views.{row_view, listed_row_view};
 ghost use Rattle.replica.specs.Standing.{StandsFor};
 ghost use Rattle.replica.specs.Steps.{SiteKnowledge};
 ghost use Rattle.status_report.specs.Knowing.{status_in};
-ghost use Rattle.status_report.specs.Status.{blocks_named, closing, event_lines, is_member_wanted, is_queue_wanted, member_block, member_blocks, opening, queue_block, report_of, text_shown, status_text};
+ghost use Rattle.status_report.specs.Status.{blocks_named, closing, event_lines, is_member_wanted};
+ghost use Rattle.status_report.specs.Status.{is_queue_wanted, member_block, member_blocks, opening};
+ghost use Rattle.status_report.specs.Status.{queue_block, report_of, text_shown, status_text};
 ghost use Rattle.status_report.specs.WrittenLines.{action_id_line};
 
 use crate::lines::{push_action_id_line, push_end, push_field, push_number};
@@ -54,7 +57,8 @@ fn push_action_id(out: &mut Vec<u8>, request: &StatusRequest) -> Result<(), Memo
 
 // The lines that begin an event: its name, and the ActionID where the request has one.
 fn push_event(out: &mut Vec<u8>, request: &StatusRequest, event: &[u8]) -> Result<(), Memory>
-    ensures { OnOk result (out.new.items ≡ out.old.items ++ event_lines request.now.action_id event.now) }
+    ensures { OnOk result
+        (out.new.items ≡ out.old.items ++ event_lines request.now.action_id event.now) }
 {
     push_field(out, "Event", event)?;
     push_action_id(out, request)
@@ -88,9 +92,11 @@ fn push_queue<Q: Queues>(
     number: u16,
 ) -> Result<u64, Memory>
     ensures text { OnOk result (out.new.items ≡ out.old.items
-        ++ concat (blocks_named request.now (Q.totals queues.now) (Q.rows queues.now) number (slice_get (Q.names queues.now) number))) }
+        ++ concat (blocks_named request.now (Q.totals queues.now) (Q.rows queues.now) number
+        (slice_get (Q.names queues.now) number))) }
     ensures count { IfOk result (λ events. events
-        ≡ length (blocks_named request.now (Q.totals queues.now) (Q.rows queues.now) number (slice_get (Q.names queues.now) number))) }
+        ≡ length (blocks_named request.now (Q.totals queues.now) (Q.rows queues.now) number
+        (slice_get (Q.names queues.now) number))) }
     ensures few { IfOk result (λ events. length out.old.items + events ≤ length out.new.items) }
 {
     let Some(name) = queues.list().name(number) else {
@@ -112,8 +118,8 @@ fn push_members(
     name: &QueueName,
     rows: &[(&Interface, Row<'_>)],
 ) -> Result<u64, Memory>
-    ensures text { OnOk result (out.new.items
-        ≡ out.old.items ++ concat (member_blocks request.now name.now (each listed_row_view rows.now))) }
+    ensures text { OnOk result (out.new.items ≡ out.old.items
+        ++ concat (member_blocks request.now name.now (each listed_row_view rows.now))) }
     ensures count { IfOk result (λ members.
         members ≡ length (member_blocks request.now name.now (each listed_row_view rows.now))) }
     ensures few { IfOk result (λ members. length out.old.items + members ≤ length out.new.items) }
@@ -167,7 +173,8 @@ fn push_totals(
     name: &QueueName,
     totals: CallTotals,
 ) -> Result<(), Memory>
-    ensures { OnOk result (out.new.items ≡ out.old.items ++ queue_block request.now.action_id name.now totals) }
+    ensures { OnOk result
+        (out.new.items ≡ out.old.items ++ queue_block request.now.action_id name.now totals) }
 {
     push_event(out, request, b"QueueParams")?;
     push_field(out, "Queue", name.as_bytes())?;
@@ -184,7 +191,8 @@ fn push_member(
     row: &Row<'_>,
 ) -> Result<(), Memory>
     ensures { OnOk result (out.new.items
-        ≡ out.old.items ++ member_block request.now.action_id name.now (interface.now, row_view row.now)) }
+        ≡ out.old.items
+        ++ member_block request.now.action_id name.now (interface.now, row_view row.now)) }
 {
     push_event(out, request, b"QueueMember")?;
     push_field(out, "Queue", name.as_bytes())?;

@@ -270,45 +270,49 @@ fn empty_lines_are_looked_at_once(rt: HostRuntime) {
     }
 }
 
-// Feeds a piece, and once more where memory is refused.
-fn feed_again(feed: &mut Feed, piece: &[u8]) -> Result<(), Memory> {
-    match feed.feed(piece) {
-        Ok(()) => Ok(()),
-        Err(_) => feed.feed(piece),
+// Feeds a piece, once more where memory is refused, and answers whether it was.
+fn feed_again(rt: &impl Abort, feed: &mut Feed, piece: &[u8]) -> bool {
+    let fed = feed.feed(piece);
+    if fed.is_err() {
+        feed_all(rt, feed, piece);
     }
+    fed.is_err()
 }
 
-// The next message, asked for once more where memory is refused.
-fn next_again(feed: &mut Feed) -> Result<Option<Message>, FeedFault> {
-    match feed.next_message() {
-        Err(FeedFault::Memory) => feed.next_message(),
-        next => next,
-    }
+// Checks what the next message has under a name; it is asked for once more where memory is refused. Answers whether it was.
+fn asks_again(rt: &impl Abort, feed: &mut Feed, name: &[u8], value: &[u8]) -> bool {
+    let (next, is_refused) = match feed.next_message() {
+        Err(FeedFault::Memory) => (feed.next_message(), true),
+        next => (next, false),
+    };
+    let message = next.expect(rt, "no fault").expect(rt, "a message");
+    assert_value(rt, &message, name, value);
+    is_refused
 }
 
-// Checks what the next message, asked for once more, has under a name.
-fn assert_next_again(rt: &impl Abort, feed: &mut Feed, name: &[u8], value: &[u8]) {
-    let next = next_again(feed).expect(rt, "no fault");
-    assert_value(rt, &next.expect(rt, "a message"), name, value);
-}
-
-// To be run with each allocation refused in turn: the messages are the same.
+// The messages are the same, whether they come at once or memory is refused and they are asked for again. tools/memory_tests.py
+// runs this test with each allocation refused in turn.
 #[test]
-fn refused_memory(rt: HostRuntime) {
+fn memory_of_a_feed(rt: HostRuntime) {
     let pieces: [&[u8]; 4] = [
         b"\r\nAction: Queue",
         b"Status\r\nQueue: a\r",
         b"\n\r",
         b"\nx\n\ny: z\n\n",
     ];
+    assert!(rt; println!(rt; "ready").is_ok());
     let mut feed = Feed::new(rt.alloc());
+    let mut is_refused = false;
     for piece in pieces {
-        assert!(rt; feed_again(&mut feed, piece).is_ok());
+        is_refused = feed_again(&rt, &mut feed, piece) || is_refused;
     }
-    assert_next_again(&rt, &mut feed, b"action", b"QueueStatus");
-    assert_next_again(&rt, &mut feed, b"x", b"");
-    assert_next_again(&rt, &mut feed, b"y", b"z");
+    for (name, value) in [("action", "QueueStatus"), ("x", ""), ("y", "z")] {
+        let (name, value) = (name.as_bytes(), value.as_bytes());
+        is_refused = asks_again(&rt, &mut feed, name, value) || is_refused;
+    }
     assert!(rt; has_none(&mut feed));
+    let end = if is_refused { "again" } else { "at once" };
+    assert!(rt; println!(rt; "{end}").is_ok());
 }
 
 // Reads once, and checks how many bytes come.

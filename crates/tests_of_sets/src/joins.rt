@@ -2,8 +2,8 @@
 ghost use Rattle.std.specs.Prelude.{◌≤◌};
 
 use crate::member_sets::{
-    FIRST, OTHER, SIP_1, SIP_2, Told, change, change_all, copy_of, dot, full_set, join_both,
-    refused, set_of,
+    FIRST, OTHER, SIP_1, SIP_2, Told, change_all, copy_of, dot, full_set, join_both, refused,
+    set_of,
 };
 use member_orset::{JoinFault, MemberSet};
 use std::alloc::Global;
@@ -118,61 +118,64 @@ fn a_join_of_more_than_65536_runs_is_refused(rt: HostRuntime) {
     assert_refused(&rt, &mut set, one, JoinFault::RunsFull);
 }
 
-// Lets so many dots of a site be live, where there is memory for them.
-fn try_to_put(rt: &impl Abort, set: &mut MemberSet, site: u16, dots: u64) -> Result<(), JoinFault>
-    requires { dots ≤ 100 }
-{
-    for index in 0..dots {
-        change(rt, set, Told::Put((site, 2 * index + 1), SIP_1, 5, 7))?;
-    }
-    Ok(())
-}
-
-// Lets so many dots of a site be dead, where there is memory for them.
-fn try_to_kill(rt: &impl Abort, set: &mut MemberSet, site: u16, dots: u64) -> Result<(), JoinFault>
-    requires { dots ≤ 100 }
-{
-    for index in 0..dots {
-        change(rt, set, Told::Kill((site, 2 * index + 1)))?;
-    }
-    Ok(())
-}
-
-// A set of so many live dots of a site and so many dead dots of another, where there is memory for it.
-fn try_to_make(
-    rt: &impl Abort,
-    alloc: Global,
-    live: (u16, u64),
-    dead: (u16, u64),
-) -> Option<MemberSet>
+// A set of so many live dots of a site, which knows so many dots of another one to be dead, every second one.
+fn set_with(rt: &impl Abort, alloc: Global, live: (u16, u64), dead: (u16, u64)) -> MemberSet
     requires live { live.1 ≤ 100 }
     requires dead { dead.1 ≤ 100 }
 {
     let mut set = MemberSet::new(alloc);
-    let put = try_to_put(rt, &mut set, live.0, live.1);
-    let killed = try_to_kill(rt, &mut set, dead.0, dead.1);
-    if put.is_err() || killed.is_err() {
-        return None;
-    }
-    Some(set)
+    put_all(rt, &mut set, live.0, live.1);
+    kill_dots(rt, &mut set, dead.0, 2, dead.1);
+    set
 }
 
-// Where an allocation is refused, whichever it is, the join says so and both sets say what they said.
-#[test]
-fn a_join_without_memory_leaves_both_sets(rt: HostRuntime) {
-    let x = try_to_make(&rt, rt.alloc(), (0, 10), (2, 10));
-    let y = try_to_make(&rt, rt.alloc(), (1, 40), (0, 5));
-    let (Some(mut x), Some(y)) = (x, y) else {
-        return;
-    };
-    let (Ok(x_before), Ok(y_before)) = (x.copy(), y.copy()) else {
-        return;
-    };
-    match x.join(y) {
-        Ok(()) => assert!(rt; x.cells() == 45 && !x.same(&x_before)),
+// Two sets to be joined, and copies of them.
+struct Pair {
+    set: MemberSet,
+    other: MemberSet,
+    set_before: MemberSet,
+    other_before: MemberSet,
+}
+
+fn pair_of(rt: &impl Abort, set: MemberSet, other: MemberSet) -> Pair {
+    let set_before = copy_of(rt, &set);
+    let other_before = copy_of(rt, &other);
+    Pair {
+        set,
+        other,
+        set_before,
+        other_before,
+    }
+}
+
+// Joins the sets of a pair, and answers whether there was memory for that. Where there was none, both say what they said.
+fn is_joined(rt: &impl Abort, pair: Pair) -> bool {
+    let mut set = pair.set;
+    match set.join(pair.other) {
+        Ok(()) => true,
         Err((fault, back)) => {
             assert!(rt; fault == JoinFault::Memory);
-            assert!(rt; x.same(&x_before) && back.same(&y_before));
+            assert!(rt; set.same(&pair.set_before) && back.same(&pair.other_before));
+            false
         }
     }
+}
+
+// Joins 40 live dots into an empty set, and 100 into one of 10 live dots, of which 5 are dead then. tools/memory_tests.py runs
+// this test with each allocation refused in turn.
+#[test]
+fn memory_of_joins(rt: HostRuntime) {
+    let alloc = rt.alloc();
+    let forty = set_with(&rt, alloc, (1, 40), (2, 20));
+    let first = pair_of(&rt, MemberSet::new(alloc), forty);
+    let ten = set_with(&rt, alloc, (0, 10), (2, 10));
+    let hundred = set_with(&rt, alloc, (1, 100), (0, 5));
+    let second = pair_of(&rt, ten, hundred);
+    assert!(rt; println!(rt; "ready").is_ok());
+    let end = if is_joined(&rt, first) && is_joined(&rt, second) {
+        "joined"
+    } else {
+        "refused"
+    };
+    assert!(rt; println!(rt; "{end}").is_ok());
 }

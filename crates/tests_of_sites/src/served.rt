@@ -403,14 +403,6 @@ fn end_of(rt: &impl Abort, served: Result<(), ServeFault>, written: &[u8]) -> &'
     "reply"
 }
 
-// The desk of a site with one queue, and room for what a session writes; none where memory is wanting.
-fn desk_and_room(rt: &impl Abort, alloc: Global) -> Option<(ReplicaDesk, Vec<u8>)> {
-    let list = QueueList::new(alloc, &[name(rt, b"sales")]).ok()?;
-    let room = Vec::with_capacity(alloc, 1_024).ok()?;
-    let replica = Replica::new(alloc, site(rt, 0), list);
-    Some((ReplicaDesk::new(alloc, replica), room))
-}
-
 // Serves a session over a slice, and answers what is left of it, and what was written behind what a vector held. Its contract is what
 // `serve` tells of a reader and a writer of std's.
 fn served_over_a_slice<'a>(
@@ -443,20 +435,18 @@ fn a_session_over_a_slice_and_a_vector(rt: HostRuntime) {
     assert_text(&rt, &written, &[GREETING, ACCEPTED, GOODBYE]);
 }
 
-// Serves a session over a reader and a writer of std's that take no memory, and prints how it ended; tools/session_tests.py
+// Serves a session over a reader and a writer of std's that take no memory, and prints how it ended; tools/memory_tests.py
 // runs this test with each allocation refused in turn.
 #[test]
 fn memory_of_a_session(rt: HostRuntime) {
     let alloc = rt.alloc();
-    let end = match desk_and_room(&rt, alloc) {
-        None => "no desk",
-        Some((mut desk, room)) => {
-            let mut reader = StdSource::new(ADD_AND_STATUS.as_bytes());
-            let mut writer = StdSink::new(room);
-            let session = Session::trusted();
-            let served = serve(&(), alloc, &mut reader, &mut writer, session, &mut desk);
-            end_of(&rt, served, &writer.into_inner())
-        }
-    };
+    let mut desk = desk(&rt, alloc);
+    let room = Vec::with_capacity(alloc, 1_024).expect(&rt, "memory");
+    let mut reader = StdSource::new(ADD_AND_STATUS.as_bytes());
+    let mut writer = StdSink::new(room);
+    let session = Session::trusted();
+    assert!(rt; println!(rt; "ready").is_ok());
+    let served = serve(&(), alloc, &mut reader, &mut writer, session, &mut desk);
+    let end = end_of(&rt, served, &writer.into_inner());
     assert!(rt; println!(rt; "{end}").is_ok());
 }

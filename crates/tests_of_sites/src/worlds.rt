@@ -179,20 +179,24 @@ const ADDED_TWICE: &[Told] = &[
     (0, Take(2), Taken),
 ];
 
+// What a site reports where SIP/1 has penalty 2.
+const WITH_TWO: Came = Reported(&[QUEUE, shown!("2", "0", "")]);
+
+// The second site takes both frames of the first one, and both show the same.
+const IN_TURN: &[Told] = &[
+    (1, Take(0), Taken),
+    (1, Take(1), Taken),
+    (0, Status, WITH_TWO),
+    (1, Status, WITH_TWO),
+];
+
 #[test]
 fn a_concurrent_add_outlives_a_remove(rt: HostRuntime) {
-    const BOTH: Came = Reported(&[QUEUE, shown!("2", "0", "")]);
-    const IN_TURN: &[Told] = &[
-        (1, Take(0), Taken),
-        (1, Take(1), Taken),
-        (0, Status, BOTH),
-        (1, Status, BOTH),
-    ];
     const TURNED: &[Told] = &[
         (1, Take(1), Taken),
         (1, Take(0), Taken),
-        (0, Status, BOTH),
-        (1, Status, BOTH),
+        (0, Status, WITH_TWO),
+        (1, Status, WITH_TWO),
     ];
     assert_each_behind(&rt, rt.alloc(), ADDED_TWICE, &[IN_TURN, TURNED]);
 }
@@ -269,22 +273,24 @@ fn the_greater_stamp_wins_of_concurrent_penalties(rt: HostRuntime) {
     assert_each_behind(&rt, rt.alloc(), KNOWN_AT_BOTH, &[EVENTS]);
 }
 
+// Calls of two sites, and frames of one that are taken again and again.
+const COUNTED: &[Told] = &[
+    (0, Completed, Done),
+    (0, Completed, Done),
+    (1, Completed, Done),
+    (1, Abandoned, Done),
+    (1, Cut, Entry(0)),
+    (0, Take(0), Taken),
+    (0, Take(0), Taken),
+    (0, Take(0), Taken),
+    (1, Whole, Entry(1)),
+    (0, Take(1), Taken),
+    (0, Status, Reported(&[queue_block!("sales", "3", "1")])),
+];
+
 #[test]
 fn calls_are_counted_once_however_often_a_frame_is_taken(rt: HostRuntime) {
-    const EVENTS: &[Told] = &[
-        (0, Completed, Done),
-        (0, Completed, Done),
-        (1, Completed, Done),
-        (1, Abandoned, Done),
-        (1, Cut, Entry(0)),
-        (0, Take(0), Taken),
-        (0, Take(0), Taken),
-        (0, Take(0), Taken),
-        (1, Whole, Entry(1)),
-        (0, Take(1), Taken),
-        (0, Status, Reported(&[queue_block!("sales", "3", "1")])),
-    ];
-    assert_events(&rt, rt.alloc(), EVENTS);
+    assert_events(&rt, rt.alloc(), COUNTED);
 }
 
 // SIP/1 is added, removed, added again and set, with a frame of each.
@@ -527,4 +533,58 @@ fn no_events_have_no_outcomes(rt: HostRuntime) {
     let mut world = world(&rt, alloc, 1);
     assert_run(&rt, alloc, &mut world, &[]);
     assert_entries(&rt, &world, 0);
+}
+
+// What comes of one event; none where memory is wanting.
+fn outcome_of(world: &mut World, events: &[Event]) -> Option<Outcome> {
+    let mut outcomes = world.run(events).ok()?;
+    match outcomes.pop() {
+        Some(Outcome::NoMemory) => None,
+        outcome => outcome,
+    }
+}
+
+// Lets an event happen, once more where memory is wanting, and asserts what comes of it. Answers whether memory was wanting.
+fn happens_again(rt: &impl Abort, world: &mut World, event: Event, wanted: Came) -> bool {
+    let events = [event];
+    let outcome = outcome_of(world, &events);
+    let is_refused = outcome.is_none();
+    match outcome.or_else(|| outcome_of(world, &events)) {
+        Some(outcome) => assert_outcome(rt, &outcome, wanted),
+        None => rt.panic("memory"),
+    }
+    is_refused
+}
+
+// Lets events happen one by one, and answers whether memory was wanting for one of them at first.
+fn happen_again(rt: &impl Abort, world: &mut World, events: Vec<Event>, told: &[Told]) -> bool {
+    let mut is_refused = false;
+    for (event, (_, _, wanted)) in events.into_iter().zip(told) {
+        if happens_again(rt, world, event, *wanted) {
+            is_refused = true;
+        }
+    }
+    is_refused
+}
+
+// What comes of events is the same, whether memory is there at once, or wanting for one of them and there when it happens again.
+// tools/memory_tests.py runs this test with each allocation refused in turn.
+#[test]
+fn memory_of_worlds(rt: HostRuntime) {
+    let alloc = rt.alloc();
+    let added = events_of(&rt, alloc, ADDED_TWICE);
+    let taken = events_of(&rt, alloc, IN_TURN);
+    let called = events_of(&rt, alloc, COUNTED);
+    let mut shown = world(&rt, alloc, 2);
+    let mut counted = world(&rt, alloc, 2);
+    assert!(rt; println!(rt; "ready").is_ok());
+    let first = happen_again(&rt, &mut shown, added, ADDED_TWICE);
+    let second = happen_again(&rt, &mut shown, taken, IN_TURN);
+    let third = happen_again(&rt, &mut counted, called, COUNTED);
+    let end = if first || second || third {
+        "again"
+    } else {
+        "at once"
+    };
+    assert!(rt; println!(rt; "{end}").is_ok());
 }

@@ -1,0 +1,104 @@
+"""Refuses each allocation in turn of what a test does with its memory. The test prints `ready` once it has prepared that, asserts
+itself what was kept or written, and prints a word that tells how it ended. What is told here is that no refusal is passed over."""
+import itertools
+import os
+import sys
+import tempfile
+from typing import NamedTuple
+
+from crates import folder
+from program_tests import NO_COMPILER, Failed, expect, refusing
+
+
+class MemoryTest(NamedTuple):
+    """A test of a crate, and the word that it prints at its end."""
+
+    crate: str
+    name: str
+    what: str  # each allocation of this is refused
+    whole: str  # there was memory for all
+    refused: dict  # an allocation of it was refused, and what that led to
+
+
+TESTS = [
+    MemoryTest(
+        crate="tests_of_parts",
+        name="streams::memory_of_a_feed",
+        what="a feed",
+        whole="at once",
+        refused={"again": "only delayed its messages"},
+    ),
+    MemoryTest(
+        crate="tests_of_sets",
+        name="frames::memory_of_a_frame",
+        what="a frame that is read and spelled",
+        whole="spelled",
+        refused={"refused": "refused one of the two with Memory"},
+    ),
+    MemoryTest(
+        crate="tests_of_sets",
+        name="joins::memory_of_joins",
+        what="two joins",
+        whole="joined",
+        refused={"refused": "refused one with Memory, and left both of its sets as they were"},
+    ),
+    MemoryTest(
+        crate="tests_of_sites",
+        name="worlds::memory_of_worlds",
+        what="two worlds",
+        whole="at once",
+        refused={"again": "changed nothing, and were told as NoMemory"},
+    ),
+    MemoryTest(
+        crate="tests_of_sites",
+        name="served::memory_of_a_session",
+        what="a served session",
+        whole="whole",
+        refused={"fault": "ended it with Memory", "reply": "were replied to as Out of memory"},
+    ),
+]
+
+
+def is_ready(ran):
+    """Whether what is to be done was prepared."""
+    return ran.stdout.startswith(b"ready\n")
+
+
+def end_of(ran):
+    """How it ended, as the test prints it."""
+    expect(ran.returncode == 0, "the test failed", ran)
+    return ran.stdout.decode().splitlines()[1]
+
+
+def run_one(test, run_refusing):
+    """Runs a test with each of its allocations refused. Answers a line that tells what was run."""
+    tests = f"{folder(test.crate)}/out/{test.crate}_tests"
+    if not os.path.exists(tests):
+        raise Failed(f"the tests of {test.crate} are not built")
+    whole, allocations = run_refusing(0, tests, [test.name])
+    expect(end_of(whole) == test.whole, f"with all its memory the test does not print {test.whole!r}", whole)
+    runs = [run_refusing(number, tests, [test.name])[0] for number in range(1, allocations + 1)]
+    counted = list(itertools.dropwhile(lambda ran: not is_ready(ran), runs))
+    ends = [end_of(ran) for ran in counted]
+    for number, (ran, end) in enumerate(zip(counted, ends), 1):
+        expect(end in test.refused, f"allocation {number} of {test.what} was refused, and nothing tells so", ran)
+    for end, led_to in test.refused.items():
+        expect(end in ends, f"no refused allocation of {test.what} {led_to}", whole)
+    told = ", ".join(f"{ends.count(end)} {led_to}" for end, led_to in test.refused.items())
+    return f"each of the {len(ends)} allocations of {test.what} refused in turn: {told}"
+
+
+def run_all(crates):
+    """Runs the tests of these crates. Answers lines that tell what was run."""
+    with tempfile.TemporaryDirectory() as room:
+        run_refusing = refusing(room)
+        if not run_refusing:
+            return [NO_COMPILER]
+        return [run_one(test, run_refusing) for test in TESTS if test.crate in crates]
+
+
+if __name__ == "__main__":
+    try:
+        print("\n".join(run_all([test.crate for test in TESTS])))
+    except Failed as why:
+        sys.exit(f"test: {why}")
