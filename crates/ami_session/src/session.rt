@@ -29,7 +29,7 @@ struct Credentials {
     secret: Text80,
 }
 
-/// The line that greets a client where a session has been given no other.
+// The line that greets a client where a session has been given no other.
 const GREETING: &[u8] = b"Queue Sites Call Manager/1.0.0";
 
 /// One client's session (Asterisk's Manager Interface): how it greets, whether it is logged in, and who may log in.

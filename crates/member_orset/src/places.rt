@@ -14,7 +14,7 @@ macro_rules! last_generation {
     };
 }
 
-/// The last generation of a place in memory: after it, the place isn't used again (this project's own).
+// The last generation of a place in memory: after it, the place isn't used again (this project's own).
 pub(crate) const LAST_GENERATION: u32 = last_generation!();
 
 // How many places there are at most: those of live dots, and those that aren't used again.

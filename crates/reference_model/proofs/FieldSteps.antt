@@ -8,7 +8,7 @@ use Rattle.dots.specs.Registers.{Entry, join_of}
 use Rattle.dots.specs.Operations.{Operation, Field, penalty_field, pause_field, label_field}
 use Rattle.dots.specs.Conditions.{DotFields, fields_in, fields_joined}
 use Rattle.dots.specs.Knowledge.{Knowledge, asserts, field_of, latest_of, settings_of}
-use Rattle.dots.proofs.RegisterLaws.{joined_assoc}
+use Rattle.dots.proofs.ConditionLaws.{fields_assoc}
 use Rattle.reference_model.specs.declared.entry.Entry.{Entry as Held}
 use Rattle.reference_model.specs.Views.{entry_of, fields_set, fields_over}
 
@@ -37,14 +37,6 @@ later_is see x y r h =
     ∙ ap (through see) h
     ∙ joined_through see (entry_of (λ v. v) x) (entry_of (λ v. v) y)
     ∙ (λ i. join_of (sym (entry_through see x) i) (sym (entry_through see y) i))
-
--- ---- joins of all three fields
-pub fields_assoc : (x y z : DotFields) → fields_joined (fields_joined x y) z ≡ fields_joined x (fields_joined y z)
-fields_assoc x y z = λ i. record {
-  penalty = joined_assoc x.penalty y.penalty z.penalty i;
-  pause = joined_assoc x.pause y.pause z.pause i;
-  label = joined_assoc x.label y.label z.label i;
-}
 
 -- ---- one operation more
 latest_first : {T : Type 0} (x : Option (Entry T)) (es : List (Entry T)) → latest_of (cons_option x es) ≡ join_of x (latest_of es)

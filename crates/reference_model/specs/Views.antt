@@ -18,10 +18,6 @@ entry_of see (Some entry) = Some (record { stamp = entry.stamp; value = see entr
 abbrev pub fields_of : Fields → DotFields
 fields_of fields = record { penalty = entry_of (λ n. n) fields.penalty; pause = entry_of (λ p. p.now) fields.pause; label = entry_of (λ l. l.now) fields.label }
 
--- nothing is set
-abbrev pub no_fields : DotFields
-no_fields = record { penalty = None; pause = None; label = None }
-
 -- what an operation sets of each field
 abbrev pub fields_set : Operation → DotFields
 fields_set o = record { penalty = penalty_field o; pause = pause_field o; label = label_field o }

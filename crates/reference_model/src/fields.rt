@@ -1,8 +1,8 @@
 ghost use Rattle.std.specs.Prelude.{◌≡◌, None};
-ghost use Rattle.dots.specs.Conditions.{fields_joined};
+ghost use Rattle.dots.specs.Conditions.{fields_joined, no_fields};
 ghost use Rattle.dots.specs.Rows.{no_label, not_paused, row_of_fields, value_or};
 ghost use Rattle.dots.specs.Views.{row_view};
-ghost use Rattle.reference_model.specs.Views.{entry_of, fields_of, no_fields};
+ghost use Rattle.reference_model.specs.Views.{entry_of, fields_of};
 
 use crate::entry::{Entry, later};
 use dots::{Label, Pause, Penalty};
