@@ -36,18 +36,23 @@ pub record ActionRow : Type 0 where
   pub success : Bool → List ℕ
   pub refusal : Refusal → List ℕ
 
+-- the field that names a queue
 abbrev pub queue : FieldRow
 queue = record { name = codes "Queue"; kind = Name }
 
+-- the field that names an interface
 abbrev pub interface : FieldRow
 interface = record { name = codes "Interface"; kind = Name }
 
+-- the field of a penalty
 abbrev pub penalty : FieldRow
 penalty = record { name = codes "Penalty"; kind = Number }
 
+-- the field that says whether to pause
 abbrev pub paused : FieldRow
 paused = record { name = codes "Paused"; kind = YesOrNo }
 
+-- a field of this name that has a text
 abbrev pub text : List ℕ → FieldRow
 text name = record { name = name; kind = Text }
 
@@ -67,6 +72,7 @@ says_yes m = is_yes (text_at (codes "Paused") m)
 abbrev pub pause_in : Fields → PauseState
 pause_in m = record { paused = says_yes m; reason = if says_yes m then text_at (codes "Reason") m else [] }
 
+-- a member is added to a queue; it may be paused at once
 abbrev pub queue_add : ActionRow
 queue_add = record {
   name = codes "QueueAdd";
@@ -79,6 +85,7 @@ queue_add = record {
   refusal = refusal_text;
 }
 
+-- a member is removed from a queue
 abbrev pub queue_remove : ActionRow
 queue_remove = record {
   name = codes "QueueRemove";

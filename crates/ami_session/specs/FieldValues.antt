@@ -41,11 +41,12 @@ abbrev pub name_of : List ℕ → Option (List ℕ)
 name_of [] = None
 name_of (b ∷ bs) = text_of (b ∷ bs)
 
--- the number that decimal digits stand for
+-- the number of which this one's digits and then these are the decimal digits
 abbrev pub read_on : ℕ → List ℕ → ℕ
 read_on n [] = n
 read_on n (d ∷ ds) = read_on (n * 10 + (d - 48)) ds
 
+-- the number that decimal digits stand for
 abbrev pub number_of : List ℕ → ℕ
 number_of digits = read_on 0 digits
 

@@ -76,13 +76,15 @@ FieldFails ValueFails fault true bytes = Lacks IsStamp stamp_bytes BadRange faul
 abbrev pub IsFlags : ℕ → Type 0
 IsFlags flags = (1 ≤ flags) × (flags ≤ 7)
 
--- whether flags say that the penalty is set, the pause, the label
+-- whether flags say that the penalty is set
 abbrev pub penalty_flag : ℕ → Bool
 penalty_flag flags = flags % 2 == 1
 
+-- that the pause is
 abbrev pub pause_flag : ℕ → Bool
 pause_flag flags = flags / 2 % 2 == 1
 
+-- that the label is
 abbrev pub label_flag : ℕ → Bool
 label_flag flags = nat_le 4 flags
 
@@ -130,10 +132,11 @@ CellFails fault bytes =
 abbrev pub Follows : {A : Type 0} → (A → A → Bool) → List A → A → Type 0
 Follows follows before x = IfSome (last_or None before) (λ last. IsTrue (follows last x))
 
--- one cell's dot lies before another's, and one total's key before another's
+-- one cell's dot lies before another's
 abbrev pub is_cell_before : CellParts → CellParts → Bool
 is_cell_before cell next = is_lt (dot_cmp cell.0 next.0)
 
+-- one total's key lies before another's
 abbrev pub is_total_before : TotalParts → TotalParts → Bool
 is_total_before total next = is_lt (key_cmp total.0 next.0)
 
@@ -170,6 +173,7 @@ pub record ElementsFail {A : Type 0} (IsGood : List A → Type 0) (spell : A →
 abbrev pub IsNumber4 : ℕ → Type 0
 IsNumber4 n = n < 2 ^ 32
 
+-- they are the number's, the greatest first
 abbrev pub number4 : ℕ → List ℕ
 number4 = to_be_bytes w32
 
@@ -181,13 +185,15 @@ ListFails IsGood spell most NextFails fault bytes =
     ((most < count) × (fault ≡ TooLarge))
     ⊎ ((count ≤ most) × ElementsFail IsGood spell (NextFails fault) count rest)) bytes
 
--- the list of runs is at fault, that of cells, that of totals
+-- the list of runs is at fault
 abbrev pub RunsFail : DecodeFault → List ℕ → Type 0
 RunsFail = ListFails AreRuns run_bytes MOST_RUNS RunFails
 
+-- the list of cells is at fault
 abbrev pub CellsFail : List Run → DecodeFault → List ℕ → Type 0
 CellsFail runs = ListFails (AreCells runs) cell_bytes MOST_LIVE (NextCellFails runs)
 
+-- the list of totals is at fault
 abbrev pub TotalsFail : DecodeFault → List ℕ → Type 0
 TotalsFail = ListFails AreTotals total_bytes MOST_TOTALS TotalFails
 

@@ -91,6 +91,7 @@ pub record IsEntry {T : Type 0} (IsValue : T → Type 0) (entry : Entry T) : Typ
   pub stamp : IsStamp entry.stamp
   pub value : IsValue entry.value
 
+-- a field is within its limits where it is set
 abbrev pub IsField : {T : Type 0} → (T → Type 0) → Option (Entry T) → Type 0
 IsField IsValue field = IfSome field (IsEntry IsValue)
 

@@ -27,6 +27,7 @@ Read A = Result (A × List ℕ) DecodeFault
 
 -- ---- how reading goes on
 
+-- where there is a fault it stays, else reading goes on with the part
 infixl 10 ◌>>=◌
 abbrev pub ◌>>=◌ : {A B : Type 0} → Result A DecodeFault → (A → Result B DecodeFault) → Result B DecodeFault
 (Ok x) >>= f = f x
@@ -46,10 +47,12 @@ both first next = first >>= λ x. next x.0 x.1 >>= λ y. Ok ((x.0, y.0), y.1)
 
 -- ---- numbers
 
+-- the next byte
 abbrev pub byte_at : List ℕ → Read ℕ
 byte_at [] = Err BadRange
 byte_at (b ∷ rest) = Ok (b, rest)
 
+-- the next number of a width, its greatest byte first
 abbrev pub number_at : Width → List ℕ → Read ℕ
 number_at w bytes = if nat_lt (length bytes) (byte_len w) then Err BadRange else Ok (from_be_bytes w (take (byte_len w) bytes), drop (byte_len w) bytes)
 
@@ -57,27 +60,35 @@ number_at w bytes = if nat_lt (length bytes) (byte_len w) then Err BadRange else
 abbrev pub is_count : ℕ → Bool
 is_count n = nat_le 1 n && nat_le n MOST_COUNT
 
+-- the number of a site
 unfoldable pub site_at : List ℕ → Read ℕ
 site_at bytes = tested (λ n. nat_lt n SITES) BadRange (byte_at bytes)
 
+-- a count, a time or a frame's number
 unfoldable pub count_at : List ℕ → Read ℕ
 count_at bytes = tested is_count BadRange (number_at w64 bytes)
 
+-- the last count of a run, from its first on
 unfoldable pub last_at : ℕ → List ℕ → Read ℕ
 last_at first bytes = tested (λ n. nat_le first n && nat_le n MOST_COUNT) BadRange (number_at w64 bytes)
 
+-- the number of a queue
 unfoldable pub queue_at : List ℕ → Read ℕ
 queue_at bytes = tested (λ n. nat_lt n QUEUES) BadRange (number_at w16 bytes)
 
+-- a penalty
 unfoldable pub penalty_at : List ℕ → Read ℕ
 penalty_at bytes = tested (λ n. nat_le n MOST_PENALTY) BadRange (number_at w32 bytes)
 
+-- how many calls were counted
 unfoldable pub calls_at : List ℕ → Read ℕ
 calls_at bytes = tested (λ n. nat_le n MOST_CALLS) BadRange (number_at w64 bytes)
 
+-- a bit, which takes a byte
 unfoldable pub bit_at : List ℕ → Read ℕ
 bit_at bytes = tested (λ n. nat_lt n 2) BadRange (byte_at bytes)
 
+-- the flags of fields, of which one at least is set
 unfoldable pub flags_at : List ℕ → Read ℕ
 flags_at bytes = tested (λ n. nat_le 1 n && nat_le n 7) BadRange (byte_at bytes)
 
@@ -100,19 +111,24 @@ no_reason_at bytes = made (λ _. []) (tested (λ len. len == 0) BadRange (tested
 
 -- ---- fields
 
+-- a stamp: its time, and then its site
 unfoldable pub stamp_at : List ℕ → Read Stamp
 stamp_at bytes = made (λ p. record { time = p.0; site = p.1 }) (both (count_at bytes) (λ _. site_at))
 
+-- the reason of a pause; one that isn't paused has none
 unfoldable pub reason_at : ℕ → List ℕ → Read (List ℕ)
 reason_at zero rest = no_reason_at rest
 reason_at (suc n) rest = text_at 0 rest
 
+-- a pause: whether it is one, and then its reason
 unfoldable pub pause_at : List ℕ → Read PauseState
 pause_at bytes = made (λ p. record { paused = p.0 == 1; reason = p.1 }) (both (bit_at bytes) reason_at)
 
+-- a label: the name, and then the state interface
 unfoldable pub label_at : List ℕ → Read Label
 label_at bytes = made (λ p. record { name = p.0; state = p.1 }) (both (text_at 0 bytes) (λ _. text_at 0))
 
+-- what is set of a field: its stamp, and then its value
 unfoldable pub entry_at : {T : Type 0} → (List ℕ → Read T) → List ℕ → Read (Entry T)
 entry_at value_at bytes = made (λ p. record { stamp = p.0; value = p.1 }) (both (stamp_at bytes) (λ _. value_at))
 
@@ -128,25 +144,31 @@ set_fields_at flags bytes =
     (both (field_at (penalty_flag flags) penalty_at bytes) (λ _ rest.
     both (field_at (pause_flag flags) pause_at rest) (λ _. field_at (label_flag flags) label_at)))
 
+-- the flags, and then the fields that they say
 unfoldable pub fields_at : List ℕ → Read DotFields
 fields_at bytes = made (λ p. p.1) (both (flags_at bytes) set_fields_at)
 
 -- ---- runs, cells, totals
 
+-- a run: its site, its first count and its last
 unfoldable pub run_at : List ℕ → Read Run
 run_at bytes = made (λ p. record { site = p.0; first = p.1.0; last = p.1.1 }) (both (site_at bytes) (λ _ rest. both (count_at rest) last_at))
 
+-- a dot: its site, and then its count
 unfoldable pub dot_at : List ℕ → Read Dot
 dot_at bytes = made (λ p. record { site = p.0; count = p.1 }) (both (site_at bytes) (λ _. count_at))
 
+-- a dot, and then the queue of its member
 unfoldable pub place_at : List ℕ → Read Place
 place_at bytes = made (λ p. record { dot = p.0; queue = p.1 }) (both (dot_at bytes) (λ _. queue_at))
 
+-- a cell: dot and queue, the interface, and then the fields
 unfoldable pub cell_at : List ℕ → Read CellParts
 cell_at bytes =
     made (λ p. (p.0.dot, (record { queue = p.0.queue; interface = p.1.0 }, p.1.1)))
     (both (place_at bytes) (λ _ rest. both (text_at 1 rest) (λ _. fields_at)))
 
+-- a total: its site, its queue, and the calls completed and abandoned, of which one is counted at least
 unfoldable pub total_at : List ℕ → Read TotalParts
 total_at bytes =
     tested (λ total. not (is_zero total.1)) BadRange
@@ -160,18 +182,21 @@ abbrev pub unless : Bool → DecodeFault → Option DecodeFault
 unless true fault = None
 unless false fault = Some fault
 
+-- it can't where its key doesn't follow the last one
 abbrev pub order_fault : {K : Type 0} → (K → K → Bool) → Option K → K → Option DecodeFault
 order_fault follows None key = None
 order_fault follows (Some last) key = unless (follows last key) BadOrder
 
+-- the first of two faults that is there
 abbrev pub or_else : Option DecodeFault → Option DecodeFault → Option DecodeFault
 or_else None fault = fault
 or_else (Some first) fault = Some first
 
--- whether a dot lies before another, a key before another
+-- whether a dot lies before another
 abbrev pub is_dot_before : Dot → Dot → Bool
 is_dot_before dot next = is_lt (dot_cmp dot next)
 
+-- whether a key of totals lies before another
 abbrev pub is_key_before : Key → Key → Bool
 is_key_before key next = is_lt (key_cmp key next)
 
@@ -190,12 +215,15 @@ pub record Elements (A K : Type 0) : Type 0 where
   pub key : A → K
   pub fault_of : Option K → K → Option DecodeFault
 
+-- runs, each apart from the last one
 abbrev pub run_elements : Elements Run Run
 run_elements = record { at = run_at; key = λ run. run; fault_of = order_fault is_apart }
 
+-- cells of known dots, in the order of these
 abbrev pub cell_elements : (Dot → Bool) → Elements CellParts Dot
 cell_elements is_known = record { at = cell_at; key = λ cell. cell.0; fault_of = dot_fault is_known }
 
+-- totals, in the order of their keys
 abbrev pub total_elements : Elements TotalParts Key
 total_elements = record { at = total_at; key = λ total. total.0; fault_of = order_fault is_key_before }
 
@@ -212,48 +240,60 @@ elements_at e (suc n) last bytes = next_at e last bytes >>= λ x. elements_at e 
 unfoldable pub size_at : ℕ → List ℕ → Read ℕ
 size_at most bytes = tested (λ n. nat_le n most) TooLarge (number_at w32 bytes)
 
+-- a list: how many elements there are, and then these
 unfoldable pub list_at : {A K : Type 0} → Elements A K → ℕ → List ℕ → Read (List A)
 list_at e most bytes = size_at most bytes >>= λ n. elements_at e n.0 None n.1
 
--- what is kept of the elements of a list, one by one
+-- what is kept of a list, element by element: a run's dots are known
 abbrev pub with_run : set.FinSet dot_cmp → Run → set.FinSet dot_cmp
 with_run dots run = set.union dots (dots_between run.site run.first run.last)
 
+-- a cell's dot is live
 abbrev pub with_cell : map.FinMap dot_cmp Holding → CellParts → map.FinMap dot_cmp Holding
 with_cell live cell = map.insert live cell.0 cell.1
 
+-- a total is joined with those before
 abbrev pub with_total : Entries → TotalParts → Entries
 with_total entries total = join_of entries (single total.0 total.1)
 
+-- the dots of runs
 abbrev pub known_of : List Run → set.FinSet dot_cmp
 known_of = fold with_run set.empty
 
+-- the live dots of cells
 abbrev pub live_of : List CellParts → map.FinMap dot_cmp Holding
 live_of = fold with_cell map.empty
 
+-- the entries of totals
 abbrev pub totals_of : List TotalParts → Entries
 totals_of = fold with_total map.empty
 
+-- the list of runs
 abbrev pub runs_at : List ℕ → Read (List Run)
 runs_at = list_at run_elements MOST_RUNS
 
+-- the list of cells of known dots
 abbrev pub cells_at : (Dot → Bool) → List ℕ → Read (List CellParts)
 cells_at is_known = list_at (cell_elements is_known) MOST_LIVE
 
+-- the list of totals
 abbrev pub totals_at : List ℕ → Read (List TotalParts)
 totals_at = list_at total_elements MOST_TOTALS
 
 -- ---- the whole
 
+-- the two bytes with which a frame begins
 unfoldable pub magic_at : List ℕ → Read (List ℕ)
 magic_at [] = Err BadMagic
 magic_at (q ∷ []) = Err BadMagic
 magic_at (q ∷ d ∷ rest) = if (q == 81) && (d == 68) then Ok (magic, rest) else Err BadMagic
 
+-- the version of the format
 unfoldable pub version_at : List ℕ → Read ℕ
 version_at [] = Err BadVersion
 version_at (n ∷ rest) = if n == VERSION then Ok (n, rest) else Err BadVersion
 
+-- who made the frame, and its number
 unfoldable pub heading_at : List ℕ → Read Heading
 heading_at bytes = made (λ p. record { maker = p.0; number = p.1 }) (both (site_at bytes) (λ _. count_at))
 
@@ -269,6 +309,7 @@ within_at len rest =
     else if nat_lt (length rest) len then Err Truncated
     else Ok (take len rest)
 
+-- the length, and the bytes that it says
 unfoldable pub content_in : List ℕ → Result (List ℕ) DecodeFault
 content_in bytes = if nat_lt (length bytes) 4 then Err Truncated else within_at (from_be_bytes w32 (take 4 bytes)) (drop 4 bytes)
 

@@ -12,6 +12,7 @@ use Rattle.dots.specs.Orders.{dot_cmp, stamp_cmp}
 use Rattle.dots.specs.Registers.{Entry, join_of}
 use Rattle.dots.specs.Operations.{Operation, Field, asserted_by, named_by, penalty_field, pause_field, label_field}
 
+-- what a replica knows: the operations that it has made or heard of, read by what they are, not by their order
 abbrev pub Knowledge : Type 0
 Knowledge = List Operation
 

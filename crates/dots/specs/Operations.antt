@@ -42,16 +42,19 @@ named_by (Count site queue calls total) = set.empty
 abbrev pub Field : Type 0 → Type 0
 Field T = Operation → Option (Entry T)
 
+-- the penalty that is set, if it is one
 abbrev pub set_penalty : Setting → Option ℕ
 set_penalty (SetPenalty n) = Some n
 set_penalty (SetPause p) = None
 set_penalty (SetLabel l) = None
 
+-- the pause that is set, if it is one
 abbrev pub set_pause : Setting → Option PauseState
 set_pause (SetPenalty n) = None
 set_pause (SetPause p) = Some p
 set_pause (SetLabel l) = None
 
+-- the label that is set, if it is one
 abbrev pub set_label : Setting → Option Label
 set_label (SetPenalty n) = None
 set_label (SetPause p) = None

@@ -65,9 +65,11 @@ abbrev pub value_or : {T : Type 0} → T → Option (Entry T) → T
 value_or default None = default
 value_or default (Some entry) = entry.value
 
+-- the pause of a member of which none is set
 abbrev pub not_paused : PauseState
 not_paused = record { paused = false; reason = [] }
 
+-- the label of a member of which none is set
 abbrev pub no_label : Label
 no_label = record { name = []; state = [] }
 

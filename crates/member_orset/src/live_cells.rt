@@ -119,7 +119,6 @@ impl<const LAST: u32> LiveCells<LAST> {
     pub(crate) fn at(&self, id: CellId) -> Option<Cell<'_>>
         ensures some { IfSome result (λ cell. HasId self.now id (cell_read cell)) }
         ensures none { result ≡ None → (dot : Dot) → map.get self.now.ids dot ≢ Some id }
-        ensures spent { IsTrue (set.contains self.now.spent id) → result ≡ None }
     {
         let cell = self.placed.cell(id)?;
         Some(cell.lent())

@@ -181,6 +181,7 @@ impl MemberSet {
         ensures none { result ≡ None → (dot : Dot) → map.get self.now.ids dot ≢ Some id }
         ensures spent { IsTrue (set.contains self.now.spent id) → result ≡ None }
     {
+        let _ = self.cells.len(); // so that it is known what holds of them
         self.cells.at(id)
     }
 

@@ -166,8 +166,7 @@ impl<const LAST: u32> PlacedCells<LAST> {
 
     // The cell of an id, where it has one.
     pub(crate) fn cell(&self, id: CellId) -> Option<&LiveDot>
-        ensures value { option_copied result ≡ map.get self.now.held id }
-        ensures spent { IsTrue (set.contains self.now.spent id) → result ≡ None }
+        ensures { option_copied result ≡ map.get self.now.held id }
     {
         self.cells.get(id)
     }

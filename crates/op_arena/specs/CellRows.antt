@@ -42,6 +42,7 @@ module _ (R : RattleType) where
   abbrev pub below_limit : List (Option R.Denot) → Fml
   below_limit places = flt (length places * type_size R) (2 ^ 63)
 
+  -- the places from an address on, which are owned; there are none at no address
   abbrev pub owns_places : Ptr → List (Option R.Denot) → Fml
   owns_places null_ptr places = ffalse
   owns_places (block_ptr b at) places = fsep (below_limit places) (owns_row b at places)
@@ -51,10 +52,12 @@ module _ (R : RattleType) where
   lends_place b at None = nothing
   lends_place b at (Some value) = shared_of R value b at
 
+  -- what a `&` to places one after another gives
   abbrev pub lends_row : ℕ → ℕ → List (Option R.Denot) → Lft → Fml
   lends_row b at [] = nothing
   lends_row b at (place ∷ rest) = beside (lends_place b at place) (lends_row b (at + type_size R) rest)
 
+  -- what a `&` to the places from an address on gives
   abbrev pub lends_places : Ptr → List (Option R.Denot) → Lft → Fml
   lends_places null_ptr places = said ffalse
   lends_places (block_ptr b at) places = beside (said (below_limit places)) (lends_row b at places)

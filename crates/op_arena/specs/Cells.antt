@@ -12,6 +12,7 @@ pub record Cells (T : Type 0) : Type 0 where
   pub spare : ℕ
 
 module _ {T : Type 0} where
+  -- they are stored as these three
   abbrev pub cells_code : Coded T → Coded (Cells T)
   cells_code code =
       code_by (map.FinMap id_cmp T × (set.FinSet id_cmp × ℕ)) (coded× (map.code id_code code) (coded× (set.code id_code) coded_ℕ)) (λ c. (c.held, (c.spent, c.spare)))

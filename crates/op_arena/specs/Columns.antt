@@ -8,8 +8,10 @@ pub record Column (X : Type 0) : Type 0 where
   pub capacity : ℕ
 
 module _ {X : Type 0} where
+  -- a column of these values, with memory for so many
   abbrev pub column : List X → ℕ → Column X
   column xs n = record { items = xs; capacity = n }
 
+  -- it is stored as these two
   abbrev pub column_code : Coded X → Coded (Column X)
   column_code c = code_by (List X × ℕ) (coded× (coded_list c) coded_ℕ) (λ m. (m.items, m.capacity)) (λ p. column p.0 p.1) (λ _. refl)

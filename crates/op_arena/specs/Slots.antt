@@ -18,6 +18,7 @@ count p [] = 0
 count p (x ∷ xs) = cond (p x) 1 0 + count p xs
 
 module _ {T : Type 0} where
+  -- a cell of a generation, in a state
   abbrev pub slot : ℕ → State T → Slot T
   slot g s = record { generation = g; state = s }
 
@@ -27,17 +28,21 @@ module _ {T : Type 0} where
   value_of (Held value) = Some value
   value_of Retired = None
 
+  -- a cell is free, whichever is the next free one
   abbrev pub IsFree : State T → Type 0
   IsFree s = (next : Option ℕ) × (s ≡ Free next)
 
+  -- whether it holds a value
   abbrev pub is_held : Slot T → Bool
   is_held s = is_some (value_of s.state)
 
+  -- whether a state is that of a cell that isn't used again
   abbrev pub state_retired : State T → Bool
   state_retired (Free next) = false
   state_retired (Held value) = false
   state_retired Retired = true
 
+  -- whether a cell is retired
   abbrev pub is_retired : Slot T → Bool
   is_retired s = state_retired s.state
 
@@ -85,6 +90,7 @@ module _ {T : Type 0} where
   KeepsLast last g (Held value) = g ≤ last
   KeepsLast last g Retired = g ≡ last
 
+  -- The cells of an arena: so many hold a value, so many are retired, and the others are linked as free; there is memory for them all, and no generation is past the last one.
   pub record IsArena (last : ℕ) (slots : List (Slot T)) (capacity : ℕ) (first : Option ℕ) (held retired : ℕ) : Type 0 where
     pub counts_held : held ≡ count is_held slots
     pub counts_retired : retired ≡ count is_retired slots

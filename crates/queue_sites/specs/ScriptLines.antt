@@ -55,10 +55,11 @@ number_in most (d ∷ ds) =
 abbrev pub entry_in : List ℕ → Option ℕ
 entry_in word = number_in 9 word
 
--- the number of one of so many sites, of one digit or two
+-- the number of one of so many sites
 abbrev pub one_of : ℕ → ℕ → Option ℕ
 one_of sites site = if nat_lt site sites then Some site else None
 
+-- of one digit or two
 abbrev pub site_in : ℕ → List ℕ → Option ℕ
 site_in sites word = option_and_then (one_of sites) (number_in 2 word)
 
@@ -91,11 +92,12 @@ words_sense site words = first_sense (
     ∷ []
     )
 
--- the bytes before the first blank, and what stands behind it, where there is one
+-- the bytes before the first blank
 abbrev pub before_blank : List ℕ → List ℕ
 before_blank [] = []
 before_blank (b ∷ bs) = if b == 32 then [] else b ∷ before_blank bs
 
+-- the bytes behind the first blank, where there is one
 abbrev pub behind_blank : List ℕ → Option (List ℕ)
 behind_blank [] = None
 behind_blank (b ∷ bs) = if b == 32 then Some bs else behind_blank bs

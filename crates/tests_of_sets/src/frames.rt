@@ -351,11 +351,11 @@ fn a_byte_behind_the_totals_is_looked_at_by_the_length(rt: HostRuntime) {
 }
 
 // Reads a frame that is there and spells it again, and answers whether there was memory for both.
-fn is_spelled_again(rt: &impl Abort, alloc: Global) -> bool {
+fn has_memory_for_both(rt: &impl Abort, alloc: Global) -> bool {
     match decode(alloc, &ADDED) {
         Ok((frame, len)) => {
             assert!(rt; frame.number == 1 && len == 98);
-            encode(alloc, &frame).is_ok_and(|spelled| spelled.as_slice() == ADDED)
+            encode(alloc, &frame).is_ok_and(|spelled| spelled.as_slice() == ADDED.as_slice())
         }
         Err(fault) => {
             assert!(rt; fault == DecodeFault::Memory);
@@ -370,7 +370,7 @@ fn is_spelled_again(rt: &impl Abort, alloc: Global) -> bool {
 fn memory_of_a_frame(rt: HostRuntime) {
     assert!(rt; println!(rt; "ready").is_ok());
     assert!(rt; has_fault(rt.alloc(), &ADDED[..97], DecodeFault::Truncated));
-    let end = if is_spelled_again(&rt, rt.alloc()) {
+    let end = if has_memory_for_both(&rt, rt.alloc()) {
         "spelled"
     } else {
         "refused"

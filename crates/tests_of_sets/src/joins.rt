@@ -130,6 +130,7 @@ fn set_with(rt: &impl Abort, alloc: Global, live: (u16, u64), dead: (u16, u64)) 
 }
 
 // Two sets to be joined, and copies of them.
+#[derive(Drop)]
 struct Pair {
     set: MemberSet,
     other: MemberSet,
