@@ -1,5 +1,5 @@
 -- What comes of a stream, read by read.
-use Rattle.std.proofs.Common.{◌≡◌, ◌≤◌, ◌⊎◌, ⊎_elim, ℕ, Bool, true, Result, Ok, Err, Some, None, List, [], ◌++◌, sym, ap, subst, arith, append_assoc, append-nil, length, length-append, Option}
+use Rattle.std.proofs.Common.{◌≡◌, ◌≤◌, ◌+◌, ◌⊎◌, ⊎_elim, inl, inr, ℕ, Bool, true, Result, Ok, Err, Some, None, List, [], ◌++◌, sym, ap, subst, arith, append_assoc, append-nil, length, length-append, Option}
 use Rattle.ami_text.proofs.Taking.{given-grows, given-none}
 use Rattle.ami_text.specs.Lines.{lines_text}
 use Rattle.ami_text.specs.MessageFields.{NameAndValue}
@@ -10,7 +10,7 @@ use Rattle.ami_text.specs.Stream.{Gives, HasFault, IsRest, Reads, Rest}
 use Rattle.serve.specs.declared.serve_fault.ServeFault.{ServeFault}
 use Rattle.serve.specs.declared.serve_fault.ServeFault.TheVariants.{Read, Write, LineTooLong, TooManyFields, DeskDown, Turns, Memory}
 use Rattle.serve.specs.Faults.{session_fault}
-use Rattle.serve.specs.Steps.{HasCome, IsHeld, IsNext}
+use Rattle.serve.specs.Steps.{HasCome, IsHeld, IsNext, IsWanted}
 
 -- more bytes change no message
 abbrev pub MoreStays : Type 0
@@ -21,12 +21,12 @@ abbrev pub LaterFollows : Type 0
 LaterFollows = (bytes held rest : List ℕ) (messages later : List (List NameAndValue)) → Gives bytes messages held → Gives held later rest → Gives bytes (messages ++ later) rest
 
 -- nothing has come
-pub come-none : (given : Option (List ℕ)) (held : List ℕ) (reads : ℕ) → ((bytes : List ℕ) → Gives bytes [] bytes) → HasCome given given held reads reads (λ stream. Gives stream [] held)
+pub come-none : (given : Option (List ℕ)) (held : List ℕ) (reads : ℕ) → ((bytes : List ℕ) → Gives bytes [] bytes) → HasCome given given held reads reads (λ stream. Gives stream [] held × IsWanted held stream)
 come-none given held reads none = record {
   bytes = [];
   given = given-none given;
   many = omega arith;
-  holds = subst (λ t. Gives t [] held) (sym (append-nil held)) (none held);
+  holds = (subst (λ t. Gives t [] held) (sym (append-nil held)) (none held), inl (append-nil held));
 }
 
 -- what holds of the stream
@@ -49,12 +49,27 @@ come-more given now after held rest reads left last K stays come more = record {
 pub left-within : (bytes rest : List ℕ) → Gives bytes [] rest → length rest ≤ length bytes
 left-within bytes rest gives = omega (arith, ap (length {A = ℕ}) gives.2, length-append (lines_text gives.0) rest)
 
--- a piece came
-pub piece-came : (given now after : Option (List ℕ)) (held rest more : List ℕ) (reads left last : ℕ) → MoreStays
+-- a piece came, and what was held before it is no message
+pub piece-came : (given now after : Option (List ℕ)) (held rest more : List ℕ) (reads left last : ℕ) → MoreStays → IsRest rest → length more ≤ length rest + 1024
     → HasCome given now held reads left (λ stream. Gives stream [] rest) → HasCome now after rest left last (IsHeld (Ok true) rest more)
-    → HasCome given after held reads last (λ stream. Gives stream [] more)
-piece-came given now after held rest more reads left last stays come piece =
-    come-so given after held reads last _ _ (λ stream x. subst (λ t. Gives stream [] t) (sym x.2) x.1) (come-more given now after held rest reads left last _ stays come piece)
+    → HasCome given after held reads last (λ stream. Gives stream [] more × IsWanted held stream)
+piece-came given now after held rest more reads left last stays is_rest short come piece = record {
+  bytes = come.bytes ++ piece.bytes;
+  given = given-grows given now after come.bytes piece.bytes come.given piece.given;
+  many = omega (arith, come.many, piece.many, length-append come.bytes piece.bytes);
+  holds = (
+    subst (λ t. Gives (held ++ (come.bytes ++ piece.bytes)) [] t) (sym piece.holds)
+        (subst (λ t. Gives t [] (rest ++ piece.bytes)) (append_assoc held come.bytes piece.bytes) (stays (held ++ come.bytes) piece.bytes rest [] come.holds)),
+    inr (record {
+      before = come.bytes;
+      piece = piece.bytes;
+      is = sym (append_assoc held come.bytes piece.bytes);
+      short = omega (arith, short, ap (length {A = ℕ}) piece.holds, length-append rest piece.bytes);
+      rest = rest;
+      reads = (come.holds, is_rest);
+    }),
+  );
+}
 
 -- none came, and what is held is no message
 pub none-came : (given now after : Option (List ℕ)) (held rest more : List ℕ) (reads left last : ℕ) → MoreStays → IsRest rest
@@ -67,7 +82,7 @@ none-came given now after held rest more reads left last stays is_rest come piec
 -- reading broke off
 pub broken-came : (fault : ServeFault) (given now after : Option (List ℕ)) (held rest more : List ℕ) (reads left last : ℕ) → MoreStays → IsRest rest
     → HasCome given now held reads left (λ stream. Gives stream [] rest) → HasCome now after rest left last (IsHeld (Err fault) rest more)
-    → HasCome given after held reads last (IsNext (Err fault) more)
+    → HasCome given after held reads last (IsNext (Err fault) held more)
 broken-came Read given now after held rest more reads left last stays is_rest come piece = none-came given now after held rest more reads left last stays is_rest come piece
 broken-came Turns given now after held rest more reads left last stays is_rest come piece = none-came given now after held rest more reads left last stays is_rest come piece
 broken-came Memory given now after held rest more reads left last stays is_rest come piece =
@@ -84,17 +99,17 @@ held-so now after rest more left last result told is come = subst (λ r. HasCome
 
 -- what came, told
 pub next-so : (now after : Option (List ℕ)) (held rest : List ℕ) (reads left : ℕ) (result told : Result (Option (List NameAndValue)) ServeFault) → result ≡ told
-    → HasCome now after held reads left (IsNext result rest) → HasCome now after held reads left (IsNext told rest)
-next-so now after held rest reads left result told is come = subst (λ r. HasCome now after held reads left (IsNext r rest)) is come
+    → HasCome now after held reads left (IsNext result held rest) → HasCome now after held reads left (IsNext told held rest)
+next-so now after held rest reads left result told is come = subst (λ r. HasCome now after held reads left (IsNext r held rest)) is come
 
 not-both : (o : Option FeedFault) (fault : FeedFault) → o ≡ None → o ≡ Some fault → ⊥
 not-both o fault none some = cc
 
 -- what a feed shows that fails
-pub fault-next : (fault : FeedFault) (told : ServeFault) (was : FeedState) (held stream : List ℕ) → told ≡ session_fault fault → was.fault ≡ None
-    → (IsStreamFault (Some fault) → (was.fault ≡ Some fault) ⊎ HasFault fault was.held) → Gives stream [] was.held → IsNext (Err told) held stream
-fault-next stream_fault.LineTooLong told was held stream is works shows gives =
-    subst (λ f. IsNext (Err f) held stream) (sym is) (was.held, gives, ⊎_elim (λ failed. absurd (not-both was.fault stream_fault.LineTooLong works failed)) (λ has. has) (shows tt))
-fault-next stream_fault.TooManyFields told was held stream is works shows gives =
-    subst (λ f. IsNext (Err f) held stream) (sym is) (was.held, gives, ⊎_elim (λ failed. absurd (not-both was.fault stream_fault.TooManyFields works failed)) (λ has. has) (shows tt))
-fault-next stream_fault.Memory told was held stream is works shows gives = subst (λ f. IsNext (Err f) held stream) (sym is) tt
+pub fault-next : (fault : FeedFault) (told : ServeFault) (was : FeedState) (old held stream : List ℕ) → told ≡ session_fault fault → was.fault ≡ None
+    → (IsStreamFault (Some fault) → (was.fault ≡ Some fault) ⊎ HasFault fault was.held) → Gives stream [] was.held → IsNext (Err told) old held stream
+fault-next stream_fault.LineTooLong told was old held stream is works shows gives =
+    subst (λ f. IsNext (Err f) old held stream) (sym is) (was.held, gives, ⊎_elim (λ failed. absurd (not-both was.fault stream_fault.LineTooLong works failed)) (λ has. has) (shows tt))
+fault-next stream_fault.TooManyFields told was old held stream is works shows gives =
+    subst (λ f. IsNext (Err f) old held stream) (sym is) (was.held, gives, ⊎_elim (λ failed. absurd (not-both was.fault stream_fault.TooManyFields works failed)) (λ has. has) (shows tt))
+fault-next stream_fault.Memory told was old held stream is works shows gives = subst (λ f. IsNext (Err f) old held stream) (sym is) tt

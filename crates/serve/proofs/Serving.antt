@@ -1,9 +1,12 @@
 -- How a session goes on, message by message.
-use Rattle.std.proofs.Common.{◌≡◌, ◌≤◌, ⊎_elim, inl, inr, ℕ, ◌+◌, Bool, true, false, List, [], ◌∷◌, ◌++◌, refl, sym, ◌∙◌, ap, subst, arith, append_assoc, append-nil, length, length-append, Option, Ok, Err, Some, None}
+use Rattle.std.proofs.Common.{◌≡◌, ◌≢◌, ◌≤◌, ⊎_elim, inl, inr, ℕ, ◌+◌, Bool, true, false, List, [], ◌∷◌, ◌++◌, refl, sym, ◌∙◌, ap, subst, arith, append_assoc, append-nil, length, length-append, Option, Ok, Err, Some, None}
+use Rattle.std.proofs.lemmas.List.{append_cancel_left}
+use Rattle.std.proofs.lemmas.List.Elements.{All-nil}
 use Rattle.std.specs.Io.KnownBytes.{Appends}
 use Rattle.ami_text.proofs.Taking.{given-grows, given-none, taken-grows}
 use Rattle.ami_text.specs.Devices.{HasEnded, HasGiven, HasTaken}
-use Rattle.ami_text.specs.Stream.{Ending, Gives, Reads, Rest}
+use Rattle.ami_text.specs.Lines.{IsFullLine}
+use Rattle.ami_text.specs.Stream.{Ending, Gives, IsRest, Reads, Rest}
 use Rattle.status_report.specs.declared.asks.Answer.{Answer}
 use Rattle.status_report.specs.declared.asks.Ask.{Ask}
 use Rattle.ami_session.specs.Checks.{SessionState, after as session_after, reaction}
@@ -11,8 +14,8 @@ use Rattle.ami_session.specs.FieldValues.{Fields}
 use Rattle.ami_session.specs.Text.{after_all, greeting, is_end, is_over}
 use Rattle.serve.specs.declared.serve_fault.ServeFault.{ServeFault}
 use Rattle.serve.specs.declared.serve_fault.ServeFault.TheVariants.{Read, Write, LineTooLong, TooManyFields, DeskDown, Turns, Memory}
-use Rattle.serve.specs.Sessions.{AreAnswered, Carries, HasText, IsBegun, IsLeftBy, IsRefused, IsServed}
-use Rattle.serve.specs.Steps.{BreaksOff, HasBegun, HasCome, HasSaid, IsDown, IsNext, IsUntouched}
+use Rattle.serve.specs.Sessions.{AreAnswered, Carries, EndsInPiece, HasText, IsBegun, IsLeftBy, IsRefused, IsServed}
+use Rattle.serve.specs.Steps.{BreaksOff, HasBegun, HasCome, HasSaid, IsDown, IsNext, IsUntouched, IsWanted, WantsPiece}
 use Rattle.serve.proofs.Coming.{LaterFollows, MoreStays}
 use Rattle.serve.proofs.TextSteps.{after-one, over-one, text-one}
 
@@ -28,6 +31,41 @@ pub record Going {D : Type 0} (Answers : D → Ask → Answer → D → Type 0) 
   pub is_now : now ≡ after_all s messages
   pub has_text : HasText Answers s d e messages text
   pub many : 1000000 ≤ reads + length bytes
+  pub last : EndsInPiece s bytes
+
+-- no bytes are no message
+none-rest : IsRest []
+none-rest = record {
+  lines = [];
+  part = [];
+  each_full = All-nil IsFullLine;
+  within = omega arith;
+  no_lf = All-nil (λ b. b ≢ 10);
+  fits = omega arith;
+  whole = refl;
+}
+
+-- no piece came yet
+no-piece : (s : SessionState) → Gives [] [] [] → EndsInPiece s []
+no-piece s none = record { before = []; piece = []; is = refl; short = omega arith; messages = []; rest = []; reads = (none, none-rest); goes_on = refl }
+
+-- a piece that came was wanted
+piece-wanted : (s : SessionState) (first piece held : List ℕ) (messages : List Fields) → PiecesJoin → Gives first messages held → is_over s messages ≡ false
+    → EndsInPiece s first → IsWanted held (held ++ piece) → EndsInPiece s (first ++ piece)
+piece-wanted s first piece held messages join gives on last wanted = ⊎_elim
+    (λ (none : held ++ piece ≡ held). subst (λ t. EndsInPiece s t)
+    (sym (ap (λ t. first ++ t) (append_cancel_left held piece [] (none ∙ sym (append-nil held))) ∙ append-nil first)) last)
+    (λ (x : WantsPiece held (held ++ piece)). record {
+      before = first ++ x.before;
+      piece = x.piece;
+      is = ap (λ t. first ++ t) (append_cancel_left held piece (x.before ++ x.piece) (x.is ∙ append_assoc held x.before x.piece)) ∙ sym (append_assoc first x.before x.piece);
+      short = x.short;
+      messages = messages ++ [];
+      rest = x.rest;
+      reads = join first x.before held messages [] (Rest x.rest) gives x.reads;
+      goes_on = subst (λ ms. is_over s ms ≡ false) (sym (append-nil messages)) on;
+    })
+    wanted
 
 -- nothing is answered yet
 greeted : {D : Type 0} (Answers : D → Ask → Answer → D → Type 0) (s : SessionState) (d : D) → HasText Answers s d d [] (greeting s)
@@ -48,6 +86,7 @@ going-start Answers s d given old new held reads none is_held is_reads taken = r
     is_now = refl;
     has_text = greeted Answers s d;
     many = omega (arith, is_reads);
+    last = no-piece s (none []);
   };
 }
 
@@ -129,34 +168,34 @@ begun-before Answers s now d e held reads left K bytes text stays x =
 -- the reader has ended
 pub served-at-end : {D : Type 0} (Answers : D → Ask → Answer → D → Type 0) (s now : SessionState) (d e : D) (given before after old new : Option (List ℕ)) (held rest : List ℕ)
     (reads left : ℕ) (ended : Bool) → PiecesJoin → HasEnded ended after
-    → Carries given before old new (Going Answers s d e now held reads) → HasCome before after held reads left (IsNext (Ok None) rest)
+    → Carries given before old new (Going Answers s d e now held reads) → HasCome before after held reads left (IsNext (Ok None) held rest)
     → Carries given after old new (IsServed Answers s d e ended after)
 served-at-end Answers s now d e given before after old new held rest reads left ended join is c come =
     carries-so given after old new _ _
     (λ bytes text x.
-    let all = ended-by Answers s now d e held reads left (IsNext (Ok None) rest) bytes text (Rest rest) join (λ stream more. more) x in
+    let all = ended-by Answers s now d e held reads left (IsNext (Ok None) held rest) bytes text (Rest rest) join (λ stream more. more) x in
     record { messages = all.messages; rest = rest; gives = all.reads.0; has_text = all.has_text; at_end = inr (all.reads.1, is) })
     (reads-on given before after old new held reads left _ _ c come)
 
 -- reading broke off
 pub reading-breaks : {D : Type 0} (Answers : D → Ask → Answer → D → Type 0) (Refuses : D → Ask → D → Type 0) (fault : ServeFault) (s now : SessionState) (d e : D)
     (given before after old new : Option (List ℕ)) (held rest : List ℕ) (reads left : ℕ) → PiecesJoin → MoreStays
-    → Carries given before old new (Going Answers s d e now held reads) → HasCome before after held reads left (IsNext (Err fault) rest)
+    → Carries given before old new (Going Answers s d e now held reads) → HasCome before after held reads left (IsNext (Err fault) held rest)
     → Carries given after old new (IsLeftBy Answers Refuses s d e fault)
 reading-breaks Answers Refuses Read s now d e given before after old new held rest reads left join stays c come =
-    carries-so given after old new _ _ (λ bytes text x. (rest, ended-by Answers s now d e held reads left (IsNext (Err Read) rest) bytes text _ join (λ stream more. more) x))
+    carries-so given after old new _ _ (λ bytes text x. (rest, ended-by Answers s now d e held reads left (IsNext (Err Read) held rest) bytes text _ join (λ stream more. more) x))
     (reads-on given before after old new held reads left _ _ c come)
 reading-breaks Answers Refuses Turns s now d e given before after old new held rest reads left join stays c come =
-    carries-so given after old new _ _ (λ bytes text x. (rest, ended-by Answers s now d e held reads left (IsNext (Err Turns) rest) bytes text _ join (λ stream more. more) x))
+    carries-so given after old new _ _ (λ bytes text x. (rest, ended-by Answers s now d e held reads left (IsNext (Err Turns) held rest) bytes text _ join (λ stream more. more) x))
     (reads-on given before after old new held reads left _ _ c come)
 reading-breaks Answers Refuses LineTooLong s now d e given before after old new held rest reads left join stays c come =
-    carries-so given after old new _ _ (λ bytes text x. ended-by Answers s now d e held reads left (IsNext (Err LineTooLong) rest) bytes text _ join (λ stream more. more) x)
+    carries-so given after old new _ _ (λ bytes text x. ended-by Answers s now d e held reads left (IsNext (Err LineTooLong) held rest) bytes text _ join (λ stream more. more) x)
     (reads-on given before after old new held reads left _ _ c come)
 reading-breaks Answers Refuses TooManyFields s now d e given before after old new held rest reads left join stays c come =
-    carries-so given after old new _ _ (λ bytes text x. ended-by Answers s now d e held reads left (IsNext (Err TooManyFields) rest) bytes text _ join (λ stream more. more) x)
+    carries-so given after old new _ _ (λ bytes text x. ended-by Answers s now d e held reads left (IsNext (Err TooManyFields) held rest) bytes text _ join (λ stream more. more) x)
     (reads-on given before after old new held reads left _ _ c come)
 reading-breaks Answers Refuses Memory s now d e given before after old new held rest reads left join stays c come =
-    carries-so given after old new _ _ (λ bytes text x. begun-before Answers s now d e held reads left (IsNext (Err Memory) rest) bytes text stays x)
+    carries-so given after old new _ _ (λ bytes text x. begun-before Answers s now d e held reads left (IsNext (Err Memory) held rest) bytes text stays x)
     (reads-on given before after old new held reads left _ _ c come)
 reading-breaks Answers Refuses Write s now d e given before after old new held rest reads left join stays c come = absurd come.holds
 reading-breaks Answers Refuses DeskDown s now d e given before after old new held rest reads left join stays c come = absurd come.holds
@@ -179,18 +218,19 @@ record MessageCame {D : Type 0} (Answers : D → Ask → Answer → D → Type 0
   pub is_now : now ≡ after_all s messages
   pub has_text : HasText Answers s d e messages text
   pub many : 1000000 ≤ left + length bytes
+  pub last : EndsInPiece s bytes
 
 -- what was written, and then this
 message-came : {D : Type 0} (Answers : D → Ask → Answer → D → Type 0) (s now : SessionState) (d e : D) (given before after old new : Option (List ℕ)) (held rest : List ℕ) (message : Fields)
-    (reads left : ℕ) → MoreStays → LaterFollows
-    → Carries given before old new (Going Answers s d e now held reads) → HasCome before after held reads left (IsNext (Ok (Some message)) rest)
+    (reads left : ℕ) → PiecesJoin → MoreStays → LaterFollows
+    → Carries given before old new (Going Answers s d e now held reads) → HasCome before after held reads left (IsNext (Ok (Some message)) held rest)
     → Carries given after old new (MessageCame Answers s d e now message rest left)
-message-came Answers s now d e given before after old new held rest message reads left stays later c come =
+message-came Answers s now d e given before after old new held rest message reads left join stays later c come =
     carries-so given after old new _ _
     (λ bytes text x.
     let going = x.before in
     let more = stays x.first x.piece held going.messages going.gives in
-    let all = later (x.first ++ x.piece) (held ++ x.piece) rest going.messages (message ∷ []) more x.more in
+    let all = later (x.first ++ x.piece) (held ++ x.piece) rest going.messages (message ∷ []) more x.more.0 in
     record {
       messages = going.messages;
       gives = subst (λ t. Gives t (going.messages ++ message ∷ []) rest) (sym x.is) all;
@@ -198,6 +238,7 @@ message-came Answers s now d e given before after old new held rest message read
       is_now = going.is_now;
       has_text = going.has_text;
       many = omega (arith, going.many, x.many, length-append x.first x.piece, ap (length {A = ℕ}) x.is);
+      last = subst (λ t. EndsInPiece s t) (sym x.is) (piece-wanted s x.first x.piece held going.messages join going.gives going.goes_on going.last x.more.1);
     })
     (reads-on given before after old new held reads left _ _ c come)
 
@@ -209,6 +250,7 @@ record Said {D : Type 0} (Answers : D → Ask → Answer → D → Type 0) (s : 
   pub is_now : now ≡ after_all s messages
   pub has_text : HasText Answers s d e (messages ++ message ∷ []) text
   pub many : 1000000 ≤ left + length bytes
+  pub last : EndsInPiece s bytes
 
 said : {D : Type 0} (Answers : D → Ask → Answer → D → Type 0) (s now : SessionState) (d mid e : D) (given after old before new : Option (List ℕ)) (rest : List ℕ) (message : Fields) (left : ℕ)
     → Carries given after old before (MessageCame Answers s d mid now message rest left) → HasSaid Answers (reaction now message) mid e before new
@@ -227,16 +269,17 @@ said Answers s now d mid e given after old before new rest message left c has =
         is_now = x.is_now;
         has_text = text-one Answers s now d mid e x.messages message c.text has.text x.goes_on x.is_now x.has_text has.done;
         many = x.many;
+        last = x.last;
       };
     }
 
 -- it is answered, and the session goes on
 pub going-on : {D : Type 0} (Answers : D → Ask → Answer → D → Type 0) (s now next : SessionState) (d mid e : D) (given before after old written new : Option (List ℕ)) (held rest : List ℕ) (message : Fields)
-    (reads left : ℕ) → MoreStays → LaterFollows
-    → Carries given before old written (Going Answers s d mid now held reads) → HasCome before after held reads left (IsNext (Ok (Some message)) rest)
+    (reads left : ℕ) → PiecesJoin → MoreStays → LaterFollows
+    → Carries given before old written (Going Answers s d mid now held reads) → HasCome before after held reads left (IsNext (Ok (Some message)) held rest)
     → HasSaid Answers (reaction now message) mid e written new → next ≡ session_after now message → is_end (reaction now message) ≡ false
     → Carries given after old new (Going Answers s d e next rest left)
-going-on Answers s now next d mid e given before after old written new held rest message reads left stays later c come has is on =
+going-on Answers s now next d mid e given before after old written new held rest message reads left join stays later c come has is on =
     carries-so given after old new _ _
     (λ bytes text x. record {
       messages = x.messages ++ message ∷ [];
@@ -245,25 +288,26 @@ going-on Answers s now next d mid e given before after old written new held rest
       is_now = is ∙ ap (λ t. session_after t message) x.is_now ∙ sym (after-one x.messages s message);
       has_text = x.has_text;
       many = x.many;
+      last = x.last;
     })
-    (said Answers s now d mid e given after old written new rest message left (message-came Answers s now d mid given before after old written held rest message reads left stays later c come) has)
+    (said Answers s now d mid e given after old written new rest message left (message-came Answers s now d mid given before after old written held rest message reads left join stays later c come) has)
 
 -- or ends
 pub served-by-end : {D : Type 0} (Answers : D → Ask → Answer → D → Type 0) (s now : SessionState) (d mid e : D) (given before after old written new : Option (List ℕ)) (held rest : List ℕ) (message : Fields)
-    (reads left : ℕ) (ended : Bool) → MoreStays → LaterFollows
-    → Carries given before old written (Going Answers s d mid now held reads) → HasCome before after held reads left (IsNext (Ok (Some message)) rest)
+    (reads left : ℕ) (ended : Bool) → PiecesJoin → MoreStays → LaterFollows
+    → Carries given before old written (Going Answers s d mid now held reads) → HasCome before after held reads left (IsNext (Ok (Some message)) held rest)
     → HasSaid Answers (reaction now message) mid e written new → is_end (reaction now message) ≡ true
     → Carries given after old new (IsServed Answers s d e ended after)
-served-by-end Answers s now d mid e given before after old written new held rest message reads left ended stays later c come has over =
+served-by-end Answers s now d mid e given before after old written new held rest message reads left ended join stays later c come has over =
     carries-so given after old new _ _
     (λ bytes text x. record {
       messages = x.messages ++ message ∷ [];
       rest = rest;
       gives = x.gives;
       has_text = x.has_text;
-      at_end = inl (over-one x.messages s message x.goes_on ∙ ap (λ t. is_end (reaction t message)) (sym x.is_now) ∙ over);
+      at_end = inl (over-one x.messages s message x.goes_on ∙ ap (λ t. is_end (reaction t message)) (sym x.is_now) ∙ over, x.last);
     })
-    (said Answers s now d mid e given after old written new rest message left (message-came Answers s now d mid given before after old written held rest message reads left stays later c come) has)
+    (said Answers s now d mid e given after old written new rest message left (message-came Answers s now d mid given before after old written held rest message reads left join stays later c come) has)
 
 -- a front of its text was written
 begun : {D : Type 0} (Answers : D → Ask → Answer → D → Type 0) (s now : SessionState) (d mid e : D) (given after old before new : Option (List ℕ)) (rest : List ℕ) (message : Fields) (left : ℕ)
@@ -301,10 +345,10 @@ begun Answers s now d mid e given after old before new rest message left c has =
 -- nothing of it was
 untouched : {D : Type 0} (Answers : D → Ask → Answer → D → Type 0) (s now : SessionState) (d mid e : D) (given before after old written new : Option (List ℕ)) (held rest : List ℕ) (message : Fields)
     (reads left : ℕ) → MoreStays
-    → Carries given before old written (Going Answers s d mid now held reads) → HasCome before after held reads left (IsNext (Ok (Some message)) rest)
+    → Carries given before old written (Going Answers s d mid now held reads) → HasCome before after held reads left (IsNext (Ok (Some message)) held rest)
     → IsUntouched mid e written new → Carries given after old new (IsBegun Answers s d e)
 untouched Answers s now d mid e given before after old written new held rest message reads left stays c come same =
-    let so = carries-so given after old written _ _ (λ bytes text x. begun-before Answers s now d mid held reads left (IsNext (Ok (Some message)) rest) bytes text stays x)
+    let so = carries-so given after old written _ _ (λ bytes text x. begun-before Answers s now d mid held reads left (IsNext (Ok (Some message)) held rest) bytes text stays x)
     (reads-on given before after old written held reads left _ _ c come) in
     record {
       bytes = so.bytes;
@@ -342,17 +386,17 @@ refused Answers Refuses s now d mid e given after old before new rest message le
 
 -- answering it broke off
 pub answering-breaks : {D : Type 0} (Answers : D → Ask → Answer → D → Type 0) (Refuses : D → Ask → D → Type 0) (fault : ServeFault) (s now : SessionState) (d mid e : D)
-    (given before after old written new : Option (List ℕ)) (held rest : List ℕ) (message : Fields) (reads left : ℕ) → MoreStays → LaterFollows
-    → Carries given before old written (Going Answers s d mid now held reads) → HasCome before after held reads left (IsNext (Ok (Some message)) rest)
+    (given before after old written new : Option (List ℕ)) (held rest : List ℕ) (message : Fields) (reads left : ℕ) → PiecesJoin → MoreStays → LaterFollows
+    → Carries given before old written (Going Answers s d mid now held reads) → HasCome before after held reads left (IsNext (Ok (Some message)) held rest)
     → BreaksOff Answers Refuses (reaction now message) mid e written new fault → Carries given after old new (IsLeftBy Answers Refuses s d e fault)
-answering-breaks Answers Refuses Write s now d mid e given before after old written new held rest message reads left stays later c come broken =
-    begun Answers s now d mid e given after old written new rest message left (message-came Answers s now d mid given before after old written held rest message reads left stays later c come) broken
-answering-breaks Answers Refuses Memory s now d mid e given before after old written new held rest message reads left stays later c come broken =
-    ⊎_elim (λ front. begun Answers s now d mid e given after old written new rest message left (message-came Answers s now d mid given before after old written held rest message reads left stays later c come) front)
+answering-breaks Answers Refuses Write s now d mid e given before after old written new held rest message reads left join stays later c come broken =
+    begun Answers s now d mid e given after old written new rest message left (message-came Answers s now d mid given before after old written held rest message reads left join stays later c come) broken
+answering-breaks Answers Refuses Memory s now d mid e given before after old written new held rest message reads left join stays later c come broken =
+    ⊎_elim (λ front. begun Answers s now d mid e given after old written new rest message left (message-came Answers s now d mid given before after old written held rest message reads left join stays later c come) front)
     (λ same. untouched Answers s now d mid e given before after old written new held rest message reads left stays c come same) broken
-answering-breaks Answers Refuses DeskDown s now d mid e given before after old written new held rest message reads left stays later c come broken =
-    refused Answers Refuses s now d mid e given after old written new rest message left (message-came Answers s now d mid given before after old written held rest message reads left stays later c come) broken
-answering-breaks Answers Refuses Read s now d mid e given before after old written new held rest message reads left stays later c come broken = absurd broken
-answering-breaks Answers Refuses LineTooLong s now d mid e given before after old written new held rest message reads left stays later c come broken = absurd broken
-answering-breaks Answers Refuses TooManyFields s now d mid e given before after old written new held rest message reads left stays later c come broken = absurd broken
-answering-breaks Answers Refuses Turns s now d mid e given before after old written new held rest message reads left stays later c come broken = absurd broken
+answering-breaks Answers Refuses DeskDown s now d mid e given before after old written new held rest message reads left join stays later c come broken =
+    refused Answers Refuses s now d mid e given after old written new rest message left (message-came Answers s now d mid given before after old written held rest message reads left join stays later c come) broken
+answering-breaks Answers Refuses Read s now d mid e given before after old written new held rest message reads left join stays later c come broken = absurd broken
+answering-breaks Answers Refuses LineTooLong s now d mid e given before after old written new held rest message reads left join stays later c come broken = absurd broken
+answering-breaks Answers Refuses TooManyFields s now d mid e given before after old written new held rest message reads left join stays later c come broken = absurd broken
+answering-breaks Answers Refuses Turns s now d mid e given before after old written new held rest message reads left join stays later c come broken = absurd broken

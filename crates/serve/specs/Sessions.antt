@@ -1,5 +1,5 @@
 -- What a session that is served over devices and a desk has read, asked and written (this project's own).
-use Rattle.std.specs.Prelude.{ℕ, ◌≡◌, ◌⊎◌, Bool, true, false, List, [], ◌∷◌, ◌++◌, Option}
+use Rattle.std.specs.Prelude.{ℕ, ◌≡◌, ◌≤◌, ◌⊎◌, Bool, true, false, List, [], ◌∷◌, ◌++◌, length, Option}
 use Rattle.std.specs.Io.KnownBytes.{Appends, Consumes}
 use Rattle.ami_text.specs.Devices.{HasEnded}
 use Rattle.ami_text.specs.declared.feed_fault.FeedFault.TheVariants as feed
@@ -27,13 +27,24 @@ pub record HasText {D : Type 0} (Answers : D → Ask → Answer → D → Type 0
   pub run : DeskRun Answers d (asks s messages) answers e
   pub is : text ≡ session_text s messages answers
 
--- a session was served: the text is that of the messages of the bytes, up to a Logoff, or to the end of a reader that has ended with nothing left
+-- the bytes are those before the last piece, whose messages don't end the session, and that piece, of at most 1,024 bytes
+pub record EndsInPiece (s : SessionState) (bytes : List ℕ) : Type 0 where
+  pub before : List ℕ
+  pub piece : List ℕ
+  pub is : bytes ≡ before ++ piece
+  pub short : length piece ≤ 1024
+  pub messages : List Fields
+  pub rest : List ℕ
+  pub reads : Reads before messages (Rest rest)
+  pub goes_on : is_over s messages ≡ false
+
+-- a session was served: the text is that of the messages of the bytes, up to a Logoff that came with the last piece, or to the end of a reader that has ended with nothing left
 pub record IsServed {D : Type 0} (Answers : D → Ask → Answer → D → Type 0) (s : SessionState) (d e : D) (ended : Bool) (left : Option (List ℕ)) (bytes text : List ℕ) : Type 0 where
   pub messages : List Fields
   pub rest : List ℕ
   pub gives : Gives bytes messages rest
   pub has_text : HasText Answers s d e messages text
-  pub at_end : (is_over s messages ≡ true) ⊎ (IsRest rest × HasEnded ended left)
+  pub at_end : ((is_over s messages ≡ true) × EndsInPiece s bytes) ⊎ (IsRest rest × HasEnded ended left)
 
 -- all messages of the bytes are answered, none of them has ended the session, and nothing but this ending stands behind them
 pub record AreAnswered {D : Type 0} (Answers : D → Ask → Answer → D → Type 0) (s : SessionState) (d e : D) (ending : Ending) (bytes text : List ℕ) : Type 0 where

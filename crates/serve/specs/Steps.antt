@@ -37,17 +37,30 @@ IsHeld (Err LineTooLong) old new stream = ⊥
 IsHeld (Err TooManyFields) old new stream = ⊥
 IsHeld (Err DeskDown) old new stream = ⊥
 
--- what stands first in the stream, and what is held behind it: a message, nothing more, or a fault
-abbrev pub IsNext : Result (Option Fields) ServeFault → List ℕ → List ℕ → Type 0
-IsNext (Ok (Some message)) held stream = Gives stream (message ∷ []) held
-IsNext (Ok None) held stream = Reads stream [] (Rest held)
-IsNext (Err Read) held stream = Reads stream [] (Rest held)
-IsNext (Err Turns) held stream = Reads stream [] (Rest held)
-IsNext (Err LineTooLong) held stream = Reads stream [] (Fault feed.LineTooLong)
-IsNext (Err TooManyFields) held stream = Reads stream [] (Fault feed.TooManyFields)
-IsNext (Err Memory) held stream = Unit {0}
-IsNext (Err Write) held stream = ⊥
-IsNext (Err DeskDown) held stream = ⊥
+-- the stream is what was held and what came before the last piece, in which no message stands, and that piece, of at most 1,024 bytes
+pub record WantsPiece (held stream : List ℕ) : Type 0 where
+  pub before : List ℕ
+  pub piece : List ℕ
+  pub is : stream ≡ (held ++ before) ++ piece
+  pub short : length piece ≤ 1024
+  pub rest : List ℕ
+  pub reads : Reads (held ++ before) [] (Rest rest)
+
+-- no piece came that wasn't wanted
+abbrev pub IsWanted : List ℕ → List ℕ → Type 0
+IsWanted held stream = (stream ≡ held) ⊎ WantsPiece held stream
+
+-- what stands first in the stream that what was held begins, and what is held behind it: a message, nothing more, or a fault
+abbrev pub IsNext : Result (Option Fields) ServeFault → List ℕ → List ℕ → List ℕ → Type 0
+IsNext (Ok (Some message)) old new stream = Gives stream (message ∷ []) new × IsWanted old stream
+IsNext (Ok None) old new stream = Reads stream [] (Rest new)
+IsNext (Err Read) old new stream = Reads stream [] (Rest new)
+IsNext (Err Turns) old new stream = Reads stream [] (Rest new)
+IsNext (Err LineTooLong) old new stream = Reads stream [] (Fault feed.LineTooLong)
+IsNext (Err TooManyFields) old new stream = Reads stream [] (Fault feed.TooManyFields)
+IsNext (Err Memory) old new stream = Unit {0}
+IsNext (Err Write) old new stream = ⊥
+IsNext (Err DeskDown) old new stream = ⊥
 
 -- the desk has answered what a reaction asks, and this text is to be written
 pub record HasDone {D : Type 0} (Answers : D → Ask → Answer → D → Type 0) (r : Reaction) (d e : D) (text : List ℕ) : Type 0 where

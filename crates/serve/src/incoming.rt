@@ -47,7 +47,8 @@ pub fn next_message<S: Source>(
     requires feed { incoming.old.feed.fault ≡ None }
     requires goes_on { incoming.old.reads < 1000000 → S.ended reader.old ≡ false }
     ensures come { HasCome (S.left reader.old) (S.left reader.new) incoming.old.feed.held
-        incoming.old.reads incoming.new.reads (IsNext result incoming.new.feed.held) }
+        incoming.old.reads incoming.new.reads
+        (IsNext result incoming.old.feed.held incoming.new.feed.held) }
     ensures goes_on { IfOk result (λ next. IfSome next (λ _.
         incoming.new.reads < 1000000 → S.ended reader.new ≡ false)) }
     ensures ended { result ≡ Ok None → HasEnded (S.ended reader.new) (S.left reader.new) }

@@ -28,7 +28,7 @@ use std::alloc::Global;
 /// bytes in pieces of at most 1,024, and answers each message in turn, by itself or upon the desk's
 /// answer (the messages and replies are Asterisk's Manager Interface, the limits this project's
 /// own). `Ok` after a Logoff is answered, or where the reader has ended; bytes behind a Logoff make
-/// no difference. It returns if the desk's calls do.
+/// no difference, and none are read but with its last piece. It returns if the desk's calls do.
 ///
 /// Faults, as each comes: `Read` where the reader failed; `Write` where the writer failed, or took
 /// none of bytes that aren't empty; `LineTooLong` and `TooManyFields` where the client's stream has

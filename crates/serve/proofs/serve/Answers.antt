@@ -47,14 +47,14 @@ pub returns-in-Ok-true-clause-served : goal.returns-in-Ok-true-clause-served
 returns-in-Ok-true-clause-served g c =
     let laws = c.messages_so_far.ensures in
     let is = c.in-Ok-Some.is ∙ ap Ok c.in-Ok-Some.field-0-is in
-    served-by-end g.D.Desk.answers _ _ _ _ _ _ _ _ _ _ _ _ _ c.in-Ok-Some.message _ _ _ laws.more laws.later
+    served-by-end g.D.Desk.answers _ _ _ _ _ _ _ _ _ _ _ _ _ c.in-Ok-Some.message _ _ _ c.stream_of_two_pieces.ensures.rest laws.more laws.later
     c.messages.invariant.going (next-so _ _ _ _ _ _ _ _ is c.next_message.ensures.come) c.in-Ok-true.ensures.said (as-told _ _ _ c.in-Ok-true.ensures.ends c.in-Ok-true.field-0-test)
 
 pub returns-in-Err-answer_message-clause-left : goal.returns-in-Err-answer_message-clause-left
 returns-in-Err-answer_message-clause-left g c =
     let laws = c.messages_so_far.ensures in
     let is = c.in-Ok-Some.is ∙ ap Ok c.in-Ok-Some.field-0-is in
-    answering-breaks g.D.Desk.answers g.D.Desk.refuses c.in-Err-answer_message.fault _ _ _ _ _ _ _ _ _ _ _ _ _ c.in-Ok-Some.message _ _ laws.more laws.later
+    answering-breaks g.D.Desk.answers g.D.Desk.refuses c.in-Err-answer_message.fault _ _ _ _ _ _ _ _ _ _ _ _ _ c.in-Ok-Some.message _ _ c.stream_of_two_pieces.ensures.rest laws.more laws.later
     c.messages.invariant.going (next-so _ _ _ _ _ _ _ _ is c.next_message.ensures.come) c.in-Err-answer_message.ensures.fault
 
 pub messages-preserved : goal.messages-preserved
@@ -66,6 +66,6 @@ messages-preserved g c =
       writer = c.in-Ok-false.ensures.works;
       feed = c.in-Ok-Some.ensures.feed;
       goes_on = rw c.in-Ok-Some.field-0-is at c.in-Ok-Some.ensures.goes_on;
-      going = going-on g.D.Desk.answers _ _ _ _ _ _ _ _ _ _ _ _ _ _ c.in-Ok-Some.message _ _ laws.more laws.later
+      going = going-on g.D.Desk.answers _ _ _ _ _ _ _ _ _ _ _ _ _ _ c.in-Ok-Some.message _ _ c.stream_of_two_pieces.ensures.rest laws.more laws.later
           c.messages.invariant.going (next-so _ _ _ _ _ _ _ _ is c.next_message.ensures.come) c.in-Ok-false.ensures.said c.in-Ok-false.ensures.session (as-told _ _ _ c.in-Ok-false.ensures.ends c.in-Ok-false.field-0-test);
     }
