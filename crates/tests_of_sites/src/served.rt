@@ -75,10 +75,27 @@ fn assert_served(
     assert!(rt; served == end);
 }
 
+// Checks what a session that has a login, or a trusted one, writes upon a stream that comes in pieces of each of these sizes.
+fn assert_in_pieces(
+    rt: &impl Abort,
+    alloc: Global,
+    has_login: bool,
+    stream: &str,
+    wanted: &[&str],
+) {
+    for most in [1, 7, 1024] {
+        let session = if has_login {
+            login(rt)
+        } else {
+            Session::trusted()
+        };
+        assert_served(rt, alloc, session, stream.as_bytes(), most, Ok(()), wanted);
+    }
+}
+
 #[test]
-fn a_session_from_its_first_byte_to_its_last(rt: HostRuntime) {
-    let alloc = rt.alloc();
-    let trusted: &[(&str, &[&str])] = &[
+fn a_trusted_session_from_its_first_byte_to_its_last(rt: HostRuntime) {
+    let streams: &[(&str, &[&str])] = &[
         ("", &[GREETING]),
         (ADD_AND_STATUS, &[GREETING, ADDED, REPORT]),
         ("Action: QueueStatus\r\n\r", &[GREETING]),
@@ -87,38 +104,22 @@ fn a_session_from_its_first_byte_to_its_last(rt: HostRuntime) {
             &[GREETING, UNKNOWN, GOODBYE],
         ),
     ];
-    for (stream, wanted) in trusted {
-        for most in [1, 7, 1024] {
-            assert_served(
-                &rt,
-                alloc,
-                Session::trusted(),
-                stream.as_bytes(),
-                most,
-                Ok(()),
-                wanted,
-            );
-        }
+    for (stream, wanted) in streams {
+        assert_in_pieces(&rt, rt.alloc(), false, stream, wanted);
     }
-    let named: &[(&str, &[&str])] = &[
+}
+
+#[test]
+fn a_session_with_a_login_from_its_first_byte_to_its_last(rt: HostRuntime) {
+    let streams: &[(&str, &[&str])] = &[
         (LOGIN_AND_LOGOFF, &[GREETING, ACCEPTED, GOODBYE]),
         (
             "Action: QueueStatus\n\nx: y\n\nAction: Login\nUsername: admin\nSecret: s3\n\nAction: Ping\n\n",
             &[GREETING, DENIED, MISSING, ACCEPTED, UNKNOWN],
         ),
     ];
-    for (stream, wanted) in named {
-        for most in [1, 7, 1024] {
-            assert_served(
-                &rt,
-                alloc,
-                login(&rt),
-                stream.as_bytes(),
-                most,
-                Ok(()),
-                wanted,
-            );
-        }
+    for (stream, wanted) in streams {
+        assert_in_pieces(&rt, rt.alloc(), true, stream, wanted);
     }
 }
 
