@@ -61,9 +61,9 @@ new-history names_of_queues sites = record {
 }
 
 -- a site after a step knows a part of the history, and what it knew
-record KeepsSite (h : Knowledge) (site : ℕ) (s t : SiteKnowledge) : Type 0 where
-  site_in : IsSiteIn h site t
-  more : IsPartOf s.known t.known
+pub record KeepsSite (h : Knowledge) (site : ℕ) (s t : SiteKnowledge) : Type 0 where
+  pub site_in : IsSiteIn h site t
+  pub more : IsPartOf s.known t.known
 
 -- a site that stays does
 same-site : (h : Knowledge) (site : ℕ) (s : SiteKnowledge) → IsSiteIn h site s → KeepsSite h site s s
