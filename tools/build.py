@@ -1,105 +1,220 @@
-"""Builds the program: proves the crates that it stands on, side by side where they don't stand on each other, and tells
-on standard error which are being proved, how many are, and for how long. What an interrupted build has proved is kept.
+"""Builds the program of a crate: proves the crates that it stands on, several at once where they don't stand on each other, and tells
+on standard error which are being proved and for how long. What an interrupted build has proved is kept. The file out/build.log has
+what was printed, and what each crate took.
 """
+import contextlib
+import fcntl
 import os
 import signal
 import subprocess
 import sys
-import threading
+import tempfile
 import time
 
-from crates import TOP, all_crates, below, folder
-from watch import Watch
+from crates import TOP, all_crates, below, folder, stored_words
 
-MEMORY_OF_A_PROOF = 4_000_000_000
+MEMORY_OF_A_JOB = 3_000_000_000
+NICENESS = 10
+LOG = f"{TOP}/out/build.log"
 
 
 def at_once():
-    """How many crates are proved at once: one a processor, as many as the free memory holds."""
+    """How many jobs there are at once: one a processor, as many as the free memory holds."""
     with open("/proc/meminfo", encoding="ascii") as file:
         lines = dict(line.split(":") for line in file)
     free = 1024 * int(lines["MemAvailable"].split()[0])
-    return max(min(len(os.sched_getaffinity(0)), free // MEMORY_OF_A_PROOF), 1)
+    return max(min(len(os.sched_getaffinity(0)), free // MEMORY_OF_A_JOB), 1)
+
+
+def size(crate):
+    """How many bytes of code, definitions and proofs a crate has: its proof takes the longer, the more there are."""
+    parts = (os.walk(f"{folder(crate)}/{part}") for part in ("src", "specs", "proofs"))
+    return sum(os.path.getsize(f"{at}/{file}") for part in parts for at, _, files in part for file in files)
+
+
+def ways(crates, names):
+    """For each of these crates the size of the longest way from it to the top: its own, and that of the longest way above it."""
+    longest = {}
+    for crate in reversed(names):
+        longest[crate] = size(crate) + max((longest[it] for it in longest if crate in crates[it]), default=0)
+    return longest
+
+
+def clock(seconds):
+    return f"{int(seconds) // 60}:{int(seconds) % 60:02}"
 
 
 class Progress:
     """Tells how far a build is: on a terminal by one line that is written again, elsewhere by a line a crate."""
 
-    def __init__(self, name, all_of_them):
-        self.name, self.all, self.begun, self.done = name, all_of_them, [], set()
+    def __init__(self, name, count):
+        self.name, self.count, self.begun, self.done = name, count, 0, 0
         self.started, self.is_terminal = time.monotonic(), sys.stderr.isatty()
 
-    def time(self):
-        seconds = int(time.monotonic() - self.started)
-        return f"{seconds // 60}:{seconds % 60:02}"
+    def begin(self, crate):
+        self.begun += 1
+        if not self.is_terminal:
+            self.say(f"proving {crate}, {self.begun} of {self.count}")
 
-    def show(self, proved_now):
+    def show(self, now):
         """Tells what is being proved now."""
-        for crate in proved_now:
-            if crate not in self.begun:
-                self.begun.append(crate)
-                if not self.is_terminal:
-                    self.say(f"proving {crate}, {len(self.begun)} of {len(self.all)}")
         if self.is_terminal:
-            now = f": proving {', '.join(proved_now)}" if proved_now else ""
-            self.say(f"{len(self.done)} of {len(self.all)} crates proved{now}")
+            self.say(f"{self.done} of {self.count} crates proved: proving {', '.join(now)}")
 
     def say(self, text):
         begin, end = ("\r\033[K", "") if self.is_terminal else ("", "\n")
-        print(f"{begin}{self.name}: {text} ({self.time()})", end=end, file=sys.stderr, flush=True)
+        print(f"{begin}{self.name}: {text} ({clock(time.monotonic() - self.started)})", end=end, file=sys.stderr, flush=True)
 
     def end(self):
         if self.is_terminal:
             print("\r\033[K", end="", file=sys.stderr, flush=True)
 
 
-def run(words, place, log, progress):
-    """Runs a command, keeps what it prints in the log, and shows the progress until it ends. Answers its status."""
-    pipe = {"stdin": subprocess.DEVNULL, "stdout": subprocess.PIPE, "stderr": subprocess.STDOUT}
-    command = subprocess.Popen(words, cwd=place, text=True, errors="replace", **pipe)
-    stop = lambda *_: (command.terminate(), sys.exit(130))
-    for it in (signal.SIGINT, signal.SIGTERM, signal.SIGHUP):
-        signal.signal(it, stop)
+class Run:
+    """A command that works for a crate with so many jobs. What it prints stands in a file of its own until it has ended. One that is
+    patient takes of the processors what others leave."""
 
-    def keep():
-        for line in command.stdout:
-            log.write(line)
-            if line.startswith("== "):
-                progress.done.add(line[3:].strip())
+    def __init__(self, crate, jobs, words, is_patient=False):
+        self.crate, self.jobs, self.started, self.said = crate, jobs, time.monotonic(), tempfile.TemporaryFile()
+        self.is_patient, self.status, self.used = is_patient, None, None
+        pipe = {"stdin": subprocess.DEVNULL, "stdout": self.said, "stderr": subprocess.STDOUT}
+        begin = lambda: (os.setpgid(0, 0), os.nice(NICENESS if is_patient else 0))
+        self.process = subprocess.Popen(words, cwd=folder(crate), preexec_fn=begin, **pipe)
 
-    reader = threading.Thread(target=keep)
-    reader.start()
-    watch = Watch(command.pid)
-    while command.poll() is None:
-        now = {crate for crate, _ in watch.look()}
-        progress.show([it for it in progress.all if it in now])
-        time.sleep(0.5)
-    reader.join()
-    return command.returncode
+    def has_ended(self):
+        pid, status, self.used = os.wait4(self.process.pid, os.WNOHANG)
+        if pid:
+            self.status = self.process.returncode = os.waitstatus_to_exitcode(status)
+        return pid != 0
+
+    def stop(self):
+        with contextlib.suppress(ProcessLookupError):
+            os.killpg(self.process.pid, signal.SIGTERM)
+
+    def tell(self, log):
+        """Writes what it printed, and what it took."""
+        seconds = time.monotonic() - self.started
+        self.said.seek(0)
+        log.write(self.said.read().decode(errors="replace"))
+        used = self.used.ru_utime + self.used.ru_stime
+        log.write(f"== {self.crate}: {clock(seconds)} with {self.jobs} jobs, {clock(used)} of one processor\n")
+        log.flush()
 
 
-def build(name):
-    """Builds the program of a crate. Answers the log of what failed, or nothing."""
-    crates = all_crates()
-    progress = Progress(name, [it for it in crates if it == name or it in below(crates, name)])
-    os.makedirs(f"{TOP}/out", exist_ok=True)
-    kept = f"{TOP}/out/build.log"
-    with open(kept, "w+", encoding="utf-8") as log:
-        status = run(["rt", "all", "check", "--jobs", str(at_once())], folder(name), log, progress)
-        status = status or run(["rt", "run", "--", "--version"], folder(name), log, progress)
-    progress.end()
-    return kept if status else None
+class Build:
+    """The proofs of crates and of all that they stand on: those that are still to be proved, and those that are being proved."""
+
+    def __init__(self, wanted, log, progress):
+        crates = all_crates()
+        names = [it for it in crates if it in wanted or any(it in below(crates, other) for other in wanted)]
+        self.log, self.progress, self.below = log, progress, {it: below(crates, it) for it in names}
+        self.longest, self.jobs, self.proved, self.running = ways(crates, names), at_once(), set(), []
+        self.left = sorted(names, key=lambda it: -self.longest[it])
+        progress.count += len(names)
+
+    def start(self):
+        """Starts crates of which all below are proved. That with the longest way to the top of all that are left has a job for each
+        processor, unless another has that already; the others have half as many, and are patient."""
+        ready = [it for it in self.left if self.below[it] <= self.proved]
+        for crate in ready[:self.jobs - len(self.running)]:
+            is_patient = crate != self.left[0] or not all(it.is_patient for it in self.running)
+            jobs = max(self.jobs // 2, 1) if is_patient else self.jobs
+            self.begin(Run(crate, jobs, [sys.executable, "-B", f"{TOP}/tools/prove.py", crate, str(jobs)], is_patient))
+            self.left.remove(crate)
+
+    def begin(self, run):
+        self.running.append(run)
+        self.progress.begin(run.crate)
+
+    def wait(self):
+        """Waits until one of those that run has ended, and answers whether it went well."""
+        while True:
+            self.progress.show([it.crate for it in self.running])
+            for run in self.running:
+                if run.has_ended():
+                    self.running.remove(run)
+                    self.progress.done += 1
+                    self.proved.add(run.crate)
+                    run.tell(self.log)
+                    return run.status == 0
+            time.sleep(0.1)
+
+    def prove(self):
+        """Proves them all, and answers whether that went well. Nothing more is begun once a proof has failed."""
+        try:
+            with locked(self.below):
+                while self.left or self.running:
+                    self.start()
+                    if not self.wait():
+                        return False
+            return True
+        finally:
+            self.stop()
+
+    def make(self, name):
+        """Makes a program of which all below is proved, and answers whether that went well."""
+        try:
+            self.begin(Run(name, self.jobs, ["rt", "run", "--jobs", str(self.jobs), "--", *stored_words(name)]))
+            return self.wait()
+        finally:
+            self.stop()
+
+    def stop(self):
+        for run in self.running:
+            run.stop()
+        self.progress.end()
+
+
+@contextlib.contextmanager
+def locked(names):
+    """Keeps other commands of rt out of these crates, as each of them keeps out others: by a lock on the folders."""
+    held = [os.open(folder(it), os.O_RDONLY) for it in names]
+    try:
+        for it in held:
+            fcntl.flock(it, fcntl.LOCK_EX)
+        yield
+    finally:
+        for it in held:
+            os.close(it)
+
+
+@contextlib.contextmanager
+def new_log():
+    """The log of a build."""
+    os.makedirs(os.path.dirname(LOG), exist_ok=True)
+    with open(LOG, "w+", encoding="utf-8") as log:
+        yield log
+
+
+def told(log):
+    log.seek(0)
+    return log.read()
+
+
+def prove(wanted):
+    """Proves crates and what they stand on. Answers whether that went well, and lines that tell what each took."""
+    with new_log() as log:
+        is_proved = Build(wanted, log, Progress("test", 0)).prove()
+        text = told(log)
+    if not is_proved:
+        print(text, end="")
+    return is_proved, [f"    {line[3:]}" for line in text.splitlines() if line.startswith("== ")]
 
 
 def main():
     name = sys.argv[1]
+    for it in (signal.SIGINT, signal.SIGTERM, signal.SIGHUP):
+        signal.signal(it, lambda *_: sys.exit(130))
     print(f"{name}: proving and building the program; this takes some minutes, once", file=sys.stderr)
-    failed = build(name)
-    if failed:
-        with open(failed, encoding="utf-8") as log:
-            sys.stderr.write(log.read())
-        print(f"{name}: the program could not be built", file=sys.stderr)
-    return 1 if failed else 0
+    with new_log() as log:
+        build = Build(below(all_crates(), name), log, Progress(name, 1))
+        is_built = build.prove() and build.make(name)
+        if not is_built:
+            sys.stderr.write(told(log))
+            print(f"{name}: the program could not be built", file=sys.stderr)
+            return 1
+    print(f"{name}: built ({clock(time.monotonic() - build.progress.started)})", file=sys.stderr)
+    return 0
 
 
 if __name__ == "__main__":

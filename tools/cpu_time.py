@@ -1,8 +1,7 @@
-"""Runs a program with each of some words in turn, and all of them so often, so that each word meets the machine as the others do. For each
-word it prints the least time of a processor that a run took, in seconds, and what it printed: cpu_time.py TIMES PROGRAM WORD.."""
+"""How much time of a processor runs of programs take."""
 import resource
 import subprocess
-import sys
+import tempfile
 
 
 def spent():
@@ -11,19 +10,18 @@ def spent():
     return usage.ru_utime + usage.ru_stime
 
 
-def timed(command):
-    """How long a run took, and what it printed."""
-    before = spent()
-    answer = subprocess.run(command, stdout=subprocess.PIPE, text=True, check=True).stdout
-    return spent() - before, answer
+def timed(command, given):
+    """How long a run of a program on these bytes took, and what it wrote."""
+    with tempfile.TemporaryFile() as file:
+        file.write(given)
+        file.seek(0)
+        before = spent()
+        answer = subprocess.run(command, stdin=file, stdout=subprocess.PIPE, check=True).stdout
+        return spent() - before, answer
 
 
-def main():
-    times, program, words = int(sys.argv[1]), sys.argv[2], sys.argv[3:]
-    runs = [[timed([program, word]) for word in words] for _ in range(times)]
-    for of_word in zip(*runs):
-        seconds, answer = min(of_word)
-        print(f"{seconds:.6f} {answer}", end="")
-
-
-main()
+def least(times, runs):
+    """Runs programs in turn, all of them so often, so that each meets the machine as the others do. For each pair of a command and
+    the bytes that it is given: the least time that a run took, in seconds, and what it wrote."""
+    rounds = [[timed(command, given) for command, given in runs] for _ in range(times)]
+    return [min(of_run) for of_run in zip(*rounds)]

@@ -34,3 +34,17 @@ def all_crates():
 def folder(name):
     """The folder of a crate."""
     return f"{TOP}/crates/{name}"
+
+
+def is_program(name):
+    """Whether a crate is a program, and no library."""
+    return os.path.exists(f"{folder(name)}/src/main.rt")
+
+
+def stored_words(name):
+    """The words of the stored run of a program, each a line of its file args."""
+    path = f"{folder(name)}/args"
+    if not os.path.exists(path):
+        return []
+    with open(path, encoding="utf-8") as file:
+        return file.read().split("\n")[:-1]

@@ -1,15 +1,17 @@
-"""Runs the program from the command line: its words, its texts and its statuses, and each of its allocations refused."""
+"""Runs the program from the command line: its words, its texts and its statuses, a member past the limit, and each of its
+allocations refused."""
 import os
 import shutil
 import subprocess
 import sys
 import tempfile
 
-from crates import TOP, folder
+from crates import TOP, folder, stored_words
 
 STORED = folder("queue_sites")
 BUILT = f"{STORED}/out/queue_sites"
 LONGEST_SCRIPT = 16_777_216
+MOST_MEMBERS = 16_384
 SCRIPT = ["script", "1", "sales"]
 
 
@@ -20,11 +22,6 @@ class Failed(Exception):
 def read(path):
     with open(path, "rb") as file:
         return file.read()
-
-
-def stored_words():
-    """The words of the stored run."""
-    return read(f"{STORED}/args").decode().split()
 
 
 def run(program, words, given=b"", out=subprocess.PIPE, place=TOP, more=None):
@@ -38,6 +35,13 @@ def expect(is_so, what, ran):
     if not is_so:
         words = " ".join(map(repr, ran.args))
         raise Failed(f"{words}: {what}; status {ran.returncode}, it wrote {ran.stdout!r} and told {ran.stderr!r}")
+
+
+def first_difference(wanted, given):
+    """Tells the first line in which what is given differs from what is wanted."""
+    lines = [it.splitlines(keepends=True) + [b""] for it in (wanted, given)]
+    number, pair = next((at, it) for at, it in enumerate(zip(*lines), 1) if it[0] != it[1])
+    return f"line {number} should be {pair[0]!r} and is {pair[1]!r}"
 
 
 def check(program, words, status, printed=b"", told=b"", **how):
@@ -84,23 +88,59 @@ def failures(program, room):
         check(program, SCRIPT, 1, told=b"queue_sites: write failed\n", given=b"0 dance", out=full)
 
 
+def reply(response, message):
+    return f"Response: {response}\r\nMessage: {message}\r\n\r\n"
+
+
+STATUS_OF_ONE_MEMBER = (
+    "Response: Success\r\nEventList: start\r\nMessage: Queue status will follow\r\n\r\n"
+    "Event: QueueParams\r\nQueue: sales\r\nCompleted: 0\r\nAbandoned: 0\r\n\r\n"
+    "Event: QueueMember\r\nQueue: sales\r\nName: SIP/1\r\nLocation: SIP/1\r\nStateInterface: SIP/1\r\n"
+    "Membership: dynamic\r\nPenalty: 0\r\nPaused: 0\r\nPausedReason: \r\n\r\n"
+    "Event: QueueStatusComplete\r\nEventList: Complete\r\nListItems: 2\r\n\r\n"
+)
+
+
+def past_the_limit(program):
+    """A site with as many members as it may have refuses one more. A site with one of its own refuses the frame of them all,
+    and takes it once that one is removed."""
+    added, member = reply("Success", "Added interface to queue"), "Queue: sales|Interface: SIP"
+    told = [(f"0 ami Action: QueueAdd|{member}/{number}", added) for number in range(MOST_MEMBERS)]
+    told += [
+        (f"0 ami Action: QueueAdd|{member}/{MOST_MEMBERS}", reply("Error", "Unable to change members: Full")),
+        (f"1 ami Action: QueueAdd|{member}/1", added),
+        ("0 cut", "entry 0\n"),
+        ("1 take 0", "refused CellsFull\n"),
+        ("1 ami Action: QueueStatus", STATUS_OF_ONE_MEMBER),
+        ("0 take 0", "taken\n"),
+        (f"1 ami Action: QueueRemove|{member}/1", reply("Success", "Removed interface from queue")),
+        ("1 take 0", "taken\n"),
+        ("1 offer sales", "offer 0 SIP/0\n"),
+    ]
+    script, wanted = ("".join(it).encode() for it in zip(*((f"{line}\n", printed) for line, printed in told)))
+    ran = run(program, ["script", "2", "sales"], script)
+    if ran.stdout != wanted or ran.returncode:
+        why = first_difference(wanted, ran.stdout) if ran.stdout != wanted else f"the status is {ran.returncode}"
+        raise Failed(f"{program}: in the script of a member past the limit {why}")
+
+
 def from_another_folder(room):
     """The program is found on the path, and runs from each folder."""
     path = f"{TOP}:{os.environ['PATH']}"
     given = {"given": read(f"{STORED}/stdin"), "place": room, "more": {"PATH": path}}
-    ran = run(shutil.which("queue_sites", path=path), stored_words(), **given)
+    ran = run(shutil.which("queue_sites", path=path), stored_words("queue_sites"), **given)
     expect(ran.stdout == read(f"{STORED}/stdout"), "it did not write what its file stdout has", ran)
 
 
 def first_example():
-    """The first example of README: its command, run by a shell, writes the lines that stand behind it, each ended by CR LF."""
+    """The first example of README: its command, run by a shell, writes the lines that stand behind it, with or without a CR."""
     lines = read(f"{TOP}/README.md").decode().split("```\n")[1].splitlines()
     command = [lines.pop(0).removeprefix("$ ")]
-    while command[-1].endswith("|"):
+    while command[-1].endswith(("|", "\\")):
         command.append(lines.pop(0))
     ran = run("sh", ["-c", "\n".join(command)])
     expect(ran.returncode == 0, "the status is not 0", ran)
-    expect(ran.stdout == "".join(f"{line}\r\n" for line in lines).encode(), "it did not write what README shows", ran)
+    expect(ran.stdout.decode().splitlines() == lines, "it did not write what README shows", ran)
 
 
 def refusing(room):
@@ -129,7 +169,7 @@ def refused_allocations(room):
     run_refusing = refusing(room)
     if not run_refusing:
         return NO_COMPILER
-    stored = BUILT, stored_words(), read(f"{STORED}/stdin")
+    stored = BUILT, stored_words("queue_sites"), read(f"{STORED}/stdin")
     whole, allocations = run_refusing(0, *stored)
     expect(whole.stdout == read(f"{STORED}/stdout"), "it did not write what its file stdout has", whole)
     for number in range(1, allocations + 1):
@@ -140,25 +180,21 @@ def refused_allocations(room):
     return f"each of the {allocations} allocations of the stored run refused in turn"
 
 
-def programs():
-    """The program as it is run, and as Rattle's own compiler builds it where the gate has."""
-    other = f"{BUILT}.by-rattle"
-    is_new = os.path.exists(other) and os.path.getmtime(other) >= os.path.getmtime(f"{BUILT}.o")
-    return ["./queue_sites", other] if is_new else ["./queue_sites"]
-
-
-def run_all():
-    """Runs all of it. Answers lines that tell what was run."""
+def run_all(is_gate_passed=False):
+    """Runs all of it. Answers lines that tell what was run. Once the gate has passed, there is also the program as Rattle's own
+    compiler builds it."""
     run("./queue_sites", ["--version"])
+    programs = ["./queue_sites", f"{BUILT}.by-rattle"] if is_gate_passed else ["./queue_sites"]
     with tempfile.TemporaryDirectory() as room:
-        for program in programs():
+        for program in programs:
             statuses(program)
             wrong_words(program)
             failures(program, room)
+        past_the_limit("./queue_sites")
         from_another_folder(room)
         first_example()
-        runs = f"its words, texts and statuses ({' and '.join(map(os.path.basename, programs()))})"
-        return [runs, "the first example of README", refused_allocations(room)]
+        runs = f"its words, texts and statuses ({' and '.join(map(os.path.basename, programs))})"
+        return [runs, "a script of a member past the limit", "the first example of README", refused_allocations(room)]
 
 
 if __name__ == "__main__":

@@ -1,11 +1,14 @@
 """Runs what must pass, and tells at the end what was run and how long each part of it took.
 
-    ./test                     the whole gate, the program from the command line, and tests with each allocation refused
+    ./test                     the whole gate, the program from the command line, the cases, and tests with each allocation
+                               refused
     ./test CRATE..             what a change of these crates can break: layout, proofs, tests and stored runs of these and
                                of the crates that stand on them, over the work that earlier checks kept, and the
                                must-fail edits of these
     ./test changed [COMMIT]    the same for the crates that differ from the commit; with none named from the last that the
                                whole gate has passed here, or else from HEAD
+    ./test cases [NAME..]      the cases, which are files below cases/: all, or those of these folders and names;
+                               tools/cases.py says what a case is
 """
 import os
 import shutil
@@ -13,11 +16,12 @@ import subprocess
 import sys
 import time
 
+import build
+import cases
 import gate
 import memory_tests
 import program_tests
-from build import at_once
-from crates import TOP, all_crates, below, folder, read, with_those_above
+from crates import TOP, all_crates, folder, is_program, read, stored_words, with_those_above
 
 PASSED = f"{TOP}/out/passed"
 PROGRAM = "queue_sites"
@@ -63,8 +67,12 @@ def part_of(run_all):
     return part
 
 
-def run_program(parts):
-    parts.run("the program from the command line", part_of(program_tests.run_all))
+def run_program(parts, is_gate_passed=False):
+    parts.run("the program from the command line", part_of(lambda: program_tests.run_all(is_gate_passed)))
+
+
+def run_cases(parts, kinds=tuple(cases.KINDS)):
+    parts.run("the cases", part_of(lambda: cases.run_all(kinds)))
 
 
 def run_without_memory(parts, crates):
@@ -84,7 +92,8 @@ def whole():
 
     parts.run("the gate", gate_part)
     if not parts.has_failed:
-        run_program(parts)
+        run_program(parts, is_gate_passed=True)
+        run_cases(parts)
         run_without_memory(parts, all_crates())
     print("\n".join(parts.lines))
     if not parts.has_failed and clean and head:
@@ -112,41 +121,39 @@ def laid_out(names):
 def stored_run(name):
     """Whether a program, run as its files say, writes what its file stdout has and ends with the status of its file status."""
     content = lambda file: program_tests.read(f"{folder(name)}/{file}") if os.path.exists(f"{folder(name)}/{file}") else b""
-    words = content("args").decode().splitlines()
-    ran = subprocess.run([f"{folder(name)}/out/{name}", *words], input=content("stdin"), capture_output=True, check=False)
+    words = [f"{folder(name)}/out/{name}", *stored_words(name)]
+    ran = subprocess.run(words, input=content("stdin"), capture_output=True, check=False)
     return ran.stdout == content("stdout") and ran.returncode == int(content("status") or 0)
-
-
-def is_program(name):
-    return os.path.exists(f"{folder(name)}/src/main.rt")
 
 
 def tested(name):
     """Whether the tests of a crate pass, and the stored run of a program."""
     if not passes(["rt", "test"], folder(name)):
         return False
-    return not is_program(name) or (passes(["rt", "run", "--", "--version"], folder(name)) and stored_run(name))
+    if not is_program(name):
+        return True
+    return passes(["rt", "run", "--", *stored_words(name)], folder(name), stdout=subprocess.DEVNULL) and stored_run(name)
 
 
-def of_crates(names, is_program_changed=False):
-    """Runs what a change of these crates can break, and of what runs the program."""
+def of_crates(names, is_program_changed=False, are_cases_changed=False):
+    """Runs what a change of these crates can break, and of what runs the program and the cases."""
     crates = all_crates()
     unknown = [it for it in names if it not in crates]
     if unknown:
         sys.exit(f"test: no such crate: {' '.join(unknown)}")
     changed, parts = with_those_above(crates, names), Parts()
-    tops = [it for it in changed if not any(it in below(crates, other) for other in changed)]
     if names:
         parts.run(f"layout of {' '.join(changed)}", lambda: (laid_out(changed), []))
-    for name in tops:
-        words = ["rt", "all", "check", "--jobs", str(at_once())] if crates[name] else ["rt", "check"]
-        parts.run(f"proof of {name} and what it stands on", lambda it=name: (passes(words, folder(it)), []))
+        parts.run(f"proof of {' '.join(changed)} and what they stand on", lambda: build.prove(changed))
     for name in changed if not parts.has_failed else []:
         parts.run(f"tests of {name}", lambda it=name: (tested(it), []))
     if names and not parts.has_failed:
         parts.run(f"must-fail edits of {' '.join(names)}", lambda: (passes(["rt", "must-fail", *names]), []))
     if not parts.has_failed and (is_program_changed or PROGRAM in changed):
         run_program(parts)
+    kinds = [it for it, kind in cases.KINDS.items() if are_cases_changed or kind.program in changed]
+    if not parts.has_failed and kinds:
+        run_cases(parts, kinds)
     if not parts.has_failed:
         run_without_memory(parts, changed)
     print("\n".join(parts.lines))
@@ -165,7 +172,8 @@ def of_changes(commit):
     folders = {it.split("/")[1] for it in files if it.startswith("crates/")}
     names = [it for it in crates if it in folders or crates[it] != before.get(it)]
     print(f"test: crates that differ from {commit[:12]}: {' '.join(names) or 'none'}", flush=True)
-    return of_crates(names, any(it.startswith("tools/") or it == PROGRAM for it in files))
+    of_tools = any(it.startswith("tools/") for it in files)
+    return of_crates(names, of_tools or PROGRAM in files, of_tools or any(it.startswith("cases/") for it in files))
 
 
 def main(words):
@@ -174,6 +182,8 @@ def main(words):
     if words[0] in ("-h", "--help") or (words[0] == "changed" and len(words) > 2):
         print(__doc__.strip(), file=sys.stderr)
         return 2
+    if words[0] == "cases":
+        return cases.main(words[1:])
     return of_changes(words[1] if len(words) > 1 else None) if words[0] == "changed" else of_crates(words)
 
 

@@ -1,104 +1,40 @@
-//! Workloads to be timed, each named by its word. Each prints its word and a checksum of what it computed, the same
-//! on each run: `bench join_65536_runs join_32768_runs`.
+//! Workloads to be timed. `bench TIMES WORD..` reads frames from standard input, one behind the other, and does what each
+//! word says with all of them, so often. For each word it prints the word and a checksum of what was computed, the same on
+//! each run: `bench 100 copy join`. A word that can't be done says why.
+//!
+//! The stored run does each word twice, with three frames that are seen by hand. Site 0 knows its dots 1 to 3, of which 1 and 3 are
+//! live with the penalties 1 and 3; then its next dot 4, live with the penalty 4; and site 1 knows two dots that are dead, 1 of site 0
+//! and 1 of its own, and has completed 5 calls. So there are two live dots in one run, one in one, and none in two runs beside 5
+//! calls; joined, two live dots in two runs, and 5 calls. The penalties add up to 8, and of each site one dead dot is told. Where 28
+//! bytes are always there, a run has 17, a cell 31 and a total 19, the frames have 107, 76 and 81 bytes.
 #![tactic(auto)]
 
-mod deltas;
-mod frames;
-mod joins;
-mod replicas;
-mod sessions;
-mod sets;
-mod single_dots;
-mod totals;
+mod workloads;
 
-use deltas::{dot_taken_often, halves_joined_often};
-use frames::{cells_decoded_often, cells_encoded_often, runs_decoded_often, runs_encoded_often};
-use joins::joined_often;
-use replicas::{commands_done_often, frames_taken_often};
-use sessions::status_served_often;
-use sets::{dead_told_often, rows_read, sets_copied_often, sets_joined_often};
-use single_dots::{Singles, singles_joined};
+use crate::workloads::{frames_in, sum_of_checksums};
 use std::alloc::Global;
-use std::{env, io};
-use totals::totals_joined_often;
+use std::env;
+use std::io::{self, Read};
 
-// How often each workload does its work.
-const TIMES: u32 = 100;
-
-// How often a site does three commands, and how many frames it takes.
-const TURNS: u32 = 333;
-
-const FRAMES: u32 = 1_000;
-
-// How many sets of one dot are joined, one by one.
-const DOTS: u64 = 1_000;
-
-// How many asks a session has.
-const ASKS: u32 = 10_000;
-
-// What a workload computed, or why it has no checksum. The small ones, done twice, are seen by hand: the counts 1 to 6 of
-// a site are one run, so each join adds 6 and 1; three live dots of each of two sites are six in two runs, and of one
-// site three in one; deltas join as their sets do, and a dot that is known adds none; four members have the penalties
-// 1 to 4; three dots are dead, each a run; two copies have three live dots each; three entries have the totals 1 to 3; a frame of
-// three cells of 31 bytes, in a run of 17, has 138 bytes, of which 28 are always there, and one of three runs has 79; a frame that is
-// decoded adds its live dots and runs; a site of three members that has added and removed another twice has three live dots in a run of
-// five, and one that has taken two dots of another site five live dots in two runs; a session's greeting has 32 bytes, and a report of
-// three members 650; two sets of one dot each make four live dots six, in one run where they are the next ones, and else in two.
-fn checksum(alloc: Global, word: &str) -> Result<u64, &'static str> {
+// How often the words are done, as the first one says; never, where it is no number.
+fn times(word: Option<String>) -> u32 {
     match word {
-        "join_3_runs" => joined_often(alloc, 3, 2),
-        "join_3_cells" => sets_joined_often(alloc, (0, 0), 3, 2),
-        "join_3_and_3_cells" => sets_joined_often(alloc, (0, 1), 3, 2),
-        "rows_of_4_members" => rows_read(alloc, 4, 2),
-        "join_1_dot_into_3" => dot_taken_often(alloc, 3, 2),
-        "join_2_halves_of_6_dots" => halves_joined_often(alloc, 3, 2),
-        "dead_beside_3_live_dots" => dead_told_often(alloc, 3, 2),
-        "copy_3_cells_twice" => sets_copied_often(alloc, 3, 2),
-        "join_3_totals" => totals_joined_often(alloc, 3, 2),
-        "encode_3_cells" => cells_encoded_often(alloc, 3, 2),
-        "decode_3_cells" => cells_decoded_often(alloc, 3, 2),
-        "encode_3_runs" => runs_encoded_often(alloc, 3, 2),
-        "decode_3_runs" => runs_decoded_often(alloc, 3, 2),
-        "commands_at_3" => commands_done_often(alloc, 3, 2),
-        "frames_at_3" => frames_taken_often(alloc, 3, 2),
-        "serve_2_statuses_of_3" => status_served_often(alloc, 3, 2),
-        "join_2_dots_behind_4" => singles_joined(alloc, Singles::Behind, 4, 2, true),
-        "join_2_dots_before_4" => singles_joined(alloc, Singles::Before, 4, 2, true),
-        "join_65536_runs" => joined_often(alloc, 65_536, TIMES),
-        "join_32768_runs" => joined_often(alloc, 32_768, TIMES),
-        "join_16384_cells" => sets_joined_often(alloc, (0, 0), 16_384, TIMES),
-        "join_8192_and_8192_cells" => sets_joined_often(alloc, (0, 1), 8_192, TIMES),
-        "join_1_dot_into_16384" => dot_taken_often(alloc, 16_384, TIMES),
-        "join_1_dot_into_256" => dot_taken_often(alloc, 256, TIMES),
-        "join_2_halves_of_16384_dots" => halves_joined_often(alloc, 8_192, TIMES),
-        "rows_of_16384_members" => rows_read(alloc, 16_384, TIMES),
-        "dead_beside_16384_live_dots" => dead_told_often(alloc, 16_384, TIMES),
-        "copy_16384_cells_twice" => sets_copied_often(alloc, 16_384, TIMES),
-        "join_16384_totals" => totals_joined_often(alloc, 16_384, TIMES),
-        "encode_16384_cells" => cells_encoded_often(alloc, 16_384, TIMES),
-        "decode_16384_cells" => cells_decoded_often(alloc, 16_384, TIMES),
-        "encode_65536_runs" => runs_encoded_often(alloc, 65_536, TIMES),
-        "decode_65536_runs" => runs_decoded_often(alloc, 65_536, TIMES),
-        "commands_at_256" => commands_done_often(alloc, 256, TURNS),
-        "commands_at_4096" => commands_done_often(alloc, 4_096, TURNS),
-        "commands_at_15000" => commands_done_often(alloc, 15_000, TURNS),
-        "frames_at_256" => frames_taken_often(alloc, 256, FRAMES),
-        "frames_at_4096" => frames_taken_often(alloc, 4_096, FRAMES),
-        "frames_at_15000" => frames_taken_often(alloc, 15_000, FRAMES),
-        "serve_10000_statuses_of_100" => status_served_often(alloc, 100, ASKS),
-        "make_256_and_1000_dots" => singles_joined(alloc, Singles::Behind, 256, DOTS, false),
-        "make_15000_and_1000_dots" => singles_joined(alloc, Singles::Behind, 15_000, DOTS, false),
-        "join_1000_dots_behind_256" => singles_joined(alloc, Singles::Behind, 256, DOTS, true),
-        "join_1000_dots_behind_15000" => singles_joined(alloc, Singles::Behind, 15_000, DOTS, true),
-        "join_1000_dots_before_256" => singles_joined(alloc, Singles::Before, 256, DOTS, true),
-        "join_1000_dots_before_15000" => singles_joined(alloc, Singles::Before, 15_000, DOTS, true),
-        _ => Err("no such workload"),
+        Some(word) => word.parse().unwrap_or(0),
+        None => 0,
     }
 }
 
 fn main(rt: HostRuntime) -> io::Result<()> {
-    for word in env::args(&rt)?.skip(1) {
-        match checksum(rt.alloc(), word.as_str()) {
+    let mut bytes = Vec::new(rt.alloc());
+    rt.reader().read_to_end(&mut bytes)?;
+    let frames = match frames_in(rt.alloc(), &bytes) {
+        Ok(frames) => frames,
+        Err(fault) => return println!(rt; "{fault}"),
+    };
+    let mut words = env::args(&rt)?.skip(1);
+    let times = times(words.next());
+    for word in words {
+        match sum_of_checksums(rt.alloc(), word.as_str(), &bytes, &frames, times) {
             Ok(sum) => println!(rt; "{word} {sum}")?,
             Err(fault) => println!(rt; "{word}: {fault}")?,
         }

@@ -1,3 +1,4 @@
 pub mod DeltaStates
 pub mod Joining
 pub mod Standing
+pub mod Frames

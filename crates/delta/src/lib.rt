@@ -3,9 +3,11 @@
 #![tactic(auto)]
 
 mod delta;
+mod frame;
 pub mod laws;
 mod parts;
 
 pub use delta::Delta;
+pub use frame::Frame;
 pub use member_orset::JoinFault;
 pub use site_totals::Memory;

@@ -14,8 +14,9 @@ use Rattle.dots.proofs.SortedEntries.{find_at}
 use Rattle.dots.proofs.TruthTables.{fact}
 use Rattle.causal_context.specs.Contexts.{IsRun}
 use Rattle.member_orset.specs.Members.{Holding, IsLiveIn, IsWithinLimits}
-use Rattle.delta_codec.specs.declared.frame.Frame.{Frame}
-use Rattle.delta_codec.specs.Frames.{AreCells, Spells, frame_bytes, IsInRanges, parts_with}
+use Rattle.delta.specs.declared.frame.Frame.{Frame}
+use Rattle.delta.specs.Frames.{IsInRanges}
+use Rattle.delta_codec.specs.Frames.{AreCells, Spells, frame_bytes, parts_with}
 use Rattle.delta_codec.specs.Measures.{IsMeasured}
 use Rattle.delta_codec.specs.Parts.{CellParts}
 use Rattle.delta_codec.proofs.Counting.{few_totals}

@@ -33,9 +33,10 @@ use Rattle.dots.specs.WithinLimits.{IsLabel, IsPause}
 use Rattle.member_orset.specs.Members.{Holding, condition_at}
 use Rattle.delta_codec.specs.declared.decode_fault.DecodeFault.{DecodeFault}
 use Rattle.delta_codec.specs.declared.decode_fault.DecodeFault.TheVariants.{BadRange, TooLarge, Truncated}
-use Rattle.delta_codec.specs.declared.frame.Frame.{Frame}
+use Rattle.delta.specs.declared.frame.Frame.{Frame}
 use Rattle.delta_codec.specs.declared.limits.TheConstants.{LEAST_LENGTH, MOST_LENGTH}
-use Rattle.delta_codec.specs.Decoding.{IsSameFrame, frame_kept}
+use Rattle.delta.specs.Frames.{IsSameFrame}
+use Rattle.delta_codec.specs.Decoding.{frame_kept}
 use Rattle.delta_codec.specs.Frames.{AreParts, FrameParts, Spells, content_bytes, frame_bytes}
 use Rattle.delta_codec.specs.Parts.{CellParts, IsCell, IsField, TotalParts, cell_bytes, field_bytes, fields_bytes, label_bytes, pause_bytes, penalty_bytes, text_bytes}
 use Rattle.delta_codec.specs.Reading.{◌>>=◌, Kept, content_in, kept_at, kept_in, known_of, live_of, number_at, totals_of, with_cell, with_total, within_at}

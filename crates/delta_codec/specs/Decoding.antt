@@ -2,20 +2,14 @@
 use Rattle.std.specs.Prelude.{ℕ, ◌≡◌, ◌≢◌, ◌⊎◌, ◌↔◌, ◌<◌, ◌≤◌, List, ◌++◌, length, take, drop, Option, Some, None, Result, Ok, Err, IfErr, IfOk}
 use Rattle.std.specs.List.{All}
 use Rattle.std.specs.Result.{IsOkAnd}
-use Rattle.delta.specs.DeltaStates.{IsSame}
+use Rattle.delta.specs.Frames.{IsSameFrame}
 use Rattle.delta_codec.specs.declared.decode_fault.DecodeFault.{DecodeFault}
 use Rattle.delta_codec.specs.declared.decode_fault.DecodeFault.TheVariants.{Memory, Truncated}
-use Rattle.delta_codec.specs.declared.frame.Frame.{Frame}
+use Rattle.delta.specs.declared.frame.Frame.{Frame}
 use Rattle.delta_codec.specs.declared.limits.TheConstants.{LEAST_LENGTH, MOST_LENGTH}
 use Rattle.delta_codec.specs.Faults.{HasFault, number4}
 use Rattle.delta_codec.specs.Frames.{Heading, IsHeading, Spells, opening_bytes}
 use Rattle.delta_codec.specs.Reading.{Kept}
-
--- two frames are of one maker, have one number, and say the same
-pub record IsSameFrame (x y : Frame) : Type 0 where
-  pub maker : x.maker ≡ y.maker
-  pub number : x.number ≡ y.number
-  pub delta : IsSame x.delta y.delta
 
 -- this holds, or an allocation was refused
 abbrev pub UnlessMemory : {T : Type 0} → Result T DecodeFault → Type 0 → Type 0

@@ -1,17 +1,16 @@
 -- Which bytes spell a frame.
-use Rattle.std.specs.Prelude.{ℕ, ◌≡◌, ◌<◌, List, [], ◌∷◌, ◌++◌, length, IsTrue, Some}
+use Rattle.std.specs.Prelude.{ℕ, ◌≡◌, List, [], ◌∷◌, ◌++◌, length, IsTrue}
 use Rattle.std.specs.FinMap as map
 use Rattle.std.specs.Int.{w32, w64, to_be_bytes}
 use Rattle.std.specs.List.{All}
-use Rattle.dots.specs.declared.limits.TheConstants.{MOST_LIVE, MOST_RUNS, QUEUES}
+use Rattle.dots.specs.declared.limits.TheConstants.{MOST_LIVE, MOST_RUNS}
 use Rattle.dots.specs.DotSets.{Run, AreApart, IsRunsOf, in_runs}
 use Rattle.dots.specs.Orders.{dot_cmp}
 use Rattle.dots.specs.SortedEntries.{IsRising}
 use Rattle.dots.specs.Totals.{IsTotal, key_cmp}
-use Rattle.dots.specs.Values.{Dot, IsCount, IsSite}
+use Rattle.dots.specs.Values.{IsCount, IsSite}
 use Rattle.causal_context.specs.Contexts.{IsRun}
-use Rattle.member_orset.specs.Members.{Holding}
-use Rattle.delta_codec.specs.declared.frame.Frame.{Frame}
+use Rattle.delta.specs.declared.frame.Frame.{Frame}
 use Rattle.delta_codec.specs.declared.limits.TheConstants.{MOST_TOTALS, VERSION}
 use Rattle.delta_codec.specs.Parts.{CellParts, IsCell, IsListOf, TotalParts, byte, cell_bytes, list_bytes, run_bytes, total_bytes}
 
@@ -96,9 +95,3 @@ parts_with frame runs = record {
   cells = map.entries frame.delta.members.live;
   totals = map.entries frame.delta.totals.entries;
 }
-
--- A frame is within the ranges of the format: its number is one, and each live dot is of one of the queues. All else is so for
--- every frame, by the types of its parts.
-pub record IsInRanges (frame : Frame) : Type 0 where
-  pub number : IsCount frame.number
-  pub queues : (dot : Dot) (held : Holding) → map.get frame.delta.members.live dot ≡ Some held → held.0.queue < QUEUES

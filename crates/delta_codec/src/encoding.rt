@@ -2,7 +2,8 @@ ghost use Rattle.std.specs.Prelude.{◌≡◌, ◌++◌, ◌≤◌, IfOk, OnOk, 
 ghost use Rattle.std.specs.FinMap as map;
 ghost use Rattle.std.specs.List.{All};
 ghost use Rattle.dots.specs.declared.limits.TheConstants.{MOST_RUNS};
-ghost use Rattle.delta_codec.specs.Frames.{Spells, content_bytes, frame_bytes, IsInRanges};
+ghost use Rattle.delta.specs.Frames.{IsInRanges};
+ghost use Rattle.delta_codec.specs.Frames.{Spells, content_bytes, frame_bytes};
 ghost use Rattle.delta_codec.specs.Frames.{parts_with};
 ghost use Rattle.delta_codec.specs.Measures.{IsMeasured};
 

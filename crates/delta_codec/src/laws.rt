@@ -3,9 +3,10 @@ ghost use Rattle.std.specs.Prelude.{◌≡◌, ◌≢◌, ◌⊎◌, ◌≤◌, 
 ghost use Rattle.delta_codec.specs.declared.decode_fault.DecodeFault.{DecodeFault};
 ghost use Rattle.delta_codec.specs.declared.decode_fault.DecodeFault.TheVariants.{Memory};
 ghost use Rattle.delta_codec.specs.declared.decode_fault.DecodeFault.TheVariants.{Truncated};
-ghost use Rattle.delta_codec.specs.declared.frame.Frame.{Frame};
+ghost use Rattle.delta.specs.declared.frame.Frame.{Frame};
 ghost use Rattle.delta_codec.specs.declared.limits.TheConstants.{LEAST_LENGTH, MOST_LENGTH};
-ghost use Rattle.delta_codec.specs.Decoding.{AreBytes, BeginsWithFrame, IsAtFault, IsSameFrame};
+ghost use Rattle.delta.specs.Frames.{IsSameFrame};
+ghost use Rattle.delta_codec.specs.Decoding.{AreBytes, BeginsWithFrame, IsAtFault};
 ghost use Rattle.delta_codec.specs.Faults.{HasFault};
 ghost use Rattle.delta_codec.specs.Frames.{AreParts, FrameParts, Spells, content_bytes};
 ghost use Rattle.delta_codec.specs.Frames.{frame_bytes};

@@ -6,7 +6,6 @@ mod decoding;
 mod elements;
 mod encoding;
 mod fields;
-mod frame;
 pub mod laws;
 mod limits;
 mod numbers;
@@ -17,8 +16,8 @@ mod writing;
 
 pub use decode_fault::DecodeFault;
 pub use decoding::decode;
+pub use delta::Frame;
 pub use dots::Memory;
 pub use encoding::encode;
-pub use frame::Frame;
 pub use limits::{LEAST_LENGTH, MOST_LENGTH, MOST_TOTALS, VERSION};
 pub use splitter::Splitter;

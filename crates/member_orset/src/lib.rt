@@ -31,8 +31,6 @@ mod seen;
 mod set_builder;
 mod site_walk;
 mod taken_cells;
-#[cfg(test)]
-mod worn;
 
 pub use cell::Cell;
 pub use cells_lent::Cells;

@@ -1,21 +1,7 @@
 //! The places in memory of a set's cells.
 
-// The last generation of a place, which is a lesser one in the tests of this crate, so that they can wear a set.
-macro_rules! last_generation {
-    () => {
-        4_294_967_295
-    };
-}
-
-#[cfg(test)]
-macro_rules! last_generation {
-    () => {
-        0
-    };
-}
-
 // The last generation of a place in memory: after it, the place isn't used again (this project's own).
-pub(crate) const LAST_GENERATION: u32 = last_generation!();
+pub(crate) const LAST_GENERATION: u32 = 4_294_967_295;
 
 // How many places there are at most: those of live dots, and those that aren't used again.
 pub(crate) const MOST_PLACES: usize = 1_048_576;

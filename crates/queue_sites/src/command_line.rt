@@ -1,9 +1,9 @@
 use crate::exit::Exit;
-use crate::site_count::SiteCount;
 use clap::error::ErrorKind;
 use clap::{Arg, ArgAction, Command, Error, value_parser};
 use dots::QueueName;
 use replica::{ListFault, QueueList};
+use scripts::SiteCount;
 use std::alloc::{AllocError, Global};
 use std::io;
 use std::rt::Env;
@@ -80,20 +80,30 @@ fn script_words<'a>(alloc: Global, words: &'a [String]) -> Result<ScriptWords<'a
     Ok(ScriptWords { sites, queues })
 }
 
-fn command<'a>(alloc: Global) -> Result<Command<'a>, AllocError> {
-    let sites = Arg::new(alloc, "SITES")
+fn sites<'a>(alloc: Global) -> Arg<'a> {
+    Arg::new(alloc, "SITES")
         .help("How many sites there are, 1 to 64")
         .required(true)
-        .value_parser(value_parser!(u16).range(1..65));
-    let queues = Arg::new(alloc, "QUEUE")
+        .value_parser(value_parser!(u16).range(1..65))
+}
+
+fn queues<'a>(alloc: Global) -> Arg<'a> {
+    Arg::new(alloc, "QUEUE")
         .help("The names of the queues, in their order")
         .required(true)
         .num_args(1..)
-        .action(ArgAction::Append);
-    let script = Command::new(alloc, "script")
+        .action(ArgAction::Append)
+}
+
+fn script<'a>(alloc: Global) -> Result<Command<'a>, AllocError> {
+    Command::new(alloc, "script")
         .about("Runs a script from standard input")
-        .arg(sites)?
-        .arg(queues)?;
+        .arg(sites(alloc))?
+        .arg(queues(alloc))
+}
+
+fn command<'a>(alloc: Global) -> Result<Command<'a>, AllocError> {
+    let script = script(alloc)?;
     Command::new(alloc, "queue_sites")
         .about("The queue membership service of a call centre with several sites")
         .version("0.1.0")

@@ -1,28 +1,14 @@
 //! The program `queue_sites`: reads its command line, and runs a script from standard input.
 #![tactic(auto)]
 
-mod answers;
 mod command_line;
-mod devices;
 mod exit;
-mod laws;
-mod line;
-mod line_steps;
-mod message;
-mod numbers;
-mod parts;
-mod script;
-mod script_fault;
-mod site_count;
-#[cfg(test)]
-mod tests;
-#[cfg(test)]
-mod world_scripts;
 
 use crate::command_line::{Request, read_command_line};
 use crate::exit::Exit;
-use crate::script::run_script;
 use ami_text::{StdSink, StdSource};
+use replica::QueueList;
+use scripts::{ScriptFault, SiteCount, run_script};
 use std::io;
 use std::process::ExitCode;
 use std::rt::Env;
@@ -36,14 +22,26 @@ fn main(rt: HostRuntime) -> ExitCode {
 
 // Runs the program. `Err`: an error could not be printed.
 fn run<R: Env + AllocGlobal + Print + Eprint + Input>(rt: &R) -> io::Result<Exit> {
-    let request = read_command_line(rt)?;
-    let (sites, list) = match request {
-        Request::Script(sites, list) => (sites, list),
-        Request::Done(exit) => return Ok(exit),
-    };
+    match read_command_line(rt)? {
+        Request::Script(sites, list) => exit_of(rt, run_input(rt, sites, &list)),
+        Request::Done(exit) => Ok(exit),
+    }
+}
+
+// Runs a script from standard input, and answers how many lines weren't understood.
+fn run_input<R: AllocGlobal + Print + Input>(
+    rt: &R,
+    sites: SiteCount,
+    list: &QueueList,
+) -> Result<u64, ScriptFault> {
     let mut reader = StdSource::new(rt.reader());
     let mut writer = StdSink::new(io::writer(rt));
-    match run_script(rt.alloc(), &mut reader, &mut writer, sites, &list) {
+    run_script(rt.alloc(), &mut reader, &mut writer, sites, list)
+}
+
+// The exit status of a script. A fault is told on standard error.
+fn exit_of<R: Eprint>(rt: &R, end: Result<u64, ScriptFault>) -> io::Result<Exit> {
+    match end {
         Ok(0) => Ok(Exit::Done),
         Ok(_) => Ok(Exit::NotUnderstood),
         Err(fault) => {

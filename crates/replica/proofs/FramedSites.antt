@@ -7,8 +7,8 @@ use Rattle.dots.specs.Knowledge.{Knowledge}
 use Rattle.delta.specs.DeltaStates.{IsEmpty}
 use Rattle.delta.specs.Standing.{IsDeltaOf}
 use Rattle.delta.proofs.StandingDeltas.{same_stands}
-use Rattle.delta_codec.specs.declared.frame.Frame.{Frame}
-use Rattle.delta_codec.specs.Frames.{IsInRanges}
+use Rattle.delta.specs.declared.frame.Frame.{Frame}
+use Rattle.delta.specs.Frames.{IsInRanges}
 use Rattle.replica.specs.Framing.{HasCopied, HasCut, IsFramed}
 use Rattle.replica.specs.Keeping.{AreInQueues}
 use Rattle.replica.specs.Site.{SiteState}

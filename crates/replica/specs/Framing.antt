@@ -3,7 +3,7 @@ use Rattle.std.specs.Prelude.{suc, ⊤, ◌≡◌, Option, Some, None, Result, O
 use Rattle.dots.specs.Knowledge.{Knowledge}
 use Rattle.delta.specs.DeltaStates.{IsEmpty, IsSame}
 use Rattle.delta.specs.Standing.{IsDeltaOf}
-use Rattle.delta_codec.specs.declared.frame.Frame.{Frame}
+use Rattle.delta.specs.declared.frame.Frame.{Frame}
 use Rattle.replica.specs.declared.cut_fault.CutFault.{CutFault}
 use Rattle.replica.specs.declared.cut_fault.CutFault.TheVariants.{Exhausted, Memory}
 use Rattle.replica.specs.Site.{SiteState}

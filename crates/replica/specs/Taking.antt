@@ -17,7 +17,7 @@ use Rattle.member_orset.specs.declared.join_fault.JoinFault.TheVariants as join
 use Rattle.site_totals.specs.Raising.{number_of}
 use Rattle.delta.specs.DeltaStates.{DeltaState}
 use Rattle.delta.specs.Joining.{Agree, Disagree, IsJoinOf}
-use Rattle.delta_codec.specs.declared.frame.Frame.{Frame}
+use Rattle.delta.specs.declared.frame.Frame.{Frame}
 use Rattle.replica.specs.declared.take_fault.TakeFault.{TakeFault}
 use Rattle.replica.specs.declared.take_fault.TakeFault.TheVariants.{NoSuchQueue, NotMine, Conflict, CellsFull, RunsFull, Memory}
 use Rattle.replica.specs.Refusing.{IsWornDelta}

@@ -3,7 +3,7 @@ ghost use Rattle.std.specs.Prelude.{◌≡◌, ◌↔◌, Err, IfErr, IfOk, IfSo
 ghost use Rattle.dots.specs.Knowledge.{Knowledge};
 ghost use Rattle.delta.specs.DeltaStates.{IsEmpty};
 ghost use Rattle.delta.specs.Standing.{IsDeltaOf};
-ghost use Rattle.delta_codec.specs.Frames.{IsInRanges};
+ghost use Rattle.delta.specs.Frames.{IsInRanges};
 ghost use Rattle.replica.specs.Framing.{HasCopied, HasCut, IsMeantCut, IsMeantFrame};
 ghost use Rattle.replica.specs.Site.{IsUnchanged};
 ghost use Rattle.replica.specs.Standing.{StandsFor};

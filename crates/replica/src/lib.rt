@@ -26,7 +26,7 @@ mod worn;
 
 pub use command::Command;
 pub use cut_fault::CutFault;
-pub use delta_codec::Frame;
+pub use delta::Frame;
 pub use dots::{Memory, Row};
 pub use member_orset::Rows;
 pub use queue_list::{ListFault, QueueList};

@@ -1,11 +1,11 @@
 -- What has happened at a site, and at the sites of a world.
 use Rattle.std.specs.Option.{option_map}
-use Rattle.delta_codec.specs.Frames.{IsInRanges}
+use Rattle.delta.specs.Frames.{IsInRanges}
 use Rattle.std.proofs.lemmas.Bool.{and_parts}
 use Rattle.std.proofs.Common.{◌≡◌, ◌<◌, ◌≤◌, ◌+◌, inl, inr, ℕ, Bool, true, false, List, [], ◌∷◌, ◌++◌, append-nil, length, slice_get, slice_set, Some, None, refl, sym, ap, subst, ◌∙◌, if◌then◌else◌, arith, ◌&&◌, is_some, true≢false, Option, IfSome}
 use Rattle.std.proofs.lemmas.List.{length-append, length-replicate, set-get_or}
 use Rattle.std.proofs.lemmas.Option.{get_or_from_slice_get, slice_get_within}
-use Rattle.delta_codec.specs.declared.frame.Frame.{Frame}
+use Rattle.delta.specs.declared.frame.Frame.{Frame}
 use Rattle.replica.specs.Site.{SiteState}
 use Rattle.replica.specs.Standing.{StandsFor}
 use Rattle.replica.specs.Steps as steps

@@ -1,10 +1,10 @@
 -- What comes of asks and frames at one site is told as the world of operations has it, or as want of memory.
-use Rattle.delta_codec.specs.Frames.{IsInRanges}
+use Rattle.delta.specs.Frames.{IsInRanges}
 use Rattle.std.proofs.Common.{◌≡◌, ◌⊎◌, inl, inr, ℕ, Bool, true, false, List, [], ◌∷◌, ◌++◌, length, Option, Some, Ok, refl, sym, ap, subst, ◌∙◌, true≢false}
 use Rattle.delta.specs.DeltaStates.{DeltaState}
 use Rattle.delta.specs.Joining.{Disagree}
 use Rattle.delta.specs.Standing.{IsDeltaOf}
-use Rattle.delta_codec.specs.declared.frame.Frame.{Frame}
+use Rattle.delta.specs.declared.frame.Frame.{Frame}
 use Rattle.replica.specs.declared.refusal.Refusal.{Refusal}
 use Rattle.replica.specs.declared.refusal.Refusal.TheVariants as refusal
 use Rattle.replica.specs.declared.take_fault.TakeFault.{TakeFault}

@@ -1,10 +1,10 @@
 -- What contracts see of the sites of one process: their states and the frames in the pool, and which world of operations they stand for.
-use Rattle.delta_codec.specs.Frames.{IsInRanges}
+use Rattle.delta.specs.Frames.{IsInRanges}
 use Rattle.std.specs.Prelude.{ℕ, ◌≡◌, ◌⊎◌, true, List, Some, length, slice_get, refl, ◌∷◌, if◌then◌else◌, Bool, ◌&&◌}
 use Rattle.std.specs.Coded.{Coded, code_by, coded×, coded_ℕ, coded_list}
 use Rattle.delta.specs.DeltaStates.{DeltaState, delta_code}
 use Rattle.delta.specs.Standing.{IsDeltaOf}
-use Rattle.delta_codec.specs.declared.frame.Frame.{Frame}
+use Rattle.delta.specs.declared.frame.Frame.{Frame}
 use Rattle.replica.specs.Site.{SiteState, site_code}
 use Rattle.replica.specs.Standing.{StandsFor}
 use Rattle.replica.specs.Steps.{SiteKnowledge}

@@ -2,7 +2,6 @@
 ghost use Rattle.std.specs.Prelude.{◌≡◌, ◌≤◌, ◌+◌, ◌++◌, ℕ, List, [], ◌∷◌, Ok, Some, IfOk};
 ghost use Rattle.std.specs.Prelude.{length, option_map, slice_get, vec_len, vec_capacity};
 ghost use Rattle.dots.specs.Knowledge.{Knowledge};
-ghost use Rattle.delta.specs.DeltaStates.{IsSame};
 ghost use Rattle.delta.specs.Standing.{IsDeltaOf};
 ghost use Rattle.replica.specs.Standing.{StandsFor};
 ghost use Rattle.replica.specs.Steps.{Cut, SiteKnowledge, Take, Whole, step};
@@ -15,7 +14,7 @@ ghost use Rattle.sites_world.specs.WorldStates.{Correspond, HasHappened, HaveHap
 ghost use Rattle.sites_world.specs.WorldStates.{StandsForWorld};
 
 use crate::{Event, Outcome};
-use dots::{Memory, SiteId};
+use dots::SiteId;
 use replica::{CutFault, Frame, Refusal, Replica, TakeFault};
 use status_report::{Answer, Ask, ask};
 use std::alloc::Global;
@@ -101,18 +100,6 @@ fn take_fault_told(worn: bool, fault: TakeFault) -> Outcome
     }
 }
 
-// A copy of a frame, whose delta says the same. The one fault is want of memory.
-fn copy_of(frame: &Frame) -> Result<Frame, Memory>
-    ensures { IfOk result (λ copy. IsSame frame.now.delta copy.delta) }
-{
-    let delta = frame.delta.copy()?;
-    Ok(Frame {
-        maker: frame.maker,
-        number: frame.number,
-        delta,
-    })
-}
-
 // The frame of an entry, where there is that entry.
 pub(crate) fn frame_at(pool: &[Frame], entry: usize) -> Option<&Frame>
     ensures { option_map (λ frame. frame.now) result ≡ slice_get pool.now entry }
@@ -128,7 +115,7 @@ fn take_site(replica: &mut Replica, frame: &Frame) -> Outcome
         → IsDeltaOf frame.now.delta k → MayBeTaken replica.old k → IsTakenSo replica.new s
         (step replica.old.site replica.old.names s (Take k)) result }
 {
-    let Ok(copy) = copy_of(frame) else {
+    let Ok(copy) = frame.copy() else {
         return Outcome::NoMemory;
     };
     let worn = replica.is_worn();

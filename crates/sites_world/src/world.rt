@@ -1,6 +1,6 @@
 ghost use Rattle.std.specs.Prelude.{◌≡◌, ◌≤◌, ◌⊎◌, ◌↔◌, ◌<◌, ℕ, Err, IfOk, IfSome, OnErr, Some};
 ghost use Rattle.std.specs.Prelude.{length, option_map, slice_get};
-ghost use Rattle.delta_codec.specs.Frames.{IsInRanges};
+ghost use Rattle.delta.specs.Frames.{IsInRanges};
 ghost use Rattle.replica.specs.Queues.{AreQueues};
 ghost use Rattle.replica.specs.Site.{SiteState};
 ghost use Rattle.sites_world.specs.Worlds.{IsReached, World as world_of_operations, new_world};

@@ -72,18 +72,23 @@ fn assert_spare<const LAST: u32>(rt: &impl Abort, arena: &Arena<u32, LAST>, spar
     assert_eq!(rt; arena.spare(), spare);
 }
 
+// An arena of one value and of 1,048,575 retired cells is full, and its value stays at its id.
 #[test]
 fn retires_each_cell_after_one_value(rt: HostRuntime) {
     let mut arena: Arena<u32, 0> = Arena::new(rt.alloc());
-    reserve(&rt, &mut arena, 3, Ok(()));
-    for index in 0..3 {
+    reserve(&rt, &mut arena, 1_048_576, Ok(()));
+    let kept = place(&rt, &mut arena, 42);
+    for index in 1..1_048_576 {
         place_and_take(&rt, &mut arena, 7, CellId::new(index, 0));
     }
-    for index in 0..3 {
-        assert_value(&rt, &arena, CellId::new(index, 0), None);
+    assert_cells(&rt, &arena, 1, 1_048_575);
+    reserve(&rt, &mut arena, 1, Err(ArenaFault::Full));
+    for (index, want) in [(0, Some(42)), (1, None), (1_048_575, None)] {
+        assert_value(&rt, &arena, CellId::new(index, 0), want);
     }
-    assert_cells(&rt, &arena, 0, 3);
-    reserve(&rt, &mut arena, 1_048_574, Err(ArenaFault::Full));
+    take(&rt, &mut arena, kept, Some(42));
+    assert_cells(&rt, &arena, 0, 1_048_576);
+    reserve(&rt, &mut arena, 1, Err(ArenaFault::Full));
 }
 
 #[test]

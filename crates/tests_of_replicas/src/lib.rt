@@ -5,12 +5,12 @@
 #[cfg(test)]
 mod commands;
 #[cfg(test)]
-mod events;
-#[cfg(test)]
 mod exchanges;
 #[cfg(test)]
 mod frames;
 #[cfg(test)]
 mod limits;
 #[cfg(test)]
-mod shared;
+mod lines;
+#[cfg(test)]
+mod told;

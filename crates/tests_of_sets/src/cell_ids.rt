@@ -1,53 +1,57 @@
 //! The ids of live dots: one each, kept while the dot is live, and never given again.
 use crate::member_sets::{
-    FIRST, SECOND, SIP_1, SIP_2, Told, ToldMember, built, change_all, dot, member, penalty, set_of,
+    FIRST, OTHER, SECOND, SIP_1, SIP_2, Told, ToldDot, ToldMember, change_all, dot, member,
+    penalty, set_of,
 };
+use causal_context::Context;
 use dots::{Dot, SiteId};
-use member_orset::{CellId, MemberSet};
+use member_orset::{CellId, MemberSet, SetBuilder};
+use std::alloc::Global;
 use std::process::Abort;
 
-// Whether an id is that of a live dot of a member.
-fn is_of(rt: &impl Abort, set: &MemberSet, id: CellId, of: ToldMember) -> bool {
-    match set.at(id) {
-        Some(cell) => *cell.member == member(rt, of),
-        None => false,
-    }
+// The id of a live dot, which answers its member.
+fn id_of(rt: &impl Abort, set: &MemberSet, told: ToldDot, of: ToldMember) -> CellId {
+    let id = set.id(dot(rt, told)).expect(rt, "an id");
+    let cell = set.at(id).expect(rt, "a live dot");
+    assert!(rt; *cell.member == member(rt, of));
+    id
 }
 
 #[test]
 fn an_id_answers_while_its_dot_is_live(rt: HostRuntime) {
-    const CHANGES: &[Told] = &[Told::Kill(FIRST), Told::Put(SECOND, SIP_2, 6, 8)];
+    const JOINED: &[Told] = &[Told::Put(FIRST, SIP_1, 6, 8), Told::Put(OTHER, SIP_2, 5, 7)];
     let mut set = set_of(&rt, rt.alloc(), &[Told::Put(FIRST, SIP_1, 5, 7)]);
-    let id = set.id(dot(&rt, FIRST)).expect(&rt, "an id");
-    assert!(rt; is_of(&rt, &set, id, SIP_1));
-    for told in CHANGES {
-        change_all(&rt, &mut set, &[*told]);
-        assert!(rt; set.at(id).is_none() && set.id(dot(&rt, FIRST)).is_none());
+    let first = id_of(&rt, &set, FIRST, SIP_1);
+    assert!(rt; set.join(set_of(&rt, rt.alloc(), JOINED)).is_ok());
+    let other = id_of(&rt, &set, OTHER, SIP_2);
+    assert!(rt; id_of(&rt, &set, FIRST, SIP_1) == first && other != first);
+    for told in [Told::Kill(FIRST), Told::Put(SECOND, SIP_2, 6, 8)] {
+        change_all(&rt, &mut set, &[told]);
+        assert!(rt; set.at(first).is_none() && set.id(dot(&rt, FIRST)).is_none());
     }
-    let other = set.id(dot(&rt, SECOND)).expect(&rt, "an id");
-    assert!(rt; other != id && is_of(&rt, &set, other, SIP_2));
+    let second = id_of(&rt, &set, SECOND, SIP_2);
+    assert!(rt; second != first && id_of(&rt, &set, OTHER, SIP_2) == other);
 }
 
-#[test]
-fn an_id_stays_while_fields_and_other_dots_are_joined(rt: HostRuntime) {
-    const MORE: &[Told] = &[
-        Told::Put(FIRST, SIP_1, 6, 8),
-        Told::Put((1, 1), SIP_2, 5, 7),
-    ];
-    let mut set = set_of(&rt, rt.alloc(), &[Told::Put(FIRST, SIP_1, 5, 7)]);
-    let id = set.id(dot(&rt, FIRST)).expect(&rt, "an id");
-    assert!(rt; set.join(set_of(&rt, rt.alloc(), MORE)).is_ok());
-    assert!(rt; set.id(dot(&rt, FIRST)) == Some(id) && is_of(&rt, &set, id, SIP_1));
-    let other = set.id(dot(&rt, (1, 1))).expect(&rt, "an id");
-    assert!(rt; other != id && is_of(&rt, &set, other, SIP_2));
-    assert!(rt; set.cells() == 2 && set.retired() == 0);
+// A set that was built of one live dot, the second of two dots of site 0 that are known, and the id of that dot.
+fn built(rt: &impl Abort, alloc: Global) -> (MemberSet, CellId) {
+    let mut context = Context::new(alloc);
+    let site = SiteId::new(0).expect(rt, "a site");
+    context.insert_run(site, 1, 2).expect(rt, "room");
+    let second = dot(rt, SECOND);
+    assert!(rt; context.contains(second));
+    let mut builder = SetBuilder::new(alloc, context);
+    let id = builder
+        .cell(second, &member(rt, SIP_1), &penalty(rt, 5, 7))
+        .expect(rt, "memory");
+    (builder.finish(), id)
 }
 
 #[test]
 fn a_builder_answers_the_ids_of_the_set(rt: HostRuntime) {
     let (set, id) = built(&rt, rt.alloc());
-    assert!(rt; set.id(dot(&rt, SECOND)) == Some(id) && is_of(&rt, &set, id, SIP_1));
-    assert!(rt; set.id(dot(&rt, FIRST)).is_none());
+    assert!(rt; id_of(&rt, &set, SECOND, SIP_1) == id);
+    assert!(rt; set.id(dot(&rt, FIRST)).is_none() && set.cells() == 1);
 }
 
 // More dots than there are places at once, each let live and let dead before the next.

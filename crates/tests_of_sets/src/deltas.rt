@@ -1,161 +1,132 @@
-//! Deltas: members and totals that are joined at once.
-use crate::member_sets::{FIRST, SIP_1, SIP_2, Told, dot, set_of};
+//! Deltas: members and totals that are joined at once. What joins say is shown by the cases of `cases/deltas`.
+use crate::member_sets::{FIRST, SIP_1, SIP_2, Told, set_of};
 use delta::{Delta, JoinFault};
 use dots::{CallTotals, SiteId};
 use site_totals::Totals;
 use std::alloc::Global;
 use std::process::Abort;
 
-// What a delta is made of: changes of its members, and how many calls of queue 0 its sites have completed.
-type Parts = (&'static [Told], &'static [(u16, u8)]);
+// What a delta is made of: changes of its members, and how many calls of queue 0 a site has completed.
+type Parts = (&'static [Told], (u16, u16));
 
-const NOTHING: Parts = (&[], &[]);
+const NOTHING: Parts = (&[], (0, 0));
 
-const LIVE: Parts = (&[Told::Put(FIRST, SIP_1, 5, 7)], &[]);
+const LIVE_AND_THREE: Parts = (&[Told::Put(FIRST, SIP_1, 5, 7)], (0, 3));
 
-const DEAD: Parts = (&[Told::Kill(FIRST)], &[]);
+const OF_ANOTHER: Parts = (&[Told::Put(FIRST, SIP_2, 5, 7)], (0, 0));
 
-const OF_ANOTHER: Parts = (&[Told::Put(FIRST, SIP_2, 5, 7)], &[]);
+// Deltas of which no two say the same, the one of nothing first.
+const DELTAS: &[Parts] = &[
+    NOTHING,
+    (&[Told::Put(FIRST, SIP_1, 5, 7)], (0, 0)),
+    (&[Told::Kill(FIRST)], (0, 0)),
+    OF_ANOTHER,
+    (&[], (0, 3)),
+    (&[], (0, 2)),
+    (&[], (1, 4)),
+    LIVE_AND_THREE,
+];
 
-const THREE: Parts = (&[], &[(0, 3)]);
-
-const TWO: Parts = (&[], &[(0, 2)]);
-
-const FOUR: Parts = (&[], &[(1, 4)]);
-
-const LIVE_AND_THREE: Parts = (&[Told::Put(FIRST, SIP_1, 5, 7)], &[(0, 3)]);
-
-fn site(rt: &impl Abort, number: u16) -> SiteId {
-    SiteId::new(number).expect(rt, "a site")
-}
-
-fn totals_of(rt: &impl Abort, alloc: Global, counted: &[(u16, u8)]) -> Totals {
+fn totals_of(rt: &impl Abort, alloc: Global, number: u16, completed: u16) -> Totals {
     let mut totals = Totals::new(alloc);
-    for (number, completed) in counted {
-        let calls = CallTotals {
-            completed: u64::from(*completed),
-            abandoned: 0,
-        };
-        totals
-            .reach(site(rt, *number), 0, calls)
-            .expect(rt, "memory");
-    }
+    let site = SiteId::new(number).expect(rt, "a site");
+    let calls = CallTotals {
+        completed: u64::from(completed),
+        abandoned: 0,
+    };
+    totals.reach(site, 0, calls).expect(rt, "memory");
     totals
 }
 
 fn delta_of(rt: &impl Abort, alloc: Global, parts: Parts) -> Delta {
-    Delta::of(set_of(rt, alloc, parts.0), totals_of(rt, alloc, parts.1))
+    let (changes, (number, completed)) = parts;
+    Delta::of(
+        set_of(rt, alloc, changes),
+        totals_of(rt, alloc, number, completed),
+    )
 }
 
 fn copy_of(rt: &impl Abort, delta: &Delta) -> Delta {
-    delta.copy().expect(rt, "memory")
+    let Ok(copy) = delta.copy() else {
+        rt.panic("no memory");
+    };
+    copy
 }
 
-// The join of copies of two deltas.
-fn joined(rt: &impl Abort, x: &Delta, y: &Delta) -> Delta {
-    let mut joint = copy_of(rt, x);
-    assert!(rt; joint.join(copy_of(rt, y)).is_ok());
-    joint
-}
-
-fn assert_same(rt: &impl Abort, x: &Delta, y: &Delta, wanted: bool) {
-    assert!(rt; x.same(y) == wanted);
-}
-
-// What a delta says: how many dots are live, whether the first dot is known, and how many calls of queue 0 are completed.
-type Said = (usize, bool, u64);
-
-fn assert_says(rt: &impl Abort, delta: &Delta, said: Said) {
-    let (cells, known, completed) = said;
-    let members = delta.members();
-    assert!(rt; members.cells() == cells);
-    assert!(rt; members.context().contains(dot(rt, FIRST)) == known);
-    assert!(rt; delta.totals().sum(0).completed == completed);
-}
-
-// Asserts what is said after a join of two deltas, whichever takes the other, and however often.
-fn assert_joined(rt: &impl Abort, alloc: Global, x: Parts, y: Parts, said: Said) {
-    let x = delta_of(rt, alloc, x);
-    let y = delta_of(rt, alloc, y);
-    let joint = joined(rt, &x, &y);
-    assert_says(rt, &joint, said);
-    assert_same(rt, &joint, &joined(rt, &y, &x), true);
-    assert_same(rt, &joint, &joined(rt, &joint, &x), true);
-}
-
-#[test]
-fn deltas_are_joined_both_ways(rt: HostRuntime) {
-    const JOINS: &[(Parts, Parts, Said)] = &[
-        (LIVE, DEAD, (0, true, 0)),
-        (LIVE, LIVE, (1, true, 0)),
-        (THREE, TWO, (0, false, 3)),
-        (THREE, FOUR, (0, false, 7)),
-        (DEAD, THREE, (0, true, 3)),
-        (LIVE_AND_THREE, NOTHING, (1, true, 3)),
-        (NOTHING, NOTHING, (0, false, 0)),
-    ];
-    for (x, y, said) in JOINS {
-        assert_joined(&rt, rt.alloc(), *x, *y, *said);
-    }
+fn assert_same(rt: &impl Abort, delta: &Delta, other: &Delta, wanted: bool) {
+    assert!(rt; delta.same(other) == wanted);
 }
 
 #[test]
 fn a_delta_is_the_same_as_its_copy_alone(rt: HostRuntime) {
-    const DELTAS: &[Parts] = &[
-        NOTHING,
-        LIVE,
-        DEAD,
-        OF_ANOTHER,
-        THREE,
-        TWO,
-        FOUR,
-        LIVE_AND_THREE,
-    ];
     for place in 0..DELTAS.len() {
         let delta = delta_of(&rt, rt.alloc(), DELTAS[place]);
         assert!(rt; delta.is_empty() == (place == 0));
-        assert_same(&rt, &delta, &copy_of(&rt, &delta), true);
+        let copy = copy_of(&rt, &delta);
         for other in 0..DELTAS.len() {
-            assert_same(
-                &rt,
-                &delta,
-                &delta_of(&rt, rt.alloc(), DELTAS[other]),
-                place == other,
-            );
+            let delta = delta_of(&rt, rt.alloc(), DELTAS[other]);
+            assert_same(&rt, &copy, &delta, place == other);
         }
     }
 }
 
+fn assert_agree(rt: &impl Abort, delta: &Delta, other: &Delta, wanted: bool) {
+    assert!(rt; delta.agrees(other) == wanted);
+}
+
+fn assert_prepared(rt: &impl Abort, delta: &Delta, other: &Delta, wanted: bool) {
+    assert!(rt; delta.prepared(other) == wanted);
+}
+
+fn prepare(rt: &impl Abort, delta: &mut Delta, other: &Delta, wanted: Result<(), JoinFault>) {
+    assert!(rt; delta.prepare(other) == wanted);
+}
+
+// Absorbs a delta that was prepared.
+fn absorb(rt: &impl Abort, delta: &mut Delta, other: Delta) {
+    assert!(rt; delta.prepared(&other));
+    delta.absorb(other);
+}
+
+// Asserts how many dots are live, and how many calls of queue 0 are completed.
+fn assert_parts(rt: &impl Abort, delta: Delta, cells: usize, completed: u64) {
+    let (members, totals) = delta.into_parts();
+    assert!(rt; members.cells() == cells && totals.sum(0).completed == completed);
+}
+
 #[test]
-fn a_conflict_gives_the_other_delta_back(rt: HostRuntime) {
-    let mut x = delta_of(&rt, rt.alloc(), LIVE_AND_THREE);
-    let z = delta_of(&rt, rt.alloc(), OF_ANOTHER);
-    assert!(rt; !x.agrees(&z) && !z.agrees(&x));
-    assert!(rt; x.prepare(&z) == Err(JoinFault::Conflict) && !x.prepared(&z));
-    let Err((cause, back)) = x.join(z) else {
+fn a_delta_is_absorbed_where_it_is_prepared(rt: HostRuntime) {
+    let mut delta = delta_of(&rt, rt.alloc(), NOTHING);
+    let three = delta_of(&rt, rt.alloc(), LIVE_AND_THREE);
+    assert_agree(&rt, &delta, &three, true);
+    assert_prepared(&rt, &delta, &three, false);
+    prepare(&rt, &mut delta, &three, Ok(()));
+    assert_same(&rt, &delta, &Delta::empty(rt.alloc()), true);
+    absorb(&rt, &mut delta, three);
+    assert_prepared(&rt, &delta, &Delta::empty(rt.alloc()), true);
+    assert_parts(&rt, delta, 1, 3);
+}
+
+// Joins a delta that is in conflict, which comes back.
+fn refused(rt: &impl Abort, delta: &mut Delta, other: Delta) -> Delta {
+    let Err((cause, back)) = delta.join(other) else {
         rt.panic("not refused");
     };
     assert!(rt; cause == JoinFault::Conflict);
-    assert_same(&rt, &back, &delta_of(&rt, rt.alloc(), OF_ANOTHER), true);
-    assert_same(&rt, &x, &delta_of(&rt, rt.alloc(), LIVE_AND_THREE), true);
+    back
 }
 
 #[test]
-fn a_prepared_delta_is_absorbed(rt: HostRuntime) {
-    let x = delta_of(&rt, rt.alloc(), LIVE_AND_THREE);
-    let mut delta = Delta::empty(rt.alloc());
-    assert!(rt; !delta.prepared(&x) && delta.agrees(&x));
-    delta.prepare(&x).expect(&rt, "room");
-    assert!(rt; delta.prepared(&x) && delta.is_empty());
-    delta.absorb(x);
-    let (members, totals) = delta.into_parts();
-    assert!(rt; members.cells() == 1 && totals.of(site(&rt, 0), 0).completed == 3);
-}
-
-#[test]
-fn an_empty_delta_is_always_prepared(rt: HostRuntime) {
-    for parts in [NOTHING, LIVE, LIVE_AND_THREE] {
-        let delta = delta_of(&rt, rt.alloc(), parts);
-        assert!(rt; delta.prepared(&Delta::empty(rt.alloc())));
+fn a_conflict_gives_the_other_delta_back(rt: HostRuntime) {
+    let mut delta = delta_of(&rt, rt.alloc(), LIVE_AND_THREE);
+    let another = delta_of(&rt, rt.alloc(), OF_ANOTHER);
+    for (one, other) in [(&delta, &another), (&another, &delta)] {
+        assert_agree(&rt, one, other, false);
+        assert_prepared(&rt, one, other, false);
+    }
+    prepare(&rt, &mut delta, &another, Err(JoinFault::Conflict));
+    let back = refused(&rt, &mut delta, another);
+    for (left, parts) in [(&delta, LIVE_AND_THREE), (&back, OF_ANOTHER)] {
+        assert_same(&rt, left, &delta_of(&rt, rt.alloc(), parts), true);
     }
 }

@@ -1,5 +1,5 @@
 //! Copies of asks and answers, and which answers are the same.
-use crate::shared::{add, assert_text, interface, name, penalty, replica, request, text};
+use crate::shared::{add, interface, name, penalty, replica, request, text};
 use dots::{Bytes, Pause};
 use replica::{Command, Refusal, Replica};
 use status_report::{Answer, Ask, ask};
@@ -38,57 +38,55 @@ fn commands(rt: &impl Abort) -> [Command; 7] {
     ]
 }
 
-// What a site answers to an ask, after its twin has answered a copy of it the same.
-fn answered(
-    rt: &impl Abort,
-    alloc: Global,
-    site: &mut Replica,
-    twin: &mut Replica,
-    asked: Ask,
-) -> Answer {
-    let copy = asked.copy().expect(rt, "memory");
-    let other = ask(alloc, twin, copy);
-    let answer = ask(alloc, site, asked);
-    assert!(rt; answer.same(&other));
-    answer
+// Each of these commands, and behind each a status of all and one that leaves out a queue and the member.
+fn asks(rt: &impl Abort, alloc: Global) -> Vec<Ask> {
+    let mut asks = Vec::new(alloc);
+    for command in commands(rt) {
+        let all = Ask::Status(request(rt, alloc, ("", ""), b""));
+        let some = Ask::Status(request(rt, alloc, ("sales", "SIP/2"), b"7"));
+        for asked in [Ask::Command(command), all, some] {
+            asks.push(asked).expect(rt, "memory");
+        }
+    }
+    asks
 }
 
-// Asserts that a copy of a command is done as the command is, so that both sites have one report then.
-fn assert_done(
-    rt: &impl Abort,
-    alloc: Global,
-    site: &mut Replica,
-    twin: &mut Replica,
-    command: Command,
-) {
-    let done = answered(rt, alloc, site, twin, Ask::Command(command));
-    assert!(rt; matches!(done, Answer::Done));
-    let asked = Ask::Status(request(rt, alloc, ("", ""), b""));
-    let report = answered(rt, alloc, site, twin, asked);
-    assert!(rt; matches!(report, Answer::Report(_)));
+// What a site answers to these asks; it refuses none.
+fn answers(rt: &impl Abort, alloc: Global, site: &mut Replica, asks: Vec<Ask>) -> Vec<Answer> {
+    let mut answers = Vec::new(alloc);
+    for asked in asks {
+        let answer = ask(alloc, site, asked);
+        assert!(rt; !matches!(answer, Answer::Refused(_)));
+        answers.push(answer).expect(rt, "memory");
+    }
+    answers
 }
 
-#[test]
-fn a_copy_of_an_ask_is_answered_as_the_ask_is(rt: HostRuntime) {
-    let alloc = rt.alloc();
-    let mut site = replica(&rt, alloc, 0, &["sales"]);
-    let mut twin = replica(&rt, alloc, 0, &["sales"]);
-    for command in commands(&rt) {
-        assert_done(&rt, alloc, &mut site, &mut twin, command);
+fn copies(rt: &impl Abort, alloc: Global, asks: &[Ask]) -> Vec<Ask> {
+    let mut copies = Vec::new(alloc);
+    for asked in asks {
+        let copy = asked.copy().expect(rt, "memory");
+        copies.push(copy).expect(rt, "memory");
+    }
+    copies
+}
+
+// Asserts that a site answers copies as a site that has done the same answers what they are of.
+fn assert_answers(rt: &impl Abort, alloc: Global, site: &mut Replica, twin: &mut Replica) {
+    let asks = asks(rt, alloc);
+    let given = answers(rt, alloc, site, copies(rt, alloc, &asks));
+    let wanted = answers(rt, alloc, twin, asks);
+    assert!(rt; given.len() == 21);
+    for (answer, other) in given.iter().zip(wanted.iter()) {
+        assert!(rt; answer.same(other));
     }
 }
 
 #[test]
-fn a_copy_of_a_status_has_its_filters_and_its_id(rt: HostRuntime) {
-    let asked = Ask::Status(request(&rt, rt.alloc(), ("sales", "SIP/1"), b"7"));
-    let Ask::Status(copy) = asked.copy().expect(&rt, "memory") else {
-        rt.panic("no status");
-    };
-    let queue = copy.queue.as_ref().expect(&rt, "a filter");
-    assert_text(&rt, queue.as_bytes(), &["sales"]);
-    let member = copy.member.as_ref().expect(&rt, "a filter");
-    assert_text(&rt, member.as_bytes(), &["SIP/1"]);
-    assert_text(&rt, copy.action_id.as_slice(), &["7"]);
+fn copies_of_asks_are_answered_as_the_asks_are(rt: HostRuntime) {
+    let mut site = replica(&rt, rt.alloc(), 0, &["sales", "support"]);
+    let mut twin = replica(&rt, rt.alloc(), 0, &["sales", "support"]);
+    assert_answers(&rt, rt.alloc(), &mut site, &mut twin);
 }
 
 fn report(rt: &impl Abort, alloc: Global, text: &[u8]) -> Answer {
@@ -96,39 +94,21 @@ fn report(rt: &impl Abort, alloc: Global, text: &[u8]) -> Answer {
     Answer::Report(Bytes::new(bytes))
 }
 
-// Answers of each kind, no two of them the same.
-fn answers(rt: &impl Abort, alloc: Global) -> [Answer; 6] {
-    [
+#[test]
+fn an_answer_is_the_same_as_its_copy_and_as_no_other(rt: HostRuntime) {
+    let alloc = rt.alloc();
+    let answers = [
         Answer::Done,
         Answer::Refused(Refusal::NotThere),
         Answer::Refused(Refusal::Memory),
-        report(rt, alloc, b""),
-        report(rt, alloc, b"a"),
-        report(rt, alloc, b"b"),
-    ]
-}
-
-// Asserts that of these answers the one at this place alone is the same as another.
-fn assert_same_at(rt: &impl Abort, answers: &[Answer], place: usize, other: &Answer) {
-    for (at, answer) in answers.iter().enumerate() {
-        assert!(rt; answer.same(other) == (at == place));
-    }
-}
-
-#[test]
-fn an_answer_is_the_same_as_its_copy_and_as_no_other(rt: HostRuntime) {
-    let answers = answers(&rt, rt.alloc());
+        report(&rt, alloc, b""),
+        report(&rt, alloc, b"a"),
+        report(&rt, alloc, b"b"),
+    ];
     for (place, answer) in answers.iter().enumerate() {
         let copy = answer.copy().expect(&rt, "memory");
-        assert_same_at(&rt, &answers, place, &copy);
+        for (at, other) in answers.iter().enumerate() {
+            assert!(rt; other.same(&copy) == (at == place));
+        }
     }
-}
-
-#[test]
-fn a_copy_of_a_report_has_its_bytes(rt: HostRuntime) {
-    let answer = report(&rt, rt.alloc(), b"a report");
-    let Answer::Report(copy) = answer.copy().expect(&rt, "memory") else {
-        rt.panic("no report");
-    };
-    assert_text(&rt, copy.as_slice(), &["a report"]);
 }

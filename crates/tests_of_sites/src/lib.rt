@@ -1,5 +1,5 @@
-//! Tests of replicas, offers, reports, sessions, actions, copies of asks and answers, sessions that are served, what
-//! histories show, the steps of sites and worlds of sites by their public calls. This crate has no code of its own.
+//! Tests of lists of queues, reports, replies, actions, copies of asks and answers, sessions that are served,
+//! worlds of sites and scripts by their public calls. This crate has no code of its own.
 #![tactic(auto)]
 
 #[cfg(test)]
@@ -7,11 +7,11 @@ mod actions;
 #[cfg(test)]
 mod copies;
 #[cfg(test)]
-mod histories;
+mod devices;
 #[cfg(test)]
-mod offers;
+mod example;
 #[cfg(test)]
-mod replicas;
+mod lists;
 #[cfg(test)]
 mod reports;
 #[cfg(test)]
@@ -20,7 +20,5 @@ mod served;
 mod sessions;
 #[cfg(test)]
 mod shared;
-#[cfg(test)]
-mod steps;
 #[cfg(test)]
 mod worlds;

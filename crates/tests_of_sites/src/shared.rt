@@ -1,8 +1,8 @@
 //! What these tests make and assert alike.
 use ami_session::{Act, Session};
 use ami_text::{Feed, Message};
-use dots::{Bytes, Interface, Label, Member, Penalty, QueueName, SiteId, Text80};
-use replica::{Command, QueueList, Replica, Row};
+use dots::{Bytes, Interface, Label, Penalty, QueueName, SiteId, Text80};
+use replica::{Command, QueueList, Replica};
 use status_report::StatusRequest;
 use std::alloc::Global;
 use std::process::Abort;
@@ -27,22 +27,14 @@ pub(crate) fn name(rt: &impl Abort, text: &[u8]) -> QueueName {
     QueueName::new(text).expect(rt, "a name")
 }
 
-pub(crate) fn label(rt: &impl Abort, name: &str, state: &str) -> Label {
+fn label(rt: &impl Abort, name: &str, state: &str) -> Label {
     Label {
         name: text(rt, name),
         state: text(rt, state),
     }
 }
 
-// A member, told as the number of its queue and its interface.
-pub(crate) fn member(rt: &impl Abort, told: (u16, &str)) -> Member {
-    Member {
-        queue: told.0,
-        interface: interface(rt, told.1.as_bytes()),
-    }
-}
-
-pub(crate) fn names(rt: &impl Abort, alloc: Global, texts: &[&str]) -> Vec<QueueName> {
+fn names(rt: &impl Abort, alloc: Global, texts: &[&str]) -> Vec<QueueName> {
     let mut names = Vec::new(alloc);
     for text in texts {
         let name = name(rt, text.as_bytes());
@@ -62,7 +54,7 @@ pub(crate) fn replica(rt: &impl Abort, alloc: Global, number: u16, queues: &[&st
 }
 
 // What an add sets: its penalty, whether it is paused, its name and its state interface.
-pub(crate) type Added = (u32, bool, &'static str, &'static str);
+type Added = (u32, bool, &'static str, &'static str);
 
 // An add of an interface to a queue.
 pub(crate) fn add(rt: &impl Abort, queue: &[u8], of: &[u8], set: Added) -> Command {
@@ -111,30 +103,6 @@ fn message(rt: &impl Abort, alloc: Global, lines: &str) -> Message {
 pub(crate) fn act(rt: &impl Abort, alloc: Global, session: &mut Session, lines: &str) -> Act {
     let message = message(rt, alloc, lines);
     session.handle(alloc, &message).expect(rt, "memory")
-}
-
-// Asserts that a row has what an add has set, and an empty reason.
-pub(crate) fn assert_row(rt: &impl Abort, row: Option<Row<'_>>, wanted: Added) {
-    let row = row.expect(rt, "a row");
-    assert!(rt; row.penalty == wanted.0);
-    assert!(rt; row.paused == wanted.1 && row.reason.is_empty());
-    assert_text(rt, row.name, &[wanted.2]);
-    assert_text(rt, row.state, &[wanted.3]);
-}
-
-// Asserts what a replica shows of a member: what an add has set, or nothing.
-pub(crate) fn assert_member(
-    rt: &impl Abort,
-    replica: &Replica,
-    told: (u16, &str),
-    wanted: Option<Added>,
-) {
-    let of = member(rt, told);
-    let row = replica.row(&of);
-    match wanted {
-        Some(wanted) => assert_row(rt, row, wanted),
-        None => assert!(rt; row.is_none()),
-    }
 }
 
 // What is behind a text, with which bytes must begin.

@@ -1,4 +1,4 @@
-use Rattle.delta_codec.specs.Frames.{IsInRanges}
+use Rattle.delta.specs.Frames.{IsInRanges}
 use Rattle.std.proofs.Common.{[], ◌∷◌, ◌++◌, IfSome, Ok, Some, length, sym, ap, subst, ◌∙◌}
 use Rattle.replica.specs.Framing.{HasCut, IsMeantCut}
 use Rattle.replica.specs.Steps.{cut}

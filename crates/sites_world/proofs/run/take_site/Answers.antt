@@ -13,7 +13,7 @@ pub returns-clause-meaning : goal.returns-clause-meaning
 returns-clause-meaning c = λ s k stands is may.
     let old = c.args.replica.now in
     let new = c.take.new.self in
-    let copied = same_stands c.args.frame.now.delta c.in-Ok.copy.delta k c.in-Ok.ensures is in
+    let copied = same_stands c.args.frame.now.delta c.in-Ok.copy.delta k c.in-Ok.ensures.same.delta is in
     elim c.match-take.branch [
       | in-Ok-take w ↦
           let meant = w.in-Ok-take.ensures.meaning s k stands copied may.none_later in

@@ -1,0 +1,20 @@
+-- What contracts say of a frame.
+use Rattle.std.specs.Prelude.{ℕ, ◌≡◌, ◌<◌, Some}
+use Rattle.std.specs.FinMap as map
+use Rattle.dots.specs.declared.limits.TheConstants.{QUEUES}
+use Rattle.dots.specs.Values.{Dot, IsCount}
+use Rattle.member_orset.specs.Members.{Holding}
+use Rattle.delta.specs.declared.frame.Frame.{Frame}
+use Rattle.delta.specs.DeltaStates.{IsSame}
+
+-- two frames are of one maker, have one number, and say the same
+pub record IsSameFrame (x y : Frame) : Type 0 where
+  pub maker : x.maker ≡ y.maker
+  pub number : x.number ≡ y.number
+  pub delta : IsSame x.delta y.delta
+
+-- A frame is within the ranges of the format: its number is one, and each live dot is of one of the queues. All else is so for
+-- every frame, by the types of its parts.
+pub record IsInRanges (frame : Frame) : Type 0 where
+  pub number : IsCount frame.number
+  pub queues : (dot : Dot) (held : Holding) → map.get frame.delta.members.live dot ≡ Some held → held.0.queue < QUEUES

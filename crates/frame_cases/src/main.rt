@@ -1,0 +1,20 @@
+//! The program `frame_cases`, for tests: reads lines of frames as hexadecimal, and writes what each frame says, what streams of frames
+//! give, and what joins of frames say together (`docs/frames.md`, "Frames in words").
+#![tactic(auto)]
+
+mod line;
+mod saying;
+mod words;
+
+use crate::line::give_line;
+use delta::Delta;
+use std::io::{self, BufWriter, Write};
+
+fn main(rt: HostRuntime) -> io::Result<()> {
+    let mut out = BufWriter::new(rt.alloc(), io::writer(&rt))?;
+    let mut held = Delta::empty(rt.alloc());
+    for line in rt.lines(rt.alloc()) {
+        give_line(rt.alloc(), &mut out, &mut held, line?.as_str())?;
+    }
+    out.flush()
+}

@@ -1,0 +1,73 @@
+//! What frames give, that come alone, in a stream, or one to another.
+use crate::words::{say_delta, say_rows};
+use delta::Delta;
+use delta_codec::{DecodeFault, Frame, Splitter, decode, encode};
+use std::alloc::Global;
+use std::io::{self, Write};
+
+// Writes what the frame says that the bytes begin with, and how many bytes stand behind it; or the fault.
+pub(crate) fn say_front<W: Write>(alloc: Global, out: &mut W, bytes: &[u8]) -> io::Result<()> {
+    match decode(alloc, bytes) {
+        Ok((frame, len)) => {
+            say_frame(alloc, out, &frame)?;
+            if len < bytes.len() {
+                writeln!(out, "behind it {}", bytes.len() - len)?;
+            }
+            Ok(())
+        }
+        Err(fault) => say_fault(out, fault),
+    }
+}
+
+// Writes which frames and faults come of a stream, whose bytes come one by one: how many bytes had come, and then what the frame
+// says, or the fault, which comes again at each later byte.
+pub(crate) fn say_stream<W: Write>(alloc: Global, out: &mut W, bytes: &[u8]) -> io::Result<()> {
+    let mut splitter = Splitter::new(alloc);
+    for at in 0..bytes.len() {
+        splitter.feed(&bytes[at..at + 1])?;
+        let next = splitter.next_frame();
+        if !matches!(next, Ok(None)) {
+            writeln!(out, "at byte {}", at + 1)?;
+        }
+        match next {
+            Ok(Some(frame)) => say_frame(alloc, out, &frame)?,
+            Ok(None) => {}
+            Err(fault) => say_fault(out, fault)?,
+        }
+    }
+    Ok(())
+}
+
+// Joins the delta of the frame that the bytes begin with into what is held, and writes what is held then, with the rows that its
+// queues show; before it the join's fault, if it is refused.
+pub(crate) fn say_joined<W: Write>(
+    alloc: Global,
+    out: &mut W,
+    held: &mut Delta,
+    bytes: &[u8],
+) -> io::Result<()> {
+    let frame = match decode(alloc, bytes) {
+        Ok((frame, _)) => frame,
+        Err(fault) => return say_fault(out, fault),
+    };
+    if let Err((fault, _)) = held.join(frame.delta) {
+        writeln!(out, "refused {fault:?}")?;
+    }
+    say_delta(out, held)?;
+    say_rows(out, held.members())
+}
+
+// Writes the name of a fault.
+fn say_fault<W: Write>(out: &mut W, fault: DecodeFault) -> io::Result<()> {
+    writeln!(out, "fault {fault:?}")
+}
+
+// Writes what a frame says, and its bytes.
+fn say_frame<W: Write>(alloc: Global, out: &mut W, frame: &Frame) -> io::Result<()> {
+    let (number, maker) = (frame.number, frame.maker.number());
+    writeln!(out, "frame {number} of site {maker}")?;
+    say_delta(out, &frame.delta)?;
+    let bytes = encode(alloc, frame)?;
+    let spelled = hex::encode(alloc, bytes.as_slice())?;
+    writeln!(out, "{spelled}")
+}

@@ -1,0 +1,88 @@
+//! What deltas say, in words: a line for each run, live dot, field and total.
+use bstr::ByteSlice;
+use delta::Delta;
+use dots::{Dot, QUEUES};
+use lww_registers::Fields;
+use member_orset::{Cell, MemberSet};
+use std::io::{self, Write};
+
+// Writes what a delta says.
+pub(crate) fn say_delta<W: Write>(out: &mut W, delta: &Delta) -> io::Result<()> {
+    for run in delta.members().context().iter() {
+        let (first, last, site) = (run.first, run.last, run.site.number());
+        writeln!(out, "run {first} to {last} of site {site}")?;
+    }
+    for (dot, cell) in delta.members().iter() {
+        say_cell(out, dot, cell)?;
+    }
+    for (key, calls) in delta.totals().iter() {
+        let (site, queue) = (key.site().number(), key.queue());
+        let (completed, abandoned) = (calls.completed, calls.abandoned);
+        writeln!(
+            out,
+            "total of site {site} in queue {queue}: {completed} completed, {abandoned} abandoned"
+        )?;
+    }
+    Ok(())
+}
+
+// Writes a live dot with its member and fields.
+fn say_cell<W: Write>(out: &mut W, dot: Dot, cell: Cell<'_>) -> io::Result<()> {
+    let (count, site) = (dot.count(), dot.site().number());
+    let queue = cell.member.queue;
+    let interface = cell.member.interface.as_bytes().as_bstr();
+    writeln!(
+        out,
+        "live dot {count} of site {site} in queue {queue}: {interface:?}"
+    )?;
+    say_fields(out, cell.fields)
+}
+
+// Writes the fields that are set, each with its stamp.
+fn say_fields<W: Write>(out: &mut W, fields: &Fields) -> io::Result<()> {
+    if let (Some(stamp), Some(penalty)) = (fields.penalty.stamp(), fields.penalty.value()) {
+        let (time, site) = (stamp.time(), stamp.site().number());
+        writeln!(out, "penalty at {time} of site {site}: {}", penalty.get())?;
+    }
+    if let (Some(stamp), Some(pause)) = (fields.pause.stamp(), fields.pause.value()) {
+        let (time, site) = (stamp.time(), stamp.site().number());
+        let paused = yes_or_no(pause.paused());
+        let reason = pause.reason().as_bytes().as_bstr();
+        writeln!(
+            out,
+            "paused at {time} of site {site}: {paused}, reason {reason:?}"
+        )?;
+    }
+    if let (Some(stamp), Some(label)) = (fields.label.stamp(), fields.label.value()) {
+        let (time, site) = (stamp.time(), stamp.site().number());
+        let name = label.name.as_bytes().as_bstr();
+        let state = label.state.as_bytes().as_bstr();
+        writeln!(
+            out,
+            "label at {time} of site {site}: name {name:?}, state {state:?}"
+        )?;
+    }
+    Ok(())
+}
+
+fn yes_or_no(paused: bool) -> &'static str {
+    if paused { "yes" } else { "no" }
+}
+
+// Writes the rows that each queue shows.
+pub(crate) fn say_rows<W: Write>(out: &mut W, members: &MemberSet) -> io::Result<()> {
+    for queue in 0..QUEUES as u16 {
+        for (interface, row) in members.rows(queue) {
+            let interface = interface.as_bytes().as_bstr();
+            let (penalty, paused) = (row.penalty, yes_or_no(row.paused));
+            writeln!(
+                out,
+                "row of queue {queue}: {interface:?}, penalty {penalty}, paused {paused}, reason {:?}, name {:?}, state {:?}",
+                row.reason.as_bstr(),
+                row.name.as_bstr(),
+                row.state.as_bstr()
+            )?;
+        }
+    }
+    Ok(())
+}

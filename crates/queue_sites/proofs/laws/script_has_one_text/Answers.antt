@@ -1,5 +1,0 @@
-use Rattle.queue_sites.proofs.OneText.{one-text}
-use Rattle.queue_sites.proofs.laws.script_has_one_text.Goals as goal
-
-pub returns : goal.returns
-returns c = one-text c.stream_has_one_outcome.ensures.messages c.a_knowledge_has_one_delta.ensures.one c.each_frame_has_one_spelling.ensures

@@ -1,5 +1,0 @@
-use Rattle.queue_sites.proofs.Cutting.{behind-found}
-use Rattle.queue_sites.proofs.line.behind.Goals as goal
-
-pub returns : goal.returns
-returns c = behind-found (λ x. x.now) c.strip_prefix.result c.args.front.now c.args.bytes.now c.strip_prefix.ensures.cases

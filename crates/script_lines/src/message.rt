@@ -1,0 +1,80 @@
+//! The message that a script's line has for the site.
+ghost use Rattle.std.specs.Prelude.{◌≡◌, ◌≢◌, ℕ, List, [], ◌++◌, None, Some, Ok};
+ghost use Rattle.std.specs.Prelude.{IfOk, OnOk, OnErr, IfSome, codes};
+ghost use Rattle.ami_session.specs.FieldValues.{Fields};
+ghost use Rattle.ami_text.specs.Stream.{Gives, IsRest};
+ghost use Rattle.script_lines.specs.ScriptLines.{IsMessage, stream_of};
+
+use ami_text::laws::stream_has_one_outcome;
+use ami_text::{Feed, FeedFault, Message};
+use bstr::ByteSlice;
+use dots::Memory;
+use std::alloc::Global;
+
+/// The message whose lines stand between bars; `None` where they are not exactly one message. The one fault is want of
+/// memory.
+pub fn message_of(alloc: Global, fields: &[u8]) -> Result<Option<Message>, Memory>
+    ensures one { IfOk result (λ found. IfSome found (λ message. IsMessage fields.now message)) }
+    ensures none { result ≡ Ok None → (message : Fields) → IsMessage fields.now message → ⊥ }
+{
+    stream_has_one_outcome();
+    let mut feed = feed_of(alloc, fields)?;
+    match feed.next_message() {
+        Ok(Some(message)) => only_message(feed, message),
+        Ok(None) => Ok(None),
+        Err(fault) => without_message(fault),
+    }
+}
+
+// A feed that holds the stream that the fields are.
+fn feed_of(alloc: Global, fields: &[u8]) -> Result<Feed, Memory>
+    ensures { IfOk result (λ feed. feed ≡ record { held = stream_of fields.now; fault = None }) }
+{
+    let mut feed = Feed::new(alloc);
+    let mut rest = fields;
+    'lines: while let Some(bar) = rest.find_byte(b'|') {
+        feed_line(&mut feed, &rest[..bar])?;
+        rest = &rest[bar + 1..];
+    }
+    feed_line(&mut feed, rest)?;
+    feed.feed(b"\r\n")?;
+    Ok(feed)
+}
+
+// Feeds one line, with its end.
+fn feed_line(feed: &mut Feed, line: &[u8]) -> Result<(), Memory>
+    requires { feed.old.fault ≡ None }
+    ensures { OnOk result (feed.new
+        ≡ record { held = feed.old.held ++ line.now ++ codes "\r\n"; fault = None }) }
+{
+    feed.feed(line)?;
+    feed.feed(b"\r\n")
+}
+
+// The message that a feed gave, where there is no other and no fault behind it.
+fn only_message(feed: Feed, message: Message) -> Result<Option<Message>, Memory>
+    requires { feed.fault ≡ None }
+    ensures one { IfOk result (λ found. IfSome found (λ only. only ≡ message)) }
+    ensures rest { IfOk result (λ found. IfSome found
+        (λ _. (rest : List ℕ) × Gives feed.held [] rest × IsRest rest)) }
+    ensures none { result ≡ Ok None → (rest : List ℕ) → Gives feed.held [] rest → IsRest rest → ⊥ }
+{
+    let mut feed = feed;
+    match feed.next_message() {
+        Ok(None) => Ok(Some(message)),
+        Ok(Some(_)) => Ok(None),
+        Err(fault) => without_message(fault),
+    }
+}
+
+// There is no message where the stream has a fault; want of memory is none of the stream's.
+fn without_message(fault: FeedFault) -> Result<Option<Message>, Memory>
+    ensures none { IfOk result (λ found. found ≡ None) }
+    ensures stream { OnOk result (fault ≢ FeedFault.Memory) }
+    ensures memory { OnErr result (fault ≡ FeedFault.Memory) }
+{
+    match fault {
+        FeedFault::Memory => Err(Memory),
+        FeedFault::LineTooLong | FeedFault::TooManyFields => Ok(None),
+    }
+}

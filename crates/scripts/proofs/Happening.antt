@@ -1,0 +1,87 @@
+-- What one event does to sites that stand for a world, and what they show of it.
+use Rattle.std.proofs.Common.{◌≡◌, ℕ, true, List, [], ◌∷◌, length, slice_get, Option, Some, None, refl, sym, ◌∙◌, ap, subst}
+use mathlib.Core.List.{head-eq_of_cons-eq}
+use Rattle.replica.specs.Site.{SiteState}
+use Rattle.replica.specs.Standing.{StandsFor}
+use Rattle.replica.specs.Steps.{SiteKnowledge}
+use Rattle.delta.specs.declared.frame.Frame.{Frame}
+use Rattle.delta_codec.specs.Frames.{Spells}
+use Rattle.ami_session.specs.Checks.{Asks, Waiting}
+use Rattle.status_report.specs.declared.asks.Ask.{Ask}
+use Rattle.sites_world.specs.declared.event.Event.{Event}
+use Rattle.sites_world.specs.declared.event.Event.TheVariants as event
+use Rattle.sites_world.specs.declared.outcome.Outcome.{Outcome}
+use Rattle.sites_world.specs.Promises.{LeadsOn}
+use Rattle.sites_world.specs.Worlds.{IsReached, World, done_of, happens, is_done, outcomes_of, run}
+use Rattle.sites_world.specs.WorldStates.{HaveHappened, IsFrameOf, IsSiteOf, StandsForWorld, WorldState}
+use Rattle.sites_world.proofs.Lists.{correspond-get, correspond-none-get}
+use Rattle.scripts.specs.Answers.{frame_text, no_entry, outcome_text}
+use Rattle.scripts.specs.Script.{IsShown, Place, given_by_event, given_by_reaction, text_of_offer, waited_reply}
+use Rattle.scripts.specs.LineSteps.{Holds, IsHappening, StandsAt}
+
+-- one event has happened
+pub one-happened : LeadsOn → (place : Place) (old new : WorldState) (w : World) (e : Event) (o : Outcome) (outcomes : List Outcome)
+    → place.names ≡ old.names → new.names ≡ old.names → length new.sites ≡ length old.sites
+    → StandsAt old w → HaveHappened new w (e ∷ []) outcomes → outcomes ≡ o ∷ [] → is_done o ≡ true → IsHappening place w e new o
+one-happened leads place old new w e o outcomes names kept count at happened only done = record {
+  stands = record {
+    reached = subst (λ n. IsReached new.names n (happens place.names w e).0) (sym count)
+        (subst (λ names. IsReached names (length old.sites) (happens place.names w e).0) (sym kept)
+        (subst (λ names. IsReached old.names (length old.sites) (happens names w e).0) (sym names) (leads old.names (length old.sites) w (e ∷ []) at.reached)));
+    stands = subst (λ names. StandsForWorld new (happens names w e).0) (kept ∙ sym names) stands;
+  };
+  is = head-eq_of_cons-eq outcome ∙ ap (λ names. (happens names w e).1) (kept ∙ sym names);
+}
+  where
+    by : HaveHappened new w (e ∷ []) (o ∷ [])
+    by = subst (HaveHappened new w (e ∷ [])) only happened
+
+    alone : done_of (e ∷ []) (o ∷ []) ≡ e ∷ []
+    alone = rw done refl
+
+    told : outcomes_of (o ∷ []) ≡ o ∷ []
+    told = rw done refl
+
+    stands : StandsForWorld new (happens new.names w e).0
+    stands = subst (λ es. StandsForWorld new (run new.names w es).0) alone by.stands
+
+    outcome : o ∷ [] ≡ (happens new.names w e).1 ∷ []
+    outcome = sym told ∙ by.outcomes_are ∙ ap (λ es. (run new.names w es).1) alone
+
+-- what is written of an event
+pub event-given : (place : Place) (w : World) (e : Event) (new : WorldState) (o : Outcome) (text : List ℕ) → IsHappening place w e new o → text ≡ outcome_text o
+    → Holds (given_by_event place w e) new text
+event-given place w e new o text happening is = record { stands = happening.stands; is = is ∙ ap outcome_text happening.is }
+
+-- what is written of an ask, for which a message waits
+pub ask-given : (place : Place) (w : World) (site : ℕ) (ask : Ask) (waiting : Waiting) (new : WorldState) (o : Outcome) (text : List ℕ)
+    → IsHappening place w (event.Ask site ask) new o → text ≡ waited_reply waiting o → Holds (given_by_reaction place w site (Asks ask waiting)) new text
+ask-given place w site ask waiting new o text happening is = record { stands = happening.stands; is = is ∙ ap (waited_reply waiting) happening.is }
+
+-- what a queue offers at a site that is there
+pub offered-some : (state : WorldState) (w : World) (site : ℕ) (replica : SiteState) (queue : Option (List ℕ)) (tried : List (List ℕ)) (text : List ℕ) → StandsAt state w
+    → Some replica ≡ slice_get state.sites site
+    → ((s : SiteKnowledge) → StandsFor replica s → text ≡ text_of_offer replica.names (Some s) queue tried)
+    → text ≡ text_of_offer state.names (slice_get w.sites site) queue tried
+offered-some state w site replica queue tried text at is offers =
+    let found = correspond-get (IsSiteOf state.names) state.sites w.sites at.stands.sites site replica (sym is) in
+    offers found.0 found.2.stands ∙ (λ i. text_of_offer (found.2.names_are i) (sym found.1 i) queue tried)
+
+-- and at one that isn't
+pub offered-none : (state : WorldState) (w : World) (site : ℕ) (queue : Option (List ℕ)) (tried : List (List ℕ)) (text : List ℕ) → StandsAt state w
+    → None ≡ slice_get state.sites site → text ≡ [] → text ≡ text_of_offer state.names (slice_get w.sites site) queue tried
+offered-none state w site queue tried text at is empty =
+    empty ∙ ap (λ s. text_of_offer state.names s queue tried) (sym (correspond-none-get (IsSiteOf state.names) state.sites w.sites at.stands.sites site (sym is)))
+
+-- an entry that is shown
+pub shown-some : (state : WorldState) (w : World) (place : ℕ) (frame : Frame) (text : List ℕ) → StandsAt state w → Some frame ≡ slice_get state.pool place
+    → (bytes : List ℕ) × Spells frame bytes × (text ≡ frame_text bytes) → IsShown place (slice_get w.pool place) text
+shown-some state w place frame text at is shown =
+    let found = correspond-get IsFrameOf state.pool w.pool at.stands.pool place frame (sym is) in
+    subst (λ entry. IsShown place entry text) (sym found.1) (shown.0, (record { frame = frame; is = found.2; spells = shown.1 }), shown.2)
+
+-- and one that isn't there
+pub shown-none : (state : WorldState) (w : World) (place : ℕ) (text : List ℕ) → StandsAt state w → None ≡ slice_get state.pool place → text ≡ no_entry
+    → IsShown place (slice_get w.pool place) text
+shown-none state w place text at is none =
+    subst (λ entry. IsShown place entry text) (sym (correspond-none-get IsFrameOf state.pool w.pool at.stands.pool place (sym is))) none

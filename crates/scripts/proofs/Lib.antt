@@ -1,0 +1,5 @@
+pub mod Happening
+pub mod OneText
+pub mod Replying
+pub mod Running
+pub mod Taking

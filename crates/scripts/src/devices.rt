@@ -1,0 +1,79 @@
+//! A script is read whole before any of its lines is run.
+ghost use Rattle.std.specs.Prelude.{◌≡◌, ◌≢◌, ◌≤◌, ◌<◌, ◌+◌, ◌⊎◌, ℕ, List, Option, Ok, true, false};
+ghost use Rattle.std.specs.Prelude.{vec_len, IfOk, IfErr, OnOk, IsErrOf};
+ghost use Rattle.std.specs.Io.KnownBytes.{Consumes};
+ghost use Rattle.ami_text.specs.Devices.{HasEnded, HasGiven};
+
+use crate::script_fault::ScriptFault;
+use ami_text::Source;
+use std::alloc::Global;
+
+// How many bytes are read at a time.
+const PIECE: usize = 1024;
+
+// How often a script is read from before it counts as having no end.
+const MOST_READS: u32 = 1_000_000;
+
+/// How many bytes a script may have.
+pub const MOST_BYTES: usize = 16_777_216;
+
+/// All bytes of the reader, from here to its end. Faults: `Read` where the reader fails, or doesn't end within
+/// 1,000,000 reads; `TooLong` where there are more than 16,777,216 bytes; `Memory`.
+pub fn read_script<S: Source>(alloc: Global, reader: &mut S) -> Result<Vec<u8>, ScriptFault>
+    requires { S.failed reader.old ≡ false }
+    ensures whole { IfOk result (λ script.
+        Consumes (S.left reader.old) (S.left reader.new) script.items) }
+    ensures ended { OnOk result (HasEnded (S.ended reader.new) (S.left reader.new)) }
+    ensures works { OnOk result (S.failed reader.new ≡ false) }
+    ensures limit { IfOk result (λ script. vec_len script ≤ 16777216) }
+    ensures fault { IfErr result (λ fault. fault ≢ ScriptFault.Write) }
+    ensures read { IsErrOf result ScriptFault.Read → (S.failed reader.new ≡ true)
+        ⊎ ((S.ended reader.new ≡ false)
+        × HasGiven (S.left reader.old) (S.left reader.new) 1000000) }
+    ensures too_long { IsErrOf result ScriptFault.TooLong
+        → HasGiven (S.left reader.old) (S.left reader.new) (16777216 + 1) }
+{
+    let mut script = Vec::new(alloc);
+    for _ in 0..MOST_READS {
+        if !read_piece(reader, &mut script)? {
+            return Ok(script);
+        }
+    }
+    Err(ScriptFault::Read)
+}
+
+// Reads once, and puts what came at the end. It answers whether anything did. Faults: `Read` where the reader fails, `TooLong`,
+// `Memory`.
+fn read_piece<S: Source>(reader: &mut S, script: &mut Vec<u8>) -> Result<bool, ScriptFault>
+    requires reader { S.failed reader.old ≡ false }
+    requires short { vec_len script.old ≤ 16777216 }
+    ensures bytes { OnOk result ((before : Option (List ℕ))
+        → Consumes before (S.left reader.old) script.old.items
+        → Consumes before (S.left reader.new) script.new.items) }
+    ensures more { result ≡ Ok true → vec_len script.old < vec_len script.new }
+    ensures goes_on { result ≡ Ok true → S.ended reader.new ≡ false }
+    ensures ended { result ≡ Ok false → HasEnded (S.ended reader.new) (S.left reader.new) }
+    ensures works { OnOk result (S.failed reader.new ≡ false) }
+    ensures short { OnOk result (vec_len script.new ≤ 16777216) }
+    ensures fault { IfErr result (λ fault. fault ≢ ScriptFault.Write) }
+    ensures read { IsErrOf result ScriptFault.Read → S.failed reader.new ≡ true }
+    ensures too_long { IsErrOf result ScriptFault.TooLong → (before : Option (List ℕ))
+        → Consumes before (S.left reader.old) script.old.items
+        → HasGiven before (S.left reader.new) (16777216 + 1) }
+{
+    let mut piece = [0u8; PIECE];
+    let count = match reader.read(&mut piece) {
+        Ok(count) => count,
+        Err(_) => return Err(ScriptFault::Read),
+    };
+    if count == 0 {
+        return Ok(false);
+    }
+    if script.len() + count > MOST_BYTES {
+        return Err(ScriptFault::TooLong);
+    }
+    match script.extend_from_slice(&piece[..count]) {
+        Ok(()) => Ok(true),
+        Err(_) => Err(ScriptFault::Memory),
+    }
+}

@@ -1,0 +1,16 @@
+//! Scripts: their lines, run over all sites in one process (this project's own).
+//!
+//! [`run_script`] reads a script, runs its lines one after another over sites that know nothing yet, and writes what each
+//! gives.
+#![tactic(auto)]
+
+mod answers;
+mod devices;
+pub mod laws;
+mod line_steps;
+mod script;
+mod script_fault;
+
+pub use script::run_script;
+pub use script_fault::ScriptFault;
+pub use script_lines::SiteCount;

@@ -1,0 +1,361 @@
+//! What the lines of a story give at two sites of the reference model.
+use crate::told::{
+    Words, calls, interface, label, list, member, name, number, operations, penalty, queue_number,
+    setting, site, text, word,
+};
+use dots::{Bytes, Member, QueueName, Text80};
+use reference_model::{
+    Change, Operation, Outcome, SiteKnowledge, Step, after_step, dots_of_member, row, rows, status,
+    totals,
+};
+use replica::QueueList;
+use status_report::StatusRequest;
+use std::alloc::Global;
+use std::process::Abort;
+use std::str::from_utf8;
+
+// What stories tell by name: operations, and the texts of reports.
+#[derive(Clone, Copy)]
+pub(crate) struct Names {
+    pub(crate) operations: &'static [(&'static str, &'static str)],
+    pub(crate) reports: &'static [(&'static str, &'static str)],
+}
+
+// Two sites with the same queues, and the frames that there are.
+#[derive(Drop)]
+struct World {
+    list: QueueList,
+    first: SiteKnowledge,
+    second: SiteKnowledge,
+    frames: Vec<Vec<Operation>>,
+}
+
+fn new_site(alloc: Global) -> SiteKnowledge {
+    SiteKnowledge {
+        known: Vec::new(alloc),
+        buffer: Vec::new(alloc),
+        frames: 0,
+    }
+}
+
+fn new_world(rt: &impl Abort, alloc: Global, queues: &mut Words<'_>) -> World {
+    World {
+        list: list(rt, alloc, queues),
+        first: new_site(alloc),
+        second: new_site(alloc),
+        frames: Vec::new(alloc),
+    }
+}
+
+// A queue; every one is told as `-`.
+fn queue(rt: &impl Abort, word: &str) -> Option<QueueName> {
+    if word == "-" {
+        None
+    } else {
+        Some(name(rt, word))
+    }
+}
+
+// The change of this kind: of a queue, and but for a call of an interface.
+fn change(rt: &impl Abort, kind: &str, words: &mut Words<'_>) -> Change {
+    let of = word(rt, words);
+    match kind {
+        "completed" | "abandoned" => Change::CountCall {
+            queue: name(rt, of),
+            calls: calls(kind),
+        },
+        "add" => Change::AddMember {
+            queue: name(rt, of),
+            interface: interface(rt, word(rt, words)),
+            penalty: penalty(rt, word(rt, words)),
+            paused: false,
+            label: label(rt, "-", "-"),
+        },
+        "remove" => Change::RemoveMember {
+            queue: name(rt, of),
+            interface: interface(rt, word(rt, words)),
+        },
+        _ => Change::SetField {
+            queue: queue(rt, of),
+            interface: interface(rt, word(rt, words)),
+            setting: setting(rt, kind, words),
+        },
+    }
+}
+
+fn copies(rt: &impl Abort, alloc: Global, operations: &[Operation]) -> Vec<Operation> {
+    let mut copies = Vec::new(alloc);
+    for operation in operations {
+        let copy = operation.copy(alloc).expect(rt, "memory");
+        copies.push(copy).expect(rt, "memory");
+    }
+    copies
+}
+
+fn step(
+    rt: &impl Abort,
+    alloc: Global,
+    frames: &[Vec<Operation>],
+    kind: &str,
+    words: &mut Words<'_>,
+) -> Step {
+    match kind {
+        "cut" => Step::Cut,
+        "whole" => Step::Whole,
+        "take" => {
+            let place = usize::from(word(rt, words).parse::<u16>().expect(rt, "a place"));
+            let frame = frames.get(place).expect(rt, "a frame");
+            Step::Take(copies(rt, alloc, frame))
+        }
+        _ => Step::Do(change(rt, kind, words)),
+    }
+}
+
+fn outcome_text(rt: &impl Abort, alloc: Global, outcome: &Outcome) -> String {
+    let text = match outcome {
+        Outcome::Done => "done",
+        Outcome::Nothing => "nothing",
+        Outcome::NoNumber => "no number",
+        Outcome::Taken => "taken",
+        Outcome::CellsFull => "cells full",
+        Outcome::RunsFull => "runs full",
+        Outcome::Denied(refusal) => {
+            return format!(in alloc; "refused {refusal:?}").expect(rt, "memory");
+        }
+        Outcome::Framed { number, .. } => {
+            return format!(in alloc; "frame {number}").expect(rt, "memory");
+        }
+    };
+    String::from_str(alloc, text).expect(rt, "memory")
+}
+
+// Lets a site do a step, and gives what comes of it.
+fn do_step(
+    rt: &impl Abort,
+    alloc: Global,
+    list: &QueueList,
+    at: &str,
+    known: &mut SiteKnowledge,
+    frames: &mut Vec<Vec<Operation>>,
+    step: &Step,
+) -> String {
+    let after = after_step(alloc, site(rt, at), list, known, step);
+    let (new, outcome) = after.expect(rt, "memory");
+    let given = outcome_text(rt, alloc, &outcome);
+    *known = new;
+    if let Outcome::Framed { frame, .. } = outcome {
+        frames.push(frame).expect(rt, "memory");
+    }
+    given
+}
+
+fn utf8<'a>(rt: &impl Abort, bytes: &'a [u8]) -> &'a str {
+    from_utf8(bytes).expect(rt, "a text")
+}
+
+// The row of a member: its penalty, whether it is paused, why, its name and its state interface.
+fn row_text(rt: &impl Abort, alloc: Global, known: &[Operation], member: &Member) -> String {
+    match row(alloc, known, member).expect(rt, "memory") {
+        Some(row) => {
+            let (penalty, paused) = (row.penalty, row.paused);
+            let reason = utf8(rt, row.reason);
+            let (name, state) = (utf8(rt, row.name), utf8(rt, row.state));
+            format!(in alloc; "{penalty} {paused} '{reason}' '{name}' '{state}'").expect(
+                rt, "memory",
+            )
+        }
+        None => String::from_str(alloc, "none").expect(rt, "memory"),
+    }
+}
+
+// The interfaces of a queue with their penalties.
+fn rows_text(rt: &impl Abort, alloc: Global, known: &[Operation], queue: u16) -> String {
+    let mut text = String::new(alloc);
+    for (interface, row) in rows(alloc, known, queue).expect(rt, "memory").iter() {
+        let (of, penalty) = (utf8(rt, interface.as_bytes()), row.penalty);
+        let one = format!(in alloc; "[{of} {penalty}]").expect(rt, "memory");
+        text.push_str(&one).expect(rt, "memory");
+    }
+    text
+}
+
+// The visible dots of a member.
+fn dots_text(rt: &impl Abort, alloc: Global, known: &[Operation], member: &Member) -> String {
+    let mut text = String::new(alloc);
+    for dot in dots_of_member(alloc, known, member)
+        .expect(rt, "memory")
+        .iter()
+    {
+        let (site, count) = (dot.site().number(), dot.count());
+        let one = format!(in alloc; "[{site}.{count}]").expect(rt, "memory");
+        text.push_str(&one).expect(rt, "memory");
+    }
+    text
+}
+
+fn totals_text(rt: &impl Abort, alloc: Global, known: &[Operation], queue: u16) -> String {
+    let given = totals(known, queue);
+    let (completed, abandoned) = (given.completed, given.abandoned);
+    format!(in alloc; "{completed} {abandoned}").expect(rt, "memory")
+}
+
+// The stamp of the first of the operations, which is an add or a write.
+fn stamp_text(rt: &impl Abort, alloc: Global, known: &[Operation]) -> String {
+    match known.first() {
+        Some(Operation::Add { stamp, .. } | Operation::Write { stamp, .. }) => {
+            let (time, site) = (stamp.time(), stamp.site().number());
+            format!(in alloc; "{time}.{site}").expect(rt, "memory")
+        }
+        _ => rt.panic("no stamp"),
+    }
+}
+
+// A filter; none is told as `-`.
+fn filter(rt: &impl Abort, word: &str) -> Option<Text80> {
+    if word == "-" {
+        None
+    } else {
+        Some(text(rt, word))
+    }
+}
+
+// A report, told with a bar between lines.
+fn report(rt: &impl Abort, alloc: Global, told: &str) -> String {
+    let mut report = String::new(alloc);
+    for line in told.split('|') {
+        report.push_str(line).expect(rt, "memory");
+        report.push_str("\r\n").expect(rt, "memory");
+    }
+    report
+}
+
+// The name of the report that is given to a request with two filters, of a queue and of a member;
+// or the report itself, where it has no name.
+fn report_text(
+    rt: &impl Abort,
+    alloc: Global,
+    list: &QueueList,
+    known: &[Operation],
+    reports: &[(&str, &str)],
+    words: &mut Words<'_>,
+) -> String {
+    let request = StatusRequest {
+        queue: filter(rt, word(rt, words)),
+        member: filter(rt, word(rt, words)),
+        action_id: Bytes::new(Vec::new(alloc)),
+    };
+    let given = status(alloc, known, list, &request).expect(rt, "memory");
+    let mut text = utf8(rt, &given);
+    for (name, told) in reports {
+        if report(rt, alloc, told).as_str() == text {
+            text = name;
+        }
+    }
+    String::from_str(alloc, text).expect(rt, "memory")
+}
+
+// What is seen of operations.
+fn seen(
+    rt: &impl Abort,
+    alloc: Global,
+    list: &QueueList,
+    known: &[Operation],
+    names: &Names,
+    kind: &str,
+    words: &mut Words<'_>,
+) -> String {
+    match kind {
+        "row" => row_text(rt, alloc, known, &member(rt, word(rt, words))),
+        "rows" => rows_text(rt, alloc, known, queue_number(rt, word(rt, words))),
+        "dots" => dots_text(rt, alloc, known, &member(rt, word(rt, words))),
+        "totals" => totals_text(rt, alloc, known, queue_number(rt, word(rt, words))),
+        "stamp" => stamp_text(rt, alloc, known),
+        _ => report_text(rt, alloc, list, known, names.reports, words),
+    }
+}
+
+// What a line gives at a site: what comes of a step, or what is seen.
+fn given_at(
+    rt: &impl Abort,
+    alloc: Global,
+    list: &QueueList,
+    at: &mut SiteKnowledge,
+    frames: &mut Vec<Vec<Operation>>,
+    names: &Names,
+    number: &str,
+    words: &mut Words<'_>,
+) -> String {
+    let kind = word(rt, words);
+    match kind {
+        "row" | "rows" | "dots" | "totals" | "stamp" | "report" => {
+            seen(rt, alloc, list, &at.known, names, kind, words)
+        }
+        _ => {
+            let step = step(rt, alloc, frames, kind, words);
+            do_step(rt, alloc, list, number, at, frames, &step)
+        }
+    }
+}
+
+// What a line gives. `queues` begins with two new sites of these queues; `knows`, `buffer` and
+// `number` tell what the first knows, what of that it has put in no frame yet and how many frames
+// it has made; `frame` tells a frame. Other lines are of a site.
+fn given(
+    rt: &impl Abort,
+    alloc: Global,
+    world: &mut World,
+    names: &Names,
+    words: &mut Words<'_>,
+) -> String {
+    let first = word(rt, words);
+    match first {
+        "queues" => *world = new_world(rt, alloc, words),
+        "knows" => world.first.known = operations(rt, alloc, names.operations, words),
+        "buffer" => world.first.buffer = operations(rt, alloc, names.operations, words),
+        "number" => world.first.frames = number(rt, word(rt, words)),
+        "frame" => {
+            let frame = operations(rt, alloc, names.operations, words);
+            world.frames.push(frame).expect(rt, "memory");
+        }
+        "0" => {
+            return given_at(
+                rt,
+                alloc,
+                &world.list,
+                &mut world.first,
+                &mut world.frames,
+                names,
+                first,
+                words,
+            );
+        }
+        _ => {
+            return given_at(
+                rt,
+                alloc,
+                &world.list,
+                &mut world.second,
+                &mut world.frames,
+                names,
+                first,
+                words,
+            );
+        }
+    }
+    String::new(alloc)
+}
+
+// Asserts that each line gives what stands behind it. Lines without words, and those that begin
+// with `#`, say nothing.
+pub(crate) fn assert_lines(rt: &impl Abort, alloc: Global, names: &Names, lines: &str) {
+    let mut none = "sales".split_whitespace();
+    let mut world = new_world(rt, alloc, &mut none);
+    for line in lines.split('\n') {
+        let (told, wanted) = line.split_once(": ").unwrap_or((line, ""));
+        let mut words = told.split_whitespace();
+        if !told.is_empty() && !told.starts_with('#') {
+            let given = given(rt, alloc, &mut world, names, &mut words);
+            assert!(rt; given.as_str() == wanted, "{line} gives {given}");
+        }
+    }
+}

@@ -1,0 +1,242 @@
+//! Values, told as words.
+use dots::{Dot, Interface, Label, Member, Pause, Penalty, QueueName, SiteId, Stamp, Text80};
+use reference_model::{Calls, Operation, Setting, Total};
+use replica::QueueList;
+use std::alloc::Global;
+use std::process::Abort;
+use std::str::SplitWhitespace;
+
+pub(crate) type Words<'a> = SplitWhitespace<'a>;
+
+pub(crate) fn word<'a>(rt: &impl Abort, words: &mut Words<'a>) -> &'a str {
+    words.next().expect(rt, "a word")
+}
+
+// Both parts of a word, before and behind a mark.
+fn parts<'a>(rt: &impl Abort, word: &'a str, mark: char) -> (&'a str, &'a str) {
+    word.split_once(mark).expect(rt, word)
+}
+
+pub(crate) fn number(rt: &impl Abort, word: &str) -> u64 {
+    word.parse::<u64>().expect(rt, word)
+}
+
+pub(crate) fn small(rt: &impl Abort, word: &str) -> u32 {
+    word.parse::<u32>().expect(rt, word)
+}
+
+pub(crate) fn queue_number(rt: &impl Abort, word: &str) -> u16 {
+    word.parse::<u16>().expect(rt, word)
+}
+
+pub(crate) fn site(rt: &impl Abort, word: &str) -> SiteId {
+    SiteId::new(queue_number(rt, word)).expect(rt, word)
+}
+
+// A text; an empty one is told as `-`.
+pub(crate) fn text(rt: &impl Abort, word: &str) -> Text80 {
+    let text = if word == "-" { "" } else { word };
+    Text80::new(text.as_bytes()).expect(rt, word)
+}
+
+pub(crate) fn penalty(rt: &impl Abort, word: &str) -> Penalty {
+    Penalty::new(small(rt, word)).expect(rt, word)
+}
+
+pub(crate) fn interface(rt: &impl Abort, word: &str) -> Interface {
+    Interface::new(word.as_bytes()).expect(rt, word)
+}
+
+pub(crate) fn name(rt: &impl Abort, word: &str) -> QueueName {
+    QueueName::new(word.as_bytes()).expect(rt, word)
+}
+
+pub(crate) fn label(rt: &impl Abort, name: &str, state: &str) -> Label {
+    Label {
+        name: text(rt, name),
+        state: text(rt, state),
+    }
+}
+
+pub(crate) fn calls(word: &str) -> Calls {
+    if word == "completed" {
+        Calls::Completed
+    } else {
+        Calls::Abandoned
+    }
+}
+
+// A member: the number of its queue, and its interface, as `0/SIP/1`.
+pub(crate) fn member(rt: &impl Abort, word: &str) -> Member {
+    let (queue, of) = parts(rt, word, '/');
+    Member {
+        queue: queue_number(rt, queue),
+        interface: interface(rt, of),
+    }
+}
+
+// The list of queues of these names.
+pub(crate) fn list(rt: &impl Abort, alloc: Global, words: &mut Words<'_>) -> QueueList {
+    let mut names = Vec::new(alloc);
+    for word in words {
+        names.push(name(rt, word)).expect(rt, "memory");
+    }
+    QueueList::new(alloc, &names).expect(rt, "a list")
+}
+
+// What is set: `penalty 3`, `pause yes lunch` or `label Ann Custom:1`.
+pub(crate) fn setting(rt: &impl Abort, kind: &str, words: &mut Words<'_>) -> Setting {
+    let first = word(rt, words);
+    if kind == "penalty" {
+        return Setting::Penalty(penalty(rt, first));
+    }
+    let second = word(rt, words);
+    if kind == "pause" {
+        Setting::Pause(Pause::new(first == "yes", text(rt, second)))
+    } else {
+        Setting::Label(label(rt, first, second))
+    }
+}
+
+// A dot: its site and its count, as `0.1`.
+fn dot(rt: &impl Abort, word: &str) -> Dot {
+    let (of, count) = parts(rt, word, '.');
+    Dot::new(site(rt, of), number(rt, count)).expect(rt, word)
+}
+
+// A stamp: its time and its site, as `1.0`.
+fn stamp(rt: &impl Abort, word: &str) -> Stamp {
+    let (time, of) = parts(rt, word, '.');
+    Stamp::new(number(rt, time), site(rt, of)).expect(rt, word)
+}
+
+fn dots(rt: &impl Abort, alloc: Global, words: &mut Words<'_>) -> Vec<Dot> {
+    let mut dots = Vec::new(alloc);
+    for word in words {
+        dots.push(dot(rt, word)).expect(rt, "memory");
+    }
+    dots
+}
+
+// Dots with their members, as `0.1@0/SIP/1`.
+fn members(rt: &impl Abort, alloc: Global, words: &mut Words<'_>) -> Vec<(Dot, Member)> {
+    let mut dots = Vec::new(alloc);
+    for word in words {
+        let (of, told) = parts(rt, word, '@');
+        dots.push((dot(rt, of), member(rt, told)))
+            .expect(rt, "memory");
+    }
+    dots
+}
+
+// The first odd counts of a site, so many.
+fn odd(rt: &impl Abort, alloc: Global, of: SiteId, count: u32) -> Vec<Dot> {
+    let mut dots = Vec::new(alloc);
+    for place in 0..count {
+        let dot = Dot::new(of, u64::from(place) * 2 + 1).expect(rt, "a dot");
+        dots.push(dot).expect(rt, "memory");
+    }
+    dots
+}
+
+// The first dots of a site, so many, all of SIP/1 in the first queue.
+fn many(rt: &impl Abort, alloc: Global, of: SiteId, count: u32) -> Vec<(Dot, Member)> {
+    let mut dots = Vec::new(alloc);
+    for place in 0..count {
+        let dot = Dot::new(of, u64::from(place) + 1).expect(rt, "a dot");
+        dots.push((dot, member(rt, "0/SIP/1"))).expect(rt, "memory");
+    }
+    dots
+}
+
+fn added(rt: &impl Abort, alloc: Global, words: &mut Words<'_>) -> Operation {
+    Operation::Add {
+        dot: dot(rt, word(rt, words)),
+        member: member(rt, word(rt, words)),
+        stamp: stamp(rt, word(rt, words)),
+        penalty: penalty(rt, word(rt, words)),
+        pause: Pause::new(false, text(rt, "-")),
+        label: label(rt, "-", "-"),
+        older: dots(rt, alloc, words),
+    }
+}
+
+fn counted(rt: &impl Abort, words: &mut Words<'_>) -> Operation {
+    Operation::Count {
+        site: site(rt, word(rt, words)),
+        queue: 0,
+        calls: calls(word(rt, words)),
+        total: Total::new(small(rt, word(rt, words))).expect(rt, "a total"),
+    }
+}
+
+// A write of dots of a member, as `2.0 penalty 3 0.1@0/SIP/1`; in place of the dots a number counts
+// the first dots of the stamp's site, all of SIP/1 in the first queue.
+fn written(rt: &impl Abort, alloc: Global, is_of_many: bool, words: &mut Words<'_>) -> Operation {
+    let stamp = stamp(rt, word(rt, words));
+    let kind = word(rt, words);
+    let setting = setting(rt, kind, words);
+    let dots = if is_of_many {
+        many(rt, alloc, stamp.site(), small(rt, word(rt, words)))
+    } else {
+        members(rt, alloc, words)
+    };
+    Operation::Write {
+        dots,
+        setting,
+        stamp,
+        older: Vec::new(alloc),
+    }
+}
+
+fn removed(rt: &impl Abort, alloc: Global, is_of_odd: bool, words: &mut Words<'_>) -> Operation {
+    let dots = if is_of_odd {
+        let of = site(rt, word(rt, words));
+        odd(rt, alloc, of, small(rt, word(rt, words)))
+    } else {
+        dots(rt, alloc, words)
+    };
+    Operation::Remove { dots }
+}
+
+// The operation that is told so: `add` with a dot, a member, a stamp, a penalty and older dots;
+// `write` or `write_many`; `remove` with dots, or `remove_odd` with a site and how many of its odd
+// counts; or `count` with a site, the kind and the total.
+fn operation(rt: &impl Abort, alloc: Global, told: &str) -> Operation {
+    let mut words = told.split_whitespace();
+    let kind = word(rt, &mut words);
+    if kind == "add" {
+        added(rt, alloc, &mut words)
+    } else if kind == "count" {
+        counted(rt, &mut words)
+    } else if kind.starts_with("write") {
+        written(rt, alloc, kind == "write_many", &mut words)
+    } else {
+        removed(rt, alloc, kind == "remove_odd", &mut words)
+    }
+}
+
+// What is told under this name.
+fn told_as<'a>(rt: &impl Abort, told: &[(&str, &'a str)], name: &str) -> &'a str {
+    for (other, told) in told {
+        if *other == name {
+            return told;
+        }
+    }
+    rt.panic("no such name")
+}
+
+// The operations of these names among those that are told.
+pub(crate) fn operations(
+    rt: &impl Abort,
+    alloc: Global,
+    told: &[(&str, &str)],
+    names: &mut Words<'_>,
+) -> Vec<Operation> {
+    let mut operations = Vec::new(alloc);
+    for name in names {
+        let operation = operation(rt, alloc, told_as(rt, told, name));
+        operations.push(operation).expect(rt, "memory");
+    }
+    operations
+}

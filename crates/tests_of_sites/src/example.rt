@@ -1,0 +1,66 @@
+//! How another crate calls replicas and a world: of two sites the first adds a member, and the second takes what it has done.
+use delta::Frame;
+use dots::{Interface, Label, Penalty, QueueName, SiteId, Text80};
+use replica::{Command, QueueList, Replica};
+use sites_world::{Event, Outcome, World};
+use status_report::Ask;
+use std::alloc::Global;
+use std::process::Abort;
+
+fn site(rt: &impl Abort, number: u16) -> SiteId {
+    SiteId::new(number).expect(rt, "a site")
+}
+
+fn name(rt: &impl Abort) -> QueueName {
+    QueueName::new(b"sales").expect(rt, "a name")
+}
+
+fn list(rt: &impl Abort, alloc: Global) -> QueueList {
+    QueueList::new(alloc, &[name(rt)]).expect(rt, "a list")
+}
+
+// The add of SIP/1, with nothing set.
+fn add(rt: &impl Abort) -> Command {
+    Command::Add {
+        queue: name(rt),
+        interface: Interface::new(b"SIP/1").expect(rt, "an interface"),
+        penalty: Penalty::new(0).expect(rt, "a penalty"),
+        paused: false,
+        label: Label {
+            name: Text80::new(b"").expect(rt, "a text"),
+            state: Text80::new(b"").expect(rt, "a text"),
+        },
+    }
+}
+
+// What a site has done once it has added SIP/1.
+fn added(rt: &impl Abort, site: &mut Replica) -> Frame {
+    site.command(add(rt)).expect(rt, "it is added");
+    let cut = site.cut().expect(rt, "a number is left");
+    cut.expect(rt, "there is a change")
+}
+
+#[test]
+fn two_replicas(rt: HostRuntime) {
+    let alloc = rt.alloc();
+    let mut first = Replica::new(alloc, site(&rt, 0), list(&rt, alloc));
+    let mut second = Replica::new(alloc, site(&rt, 1), list(&rt, alloc));
+    let taken = second.take(added(&rt, &mut first));
+    assert!(rt; taken.is_ok() && second.rows(0).next().is_some());
+}
+
+#[test]
+fn a_world_of_two_sites(rt: HostRuntime) {
+    let alloc = rt.alloc();
+    let mut world = World::new(alloc, 2, &list(&rt, alloc)).expect(&rt, "a world");
+    let (first, second) = (site(&rt, 0), site(&rt, 1));
+    let outcomes = world.run(&[
+        Event::Ask(first, Ask::Command(add(&rt))),
+        Event::Cut(first),
+        Event::Take(second, 0),
+    ]);
+    let outcomes = outcomes.expect(&rt, "memory");
+    assert!(rt; matches!(outcomes.last(), Some(Outcome::Took(Ok(())))));
+    let replica = world.replica(second).expect(&rt, "a replica");
+    assert!(rt; replica.rows(0).next().is_some());
+}

@@ -1,0 +1,128 @@
+"""Runs the cases: programs on what stands in files below cases/, with what each must write.
+
+    ./test cases [NAME..]      all cases, or those of these folders and names, as two_sites or one_site/calls_are_counted;
+                               with --program KIND=PATH those of one kind by another program, as --program script=FILE
+
+A case is files of one stem. Its kind is the ending of the first, and tells which program runs it:
+
+    STEM.script                standard input of queue_sites
+    STEM.session               standard input of session_cases
+    STEM.frames                standard input of frame_cases
+    STEM.expected              what the program must write to standard output, byte for byte
+    STEM.words                 the words of the command line, one a line, where they are not those of the kind
+    STEM.status                the exit status that it must end with, where that is not 0
+"""
+import concurrent.futures
+import os
+import subprocess
+import sys
+import time
+from typing import NamedTuple
+
+from crates import TOP, folder
+from program_tests import Failed, first_difference, read
+
+CASES = f"{TOP}/cases"
+SECONDS_OF_A_CASE = 60
+
+
+class Kind(NamedTuple):
+    """A kind of cases: the program that runs them, and its words where a case has none of its own."""
+
+    program: str
+    words: list
+
+
+KINDS = {
+    "script": Kind("queue_sites", ["script", "1", "sales"]),
+    "session": Kind("session_cases", ["1024", "", "", "sales"]),
+    "frames": Kind("frame_cases", []),
+}
+PARTS = ("expected", "words", "status")
+
+
+class Case(NamedTuple):
+    """A case: its name, which is its stem below cases/, its kind, and which parts it has besides its input."""
+
+    name: str
+    kind: str
+    parts: set
+
+    def part(self, part):
+        """What a file of the case has; nothing where there is no such file."""
+        return read(f"{CASES}/{self.name}.{part}") if part in self.parts | {self.kind} else b""
+
+    def words(self):
+        """The words of the command line."""
+        return self.part("words").decode().split("\n")[:-1] if "words" in self.parts else KINDS[self.kind].words
+
+
+def is_named(case, names):
+    """Whether a case has one of these names, or stands in a folder of one of them; each case does where there is none."""
+    return not names or any(f"{case.name}/".startswith(f"{it}/") for it in names)
+
+
+def all_cases():
+    """All cases in the order of their names."""
+    found = {}
+    for at, _, files in os.walk(CASES):
+        for file in files:
+            stem, _, part = os.path.relpath(f"{at}/{file}", CASES).rpartition(".")
+            found.setdefault(stem, set()).add(part)
+    for stem, parts in found.items():
+        kinds, others = parts & set(KINDS), parts - set(KINDS) - set(PARTS)
+        if others or len(kinds) != 1 or "expected" not in parts:
+            files = ", ".join(f"{stem}.{it}" for it in sorted(parts))
+            raise Failed(f"cases: of one stem there is no whole case, or more: {files}")
+    return [Case(stem, *parts & set(KINDS), parts & set(PARTS)) for stem, parts in sorted(found.items())]
+
+
+def failure_of(case, program):
+    """Runs a case. Answers what differs; nothing where it passes."""
+    wanted, status = case.part("expected"), int(case.part("status") or 0)
+    try:
+        how = {"input": case.part(case.kind), "capture_output": True, "timeout": SECONDS_OF_A_CASE, "check": False}
+        ran = subprocess.run([program, *case.words()], **how)
+    except subprocess.TimeoutExpired:
+        return f"{case.name}: it does not end within {SECONDS_OF_A_CASE} seconds"
+    if (ran.stdout, ran.returncode) == (wanted, status):
+        return ""
+    told = first_difference(wanted, ran.stdout) if ran.stdout != wanted else "it writes what it should"
+    return f"{case.name}: {told}; the status should be {status} and is {ran.returncode}, and it told {ran.stderr!r}"
+
+
+def built(kind):
+    """The program of a kind, which is built where that is needed."""
+    program = KINDS[kind].program
+    if subprocess.run([f"{TOP}/tools/built", program], check=False).returncode:
+        raise Failed(f"cases: {program} could not be built")
+    return f"{folder(program)}/out/{program}"
+
+
+def run_all(kinds=tuple(KINDS), names=(), programs=None):
+    """Runs the cases of these kinds and names, by other programs where there are some. Answers lines that tell what was run."""
+    cases = [it for it in all_cases() if it.kind in kinds and is_named(it, names)]
+    if not cases:
+        raise Failed("cases: there is none of these names")
+    by = programs or {kind: built(kind) for kind in {it.kind for it in cases}}
+    started = time.monotonic()
+    with concurrent.futures.ThreadPoolExecutor(len(os.sched_getaffinity(0))) as threads:
+        failures = [it for it in threads.map(lambda it: failure_of(it, by[it.kind]), cases) if it]
+    if failures:
+        raise Failed("\n    ".join([f"{len(failures)} of {len(cases)} cases failed", *failures]))
+    return [f"{len(cases)} cases in {time.monotonic() - started:.1f} seconds"]
+
+
+def main(words):
+    """Runs the cases that these words tell. Answers the exit status."""
+    programs = {}
+    if words[:1] == ["--program"]:
+        kind, _, path = "".join(words[1:2]).partition("=")
+        programs, words = {kind: os.path.abspath(path)}, words[2:]
+    names = [it.removeprefix("cases/").rstrip("/") for it in words]
+    try:
+        print("\n".join(run_all(tuple(programs or KINDS), names, programs)))
+    except Failed as why:
+        print(f"test: {why}", file=sys.stderr)
+        return 1
+    return 0
