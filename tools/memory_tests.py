@@ -37,10 +37,17 @@ TESTS = [
     ),
     MemoryTest(
         crate="tests_of_sets",
-        name="joins::memory_of_joins",
-        what="two joins",
+        name="joins::memory_of_a_first_join",
+        what="a join into an empty set",
         whole="joined",
-        refused={"refused": "refused one with Memory, and left both of its sets as they were"},
+        refused={"refused": "refused it with Memory, and left both sets as they were"},
+    ),
+    MemoryTest(
+        crate="tests_of_sets",
+        name="joins::memory_of_a_join",
+        what="a join",
+        whole="joined",
+        refused={"refused": "refused it with Memory, and left both sets as they were"},
     ),
     MemoryTest(
         crate="tests_of_sites",

@@ -2,6 +2,7 @@
 use crate::lines::assert_lines;
 use crate::told::{list, member, name, site};
 use replica::Replica;
+use std::process::Abort;
 
 const LINES: &str = "\
 # A member is there until it is removed.
@@ -113,14 +114,28 @@ fn commands_are_done_or_refused(rt: HostRuntime) {
     assert_lines(&rt, rt.alloc(), LINES);
 }
 
+// Asserts the number of a site, and that it has two queues of which `support` is the second.
+fn assert_list(rt: &impl Abort, replica: &Replica) {
+    assert!(rt; replica.site().number() == 5);
+    assert!(rt; replica.list().len() == 2);
+    assert!(rt; replica.list().position(&name(rt, "support")) == Some(1));
+}
+
+// Asserts that a site knows nothing and has written and made nothing.
+fn assert_new(rt: &impl Abort, replica: &Replica) {
+    assert!(rt; replica.state().is_empty());
+    assert!(rt; replica.pending().is_empty());
+    assert!(rt; replica.last() == (0, 0, 0));
+    assert!(rt; replica.totals(1).is_zero());
+    assert!(rt; replica.rows(0).next().is_none());
+    assert!(rt; replica.row(&member(rt, "0/SIP/1")).is_none());
+}
+
 #[test]
 fn a_new_replica_knows_nothing(rt: HostRuntime) {
     let list = list(&rt, rt.alloc(), &mut "sales support".split_whitespace());
     let replica = Replica::new(rt.alloc(), site(&rt, "5"), list);
-    assert!(rt; replica.site().number() == 5 && replica.list().len() == 2);
-    assert!(rt; replica.list().position(&name(&rt, "support")) == Some(1));
-    assert!(rt; replica.state().is_empty() && replica.pending().is_empty());
-    assert!(rt; replica.last() == (0, 0, 0) && replica.totals(1).is_zero());
-    assert!(rt; replica.rows(0).next().is_none());
-    assert!(rt; replica.row(&member(&rt, "0/SIP/1")).is_none());
+    assert_list(&rt, &replica);
+    assert_new(&rt, &replica);
+    drop(replica);
 }

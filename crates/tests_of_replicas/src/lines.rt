@@ -107,15 +107,18 @@ fn answer_text(rt: &impl Abort, alloc: Global, answer: Result<(), Refusal>) -> S
     }
 }
 
+// Asserts that a site is as it was, unless what it gave is this.
+fn assert_kept(rt: &impl Abort, replica: &Replica, before: &Replica, given: &str, done: &str) {
+    assert!(rt; given == done || same(replica, before), "it has changed");
+}
+
 // What a command gives. One that is refused leaves the site as it was.
 fn answer(rt: &impl Abort, alloc: Global, replica: &mut Replica, command: Command) -> String {
     let before = copy_of(rt, replica);
-    let answer = ask(replica, command);
-    assert!(rt;
-        answer == Ok(()) || same(replica, &before),
-        "it has changed"
-    );
-    answer_text(rt, alloc, answer)
+    let given = answer_text(rt, alloc, ask(replica, command));
+    assert_kept(rt, replica, &before, given.as_str(), "done");
+    drop(before);
+    given
 }
 
 // Adds SIP/0, SIP/1 and so on, so many, to the queue `sales`. Whether each is done.
@@ -249,26 +252,36 @@ fn frame_copy(rt: &impl Abort, frame: &Frame) -> Frame {
 fn fault_text(rt: &impl Abort, alloc: Global, refused: (TakeFault, Frame), copy: &Frame) -> String {
     let (fault, back) = refused;
     assert!(rt; back.same(copy), "it has changed");
+    drop(back);
     format!(in alloc; "refused {fault:?}").expect(rt, "memory")
 }
 
-// What a frame gives. One that is refused comes back as it was, and leaves the site as it was.
-fn take(rt: &impl Abort, alloc: Global, replica: &mut Replica, frame: Frame) -> String {
-    let before = copy_of(rt, replica);
+// What a frame gives. One that is refused comes back as it was.
+fn hand_text(rt: &impl Abort, alloc: Global, replica: &mut Replica, frame: Frame) -> String {
     let copy = frame_copy(rt, &frame);
-    match hand(replica, frame) {
+    let given = match hand(replica, frame) {
         Ok(()) => string(rt, alloc, "taken"),
-        Err(refused) => {
-            assert!(rt; same(replica, &before), "it has changed");
-            fault_text(rt, alloc, refused, &copy)
-        }
-    }
+        Err(refused) => fault_text(rt, alloc, refused, &copy),
+    };
+    drop(copy);
+    given
 }
 
+// What a frame gives. One that is refused leaves the site as it was.
+fn take(rt: &impl Abort, alloc: Global, replica: &mut Replica, frame: Frame) -> String {
+    let before = copy_of(rt, replica);
+    let given = hand_text(rt, alloc, replica, frame);
+    assert_kept(rt, replica, &before, given.as_str(), "taken");
+    drop(before);
+    given
+}
+
+// What a frame gives that changes nothing.
 fn take_again(rt: &impl Abort, alloc: Global, replica: &mut Replica, frame: Frame) -> String {
     let before = copy_of(rt, replica);
-    let given = take(rt, alloc, replica, frame);
-    assert!(rt; same(replica, &before), "it has changed");
+    let given = hand_text(rt, alloc, replica, frame);
+    assert_kept(rt, replica, &before, given.as_str(), "");
+    drop(before);
     given
 }
 
@@ -391,44 +404,70 @@ fn given(
     }
 }
 
-// Two sites with the same queues, and the frames that they have made.
-#[derive(Drop)]
-struct World {
-    first: Replica,
-    second: Replica,
-    frames: Vec<Frame>,
+// A site that knows nothing yet.
+fn new_site(rt: &impl Abort, alloc: Global, number: &str, queues: &str) -> Replica {
+    let list = list(rt, alloc, &mut queues.split_whitespace());
+    Replica::new(alloc, site(rt, number), list)
 }
 
-// Two sites that know nothing yet.
-fn new_world(rt: &impl Abort, alloc: Global, queues: &mut Words<'_>) -> World {
-    let list = list(rt, alloc, queues);
-    let copy = list.copy().expect(rt, "memory");
-    World {
-        first: Replica::new(alloc, site(rt, "0"), list),
-        second: Replica::new(alloc, site(rt, "1"), copy),
-        frames: Vec::new(alloc),
-    }
+// Asserts what a line gives at one of two sites, whose number stands first.
+fn assert_given(
+    rt: &impl Abort,
+    alloc: Global,
+    first: &mut Replica,
+    second: &mut Replica,
+    frames: &mut Vec<Frame>,
+    words: &mut Words<'_>,
+    wanted: &str,
+) {
+    let replica = if word(rt, words) == "0" {
+        first
+    } else {
+        second
+    };
+    let given = given(rt, alloc, replica, frames, words);
+    assert_text(rt, given.as_str(), wanted);
 }
 
-// Asserts that each line gives what stands behind it. `queues` begins with two new sites of these
-// queues, and other lines are of the site whose number stands first. Lines without words, and those
-// that begin with `#`, say nothing.
-pub(crate) fn assert_lines(rt: &impl Abort, alloc: Global, lines: &str) {
-    let mut world = new_world(rt, alloc, &mut "sales".split_whitespace());
+fn assert_text(rt: &impl Abort, given: &str, wanted: &str) {
+    assert!(rt;
+        wanted.strip_prefix(' ') == Some(given),
+        "{given} is given, not{wanted}"
+    );
+}
+
+// Asserts that each of these lines gives what stands behind it. An empty one, or one that begins with `#`, says nothing.
+fn assert_each(
+    rt: &impl Abort,
+    alloc: Global,
+    first: &mut Replica,
+    second: &mut Replica,
+    lines: &str,
+) {
+    let mut frames = Vec::new(alloc);
     for line in lines.split('\n') {
-        let (told, wanted) = line.split_once(": ").unwrap_or((line, ""));
-        let mut words = told.split_whitespace();
-        match words.next() {
-            None | Some("#") => {}
-            Some("queues") => world = new_world(rt, alloc, &mut words),
-            Some(at) => {
-                let given = if at == "0" {
-                    given(rt, alloc, &mut world.first, &mut world.frames, &mut words)
-                } else {
-                    given(rt, alloc, &mut world.second, &mut world.frames, &mut words)
-                };
-                assert!(rt; given.as_str() == wanted, "{line} gives {given}");
-            }
+        if !line.is_empty() && !line.starts_with('#') {
+            let (told, wanted) = parts(rt, line, ':');
+            let words = &mut told.split_whitespace();
+            assert_given(rt, alloc, first, second, &mut frames, words, wanted);
         }
+    }
+    drop(frames);
+}
+
+// Asserts lines at two new sites; the first line has their queues.
+fn assert_story(rt: &impl Abort, alloc: Global, story: &str) {
+    let (queues, lines) = story.split_once('\n').expect(rt, story);
+    let mut first = new_site(rt, alloc, "0", queues);
+    let mut second = new_site(rt, alloc, "1", queues);
+    assert_each(rt, alloc, &mut first, &mut second, lines);
+    drop(first);
+    drop(second);
+}
+
+// Asserts stories. Each begins at a line `queues`, with two new sites of the queues that stand behind it.
+pub(crate) fn assert_lines(rt: &impl Abort, alloc: Global, lines: &str) {
+    for story in lines.split("\nqueues ").skip(1) {
+        assert_story(rt, alloc, story);
     }
 }

@@ -4,7 +4,7 @@ use crate::member_sets::{
     penalty, set_of,
 };
 use causal_context::Context;
-use dots::{Dot, SiteId};
+use dots::SiteId;
 use member_orset::{CellId, MemberSet, SetBuilder};
 use std::alloc::Global;
 use std::process::Abort;
@@ -17,20 +17,32 @@ fn id_of(rt: &impl Abort, set: &MemberSet, told: ToldDot, of: ToldMember) -> Cel
     id
 }
 
+// Asserts that an id answers nothing, and that the first dot has none.
+fn assert_dead(rt: &impl Abort, set: &MemberSet, id: CellId) {
+    assert!(rt; set.at(id).is_none() && set.id(dot(rt, FIRST)).is_none());
+}
+
+// Joins a set with the first dot and another one into one of the first dot. It then lets the first dot be dead, and one more be live.
+fn assert_ids(rt: &impl Abort, set: &mut MemberSet, joined: MemberSet) {
+    let first = id_of(rt, set, FIRST, SIP_1);
+    assert!(rt; set.join(joined).is_ok());
+    let other = id_of(rt, set, OTHER, SIP_2);
+    assert!(rt; id_of(rt, set, FIRST, SIP_1) == first && other != first);
+    change_all(rt, set, &[Told::Kill(FIRST)]);
+    assert_dead(rt, set, first);
+    change_all(rt, set, &[Told::Put(SECOND, SIP_2, 6, 8)]);
+    assert_dead(rt, set, first);
+    let second = id_of(rt, set, SECOND, SIP_2);
+    assert!(rt; second != first && id_of(rt, set, OTHER, SIP_2) == other);
+}
+
 #[test]
 fn an_id_answers_while_its_dot_is_live(rt: HostRuntime) {
     const JOINED: &[Told] = &[Told::Put(FIRST, SIP_1, 6, 8), Told::Put(OTHER, SIP_2, 5, 7)];
+    let joined = set_of(&rt, rt.alloc(), JOINED);
     let mut set = set_of(&rt, rt.alloc(), &[Told::Put(FIRST, SIP_1, 5, 7)]);
-    let first = id_of(&rt, &set, FIRST, SIP_1);
-    assert!(rt; set.join(set_of(&rt, rt.alloc(), JOINED)).is_ok());
-    let other = id_of(&rt, &set, OTHER, SIP_2);
-    assert!(rt; id_of(&rt, &set, FIRST, SIP_1) == first && other != first);
-    for told in [Told::Kill(FIRST), Told::Put(SECOND, SIP_2, 6, 8)] {
-        change_all(&rt, &mut set, &[told]);
-        assert!(rt; set.at(first).is_none() && set.id(dot(&rt, FIRST)).is_none());
-    }
-    let second = id_of(&rt, &set, SECOND, SIP_2);
-    assert!(rt; second != first && id_of(&rt, &set, OTHER, SIP_2) == other);
+    assert_ids(&rt, &mut set, joined);
+    drop(set);
 }
 
 // A set that was built of one live dot, the second of two dots of site 0 that are known, and the id of that dot.
@@ -50,21 +62,32 @@ fn built(rt: &impl Abort, alloc: Global) -> (MemberSet, CellId) {
 #[test]
 fn a_builder_answers_the_ids_of_the_set(rt: HostRuntime) {
     let (set, id) = built(&rt, rt.alloc());
-    assert!(rt; id_of(&rt, &set, SECOND, SIP_1) == id);
-    assert!(rt; set.id(dot(&rt, FIRST)).is_none() && set.cells() == 1);
+    assert_built(&rt, &set, id);
+    drop(set);
+}
+
+// Asserts that the second dot alone has this id.
+fn assert_built(rt: &impl Abort, set: &MemberSet, id: CellId) {
+    assert!(rt; id_of(rt, set, SECOND, SIP_1) == id);
+    assert!(rt; set.id(dot(rt, FIRST)).is_none() && set.cells() == 1);
+}
+
+// Lets a dot of a site be live and dead again.
+fn come_and_go(rt: &impl Abort, set: &mut MemberSet, count: u64) {
+    change_all(
+        rt,
+        set,
+        &[Told::Put((0, count), SIP_1, 5, 7), Told::Kill((0, count))],
+    );
 }
 
 // More dots than there are places at once, each let live and let dead before the next.
 #[test]
 fn places_are_used_again(rt: HostRuntime) {
-    let site = SiteId::new(0).expect(&rt, "a site");
-    let of = member(&rt, SIP_1);
-    let fields = penalty(&rt, 5, 7);
     let mut set = MemberSet::new(rt.alloc());
     for count in 1..1_048_578 {
-        let next = Dot::new(site, count).expect(&rt, "a dot");
-        set.assert(next, &of, &fields).expect(&rt, "a change");
-        set.kill(next).expect(&rt, "a change");
+        come_and_go(&rt, &mut set, count);
     }
     assert!(rt; set.cells() == 0 && set.retired() == 0 && set.context().runs() == 1);
+    drop(set);
 }

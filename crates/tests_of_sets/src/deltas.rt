@@ -57,16 +57,33 @@ fn assert_same(rt: &impl Abort, delta: &Delta, other: &Delta, wanted: bool) {
     assert!(rt; delta.same(other) == wanted);
 }
 
+// Asserts whether a delta is what is made of these parts.
+fn assert_is(rt: &impl Abort, alloc: Global, delta: &Delta, parts: Parts, wanted: bool) {
+    let other = delta_of(rt, alloc, parts);
+    assert_same(rt, delta, &other, wanted);
+    drop(other);
+}
+
+// Asserts that of the deltas the one at this place alone says the same.
+fn assert_same_as_one(rt: &impl Abort, alloc: Global, delta: &Delta, place: usize) {
+    for (other, parts) in DELTAS.iter().enumerate() {
+        assert_is(rt, alloc, delta, *parts, place == other);
+    }
+}
+
+fn assert_empty(rt: &impl Abort, delta: &Delta, wanted: bool) {
+    assert!(rt; delta.is_empty() == wanted);
+}
+
 #[test]
 fn a_delta_is_the_same_as_its_copy_alone(rt: HostRuntime) {
-    for place in 0..DELTAS.len() {
-        let delta = delta_of(&rt, rt.alloc(), DELTAS[place]);
-        assert!(rt; delta.is_empty() == (place == 0));
+    for (place, parts) in DELTAS.iter().enumerate() {
+        let delta = delta_of(&rt, rt.alloc(), *parts);
+        assert_empty(&rt, &delta, place == 0);
         let copy = copy_of(&rt, &delta);
-        for other in 0..DELTAS.len() {
-            let delta = delta_of(&rt, rt.alloc(), DELTAS[other]);
-            assert_same(&rt, &copy, &delta, place == other);
-        }
+        assert_same_as_one(&rt, rt.alloc(), &copy, place);
+        drop(delta);
+        drop(copy);
     }
 }
 
@@ -92,19 +109,29 @@ fn absorb(rt: &impl Abort, delta: &mut Delta, other: Delta) {
 fn assert_parts(rt: &impl Abort, delta: Delta, cells: usize, completed: u64) {
     let (members, totals) = delta.into_parts();
     assert!(rt; members.cells() == cells && totals.sum(0).completed == completed);
+    drop(members);
+    drop(totals);
 }
 
 #[test]
 fn a_delta_is_absorbed_where_it_is_prepared(rt: HostRuntime) {
+    let nothing = Delta::empty(rt.alloc());
     let mut delta = delta_of(&rt, rt.alloc(), NOTHING);
     let three = delta_of(&rt, rt.alloc(), LIVE_AND_THREE);
     assert_agree(&rt, &delta, &three, true);
     assert_prepared(&rt, &delta, &three, false);
     prepare(&rt, &mut delta, &three, Ok(()));
-    assert_same(&rt, &delta, &Delta::empty(rt.alloc()), true);
+    assert_same(&rt, &delta, &nothing, true);
     absorb(&rt, &mut delta, three);
-    assert_prepared(&rt, &delta, &Delta::empty(rt.alloc()), true);
+    assert_prepared(&rt, &delta, &nothing, true);
     assert_parts(&rt, delta, 1, 3);
+    drop(nothing);
+}
+
+// Asserts that two deltas don't agree, and that the first isn't prepared for the second.
+fn assert_conflict(rt: &impl Abort, delta: &Delta, other: &Delta) {
+    assert_agree(rt, delta, other, false);
+    assert_prepared(rt, delta, other, false);
 }
 
 // Joins a delta that is in conflict, which comes back.
@@ -120,13 +147,12 @@ fn refused(rt: &impl Abort, delta: &mut Delta, other: Delta) -> Delta {
 fn a_conflict_gives_the_other_delta_back(rt: HostRuntime) {
     let mut delta = delta_of(&rt, rt.alloc(), LIVE_AND_THREE);
     let another = delta_of(&rt, rt.alloc(), OF_ANOTHER);
-    for (one, other) in [(&delta, &another), (&another, &delta)] {
-        assert_agree(&rt, one, other, false);
-        assert_prepared(&rt, one, other, false);
-    }
+    assert_conflict(&rt, &delta, &another);
+    assert_conflict(&rt, &another, &delta);
     prepare(&rt, &mut delta, &another, Err(JoinFault::Conflict));
     let back = refused(&rt, &mut delta, another);
-    for (left, parts) in [(&delta, LIVE_AND_THREE), (&back, OF_ANOTHER)] {
-        assert_same(&rt, left, &delta_of(&rt, rt.alloc(), parts), true);
-    }
+    assert_is(&rt, rt.alloc(), &delta, LIVE_AND_THREE, true);
+    assert_is(&rt, rt.alloc(), &back, OF_ANOTHER, true);
+    drop(delta);
+    drop(back);
 }

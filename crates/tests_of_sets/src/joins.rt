@@ -6,6 +6,7 @@ use crate::member_sets::{
 };
 use member_orset::{JoinFault, MemberSet};
 use std::alloc::Global;
+use std::io::Print;
 use std::process::Abort;
 
 // A set of so many live dots of site 0, of every second count from a first one on.
@@ -52,6 +53,7 @@ fn join_halves(rt: &impl Abort, alloc: Global, full: &MemberSet, first: u64, sec
     join_copy(rt, &mut set, full);
     assert_same(rt, &set, full);
     assert!(rt; id.is_some() && set.id(dot(rt, FIRST)) == id);
+    drop(set);
 }
 
 #[test]
@@ -59,6 +61,7 @@ fn two_halves_make_a_full_set(rt: HostRuntime) {
     let full = full_set(&rt, rt.alloc());
     join_halves(&rt, rt.alloc(), &full, 1, 2);
     join_halves(&rt, rt.alloc(), &full, 2, 1);
+    drop(full);
 }
 
 // A set that has a limit's number of something.
@@ -81,16 +84,29 @@ fn large_set(rt: &impl Abort, alloc: Global, large: Large) -> MemberSet {
     }
 }
 
-// Asserts that a join is refused for this cause, that both sets say what they said, and that the first dot has the id that it had.
-fn assert_refused(rt: &impl Abort, set: &mut MemberSet, other: MemberSet, fault: JoinFault) {
+// Asserts that a set refuses a join for this cause, and gives the other one back as it was. The set says what it said.
+fn assert_kept(rt: &impl Abort, set: &mut MemberSet, other: MemberSet, fault: JoinFault) {
     let before = copy_of(rt, set);
-    let other_before = copy_of(rt, &other);
-    let id = set.id(dot(rt, FIRST));
+    assert_fault(rt, set, other, fault);
+    assert!(rt; set.same(&before) && set.retired() == 0);
+    drop(before);
+}
+
+fn assert_fault(rt: &impl Abort, set: &mut MemberSet, other: MemberSet, fault: JoinFault) {
+    let before = copy_of(rt, &other);
     let Err((cause, back)) = set.join(other) else {
         rt.panic("not refused");
     };
-    assert!(rt; cause == fault && set.same(&before) && back.same(&other_before));
-    assert!(rt; set.id(dot(rt, FIRST)) == id && set.retired() == 0);
+    assert!(rt; cause == fault && back.same(&before));
+    drop(back);
+    drop(before);
+}
+
+// Asserts that a join is refused for this cause, that both sets say what they said, and that the first dot has the id that it had.
+fn assert_refused(rt: &impl Abort, set: &mut MemberSet, other: MemberSet, fault: JoinFault) {
+    let id = set.id(dot(rt, FIRST));
+    assert_kept(rt, set, other, fault);
+    assert!(rt; set.id(dot(rt, FIRST)) == id);
 }
 
 #[test]
@@ -112,6 +128,7 @@ fn refused_joins_change_nothing(rt: HostRuntime) {
     for (large, changes, fault) in JOINS {
         let mut set = large_set(&rt, rt.alloc(), *large);
         assert_refused(&rt, &mut set, set_of(&rt, rt.alloc(), changes), *fault);
+        drop(set);
     }
 }
 
@@ -136,28 +153,50 @@ fn is_joined(
     };
     assert!(rt; fault == JoinFault::Memory);
     assert!(rt; set.same(before.0) && back.same(before.1));
+    drop(back);
     false
 }
 
-// Joins 40 live dots into an empty set, and 100 into one of 10 live dots, of which 5 are dead then. tools/memory_tests.py runs
-// this test with each allocation refused in turn.
-#[test]
-fn memory_of_joins(rt: HostRuntime) {
-    let mut empty = MemberSet::new(rt.alloc());
-    let mut forty = MemberSet::new(rt.alloc());
-    put_dots(&rt, &mut forty, 1, 40);
-    kill_dots(&rt, &mut forty, 2, 20);
-    let mut ten = MemberSet::new(rt.alloc());
-    put_dots(&rt, &mut ten, 0, 10);
-    kill_dots(&rt, &mut ten, 2, 10);
-    let mut hundred = MemberSet::new(rt.alloc());
-    put_dots(&rt, &mut hundred, 1, 100);
-    kill_dots(&rt, &mut hundred, 0, 5);
-    let (empty_before, forty_before) = (copy_of(&rt, &empty), copy_of(&rt, &forty));
-    let (ten_before, hundred_before) = (copy_of(&rt, &ten), copy_of(&rt, &hundred));
+// Joins a set, whatever memory there is, and prints how that ended.
+fn join_if_it_can(rt: &(impl Abort + Print), set: &mut MemberSet, other: MemberSet) {
+    let before = copy_of(rt, set);
+    let other_before = copy_of(rt, &other);
     assert!(rt; println!(rt; "ready").is_ok());
-    let first = is_joined(&rt, &mut empty, forty, (&empty_before, &forty_before));
-    let second = is_joined(&rt, &mut ten, hundred, (&ten_before, &hundred_before));
-    let end = if first && second { "joined" } else { "refused" };
+    let end = if is_joined(rt, set, other, (&before, &other_before)) {
+        "joined"
+    } else {
+        "refused"
+    };
     assert!(rt; println!(rt; "{end}").is_ok());
+    drop(before);
+    drop(other_before);
+}
+
+// A set of so many live dots of a site, and of so many dead dots of another one.
+fn live_and_dead(rt: &impl Abort, alloc: Global, live: (u16, u64), dead: (u16, u64)) -> MemberSet
+    requires live { live.1 ≤ 65536 }
+    requires dead { dead.1 ≤ 65536 }
+{
+    let mut set = MemberSet::new(alloc);
+    put_dots(rt, &mut set, live.0, live.1);
+    kill_dots(rt, &mut set, dead.0, dead.1);
+    set
+}
+
+// Joins 40 live dots into an empty set. tools/memory_tests.py runs this test with each allocation refused in turn, and the next one.
+#[test]
+fn memory_of_a_first_join(rt: HostRuntime) {
+    let mut empty = MemberSet::new(rt.alloc());
+    let forty = live_and_dead(&rt, rt.alloc(), (1, 40), (2, 20));
+    join_if_it_can(&rt, &mut empty, forty);
+    drop(empty);
+}
+
+// Joins 100 live dots into a set of 10, of which 5 are dead then.
+#[test]
+fn memory_of_a_join(rt: HostRuntime) {
+    let mut ten = live_and_dead(&rt, rt.alloc(), (0, 10), (2, 10));
+    let hundred = live_and_dead(&rt, rt.alloc(), (1, 100), (0, 5));
+    join_if_it_can(&rt, &mut ten, hundred);
+    drop(ten);
 }

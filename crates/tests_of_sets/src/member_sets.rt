@@ -114,8 +114,11 @@ fn assert_state(rt: &impl Abort, set: &MemberSet, told: ToldDot, state: State) {
     assert!(rt; penalty_of(set, dot) == state.1);
 }
 
-// Changes of one set, with what each gives, and what is known of the first and of the second dot then.
-const CHANGES: &[(Told, Result<(), JoinFault>, State, State)] = &[
+// A change, what it gives, and what is known of the first and of the second dot then.
+type Change = (Told, Result<(), JoinFault>, State, State);
+
+// Changes of one set.
+const CHANGES: &[Change] = &[
     (
         Told::Put(FIRST, SIP_1, 5, 7),
         Ok(()),
@@ -152,18 +155,28 @@ const CHANGES: &[(Told, Result<(), JoinFault>, State, State)] = &[
     (Told::Put(SECOND, SIP_1, 6, 8), Ok(()), DEAD, DEAD),
 ];
 
+fn assert_there(rt: &impl Abort, set: &MemberSet, of: ToldMember, wanted: bool) {
+    assert!(rt; set.contains(&member(rt, of)) == wanted);
+}
+
+// Does a change, and asserts what it gives and what is known then. The first dot is of SIP/1, and no dot lives of SIP/2.
+fn assert_change(rt: &impl Abort, set: &mut MemberSet, row: &Change) {
+    let (told, given, first, second) = row;
+    assert!(rt; change(rt, set, *told) == *given);
+    assert_state(rt, set, FIRST, *first);
+    assert_state(rt, set, SECOND, *second);
+    assert_there(rt, set, SIP_1, first.1.is_some());
+    assert_there(rt, set, SIP_2, false);
+    assert!(rt; set.cells() == usize::from(first.1.is_some()) && set.retired() == 0);
+}
+
 #[test]
 fn asserts_and_kills_are_told(rt: HostRuntime) {
     let mut set = MemberSet::new(rt.alloc());
-    for (told, given, first, second) in CHANGES {
-        assert!(rt; change(&rt, &mut set, *told) == *given);
-        assert_state(&rt, &set, FIRST, *first);
-        assert_state(&rt, &set, SECOND, *second);
-        for (of, there) in [(SIP_1, first.1.is_some()), (SIP_2, false)] {
-            assert!(rt; set.contains(&member(&rt, of)) == there);
-        }
-        assert!(rt; set.cells() == usize::from(first.1.is_some()) && set.retired() == 0);
+    for row in CHANGES {
+        assert_change(&rt, &mut set, row);
     }
+    drop(set);
 }
 
 // Two given dots, dots that are or aren't seen below them, and in how many runs all are that are seen. A live dot isn't seen, and a given
@@ -257,6 +270,7 @@ fn what_is_read_of_a_set(rt: HostRuntime) {
     }
     assert_member(&rt, &set);
     assert_dead(&rt, rt.alloc(), &set);
+    drop(set);
 }
 
 // A set with 16,384 live dots of site 0.
@@ -280,5 +294,7 @@ fn at_most_16384_dots_are_live(rt: HostRuntime) {
         &[Told::Kill((0, 9)), ONE_MORE, Told::Kill((0, 8))],
     );
     let one = set_of(&rt, rt.alloc(), &[Told::Put((1, 2), SIP_1, 5, 7)]);
-    assert!(rt; set.join(one).is_ok() && set.cells() == 16_384);
+    assert!(rt; set.join(one).is_ok());
+    assert!(rt; set.cells() == 16_384);
+    drop(set);
 }

@@ -56,4 +56,5 @@ fn each_of_256_queues_of_a_site_has_its_place(rt: HostRuntime) {
     let replica = Replica::new(alloc, site(&rt, 5), list);
     assert!(rt; replica.site().number() == 5);
     assert_places(&rt, alloc, replica.list());
+    drop(replica);
 }
