@@ -1,4 +1,4 @@
-ghost use Rattle.std.specs.Prelude.{◌≡◌};
+ghost use Rattle.std.specs.Prelude.{◌≡◌, ◌↔◌, IsTrue};
 
 use dots::{Interface, Label, Pause, Penalty, QueueName};
 
@@ -113,6 +113,80 @@ impl Command {
             Command::Abandoned { queue } => Command::Abandoned {
                 queue: queue.copy(),
             },
+        }
+    }
+
+    /// Whether it is the same command as the other. It takes no memory.
+    pub fn same(&self, other: &Command) -> bool
+        ensures { IsTrue result ↔ (self.now ≡ other.now) }
+    {
+        match (self, other) {
+            (
+                Command::Add {
+                    queue,
+                    interface,
+                    penalty,
+                    paused,
+                    label,
+                },
+                Command::Add {
+                    queue: other_queue,
+                    interface: other_interface,
+                    penalty: other_penalty,
+                    paused: other_paused,
+                    label: other_label,
+                },
+            ) => {
+                *queue == *other_queue
+                    && *interface == *other_interface
+                    && *penalty == *other_penalty
+                    && *paused == *other_paused
+                    && *label == *other_label
+            }
+            (
+                Command::Remove { queue, interface },
+                Command::Remove {
+                    queue: other_queue,
+                    interface: other_interface,
+                },
+            ) => *queue == *other_queue && *interface == *other_interface,
+            (
+                Command::Pause {
+                    queue,
+                    interface,
+                    pause,
+                },
+                Command::Pause {
+                    queue: other_queue,
+                    interface: other_interface,
+                    pause: other_pause,
+                },
+            ) => {
+                *queue == *other_queue && *interface == *other_interface && *pause == *other_pause
+            }
+            (
+                Command::Penalty {
+                    queue,
+                    interface,
+                    penalty,
+                },
+                Command::Penalty {
+                    queue: other_queue,
+                    interface: other_interface,
+                    penalty: other_penalty,
+                },
+            ) => {
+                *queue == *other_queue
+                    && *interface == *other_interface
+                    && *penalty == *other_penalty
+            }
+            (Command::Completed { queue }, Command::Completed { queue: other_queue }) => {
+                *queue == *other_queue
+            }
+            (Command::Abandoned { queue }, Command::Abandoned { queue: other_queue }) => {
+                *queue == *other_queue
+            }
+            _ => false,
         }
     }
 }

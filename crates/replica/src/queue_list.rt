@@ -1,5 +1,5 @@
 ghost use Rattle.std.specs.Prelude.{◌≡◌, ◌↔◌, ◌<◌, ◌≤◌, length, Some, slice_get, option_map};
-ghost use Rattle.std.specs.Prelude.{Contains, IfSome, IfNone, IfOk, OnOk, IsErrOf};
+ghost use Rattle.std.specs.Prelude.{Contains, IfSome, IfNone, IfOk, OnOk, IsErrOf, IsTrue};
 ghost use Rattle.replica.specs.Queues.{AreDistinct, AreQueues, number_of};
 
 use dots::{Memory, QUEUES, QueueName};
@@ -81,6 +81,13 @@ impl QueueList {
             Ok(copy) => Ok(copy),
             Err(_) => Err(Memory),
         }
+    }
+
+    /// Whether it has the same names as the other, in the same order. It takes no memory.
+    pub fn same(&self, other: &QueueList) -> bool
+        ensures { IsTrue result ↔ (self.now ≡ other.now) }
+    {
+        self.names.as_slice() == other.names.as_slice()
     }
 
     /// The place of the queue of this name, from 0. `None` exactly where the name isn't in the list.
