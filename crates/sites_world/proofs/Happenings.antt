@@ -3,8 +3,8 @@ use Rattle.std.specs.Option.{option_map}
 use Rattle.delta.specs.Frames.{IsInRanges}
 use Rattle.std.proofs.lemmas.Bool.{and_parts}
 use Rattle.std.proofs.Common.{◌≡◌, ◌<◌, ◌≤◌, ◌+◌, inl, inr, ℕ, Bool, true, false, List, [], ◌∷◌, ◌++◌, append-nil, length, slice_get, slice_set, Some, None, refl, sym, ap, subst, ◌∙◌, if◌then◌else◌, arith, ◌&&◌, is_some, true≢false, Option, IfSome}
-use Rattle.std.proofs.lemmas.List.{length-append, length-replicate, set-get_or}
-use Rattle.std.proofs.lemmas.Option.{get_or_from_slice_get, slice_get_within}
+use Rattle.std.proofs.lemmas.List.{length-append, length-replicate}
+use Rattle.std.proofs.lemmas.Option.{slice_get_within}
 use Rattle.delta.specs.declared.frame.Frame.{Frame}
 use Rattle.replica.specs.Site.{SiteState}
 use Rattle.replica.specs.Standing.{StandsFor}
@@ -19,7 +19,7 @@ use Rattle.sites_world.specs.Telling.{HasAdded, HasHappenedAt, IsFramedSo, IsTak
 use Rattle.sites_world.specs.Worlds.{Entry, IsReached, World, done_of, entries_of, framed, frame_told, happens, happens_at, happens_where, is_done, new_world, outcomes_of, run, site_of, taken, has_entry, is_there}
 use Rattle.sites_world.specs.WorldStates.{Correspond, HasHappened, HaveHappened, IsFrameOf, IsSiteOf, IsWorld, StandsForWorld, WorldState, are_there}
 use Rattle.sites_world.proofs.KnownTogether.{in-parts}
-use Rattle.sites_world.proofs.Lists.{correspond-get, correspond-none, correspond-push, correspond-set, get-replicate, none-some, place-in, some-within}
+use Rattle.sites_world.proofs.Lists.{correspond-get, correspond-none, correspond-push, correspond-set, get-replicate, none-some, place-in, set-again, some-within}
 use Rattle.sites_world.proofs.MayTake.{may-take}
 
 -- ---- at one site
@@ -122,9 +122,6 @@ module _ (names_of_queues : List (List ℕ)) (sites : List SiteState) (pool : Li
           kept : Correspond (IsSiteOf names_of_queues) (slice_set sites (site_of e) new) w.sites
           kept = subst (Correspond (IsSiteOf names_of_queues) (slice_set sites (site_of e) new)) (set-again w.sites (site_of e) s known)
               (correspond-set (IsSiteOf names_of_queues) sites w.sites stands.sites (site_of e) new s within (stands-there s known_so))
-            where
-              set-again : {X : Type 0} (xs : List X) (i : ℕ) (x : X) → slice_get xs i ≡ Some x → slice_set xs i x ≡ xs
-              set-again xs i x is = ap (slice_set xs i) (sym (get_or_from_slice_get xs i x x is)) ∙ set-get_or xs i x
 
   pub at-site-happened : (e : Event) (at : ℕ) (state new : SiteState) (grown : List Frame) (o : Outcome) → at ≡ site_of e → slice_get sites at ≡ Some state
       → new.site ≡ state.site → new.names ≡ state.names → (o ≡ NoMemory → has_entry w e ≡ true)
@@ -244,7 +241,25 @@ none-happened state w outcomes none stands = subst (HaveHappened state w []) (sy
 
 -- ---- the worlds that sites stand for
 
--- after events there is still one
+-- after an event there is still one
+pub world-after-event : (names_of_queues : List (List ℕ)) (sites new_sites : List SiteState) (pool new_pool : List Frame) (e : Event) (o : Outcome)
+    → IsWorld (record { names = names_of_queues; sites = sites; pool = pool }) → length new_sites ≡ length sites
+    → ((w : World) → IsReached names_of_queues (length sites) w → StandsForWorld (record { names = names_of_queues; sites = sites; pool = pool }) w
+    → HasHappened (record { names = names_of_queues; sites = new_sites; pool = new_pool }) w e o)
+    → IsWorld (record { names = names_of_queues; sites = new_sites; pool = new_pool })
+world-after-event names_of_queues sites new_sites pool new_pool e o is count happened = by (happened is.world is.reached is.stands)
+  where
+    after : WorldState
+    after = record { names = names_of_queues; sites = new_sites; pool = new_pool }
+
+    standing : (w : World) → IsReached names_of_queues (length sites) w → StandsForWorld after w → IsWorld after
+    standing w reached stands = record { world = w; reached = subst (λ n. IsReached names_of_queues n w) (sym count) reached; stands = stands }
+
+    by : HasHappened after is.world e o → IsWorld after
+    by (inl (done, outcome_is, stands)) = standing (happens names_of_queues is.world e).0 (reached-more names_of_queues (length sites) is.world (e ∷ []) is.reached) stands
+    by (inr (none, there, stands)) = standing is.world is.reached stands
+
+-- and after events
 pub world-after : (names_of_queues : List (List ℕ)) (sites new_sites : List SiteState) (pool new_pool : List Frame) (events : List Event) (outcomes : List Outcome)
     → IsWorld (record { names = names_of_queues; sites = sites; pool = pool }) → length new_sites ≡ length sites
     → ((w : World) → IsReached names_of_queues (length sites) w → StandsForWorld (record { names = names_of_queues; sites = sites; pool = pool }) w

@@ -8,6 +8,7 @@ mod KnownTogether
 mod ToldAnswers
 mod MayTake
 mod Happenings
+mod Unchanged
 mod OutcomeLaws
 mod TakenEntries
 mod VisibleCounts

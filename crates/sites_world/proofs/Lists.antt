@@ -1,7 +1,7 @@
 -- Elements of lists by their places, and lists that correspond.
 use Rattle.std.proofs.Common.{◌≡◌, ◌<◌, ◌≤◌, ◌+◌, ◌⊎◌, inl, inr, ℕ, Bool, true, false, nat_lt, zero, suc, List, [], ◌∷◌, ◌++◌, length, map as each, replicate, get_or, slice_get, slice_set, Contains, Option, Some, None, refl, sym, ap, subst, ◌∙◌, arith}
 use Rattle.std.proofs.lemmas.Bool.Decides.{nat_tests}
-use Rattle.std.proofs.lemmas.List.{get_or-replicate, length-append, length-replicate, length-set}
+use Rattle.std.proofs.lemmas.List.{get_or-replicate, length-append, length-replicate, length-set, set-get_or}
 use Rattle.std.proofs.lemmas.List.Elements.{Contains-get_or}
 use Rattle.std.proofs.lemmas.Option.{get_or_from_slice_get, slice_get-get_or, slice_get_past, slice_get_within}
 use Rattle.dots.proofs.Membership.{cases-in, first-in, later-in, nothing-in}
@@ -50,6 +50,10 @@ get-set-other (y ∷ ys) zero zero x apart = absurd (apart refl)
 get-set-other (y ∷ ys) zero (suc j) x apart = refl
 get-set-other (y ∷ ys) (suc i) zero x apart = refl
 get-set-other (y ∷ ys) (suc i) (suc j) x apart = get-set-other ys i j x (λ e. apart (ap suc e))
+
+-- the element that is at a place, put there again, changes nothing
+pub set-again : {X : Type 0} (xs : List X) (i : ℕ) (x : X) → slice_get xs i ≡ Some x → slice_set xs i x ≡ xs
+set-again xs i x is = ap (slice_set xs i) (sym (get_or_from_slice_get xs i x x is)) ∙ set-get_or xs i x
 
 -- each element of equal ones is the one
 pub get-replicate : {X : Type 0} (n : ℕ) (x : X) (i : ℕ) (y : X) → slice_get (replicate n x) i ≡ Some y → y ≡ x

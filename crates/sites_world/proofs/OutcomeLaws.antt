@@ -3,8 +3,6 @@ use Rattle.replica.specs.Queues.{number_of}
 use Rattle.std.proofs.Common.{◌≡◌, ◌≢◌, ◌↔◌, inl, inr, ℕ, suc, Bool, true, false, ◌||◌, nat_lt, List, [], ◌∷◌, ◌++◌, append-nil, length, slice_get, slice_set, Option, Some, None, Ok, Err, refl, sym, ap, ◌∙◌, true≢false, if◌then◌else◌, is_some}
 use Rattle.std.specs.FinSet as set
 use Rattle.std.specs.Prelude.{⊤}
-use Rattle.std.proofs.lemmas.List.{set-get_or}
-use Rattle.std.proofs.lemmas.Option.{get_or_from_slice_get}
 use Rattle.dots.specs.declared.limits.TheConstants.{MOST_COUNT, MOST_LIVE, MOST_RUNS}
 use Rattle.dots.specs.declared.member.Member.{Member}
 use Rattle.dots.specs.Values.{Dot}
@@ -28,7 +26,7 @@ use Rattle.sites_world.specs.declared.outcome.Outcome.TheVariants as outcome
 use Rattle.sites_world.specs.Outcomes.{IsAnswerTo, IsOutcomeOf, IsToldRefusal, changes_nothing}
 use Rattle.sites_world.specs.Worlds.{Entry, Happening, World, answered, framed, happens, happens_at, happens_where, has_entry, site_of, take_told, taken}
 use Rattle.sites_world.specs.Promises.{TellNoEntry, TellNoSite}
-use Rattle.sites_world.proofs.Lists.{none-some}
+use Rattle.sites_world.proofs.Lists.{none-some, set-again}
 
 -- ---- which outcomes
 
@@ -214,10 +212,6 @@ at-stays names pool s (event.Ask site asked) h = ask-stays site names s asked h
 at-stays names pool s (event.Cut site) h = cut-stays site (length pool) s s.buffer h
 at-stays names pool s (event.Whole site) h = frame-stays site (length pool) s s.known s.buffer h
 at-stays names pool s (event.Take site place) h = take-stays s (slice_get pool place) h
-
--- the same element put in again
-set-again : {X : Type 0} (xs : List X) (i : ℕ) (x : X) → slice_get xs i ≡ Some x → slice_set xs i x ≡ xs
-set-again xs i x is = ap (slice_set xs i) (sym (get_or_from_slice_get xs i x x is)) ∙ set-get_or xs i x
 
 pub refusals-change-nothing : (names : List (List ℕ)) (w : World) (e : Event) → changes_nothing (happens names w e).1 ≡ true → (happens names w e).0 ≡ w
 refusals-change-nothing names w e h = by (slice_get w.sites (site_of e)) refl h

@@ -71,3 +71,8 @@ HasHappenedAt new s old pool entries h o =
 abbrev pub HasEntry : List Frame → Event → Type 0
 HasEntry pool (event.Take site entry) = entry < length pool
 HasEntry pool other = ⊤
+
+-- an event is that something is asked
+abbrev pub IsAsk : Event → Type 0
+IsAsk (event.Ask site asked) = ⊤
+IsAsk other = ⊥

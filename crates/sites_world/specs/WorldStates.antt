@@ -5,6 +5,7 @@ use Rattle.std.specs.Coded.{Coded, code_by, coded×, coded_ℕ, coded_list}
 use Rattle.delta.specs.DeltaStates.{DeltaState, delta_code}
 use Rattle.delta.specs.Standing.{IsDeltaOf}
 use Rattle.delta.specs.declared.frame.Frame.{Frame}
+use Rattle.replica.specs.Site as replica
 use Rattle.replica.specs.Site.{SiteState, site_code}
 use Rattle.replica.specs.Standing.{StandsFor}
 use Rattle.replica.specs.Steps.{SiteKnowledge}
@@ -51,6 +52,12 @@ pub record IsFresh (state : SiteState) : Type 0 where
 pub record Correspond {X Y : Type 0} (R : ℕ → X → Y → Type 0) (xs : List X) (ys : List Y) : Type 0 where
   pub lengths : length xs ≡ length ys
   pub each : (place : ℕ) (x : X) (y : Y) → slice_get xs place ≡ Some x → slice_get ys place ≡ Some y → R place x y
+
+-- each site says the same as before, and the frames are the same
+pub record IsUnchanged (old new : WorldState) : Type 0 where
+  pub names : new.names ≡ old.names
+  pub sites : Correspond (λ site. replica.IsUnchanged) old.sites new.sites
+  pub pool : new.pool ≡ old.pool
 
 -- states and frames stand for a world of operations
 pub record StandsForWorld (state : WorldState) (w : World) : Type 0 where

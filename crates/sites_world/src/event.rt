@@ -1,4 +1,7 @@
-use dots::SiteId;
+ghost use Rattle.std.specs.Prelude.{◌≡◌, IfOk, OnErr};
+ghost use Rattle.sites_world.specs.Telling.{IsAsk};
+
+use dots::{Memory, SiteId};
 use status_report::Ask;
 
 /// What may happen at a site. A frame that is lost is one that no event takes (this project's own).
@@ -12,4 +15,22 @@ pub enum Event {
     Whole(SiteId),
     /// A site takes the frame of an entry of the pool, whoever made it.
     Take(SiteId, usize),
+}
+
+impl Event {
+    /// The same event once more. The one fault is want of memory, and an ask alone takes some.
+    pub fn copy(&self) -> Result<Event, Memory>
+        ensures ok { IfOk result (λ copy. copy ≡ self.now) }
+        ensures asks { OnErr result (IsAsk self.now) }
+    {
+        match self {
+            Event::Ask(site, asked) => {
+                let asked = asked.copy()?;
+                Ok(Event::Ask(*site, asked))
+            }
+            Event::Cut(site) => Ok(Event::Cut(*site)),
+            Event::Whole(site) => Ok(Event::Whole(*site)),
+            Event::Take(site, entry) => Ok(Event::Take(*site, *entry)),
+        }
+    }
 }

@@ -1,11 +1,13 @@
 //! Events, one by one: what each does at its site, and what comes of it.
-ghost use Rattle.std.specs.Prelude.{◌≡◌, ◌≤◌, ◌+◌, ◌++◌, ℕ, List, [], ◌∷◌, Ok, Some, IfOk};
+ghost use Rattle.std.specs.Prelude.{◌≡◌, ◌≤◌, ◌+◌, ◌++◌, ℕ, List, [], ◌∷◌, Ok, Some, IfOk, true};
 ghost use Rattle.std.specs.Prelude.{length, option_map, slice_get, vec_len, vec_capacity};
 ghost use Rattle.dots.specs.Knowledge.{Knowledge};
 ghost use Rattle.delta.specs.Standing.{IsDeltaOf};
+ghost use Rattle.replica.specs.Site.{IsUnchanged};
 ghost use Rattle.replica.specs.Standing.{StandsFor};
 ghost use Rattle.replica.specs.Steps.{Cut, SiteKnowledge, Take, Whole, step};
 ghost use Rattle.status_report.specs.Knowing.{answer_in};
+ghost use Rattle.sites_world.specs.Outcomes.{changes_nothing};
 ghost use Rattle.sites_world.specs.Telling.{HasEntry, HasHappenedAt, IsAnsweredSo, IsFramedSo};
 ghost use Rattle.sites_world.specs.Telling.{IsTakenSo, MayBeTaken};
 ghost use Rattle.sites_world.specs.Telling.{answer_told, take_fault_told};
@@ -31,15 +33,13 @@ fn answer_told(worn: bool, answer: Answer) -> Outcome
 }
 
 // Does what is asked of a site.
-fn ask_site(alloc: Global, replica: &mut Replica, asked: &Ask) -> Outcome
+fn ask_site(alloc: Global, replica: &mut Replica, asked: Ask) -> Outcome
     ensures site { replica.new.site ≡ replica.old.site }
     ensures names { replica.new.names ≡ replica.old.names }
     ensures meaning { (s : SiteKnowledge) → StandsFor replica.old s → IsAnsweredSo replica.new s
-        (answer_in replica.old.site replica.old.names s asked.now) result }
+        (answer_in replica.old.site replica.old.names s asked) result }
+    ensures unchanged { changes_nothing result ≡ true → IsUnchanged replica.old replica.new }
 {
-    let Ok(asked) = asked.copy() else {
-        return Outcome::NoMemory;
-    };
     let worn = replica.is_worn();
     answer_told(worn, ask(alloc, replica, asked))
 }
@@ -50,6 +50,8 @@ fn cut_site(replica: &mut Replica, pool: &mut Vec<Frame>) -> Outcome
     ensures names { replica.new.names ≡ replica.old.names }
     ensures meaning { (s : SiteKnowledge) → StandsFor replica.old s → IsFramedSo replica.new s
         pool.old.items pool.new.items (step replica.old.site replica.old.names s Cut) result }
+    ensures unchanged { changes_nothing result ≡ true → IsUnchanged replica.old replica.new }
+    ensures pool { changes_nothing result ≡ true → pool.new.items ≡ pool.old.items }
 {
     if pool.reserve(1).is_err() {
         return Outcome::NoMemory;
@@ -78,6 +80,8 @@ fn whole_site(replica: &mut Replica, pool: &mut Vec<Frame>) -> Outcome
     ensures names { replica.new.names ≡ replica.old.names }
     ensures meaning { (s : SiteKnowledge) → StandsFor replica.old s → IsFramedSo replica.new s
         pool.old.items pool.new.items (step replica.old.site replica.old.names s Whole) result }
+    ensures unchanged { changes_nothing result ≡ true → IsUnchanged replica.old replica.new }
+    ensures pool { changes_nothing result ≡ true → pool.new.items ≡ pool.old.items }
 {
     if pool.reserve(1).is_err() {
         return Outcome::NoMemory;
@@ -114,6 +118,7 @@ fn take_site(replica: &mut Replica, frame: &Frame) -> Outcome
     ensures meaning { (s : SiteKnowledge) (k : Knowledge) → StandsFor replica.old s
         → IsDeltaOf frame.now.delta k → MayBeTaken replica.old k → IsTakenSo replica.new s
         (step replica.old.site replica.old.names s (Take k)) result }
+    ensures unchanged { changes_nothing result ≡ true → IsUnchanged replica.old replica.new }
 {
     let Ok(copy) = frame.copy() else {
         return Outcome::NoMemory;
@@ -138,22 +143,24 @@ fn site_of(event: &Event) -> SiteId
 }
 
 // Does an event at its site.
-fn happen_at(alloc: Global, replica: &mut Replica, pool: &mut Vec<Frame>, event: &Event) -> Outcome
+fn happen_at(alloc: Global, replica: &mut Replica, pool: &mut Vec<Frame>, event: Event) -> Outcome
     ensures site { replica.new.site ≡ replica.old.site }
     ensures names { replica.new.names ≡ replica.old.names }
     ensures meaning { (s : SiteKnowledge) (entries : List Entry) → StandsFor replica.old s
-        → replica.old.site ≡ site_of event.now → Correspond IsFrameOf pool.old.items entries
+        → replica.old.site ≡ site_of event → Correspond IsFrameOf pool.old.items entries
         → ((place : ℕ) (entry : Entry) → slice_get entries place ≡ Some entry
         → MayBeTaken replica.old entry.carried)
         → HasHappenedAt replica.new s pool.old.items pool.new.items entries
-        (happens_at replica.old.names entries s event.now) result }
-    ensures entry { result ≡ Outcome.NoMemory → HasEntry pool.old.items event.now }
+        (happens_at replica.old.names entries s event) result }
+    ensures entry { result ≡ Outcome.NoMemory → HasEntry pool.old.items event }
+    ensures unchanged { changes_nothing result ≡ true → IsUnchanged replica.old replica.new }
+    ensures pool { changes_nothing result ≡ true → pool.new.items ≡ pool.old.items }
 {
     match event {
         Event::Ask(_, asked) => ask_site(alloc, replica, asked),
         Event::Cut(_) => cut_site(replica, pool),
         Event::Whole(_) => whole_site(replica, pool),
-        Event::Take(_, entry) => match frame_at(pool.as_slice(), *entry) {
+        Event::Take(_, entry) => match frame_at(pool.as_slice(), entry) {
             Some(frame) => take_site(replica, frame),
             None => Outcome::NoEntry,
         },
@@ -161,7 +168,36 @@ fn happen_at(alloc: Global, replica: &mut Replica, pool: &mut Vec<Frame>, event:
 }
 
 // Does an event.
-fn happen(alloc: Global, sites: &mut Vec<Replica>, pool: &mut Vec<Frame>, event: &Event) -> Outcome
+pub(crate) fn happen(
+    alloc: Global,
+    sites: &mut Vec<Replica>,
+    pool: &mut Vec<Frame>,
+    event: Event,
+) -> Outcome
+    ensures meaning { (names : List (List ℕ)) (w : World)
+        → IsReached names (length sites.old.items) w
+        → StandsForWorld
+        (record { names = names; sites = sites.old.items; pool = pool.old.items }) w
+        → HasHappened (record { names = names; sites = sites.new.items; pool = pool.new.items })
+        w event result }
+    ensures count { length sites.new.items ≡ length sites.old.items }
+    ensures unchanged { changes_nothing result ≡ true
+        → Correspond (λ site. IsUnchanged) sites.old.items sites.new.items }
+    ensures pool { changes_nothing result ≡ true → pool.new.items ≡ pool.old.items }
+{
+    match sites.get_mut(usize::from(site_of(&event).number())) {
+        Some(replica) => happen_at(alloc, replica, pool, event),
+        None => Outcome::NoSite,
+    }
+}
+
+// Does a copy of an event. Where memory for the copy is wanting the outcome is `NoMemory`, if there is the site, else `NoSite`.
+fn happen_by_copy(
+    alloc: Global,
+    sites: &mut Vec<Replica>,
+    pool: &mut Vec<Frame>,
+    event: &Event,
+) -> Outcome
     ensures meaning { (names : List (List ℕ)) (w : World)
         → IsReached names (length sites.old.items) w
         → StandsForWorld
@@ -170,9 +206,10 @@ fn happen(alloc: Global, sites: &mut Vec<Replica>, pool: &mut Vec<Frame>, event:
         w event.now result }
     ensures count { length sites.new.items ≡ length sites.old.items }
 {
-    match sites.get_mut(usize::from(site_of(event).number())) {
-        Some(replica) => happen_at(alloc, replica, pool, event),
-        None => Outcome::NoSite,
+    match event.copy() {
+        Ok(event) => happen(alloc, sites, pool, event),
+        Err(_) if usize::from(site_of(event).number()) < sites.len() => Outcome::NoMemory,
+        Err(_) => Outcome::NoSite,
     }
 }
 
@@ -195,7 +232,7 @@ pub(crate) fn run_all(
     ensures count { length sites.new.items ≡ length sites.old.items }
 {
     for event in events {
-        let outcome = happen(alloc, sites, pool, event);
+        let outcome = happen_by_copy(alloc, sites, pool, event);
         outcomes.push_reserved(outcome);
     }
 }

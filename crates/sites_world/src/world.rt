@@ -1,14 +1,15 @@
 ghost use Rattle.std.specs.Prelude.{◌≡◌, ◌≤◌, ◌⊎◌, ◌↔◌, ◌<◌, ℕ, Err, IfOk, IfSome, OnErr, Some};
-ghost use Rattle.std.specs.Prelude.{length, option_map, slice_get};
+ghost use Rattle.std.specs.Prelude.{length, option_map, slice_get, true};
 ghost use Rattle.delta.specs.Frames.{IsInRanges};
 ghost use Rattle.replica.specs.Queues.{AreQueues};
 ghost use Rattle.replica.specs.Site.{SiteState};
+ghost use Rattle.sites_world.specs.Outcomes.{changes_nothing};
 ghost use Rattle.sites_world.specs.Worlds.{IsReached, World as world_of_operations, new_world};
-ghost use Rattle.sites_world.specs.WorldStates.{HaveHappened, IsFresh, IsSiteOf, IsWorld};
-ghost use Rattle.sites_world.specs.WorldStates.{StandsForWorld};
+ghost use Rattle.sites_world.specs.WorldStates.{HasHappened, HaveHappened, IsFresh, IsSiteOf};
+ghost use Rattle.sites_world.specs.WorldStates.{IsUnchanged, IsWorld, StandsForWorld};
 ghost use Rattle.replica.specs.Steps.{new_site};
 
-use crate::run::{frame_at, run_all};
+use crate::run::{frame_at, happen, run_all};
 use crate::{Event, Outcome, WorldFault};
 use dots::{Memory, SITES, SiteId};
 use replica::{Frame, QueueList, Replica};
@@ -85,14 +86,31 @@ impl World {
         }
     }
 
-    /// Does these events in turn, each at its site, and answers what comes of each. An event answers `NoSite` exactly where there is no
-    /// such site, else, if it takes, `NoEntry` exactly where there is no such entry. One that memory is wanting for, or that a worn
-    /// site (of more than 1,015,808 places in its state or its buffer that aren't used again) refuses as full, has the outcome
-    /// `NoMemory` and changes nothing. The other events lead to what they lead to in the world of operations, each with the outcome
-    /// that it has there (RR-7506: what a site shows is the reading of the updates that were delivered to it; the events are this
-    /// project's own). So each report is the status text of what its site knows then, and no frame is refused as `NoSuchQueue`,
-    /// `NotMine` or `Conflict`. The one fault is want of memory, before the first event.
+    /// Does an event at its site, and answers what comes of it: `NoSite` exactly where there is no such site, else, if it takes,
+    /// `NoEntry` exactly where there is no such entry. An event that memory is wanting for, or that a worn site (of more than
+    /// 1,015,808 places in its state or its buffer that aren't used again) refuses as full, has the outcome `NoMemory`. Each other
+    /// event leads to what it leads to in the world of operations, with the outcome that it has there (RR-7506: what a site shows is
+    /// the reading of the updates that were delivered to it; the events are this project's own). So each report is the status text
+    /// of what its site knows then, and no frame is refused as `NoSuchQueue`, `NotMine` or `Conflict`. After `NoMemory`, and after
+    /// each other outcome that tells that nothing is changed, the sites say what they said and the pool is as it was.
+    pub fn happen(&mut self, event: Event) -> Outcome
+        ensures was { IsWorld self.old }
+        ensures meaning { (w : world_of_operations)
+            → IsReached self.old.names (length self.old.sites) w → StandsForWorld self.old w
+            → HasHappened self.new w event result }
+        ensures unchanged { changes_nothing result ≡ true → IsUnchanged self.old self.new }
+        ensures names { self.new.names ≡ self.old.names }
+        ensures count { length self.new.sites ≡ length self.old.sites }
+        ensures world { IsWorld self.new }
+    {
+        let alloc = *self.sites.allocator();
+        happen(alloc, &mut self.sites, &mut self.pool, event)
+    }
+
+    /// Does copies of these events in turn, as `happen` does one, and answers what comes of each. An event for whose copy memory is
+    /// wanting has the outcome `NoMemory` too, if there is its site. The one fault is want of memory, before the first event.
     pub fn run(&mut self, events: &[Event]) -> Result<Vec<Outcome>, Memory>
+        ensures was { IsWorld self.old }
         ensures meaning { IfOk result (λ outcomes. (w : world_of_operations)
             → IsReached self.old.names (length self.old.sites) w → StandsForWorld self.old w
             → HaveHappened self.new w events.now outcomes.items) }

@@ -3,6 +3,7 @@ use Rattle.std.proofs.lemmas.Option.{slice_get_read}
 use Rattle.sites_world.proofs.Happenings.{at-site-happened, may-take-all, no-site-happened, taken-found}
 use Rattle.sites_world.proofs.Lists.{at-least}
 use Rattle.sites_world.proofs.SteppedHistories.{reached-history}
+use Rattle.sites_world.proofs.Unchanged.{site-unchanged, sites-unchanged}
 use Rattle.sites_world.proofs.run.happen.Goals as goal
 
 -- at the site of the event
@@ -15,10 +16,19 @@ returns-in-Some-clause-meaning c = λ names w reached stands.
     let long = c.args.sites.now.ok.0 in
     let within = c.in-Some.ensures.variant.0 refl in
     let here = slice_get_read sites (length sites) c.from.result old refl (omega (arith, within, long)) c.in-Some.ensures.value in
-    at-site-happened names sites pool w stands c.args.event.now c.from.result old c.happen_at.new.replica c.happen_at.new.pool.items c.happen_at.result at here
-    c.happen_at.ensures.site c.happen_at.ensures.names (λ is. taken-found c.args.event.now c.args.pool.now.items w stands.pool (c.happen_at.ensures.entry is))
+    at-site-happened names sites pool w stands c.args.event c.from.result old c.happen_at.new.replica c.happen_at.new.pool.items c.happen_at.result at here
+    c.happen_at.ensures.site c.happen_at.ensures.names (λ is. taken-found c.args.event c.args.pool.now.items w stands.pool (c.happen_at.ensures.entry is))
     (λ s known. c.happen_at.ensures.meaning s w.pool (stands.sites.each c.from.result old s here known).stands ((stands.sites.each c.from.result old s here known).site ∙ at) stands.pool
     (may-take-all names sites pool w stands (reached-history names (length sites) w reached) c.from.result old s here known))
+
+pub returns-in-Some-clause-unchanged : goal.returns-in-Some-clause-unchanged
+returns-in-Some-clause-unchanged c = λ nothing.
+    let sites = c.args.sites.now.items in
+    let old = c.in-Some.replica.now in
+    let long = c.args.sites.now.ok.0 in
+    let within = c.in-Some.ensures.variant.0 refl in
+    let here = slice_get_read sites (length sites) c.from.result old refl (omega (arith, within, long)) c.in-Some.ensures.value in
+    site-unchanged sites c.from.result old c.happen_at.new.replica here (c.happen_at.ensures.unchanged nothing)
 
 -- there is no such site
 pub returns-in-None-clause-meaning : goal.returns-in-None-clause-meaning
@@ -27,4 +37,7 @@ returns-in-None-clause-meaning c = λ names w reached stands.
     let at = c.from.ensures ∙ c.number.ensures.value ∙ c.site_of.ensures in
     let long = c.args.sites.now.ok.0 in
     let past = at-least c.from.result (length sites) (λ less. true≢false (sym (c.in-None.ensures.variant.1 (omega (arith, less, long))))) in
-    no-site-happened names sites c.args.pool.now.items w stands c.args.event.now (omega (arith, past, at))
+    no-site-happened names sites c.args.pool.now.items w stands c.args.event (omega (arith, past, at))
+
+pub returns-in-None-clause-unchanged : goal.returns-in-None-clause-unchanged
+returns-in-None-clause-unchanged c = λ nothing. sites-unchanged c.args.sites.now.items

@@ -17,7 +17,7 @@ loop-event-init c = record {
 -- the event has happened after those before it
 pub loop-event-preserved : goal.loop-event-preserved
 loop-event-preserved c = record {
-  count = c.happen-outcome.ensures.count ∙ c.loop-event.invariant.count;
+  count = c.happen_by_copy-outcome.ensures.count ∙ c.loop-event.invariant.count;
   told = let len = c.push_reserved.ensures.len in let before = c.loop-event.invariant.told in omega (arith, len, before);
   room = let capacity = c.push_reserved.ensures.capacity in let before = c.loop-event.invariant.room in omega (arith, capacity, before);
   happened = λ names w reached stands.
@@ -25,13 +25,13 @@ loop-event-preserved c = record {
       let es = take c.loop-event.event-index events in
       let os = c.loop-event.outcomes.items in
       let e = c.event-item.result in
-      let o = c.happen-outcome.result in
-      let new : WorldState = record { names = names; sites = c.happen-outcome.new.sites.items; pool = c.happen-outcome.new.pool.items } in
+      let o = c.happen_by_copy-outcome.result in
+      let new : WorldState = record { names = names; sites = c.happen_by_copy-outcome.new.sites.items; pool = c.happen_by_copy-outcome.new.pool.items } in
       let before = c.loop-event.invariant.happened names w reached stands in
       let there = reached-more names (length c.args.sites.now.items) w (done_of es os) reached in
       let so_far = (run names w (done_of es os)).0 in
-      let happened = c.happen-outcome.ensures.meaning names so_far (subst (λ n. IsReached names n so_far) (sym c.loop-event.invariant.count) there) before.stands in
-      let more = happened-more names w es os e o c.happen-outcome.new.sites.items c.happen-outcome.new.pool.items c.loop-event.sites.items c.loop-event.pool.items before happened in
+      let happened = c.happen_by_copy-outcome.ensures.meaning names so_far (subst (λ n. IsReached names n so_far) (sym c.loop-event.invariant.count) there) before.stands in
+      let more = happened-more names w es os e o c.happen_by_copy-outcome.new.sites.items c.happen_by_copy-outcome.new.pool.items c.loop-event.sites.items c.loop-event.pool.items before happened in
       let grown = take_more events c.loop-event.event-index e c.loop-event-test.true ∙ ap (λ x. es ++ x ∷ []) (sym c.event-item.is) in
       subst (λ xs. HaveHappened new w xs c.push_reserved.new.self.items) (sym grown) (subst (HaveHappened new w (es ++ e ∷ [])) (sym c.push_reserved.ensures.items) more);
 }

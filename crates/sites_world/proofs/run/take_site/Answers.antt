@@ -1,7 +1,8 @@
-use Rattle.std.proofs.Common.{inl, sym, ap, subst, ◌∙◌}
+use Rattle.std.proofs.Common.{inl, sym, ap, subst, ◌∙◌, true≢false}
 use Rattle.delta.proofs.StandingDeltas.{same_stands}
 use Rattle.replica.specs.Steps.{take}
 use Rattle.sites_world.specs.declared.outcome.Outcome.TheVariants.{Took}
+use Rattle.sites_world.specs.Outcomes.{changes_nothing}
 use Rattle.sites_world.specs.Telling.{IsTakenSo}
 use Rattle.sites_world.specs.Worlds.{take_told}
 use Rattle.sites_world.proofs.ToldAnswers.{told-fault}
@@ -24,3 +25,10 @@ returns-clause-meaning c = λ s k stands is may.
           (told-fault c.is_worn-worn.result old new s k c.in-Ok.copy.delta w.in-Err.fault may copied stands w.in-Err.ensures.unchanged c.is_worn-worn.ensures.1
           refused.no_such_queue.0 (λ e. (refused.not_mine.0 e).1) (λ e. (refused.conflict.0 e).1) (w.in-Err.ensures.meaning s k stands copied may.none_later))
     ]
+
+-- one that is taken tells a change
+pub returns-clause-unchanged : goal.returns-clause-unchanged
+returns-clause-unchanged c = λ nothing. elim c.match-take.branch [
+  | in-Ok-take w ↦ absurd (true≢false (sym nothing ∙ ap changes_nothing w.result-is))
+  | in-Err w ↦ w.in-Err.ensures.unchanged
+]
