@@ -1,6 +1,5 @@
 -- What one event does to sites that stand for a world, and what they show of it.
-use Rattle.std.proofs.Common.{◌≡◌, ℕ, true, List, [], ◌∷◌, length, slice_get, Option, Some, None, refl, sym, ◌∙◌, ap, subst}
-use mathlib.Core.List.{head-eq_of_cons-eq}
+use Rattle.std.proofs.Common.{◌≡◌, inl, inr, ℕ, List, [], ◌∷◌, length, slice_get, Option, Some, None, sym, ◌∙◌, ap, subst}
 use Rattle.replica.specs.Site.{SiteState}
 use Rattle.replica.specs.Standing.{StandsFor}
 use Rattle.replica.specs.Steps.{SiteKnowledge}
@@ -11,42 +10,28 @@ use Rattle.status_report.specs.declared.asks.Ask.{Ask}
 use Rattle.sites_world.specs.declared.event.Event.{Event}
 use Rattle.sites_world.specs.declared.event.Event.TheVariants as event
 use Rattle.sites_world.specs.declared.outcome.Outcome.{Outcome}
+use Rattle.sites_world.specs.declared.outcome.Outcome.TheVariants.{NoMemory}
 use Rattle.sites_world.specs.Promises.{LeadsOn}
-use Rattle.sites_world.specs.Worlds.{IsReached, World, done_of, happens, is_done, outcomes_of, run}
-use Rattle.sites_world.specs.WorldStates.{HaveHappened, IsFrameOf, IsSiteOf, StandsForWorld, WorldState}
+use Rattle.sites_world.specs.Worlds.{IsReached, World, happens}
+use Rattle.sites_world.specs.WorldStates.{HasHappened, IsFrameOf, IsSiteOf, StandsForWorld, WorldState}
 use Rattle.sites_world.proofs.Lists.{correspond-get, correspond-none-get}
 use Rattle.scripts.specs.Answers.{frame_text, no_entry, outcome_text}
 use Rattle.scripts.specs.Script.{IsShown, Place, given_by_event, given_by_reaction, text_of_offer, waited_reply}
 use Rattle.scripts.specs.LineSteps.{Holds, IsHappening, StandsAt}
 
--- one event has happened
-pub one-happened : LeadsOn → (place : Place) (old new : WorldState) (w : World) (e : Event) (o : Outcome) (outcomes : List Outcome)
-    → place.names ≡ old.names → new.names ≡ old.names → length new.sites ≡ length old.sites
-    → StandsAt old w → HaveHappened new w (e ∷ []) outcomes → outcomes ≡ o ∷ [] → is_done o ≡ true → IsHappening place w e new o
-one-happened leads place old new w e o outcomes names kept count at happened only done = record {
+-- one event has happened, and memory was not wanting
+pub one-happened : LeadsOn → (place : Place) (old new : WorldState) (w : World) (e : Event) (o : Outcome) → place.names ≡ old.names → new.names ≡ old.names → length new.sites ≡ length old.sites
+    → StandsAt old w → HasHappened new w e o → (o ≡ NoMemory → ⊥) → IsHappening place w e new o
+one-happened leads place old new w e o names kept count at (inr wanting) done = absurd (done wanting.0)
+one-happened leads place old new w e o names kept count at (inl happened) done = record {
   stands = record {
     reached = subst (λ n. IsReached new.names n (happens place.names w e).0) (sym count)
         (subst (λ names. IsReached names (length old.sites) (happens place.names w e).0) (sym kept)
         (subst (λ names. IsReached old.names (length old.sites) (happens names w e).0) (sym names) (leads old.names (length old.sites) w (e ∷ []) at.reached)));
-    stands = subst (λ names. StandsForWorld new (happens names w e).0) (kept ∙ sym names) stands;
+    stands = subst (λ names. StandsForWorld new (happens names w e).0) (kept ∙ sym names) happened.2;
   };
-  is = head-eq_of_cons-eq outcome ∙ ap (λ names. (happens names w e).1) (kept ∙ sym names);
+  is = sym happened.1 ∙ ap (λ names. (happens names w e).1) (kept ∙ sym names);
 }
-  where
-    by : HaveHappened new w (e ∷ []) (o ∷ [])
-    by = subst (HaveHappened new w (e ∷ [])) only happened
-
-    alone : done_of (e ∷ []) (o ∷ []) ≡ e ∷ []
-    alone = rw done refl
-
-    told : outcomes_of (o ∷ []) ≡ o ∷ []
-    told = rw done refl
-
-    stands : StandsForWorld new (happens new.names w e).0
-    stands = subst (λ es. StandsForWorld new (run new.names w es).0) alone by.stands
-
-    outcome : o ∷ [] ≡ (happens new.names w e).1 ∷ []
-    outcome = sym told ∙ by.outcomes_are ∙ ap (λ es. (run new.names w es).1) alone
 
 -- what is written of an event
 pub event-given : (place : Place) (w : World) (e : Event) (new : WorldState) (o : Outcome) (text : List ℕ) → IsHappening place w e new o → text ≡ outcome_text o

@@ -1,11 +1,10 @@
 //! What single lines of a script do at its sites.
-ghost use Rattle.std.specs.Prelude.{◌≡◌, ℕ, List, true, [], ◌∷◌, Some, length, slice_get, IfOk};
-ghost use Rattle.std.specs.Prelude.{IfErr};
+ghost use Rattle.std.specs.Prelude.{◌≡◌, ℕ, List, Some, slice_get, IfErr, IfOk};
 ghost use Rattle.delta.specs.Frames.{IsInRanges};
 ghost use Rattle.delta_codec.specs.Frames.{Spells};
 ghost use Rattle.replica.specs.Standing.{StandsFor};
 ghost use Rattle.replica.specs.Steps.{SiteKnowledge};
-ghost use Rattle.sites_world.specs.Worlds.{World as world_of_operations, is_done};
+ghost use Rattle.sites_world.specs.Worlds.{World as world_of_operations};
 ghost use Rattle.ami_session.specs.FieldValues.{name_of};
 ghost use Rattle.ami_session.specs.Views.{reaction_of};
 ghost use Rattle.script_lines.specs.ScriptLines.{Message as asks_message, queue_in, tried_in};
@@ -43,8 +42,10 @@ impl Script {
         ensures fault { IfErr result (λ fault. fault ≡ ScriptFault.Memory) }
     {
         events_are_run_in_parts();
-        let outcomes = self.world.run(&[event])?;
-        only_outcome(outcomes)
+        match self.world.happen(event) {
+            Outcome::NoMemory => Err(ScriptFault::Memory),
+            outcome => Ok(outcome),
+        }
     }
 
     // What is written of an event. The one fault is `Memory`.
@@ -163,19 +164,6 @@ fn shown(alloc: Global, frame: &Frame) -> Result<Vec<u8>, Memory>
 {
     let bytes = encode(alloc, frame)?;
     frame_text(alloc, &bytes)
-}
-
-// The outcome of the one event that was run.
-fn only_outcome(outcomes: Vec<Outcome>) -> Result<Outcome, ScriptFault>
-    ensures only { IfOk result (λ outcome. (is_done outcome ≡ true)
-        × (length outcomes.items ≡ 1 → outcomes.items ≡ outcome ∷ [])) }
-    ensures fault { IfErr result (λ fault. fault ≡ ScriptFault.Memory) }
-{
-    let mut outcomes = outcomes;
-    match outcomes.pop() {
-        None | Some(Outcome::NoMemory) => Err(ScriptFault::Memory),
-        Some(outcome) => Ok(outcome),
-    }
 }
 
 // The ask for a call of a queue to be counted.
