@@ -56,13 +56,11 @@ fn a_world_of_two_sites(rt: HostRuntime) {
     let alloc = rt.alloc();
     let mut world = World::new(alloc, 2, &list(&rt, alloc)).expect(&rt, "a world");
     let (first, second) = (site(&rt, 0), site(&rt, 1));
-    let outcomes = world.run(&[
-        Event::Ask(first, Ask::Command(add(&rt))),
-        Event::Cut(first),
-        Event::Take(second, 0),
-    ]);
+    let outcomes = world.run(&[Event::Ask(first, Ask::Command(add(&rt))), Event::Cut(first)]);
     let outcomes = outcomes.expect(&rt, "memory");
-    assert!(rt; matches!(outcomes.last(), Some(Outcome::Took(Ok(())))));
+    assert!(rt; matches!(outcomes.last(), Some(Outcome::Cut(Ok(Some(0))))));
+    let taken = world.happen(Event::Take(second, 0));
+    assert!(rt; matches!(taken, Outcome::Took(Ok(()))));
     let replica = world.replica(second).expect(&rt, "a replica");
     assert!(rt; replica.rows(0).next().is_some());
     drop(outcomes);

@@ -195,21 +195,19 @@ const COUNTED: &[Told] = &[
     (0, Status, Reported(&[queue_block!("sales", "3", "1")])),
 ];
 
-// What comes of one event; none where memory is wanting.
-fn outcome_of(world: &mut World, events: &[Event]) -> Option<Outcome> {
-    let mut outcomes = world.run(events).ok()?;
-    match outcomes.pop() {
-        Some(Outcome::NoMemory) => None,
-        outcome => outcome,
+// What comes of a copy of an event; none where memory is wanting.
+fn outcome_of(world: &mut World, event: &Event) -> Option<Outcome> {
+    match world.happen(event.copy().ok()?) {
+        Outcome::NoMemory => None,
+        outcome => Some(outcome),
     }
 }
 
 // Lets an event happen, once more where memory is wanting, and asserts what comes of it. Answers whether memory was wanting.
-fn happens_again(rt: &impl Abort, world: &mut World, event: Event, wanted: Came) -> bool {
-    let events = [event];
-    let outcome = outcome_of(world, &events);
+fn happens_again(rt: &impl Abort, world: &mut World, event: &Event, wanted: Came) -> bool {
+    let outcome = outcome_of(world, event);
     let is_refused = outcome.is_none();
-    match outcome.or_else(|| outcome_of(world, &events)) {
+    match outcome.or_else(|| outcome_of(world, event)) {
         Some(outcome) => assert_outcome(rt, &outcome, wanted),
         None => rt.panic("memory"),
     }
@@ -217,9 +215,9 @@ fn happens_again(rt: &impl Abort, world: &mut World, event: Event, wanted: Came)
 }
 
 // Lets events happen one by one, and answers whether memory was wanting for one of them at first.
-fn happen_again(rt: &impl Abort, world: &mut World, events: Vec<Event>, told: &[Told]) -> bool {
+fn happen_again(rt: &impl Abort, world: &mut World, events: &[Event], told: &[Told]) -> bool {
     let mut is_refused = false;
-    for (event, (_, _, wanted)) in events.into_iter().zip(told) {
+    for (event, (_, _, wanted)) in events.iter().zip(told) {
         if happens_again(rt, world, event, *wanted) {
             is_refused = true;
         }
@@ -238,9 +236,9 @@ fn memory_of_worlds(rt: HostRuntime) {
     let mut shown = world_of_two(&rt, alloc);
     let mut counted = world_of_two(&rt, alloc);
     assert!(rt; println!(rt; "ready").is_ok());
-    let first = happen_again(&rt, &mut shown, added, ADDED_TWICE);
-    let second = happen_again(&rt, &mut shown, taken, IN_TURN);
-    let third = happen_again(&rt, &mut counted, called, COUNTED);
+    let first = happen_again(&rt, &mut shown, &added, ADDED_TWICE);
+    let second = happen_again(&rt, &mut shown, &taken, IN_TURN);
+    let third = happen_again(&rt, &mut counted, &called, COUNTED);
     let end = if first || second || third {
         "again"
     } else {
