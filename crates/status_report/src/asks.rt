@@ -1,4 +1,4 @@
-ghost use Rattle.std.specs.Prelude.{◌≡◌, ◌↔◌, IfOk, IsTrue};
+ghost use Rattle.std.specs.Prelude.{◌≡◌, ◌↔◌, IfOk, IsOk, IsTrue};
 
 use crate::StatusRequest;
 use dots::{Bytes, Memory};
@@ -16,7 +16,8 @@ pub enum Ask {
 impl Ask {
     /// The same ask once more. The one fault is want of memory, and a command takes none.
     pub fn copy(&self) -> Result<Ask, Memory>
-        ensures { IfOk result (λ copy. copy ≡ self.now) }
+        ensures same { IfOk result (λ copy. copy ≡ self.now) }
+        ensures command { (command : Command) → self.now ≡ Ask.Command command → IsOk result }
     {
         match self {
             Ask::Command(command) => Ok(Ask::Command(command.copy())),
@@ -24,6 +25,17 @@ impl Ask {
                 let request = request.copy()?;
                 Ok(Ask::Status(request))
             }
+        }
+    }
+
+    /// Whether it is the same ask as the other. It takes no memory.
+    pub fn same(&self, other: &Ask) -> bool
+        ensures { IsTrue result ↔ (self.now ≡ other.now) }
+    {
+        match (self, other) {
+            (Ask::Command(command), Ask::Command(other_command)) => command.same(other_command),
+            (Ask::Status(request), Ask::Status(other_request)) => request.same(other_request),
+            _ => false,
         }
     }
 }
@@ -42,7 +54,9 @@ pub enum Answer {
 impl Answer {
     /// The same answer once more. The one fault is want of memory, and a report alone takes some.
     pub fn copy(&self) -> Result<Answer, Memory>
-        ensures { IfOk result (λ copy. copy ≡ self.now) }
+        ensures same { IfOk result (λ copy. copy ≡ self.now) }
+        ensures done { self.now ≡ Answer.Done → IsOk result }
+        ensures refused { (refusal : Refusal) → self.now ≡ Answer.Refused refusal → IsOk result }
     {
         match self {
             Answer::Done => Ok(Answer::Done),

@@ -1,4 +1,4 @@
-ghost use Rattle.std.specs.Prelude.{◌≡◌, IfOk};
+ghost use Rattle.std.specs.Prelude.{◌≡◌, ◌↔◌, IfOk, IsTrue};
 
 use dots::{Bytes, Memory, Text80};
 
@@ -35,5 +35,14 @@ impl StatusRequest {
             member: copy_filter(&self.member),
             action_id,
         })
+    }
+
+    /// Whether it is the same request as the other. It takes no memory.
+    pub fn same(&self, other: &StatusRequest) -> bool
+        ensures { IsTrue result ↔ (self.now ≡ other.now) }
+    {
+        self.queue == other.queue
+            && self.member == other.member
+            && self.action_id.same(&other.action_id)
     }
 }
