@@ -297,9 +297,9 @@ fn given_at(
     }
 }
 
-// What a line gives. `queues` begins with two new sites of these queues; `knows`, `buffer` and
-// `number` tell what the first knows, what of that it has put in no frame yet and how many frames
-// it has made; `frame` tells a frame. Other lines are of a site.
+// What a line gives. `knows`, `buffer` and `number` tell what the first knows, what of that it has
+// put in no frame yet and how many frames it has made; `frame` tells a frame. Other lines are of a
+// site.
 fn given(
     rt: &impl Abort,
     alloc: Global,
@@ -309,7 +309,6 @@ fn given(
 ) -> String {
     let first = word(rt, words);
     match first {
-        "queues" => *world = new_world(rt, alloc, words),
         "knows" => world.first.known = operations(rt, alloc, names.operations, words),
         "buffer" => world.first.buffer = operations(rt, alloc, names.operations, words),
         "number" => world.first.frames = number(rt, word(rt, words)),
@@ -345,17 +344,42 @@ fn given(
     String::new(alloc)
 }
 
-// Asserts that each line gives what stands behind it. Lines without words, and those that begin
-// with `#`, say nothing.
-pub(crate) fn assert_lines(rt: &impl Abort, alloc: Global, names: &Names, lines: &str) {
-    let mut none = "sales".split_whitespace();
-    let mut world = new_world(rt, alloc, &mut none);
+// Asserts what a line gives.
+fn assert_given(
+    rt: &impl Abort,
+    alloc: Global,
+    world: &mut World,
+    names: &Names,
+    told: &str,
+    wanted: &str,
+) {
+    let given = given(rt, alloc, world, names, &mut told.split_whitespace());
+    assert!(rt; given.as_str() == wanted, "{told} gives {given}");
+}
+
+// Asserts that each of these lines gives what stands behind it. An empty one, or one that begins
+// with `#`, says nothing.
+fn assert_each(rt: &impl Abort, alloc: Global, world: &mut World, names: &Names, lines: &str) {
     for line in lines.split('\n') {
-        let (told, wanted) = line.split_once(": ").unwrap_or((line, ""));
-        let mut words = told.split_whitespace();
-        if !told.is_empty() && !told.starts_with('#') {
-            let given = given(rt, alloc, &mut world, names, &mut words);
-            assert!(rt; given.as_str() == wanted, "{line} gives {given}");
+        if !line.is_empty() && !line.starts_with('#') {
+            let (told, wanted) = line.split_once(": ").unwrap_or((line, ""));
+            assert_given(rt, alloc, world, names, told, wanted);
         }
+    }
+}
+
+// Asserts lines at two new sites; the first line has their queues.
+fn assert_story(rt: &impl Abort, alloc: Global, names: &Names, story: &str) {
+    let (queues, lines) = story.split_once('\n').expect(rt, story);
+    let mut world = new_world(rt, alloc, &mut queues.split_whitespace());
+    assert_each(rt, alloc, &mut world, names, lines);
+    drop(world);
+}
+
+// Asserts stories. Each begins at a line `queues`, with two new sites of the queues that stand
+// behind it.
+pub(crate) fn assert_lines(rt: &impl Abort, alloc: Global, names: &Names, lines: &str) {
+    for story in lines.split("\nqueues ").skip(1) {
+        assert_story(rt, alloc, names, story);
     }
 }

@@ -11,63 +11,14 @@ use std::io;
 use std::io::{Error, ErrorKind, Read, Write};
 use std::process::Abort;
 
-// Takes the messages of what a feed holds, and counts them; the fault that follows them.
-fn drain(feed: &mut Feed, messages: &mut usize, most: usize) -> Option<FeedFault> {
-    for _ in 0..most {
-        match feed.next_message() {
-            Ok(Some(_)) => *messages = messages.saturating_add(1),
-            Ok(None) => return None,
-            Err(fault) => return Some(fault),
-        }
-    }
-    None
-}
-
 // Feeds a piece.
 fn feed_all(rt: &impl Abort, feed: &mut Feed, piece: &[u8]) {
     assert!(rt; feed.feed(piece).is_ok());
 }
 
-// Checks how many messages the bytes have in pieces of this size, and the fault that follows them.
-fn assert_count(
-    rt: &impl Abort,
-    alloc: Global,
-    bytes: &[u8],
-    size: usize,
-    want: (usize, Option<FeedFault>),
-) {
-    let mut feed = Feed::new(alloc);
-    let mut messages = 0;
-    let mut fault = None;
-    for piece in bytes.chunks(size.max(1)) {
-        feed_all(rt, &mut feed, piece);
-        fault = drain(&mut feed, &mut messages, bytes.len());
-        if fault.is_some() {
-            break;
-        }
-    }
-    assert_same(rt, &messages, &want.0);
-    assert_same(rt, &fault, &want.1);
-}
-
-// The same whatever the pieces.
-fn assert_counts(rt: &impl Abort, alloc: Global, bytes: &[u8], want: (usize, Option<FeedFault>)) {
-    for size in [1, 2, 3, 7, 1024, bytes.len()] {
-        assert_count(rt, alloc, bytes, size, want);
-    }
-}
-
 // Adds bytes.
 fn push(rt: &impl Abort, bytes: &mut Vec<u8>, more: &[u8]) {
     assert!(rt; bytes.extend_from_slice(more).is_ok());
-}
-
-// Adds a line with a content of this length.
-fn push_line(rt: &impl Abort, bytes: &mut Vec<u8>, length: usize, end: &[u8]) {
-    for _ in 0..length {
-        push(rt, bytes, b"x");
-    }
-    push(rt, bytes, end);
 }
 
 // So many lines, none of them empty.
@@ -85,135 +36,6 @@ fn assert_value(rt: &impl Abort, message: &Message, name: &[u8], value: &[u8]) {
         Some(got) => assert!(rt; !got.is_empty() && *got == *value),
         None => assert!(rt; value.is_empty()),
     }
-}
-
-// The only message of the bytes.
-fn message_of(rt: &impl Abort, alloc: Global, bytes: &[u8]) -> Message {
-    let mut feed = Feed::new(alloc);
-    feed_all(rt, &mut feed, bytes);
-    let next = feed.next_message().expect(rt, "no fault");
-    next.expect(rt, "a message")
-}
-
-// Checks what the only message of the bytes has under a name, as above.
-fn assert_field(rt: &impl Abort, alloc: Global, bytes: &[u8], name: &[u8], value: &[u8]) {
-    assert_value(rt, &message_of(rt, alloc, bytes), name, value);
-}
-
-#[test]
-fn a_name_is_sought_in_either_case(rt: HostRuntime) {
-    // A message, a name, and its value; an empty value stands for none.
-    let rows: [(&[u8], &[u8], &[u8]); 9] = [
-        (b"Action: QueueAdd\r\n\r\n", b"Action", b"QueueAdd"),
-        (b"aCTION:QueueAdd\n\n", b"Action", b"QueueAdd"),
-        (b"Action: QueueAdd\n\n", b"Actio", b""),
-        (b"Action: QueueAdd\n\n", b"", b""),
-        (b": x\n\n", b"", b"x"),
-        (b"x\n\n", b"x", b""),
-        (b"Queue: one\nQUEUE: two\n\n", b"queue", b"one"),
-        (b"Queue\nQueue: sales\n\n", b"Queue", b"sales"),
-        (b"K\xc3\xa9y: v\n\n", b"k\xc3\x89y", b""),
-    ];
-    for (bytes, name, value) in rows {
-        assert_field(&rt, rt.alloc(), bytes, name, value);
-    }
-}
-
-#[test]
-fn a_value_has_no_blanks_at_its_ends(rt: HostRuntime) {
-    // A message with a queue, and its value; an empty value stands for none.
-    let rows: [(&[u8], &[u8]); 9] = [
-        (b"\t Queue \t:\t  a b \t\n\n", b"a b"),
-        (b"Queue: a:b\n\n", b"a:b"),
-        (b"Queue:\n\n", b""),
-        (b"Queue: \t \n\n", b""),
-        (b"Queue:\nQueue: sales\n\n", b""),
-        (b"Queue: a\x0b\x0c\n\n", b"a\x0b\x0c"),
-        (b"Queue: a\rb\r\n\r\n", b"a\rb"),
-        (b"Queue: QueueStatus\r\r\n\r\n", b"QueueStatus\r"),
-        (b"Queue: \xc3\xa9\xff\n\n", b"\xc3\xa9\xff"),
-    ];
-    for (bytes, value) in rows {
-        assert_field(&rt, rt.alloc(), bytes, b"queue", value);
-    }
-}
-
-#[test]
-fn messages_of_streams(rt: HostRuntime) {
-    let rows: [(&[u8], usize); 14] = [
-        (b"", 0),
-        (b"\n\r\n\n", 0),
-        (b"a: b\n", 0),
-        (b"a: b\r\n\r", 0),
-        (b"a: b\r\n\r\n", 1),
-        (b"\n\r\na: b\n\n\r\n", 1),
-        (b"a: b\n\nc: d\n\n", 2),
-        (b"a: b\nc: d\n\n", 1),
-        // Lines without a colon make a message with no fields.
-        (b"x\r\n\r\n", 1),
-        // Blanks alone are no empty line, nor is a CR before the line's end.
-        (b" \n", 0),
-        (b" \n\t\n\n", 1),
-        (b"a: b\n\r\r\n", 0),
-        (b"a: b\n\r\r\n\r\n", 1),
-        (b"a: b\r\n\r\rc: d\n\n", 1),
-    ];
-    for (bytes, messages) in rows {
-        assert_counts(&rt, rt.alloc(), bytes, (messages, None));
-    }
-}
-
-#[test]
-fn long_lines(rt: HostRuntime) {
-    let long = Some(FeedFault::LineTooLong);
-    let rows: [(usize, &[u8], usize, Option<FeedFault>); 10] = [
-        (1024, b"\n\n", 1, None),
-        (1024, b"\r\n\r\n", 1, None),
-        (1024, b"", 0, None),
-        (1024, b"\r", 0, None),
-        (1023, b"\r\r\n\n", 1, None),
-        (1024, b"\r\r", 0, long),
-        (1024, b"\ry", 0, long),
-        (1025, b"", 0, long),
-        (1025, b"\n\n", 0, long),
-        (1025, b"\r\n\r\n", 0, long),
-    ];
-    for (length, end, messages, fault) in rows {
-        let mut bytes = Vec::new(rt.alloc());
-        push_line(&rt, &mut bytes, length, end);
-        assert_counts(&rt, rt.alloc(), &bytes, (messages, fault));
-    }
-}
-
-#[test]
-fn many_lines(rt: HostRuntime) {
-    let many = Some(FeedFault::TooManyFields);
-    // What follows 128 lines, and the messages and the fault then. The end of a 129th line is the
-    // fault, and nothing before it.
-    let rows: [(&[u8], usize, Option<FeedFault>); 4] = [
-        (b"", 0, None),
-        (b"\r\n", 1, None),
-        (b"x", 0, None),
-        (b"x\n", 0, many),
-    ];
-    for (end, messages, fault) in rows {
-        let mut bytes = lines(&rt, rt.alloc(), 128);
-        push(&rt, &mut bytes, end);
-        assert_counts(&rt, rt.alloc(), &bytes, (messages, fault));
-    }
-}
-
-#[test]
-fn the_first_of_two_faults_is_told(rt: HostRuntime) {
-    // A line too long shows before its end.
-    let mut long = lines(&rt, rt.alloc(), 128);
-    push_line(&rt, &mut long, 1025, b"\n");
-    assert_counts(&rt, rt.alloc(), &long, (0, Some(FeedFault::LineTooLong)));
-    // Messages before a fault are given first, and empty lines don't count.
-    let mut late = lines(&rt, rt.alloc(), 128);
-    push(&rt, &mut late, b"\n\r\n\n");
-    push(&rt, &mut late, &lines(&rt, rt.alloc(), 129));
-    assert_counts(&rt, rt.alloc(), &late, (1, Some(FeedFault::TooManyFields)));
 }
 
 // Checks the next answer of a feed, which is a fault.
@@ -242,31 +64,25 @@ fn faults_stay(rt: HostRuntime) {
     assert_fault_stays(&rt, rt.alloc(), &long, FeedFault::LineTooLong);
 }
 
-// Sixteen messages of 128 full lines, one byte at a time: quadratic time would not end in time.
-#[test]
-fn bytes_are_looked_at_once(rt: HostRuntime) {
-    let mut bytes = Vec::new(rt.alloc());
-    for _ in 0..16 {
-        for _ in 0..128 {
-            push_line(&rt, &mut bytes, 1024, b"\r\n");
-        }
-        push(&rt, &mut bytes, b"\r\n");
-    }
-    assert_count(&rt, rt.alloc(), &bytes, 1, (16, None));
-}
-
 // Whether a feed has no message, and no fault.
 fn has_none(feed: &mut Feed) -> bool {
     matches!(feed.next_message(), Ok(None))
 }
 
-// A million empty lines: quadratic time would not end in time.
+// Sixteen messages of 128 full lines, one byte at a time: quadratic time would not end in time.
 #[test]
-fn empty_lines_are_looked_at_once(rt: HostRuntime) {
+fn bytes_are_looked_at_once(rt: HostRuntime) {
     let mut feed = Feed::new(rt.alloc());
-    for _ in 0..1_000_000u32 {
+    for _ in 0..16u32 {
+        for _ in 0..128u32 {
+            for _ in 0..1024u32 {
+                feed_all(&rt, &mut feed, b"x");
+                assert!(rt; has_none(&mut feed));
+            }
+            feed_all(&rt, &mut feed, b"\n");
+        }
         feed_all(&rt, &mut feed, b"\n");
-        assert!(rt; has_none(&mut feed));
+        assert!(rt; matches!(feed.next_message(), Ok(Some(_))));
     }
 }
 

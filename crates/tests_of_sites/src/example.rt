@@ -45,8 +45,10 @@ fn two_replicas(rt: HostRuntime) {
     let alloc = rt.alloc();
     let mut first = Replica::new(alloc, site(&rt, 0), list(&rt, alloc));
     let mut second = Replica::new(alloc, site(&rt, 1), list(&rt, alloc));
-    let taken = second.take(added(&rt, &mut first));
-    assert!(rt; taken.is_ok() && second.rows(0).next().is_some());
+    assert!(rt; second.take(added(&rt, &mut first)).is_ok());
+    assert!(rt; second.rows(0).next().is_some());
+    drop(first);
+    drop(second);
 }
 
 #[test]
@@ -61,4 +63,6 @@ fn a_world_of_two_sites(rt: HostRuntime) {
     assert!(rt; matches!(taken, Outcome::Took(Ok(()))));
     let replica = world.replica(second).expect(&rt, "a replica");
     assert!(rt; replica.rows(0).next().is_some());
+    drop(outcomes);
+    drop(world);
 }

@@ -1,9 +1,7 @@
-//! Tests of lists of queues, reports, replies, actions, copies of asks and answers, sessions that are served,
+//! Tests of lists of queues, reports, replies, copies of asks and answers, sessions that are served,
 //! worlds of sites and scripts by their public calls. This crate has no code of its own.
 #![tactic(auto)]
 
-#[cfg(test)]
-mod actions;
 #[cfg(test)]
 mod copies;
 #[cfg(test)]

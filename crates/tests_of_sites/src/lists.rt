@@ -1,5 +1,5 @@
 //! Lists of queues.
-use crate::shared::{assert_text, name, site};
+use crate::shared::{assert_text, list, name, site};
 use dots::QueueName;
 use replica::{ListFault, QueueList, Replica};
 use std::alloc::Global;
@@ -56,4 +56,21 @@ fn each_of_256_queues_of_a_site_has_its_place(rt: HostRuntime) {
     let replica = Replica::new(alloc, site(&rt, 5), list);
     assert!(rt; replica.site().number() == 5);
     assert_places(&rt, alloc, replica.list());
+    drop(replica);
+}
+
+// Asserts whether a list is that of these names.
+fn assert_same(rt: &impl Abort, alloc: Global, one: &QueueList, texts: &[&str], wanted: bool) {
+    let other = list(rt, alloc, texts);
+    assert!(rt; one.same(&other) == wanted);
+    drop(other);
+}
+
+#[test]
+fn a_list_is_the_same_as_no_other(rt: HostRuntime) {
+    let list = list(&rt, rt.alloc(), &["a", "b"]);
+    assert_same(&rt, rt.alloc(), &list, &["a", "b"], true);
+    assert_same(&rt, rt.alloc(), &list, &["a"], false);
+    assert_same(&rt, rt.alloc(), &list, &["b", "a"], false);
+    drop(list);
 }

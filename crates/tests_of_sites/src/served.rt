@@ -105,6 +105,7 @@ fn end_of_failing(
     };
     let served = serve(&(), alloc, &mut reader, &mut writer, login(rt), &mut tired);
     assert!(rt; is_front(writer.as_slice(), &TEXTS));
+    drop(tired);
     (served, writer.as_slice().len())
 }
 
@@ -250,6 +251,7 @@ fn a_session_over_a_slice_and_a_vector(rt: HostRuntime) {
     );
     assert!(rt; served == Ok(()) && left.is_empty());
     assert_text(&rt, &written, &TEXTS);
+    drop(desk);
 }
 
 // Serves a session over a reader and a writer of std's that take no memory, and prints how it ended; tools/memory_tests.py
@@ -270,4 +272,5 @@ fn memory_of_a_session(rt: HostRuntime) {
     );
     let end = end_of(&rt, served, &written);
     assert!(rt; println!(rt; "{end}").is_ok());
+    drop(desk);
 }

@@ -114,6 +114,7 @@ fn a_world_has_from_1_to_64_sites(rt: HostRuntime) {
         }
         assert!(rt; world.entries() == 0 && world.entry(0).is_none());
         assert!(rt; world.list().len() == 1);
+        drop(world);
     }
 }
 
@@ -151,6 +152,7 @@ fn events_at_no_site_and_of_no_entry_are_told(rt: HostRuntime) {
     }
     let frame = world.entry(0).expect(&rt, "an entry");
     assert!(rt; frame.maker.number() == 0 && frame.number == 1 && frame.delta.is_empty());
+    drop(world);
 }
 
 // Two sites add SIP/1, and the first removes its own again; it takes the second's frame.
@@ -243,4 +245,6 @@ fn memory_of_worlds(rt: HostRuntime) {
         "at once"
     };
     assert!(rt; println!(rt; "{end}").is_ok());
+    drop(shown);
+    drop(counted);
 }
