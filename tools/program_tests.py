@@ -1,5 +1,4 @@
-"""Runs the program from the command line: its words, its texts and its statuses, a member past the limit, and each of its
-allocations refused."""
+"""Runs the program from the command line: its words, its texts and its statuses, and each of its allocations refused."""
 import os
 import shutil
 import subprocess
@@ -11,7 +10,6 @@ from crates import TOP, folder, stored_words
 STORED = folder("queue_sites")
 BUILT = f"{STORED}/out/queue_sites"
 LONGEST_SCRIPT = 16_777_216
-MOST_MEMBERS = 16_384
 SCRIPT = ["script", "1", "sales"]
 
 
@@ -24,11 +22,12 @@ def read(path):
         return file.read()
 
 
-def run(program, words, given=b"", out=subprocess.PIPE, place=TOP, more=None):
-    """Runs a program on these bytes, or on an open file, and answers its status, what it wrote and what it told."""
-    source = {"input": given} if isinstance(given, bytes) else {"stdin": given}
-    env = {**os.environ, **(more or {})}
-    return subprocess.run([program, *words], cwd=place, stdout=out, stderr=subprocess.PIPE, env=env, check=False, **source)
+def run(program, words, given=b"", out=subprocess.PIPE, place=TOP, more=None, before=None):
+    """Runs a program on these bytes, or on an open file, and answers its status, what it wrote and what it told. What is to be done
+    before it starts is done in its process."""
+    how = {"input": given} if isinstance(given, bytes) else {"stdin": given}
+    how |= {"env": {**os.environ, **(more or {})}, "preexec_fn": before, "check": False}
+    return subprocess.run([program, *words], cwd=place, stdout=out, stderr=subprocess.PIPE, **how)
 
 
 def expect(is_so, what, ran):
@@ -86,42 +85,6 @@ def failures(program, room):
     check(program, SCRIPT, 1, told=b"queue_sites: script too long\n", given=comment + b"#")
     with open("/dev/full", "wb") as full:
         check(program, SCRIPT, 1, told=b"queue_sites: write failed\n", given=b"0 dance", out=full)
-
-
-def reply(response, message):
-    return f"Response: {response}\r\nMessage: {message}\r\n\r\n"
-
-
-STATUS_OF_ONE_MEMBER = (
-    "Response: Success\r\nEventList: start\r\nMessage: Queue status will follow\r\n\r\n"
-    "Event: QueueParams\r\nQueue: sales\r\nCompleted: 0\r\nAbandoned: 0\r\n\r\n"
-    "Event: QueueMember\r\nQueue: sales\r\nName: SIP/1\r\nLocation: SIP/1\r\nStateInterface: SIP/1\r\n"
-    "Membership: dynamic\r\nPenalty: 0\r\nPaused: 0\r\nPausedReason: \r\n\r\n"
-    "Event: QueueStatusComplete\r\nEventList: Complete\r\nListItems: 2\r\n\r\n"
-)
-
-
-def past_the_limit(program):
-    """A site with as many members as it may have refuses one more. A site with one of its own refuses the frame of them all,
-    and takes it once that one is removed."""
-    added, member = reply("Success", "Added interface to queue"), "Queue: sales|Interface: SIP"
-    told = [(f"0 ami Action: QueueAdd|{member}/{number}", added) for number in range(MOST_MEMBERS)]
-    told += [
-        (f"0 ami Action: QueueAdd|{member}/{MOST_MEMBERS}", reply("Error", "Unable to change members: Full")),
-        (f"1 ami Action: QueueAdd|{member}/1", added),
-        ("0 cut", "entry 0\n"),
-        ("1 take 0", "refused CellsFull\n"),
-        ("1 ami Action: QueueStatus", STATUS_OF_ONE_MEMBER),
-        ("0 take 0", "taken\n"),
-        (f"1 ami Action: QueueRemove|{member}/1", reply("Success", "Removed interface from queue")),
-        ("1 take 0", "taken\n"),
-        ("1 offer sales", "offer 0 SIP/0\n"),
-    ]
-    script, wanted = ("".join(it).encode() for it in zip(*((f"{line}\n", printed) for line, printed in told)))
-    ran = run(program, ["script", "2", "sales"], script)
-    if ran.stdout != wanted or ran.returncode:
-        why = first_difference(wanted, ran.stdout) if ran.stdout != wanted else f"the status is {ran.returncode}"
-        raise Failed(f"{program}: in the script of a member past the limit {why}")
 
 
 def from_another_folder(room):
@@ -190,11 +153,10 @@ def run_all(is_gate_passed=False):
             statuses(program)
             wrong_words(program)
             failures(program, room)
-        past_the_limit("./queue_sites")
         from_another_folder(room)
         first_example()
         runs = f"its words, texts and statuses ({' and '.join(map(os.path.basename, programs))})"
-        return [runs, "a script of a member past the limit", "the first example of README", refused_allocations(room)]
+        return [runs, "the first example of README", refused_allocations(room)]
 
 
 if __name__ == "__main__":

@@ -19,6 +19,7 @@ import time
 import build
 import cases
 import gate
+import limit_tests
 import memory_tests
 import program_tests
 from crates import TOP, all_crates, folder, is_program, read, stored_words, with_those_above
@@ -71,6 +72,10 @@ def run_program(parts, is_gate_passed=False):
     parts.run("the program from the command line", part_of(lambda: program_tests.run_all(is_gate_passed)))
 
 
+def run_at_limits(parts, programs=tuple(limit_tests.TESTS)):
+    parts.run("the programs at their limits", part_of(lambda: limit_tests.run_all(programs)))
+
+
 def run_cases(parts, kinds=tuple(cases.KINDS)):
     parts.run("the cases", part_of(lambda: cases.run_all(kinds)))
 
@@ -94,6 +99,7 @@ def whole():
     if not parts.has_failed:
         run_program(parts, is_gate_passed=True)
         run_cases(parts)
+        run_at_limits(parts)
         run_without_memory(parts, all_crates())
     print("\n".join(parts.lines))
     if not parts.has_failed and clean and head:
@@ -154,6 +160,9 @@ def of_crates(names, is_program_changed=False, are_cases_changed=False):
     kinds = [it for it, kind in cases.KINDS.items() if are_cases_changed or kind.program in changed]
     if not parts.has_failed and kinds:
         run_cases(parts, kinds)
+    programs = [it for it in limit_tests.TESTS if it in changed or (it == PROGRAM and is_program_changed)]
+    if not parts.has_failed and programs:
+        run_at_limits(parts, programs)
     if not parts.has_failed:
         run_without_memory(parts, changed)
     print("\n".join(parts.lines))

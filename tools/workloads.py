@@ -235,4 +235,5 @@ def main():
         print(name, it.checksum(answer), it.times, f"{seconds - without:.6f}")
 
 
-main()
+if __name__ == "__main__":
+    main()

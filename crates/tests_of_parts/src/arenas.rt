@@ -136,12 +136,6 @@ fn a_value_is_written_by_its_id(rt: HostRuntime) {
     assert!(rt; !add_one(&mut arena, CellId::new(id.index(), 1)));
 }
 
-#[test]
-fn orders_ids_by_index_first(rt: HostRuntime) {
-    assert!(rt; CellId::new(1, 5) < CellId::new(2, 0));
-    assert!(rt; CellId::new(1, 5) < CellId::new(1, 6));
-}
-
 // A value that counts its drops.
 struct Counted<'a> {
     drops: &'a AtomicU64,
@@ -218,14 +212,4 @@ fn uses_the_last_taken_cell_first(rt: HostRuntime) {
         let next = place(&rt, &mut arena, 3);
         assert_id(&rt, next, CellId::new(id.index(), 1));
     }
-}
-
-fn may_cross<T: Send + Sync>(value: T) -> T {
-    value
-}
-
-#[test]
-fn may_cross_threads(rt: HostRuntime) {
-    let arena: Arena<u32, 9> = may_cross(Arena::new(rt.alloc()));
-    assert_cells(&rt, &arena, 0, 0);
 }

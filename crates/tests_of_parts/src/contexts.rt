@@ -55,16 +55,6 @@ fn assert_same_runs(rt: &impl Abort, context: &Context, other: &Context) {
 }
 
 #[test]
-fn unites_counts_that_meet(rt: HostRuntime) {
-    let mut context = Context::new(rt.alloc());
-    // A count that is added, and the runs and the prefix after it.
-    for (count, runs, prefix) in [(1, 1, 1), (3, 2, 1), (2, 1, 3)] {
-        insert(&rt, &mut context, 0, count);
-        assert_runs(&rt, &context, runs, prefix);
-    }
-}
-
-#[test]
 fn covers_what_was_joined(rt: HostRuntime) {
     let mut context = every_second(&rt, rt.alloc(), 1, 1);
     let other = of_dot(&rt, rt.alloc(), 1, 5);
@@ -83,16 +73,6 @@ fn a_copy_has_the_same_runs(rt: HostRuntime) {
     let copy = context.copy().expect(&rt, "memory");
     assert_same_runs(&rt, &copy, &context);
     assert_same(&rt, &copy.iter().count(), &2);
-}
-
-#[test]
-fn takes_long_runs(rt: HostRuntime) {
-    let site = site(&rt, 0);
-    let mut context = Context::new(rt.alloc());
-    assert_eq!(rt; context.insert_run(site, 5, 1 << 40), Ok(()));
-    assert_runs(&rt, &context, 1, 0);
-    assert_eq!(rt; context.insert_run(site, 1, 4), Ok(()));
-    assert_runs(&rt, &context, 1, 1 << 40);
 }
 
 #[test]

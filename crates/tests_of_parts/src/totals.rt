@@ -1,4 +1,4 @@
-use crate::values::{assert_same, site};
+use crate::values::site;
 use site_totals::{CallTotals, Calls, Iter, TotalFault, TotalKey, Totals};
 use std::alloc::Global;
 use std::process::Abort;
@@ -114,13 +114,6 @@ fn entries_come_by_site_and_queue_without_zeros(rt: HostRuntime) {
         assert_next(&rt, &mut entries, number, queue, counted);
     }
     assert!(rt; entries.next().is_none());
-}
-
-#[test]
-fn a_key_gives_its_site_and_queue_back(rt: HostRuntime) {
-    let key = TotalKey::new(site(&rt, 5), 6);
-    assert_same(&rt, &key.site().number(), &5);
-    assert_same(&rt, &key.queue(), &6);
 }
 
 // Checks whether there is room for other totals.

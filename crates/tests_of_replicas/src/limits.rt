@@ -42,6 +42,17 @@ queues sales
 0 comes_odd 2 1: refused RunsFull
 0 add sales SIP/1 0: refused MembersFull
 0 completed sales: done
+
+# A site that knows one run fewer adds.
+queues sales
+0 comes_odd 1 65535: taken
+0 add sales SIP/1 0: done
+0 runs: 65536
+
+# The number of a frame may be past 32 bits.
+queues sales
+1 comes ADDED 11=1: taken
+1 rows 0: [SIP/1 0 false '' '' '']
 ";
 
 #[test]

@@ -155,6 +155,28 @@ fn events_at_no_site_and_of_no_entry_are_told(rt: HostRuntime) {
     drop(world);
 }
 
+// So many cuts of the second site.
+fn cuts(rt: &impl Abort, alloc: Global, count: u32) -> Vec<Event> {
+    let mut cuts = Vec::new(alloc);
+    for _ in 0..count {
+        cuts.push(Event::Cut(site(rt, 1))).expect(rt, "memory");
+    }
+    cuts
+}
+
+#[test]
+fn ten_thousand_events_are_run(rt: HostRuntime) {
+    let mut world = world_of_two(&rt, rt.alloc());
+    let events = cuts(&rt, rt.alloc(), 10_000);
+    let outcomes = world.run(&events).expect(&rt, "memory");
+    assert!(rt; outcomes.len() == 10_000);
+    for outcome in outcomes.iter() {
+        assert!(rt; matches!(outcome, Outcome::Cut(Ok(None))));
+    }
+    drop(outcomes);
+    drop(world);
+}
+
 // Two sites add SIP/1, and the first removes its own again; it takes the second's frame.
 const ADDED_TWICE: &[Told] = &[
     (0, Add("SIP/1", 1), Done),

@@ -1,0 +1,150 @@
+"""Runs the programs on as much as they may hold: scripts of sites with as many members and runs as there may be, frames with as many
+parts, and a long script with little memory."""
+import resource
+import subprocess
+import sys
+
+from crates import TOP, folder
+from program_tests import BUILT, Failed, first_difference, run
+from workloads import cells, frame, number, run_of, total
+
+MOST_MEMBERS = 16_384
+MOST_RUNS = 65_536
+MOST_TOTALS = 16_384
+ONE_GIBIBYTE = 1 << 30
+FRAMES = f"{folder('frame_cases')}/out/frame_cases"
+
+
+def reply(response, message):
+    return f"Response: {response}\r\nMessage: {message}\r\n\r\n"
+
+
+ADDED = reply("Success", "Added interface to queue")
+REMOVED = reply("Success", "Removed interface from queue")
+FULL = reply("Error", "Unable to change members: Full")
+
+
+def member(interface):
+    return (
+        f"Event: QueueMember\r\nQueue: sales\r\nName: {interface}\r\nLocation: {interface}\r\nStateInterface: {interface}\r\n"
+        "Membership: dynamic\r\nPenalty: 0\r\nPaused: 0\r\nPausedReason: \r\n\r\n"
+    )
+
+
+def report(interfaces):
+    """The report of a queue with these members, which stand in the order of their bytes."""
+    return (
+        "Response: Success\r\nEventList: start\r\nMessage: Queue status will follow\r\n\r\n"
+        "Event: QueueParams\r\nQueue: sales\r\nCompleted: 0\r\nAbandoned: 0\r\n\r\n"
+        + "".join(map(member, sorted(interfaces)))
+        + f"Event: QueueStatusComplete\r\nEventList: Complete\r\nListItems: {len(interfaces) + 1}\r\n\r\n"
+    )
+
+
+def check_script(what, told):
+    """Runs a script of two sites: lines, and what each of them must write."""
+    script, wanted = ("".join(it).encode() for it in zip(*((f"{line}\n", printed) for line, printed in told)))
+    ran = run(BUILT, ["script", "2", "sales"], script)
+    if ran.stdout != wanted or ran.returncode:
+        why = first_difference(wanted, ran.stdout) if ran.stdout != wanted else f"the status is {ran.returncode}"
+        raise Failed(f"in the script of {what} {why}")
+
+
+def add(site, interface):
+    return f"{site} ami Action: QueueAdd|Queue: sales|Interface: {interface}"
+
+
+def remove(site, interface):
+    return f"{site} ami Action: QueueRemove|Queue: sales|Interface: {interface}"
+
+
+def members_past_the_limit():
+    """A site with as many members as it may have refuses one more. It shows them all, and takes its own frame of them all while its
+    buffer is as full. A site with one of its own refuses that frame, and takes it once that one is removed."""
+    interfaces = [f"SIP/{it}" for it in range(MOST_MEMBERS)]
+    told = [(add(0, it), ADDED) for it in interfaces]
+    told += [
+        (add(0, f"SIP/{MOST_MEMBERS}"), FULL),
+        ("0 ami Action: QueueStatus", report(interfaces)),
+        ("0 whole", "entry 0\n"),
+        ("0 take 0", "taken\n"),
+        (add(1, "SIP/1"), ADDED),
+        ("0 cut", "entry 1\n"),
+        ("1 take 1", "refused CellsFull\n"),
+        ("1 ami Action: QueueStatus", report(["SIP/1"])),
+        ("0 take 1", "taken\n"),
+        (remove(1, "SIP/1"), REMOVED),
+        ("1 take 1", "taken\n"),
+        ("1 offer sales", "offer 0 SIP/0\n"),
+        ("1 ami Action: QueueStatus", report(interfaces)),
+    ]
+    check_script("a member past the limit", told)
+    return f"a script of {MOST_MEMBERS:,} members and one more"
+
+
+def runs_past_the_limit():
+    """A site takes every second of another's removes, until it has as many runs of dots as it may have. It then refuses one more, of
+    another or of its own, and still counts calls."""
+    told = []
+    for taken in range(MOST_RUNS + 1):
+        told += [(add(0, "a"), ADDED), ("0 cut", f"entry {2 * taken}\n"), (remove(0, "a"), REMOVED), ("0 cut", f"entry {2 * taken + 1}\n")]
+        told.append((f"1 take {2 * taken + 1}", "taken\n" if taken < MOST_RUNS else "refused RunsFull\n"))
+        told += [(add(0, "a"), ADDED), (remove(0, "a"), REMOVED)]
+    told += [(add(1, "b"), FULL), ("1 completed sales", "done\n"), ("1 ami Action: QueueStatus|Member: b", report([]).replace("Completed: 0", "Completed: 1"))]
+    check_script("a run past the limit", told)
+    return f"a script of {MOST_RUNS:,} runs and one more"
+
+
+def check_frame(what, given, lines):
+    """Reads a frame, which must be told in so many lines, of which the last spells it again; or must have a fault where lines is one."""
+    ran = run(FRAMES, [], given.hex().encode() + b"\n")
+    told = ran.stdout.decode().split("\n")[:-1]
+    wanted = [given.hex()] if isinstance(lines, int) else [lines]
+    if told[-1:] != wanted or len(told) != (lines if isinstance(lines, int) else 1) or ran.returncode:
+        raise Failed(f"a frame of {what} is told in {len(told)} lines, of which the last is {''.join(told[-1:])[:80]!r}; status {ran.returncode}")
+
+
+def frames_past_the_limits():
+    """A frame is read and spelled again with as many cells, runs and totals as it may have, and refused with one more."""
+    runs_of = lambda count: frame(0, [run_of(it % 2, it // 2 * 2 + 1, it // 2 * 2 + 1) for it in sorted(range(count), key=lambda it: it % 2)])
+    totals = [total(it // 256, it % 256, it + 1) for it in range(MOST_TOTALS)]
+    check_frame("as many cells as there may be", cells(0, MOST_MEMBERS), 3 + 2 * MOST_MEMBERS)
+    check_frame("as many runs as there may be", runs_of(MOST_RUNS), 2 + MOST_RUNS)
+    check_frame("as many totals as there may be", frame(0, totals=totals), 2 + MOST_TOTALS)
+    check_frame("a cell more", cells(0, MOST_MEMBERS + 1), "fault TooLarge")
+    check_frame("a run more", runs_of(MOST_RUNS + 1), "fault TooLarge")
+    check_frame("a total more", frame(0, totals=[*totals, number(0, 19)]), "fault TooLarge")
+    return f"frames of {MOST_MEMBERS:,} cells, {MOST_RUNS:,} runs and {MOST_TOTALS:,} totals, and of one more each"
+
+
+def changes_with_little_memory():
+    """Thousands of changes, each sent to another site, fit in a gibibyte of addresses: no step takes more room than it needs."""
+    lines = [
+        line for it in range(5_000) for line in ((remove if it % 2 else add)(0, "SIP/1"), "0 cut", f"1 take {it}", f"1 ami Action: QueueStatus")
+    ]
+    limit = lambda: resource.setrlimit(resource.RLIMIT_AS, (ONE_GIBIBYTE, ONE_GIBIBYTE))
+    ran = run(BUILT, ["script", "2", "sales"], "".join(f"{it}\n" for it in lines).encode(), before=limit)
+    if ran.returncode or ran.stdout.count(b"taken\n") != 5_000:
+        raise Failed(f"a script of 5,000 changes in a gibibyte ends with status {ran.returncode} and tells {ran.stderr!r}")
+    return "a script of 5,000 changes in a gibibyte of addresses"
+
+
+TESTS = {
+    "queue_sites": [members_past_the_limit, runs_past_the_limit, changes_with_little_memory],
+    "frame_cases": [frames_past_the_limits],
+}
+
+
+def run_all(programs=tuple(TESTS)):
+    """Builds these programs where that is needed, and runs what there is of them. Answers lines that tell what was run."""
+    for program in programs:
+        if subprocess.run([f"{TOP}/tools/built", program], check=False).returncode:
+            raise Failed(f"{program} could not be built")
+    return [test() for program in programs for test in TESTS[program]]
+
+
+if __name__ == "__main__":
+    try:
+        print("\n".join(run_all()))
+    except Failed as why:
+        sys.exit(f"test: {why}")
