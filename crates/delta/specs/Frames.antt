@@ -5,7 +5,11 @@ use Rattle.dots.specs.declared.limits.TheConstants.{QUEUES}
 use Rattle.dots.specs.Values.{Dot, IsCount}
 use Rattle.member_orset.specs.Members.{Holding}
 use Rattle.delta.specs.declared.frame.Frame.{Frame}
-use Rattle.delta.specs.DeltaStates.{IsSame}
+use Rattle.delta.specs.DeltaStates.{DeltaState, IsSame}
+
+-- the frame of this maker and number, with this delta
+abbrev pub frame_of : ℕ → ℕ → DeltaState → Frame
+frame_of maker number delta = record { maker = maker; number = number; delta = delta }
 
 -- two frames are of one maker, have one number, and say the same
 pub record IsSameFrame (x y : Frame) : Type 0 where

@@ -16,7 +16,7 @@ use Rattle.causal_context.specs.Contexts.{IsRun}
 use Rattle.member_orset.specs.Members.{Holding, IsLiveIn, IsWithinLimits}
 use Rattle.delta.specs.declared.frame.Frame.{Frame}
 use Rattle.delta.specs.Frames.{IsInRanges}
-use Rattle.delta_codec.specs.Frames.{AreCells, Spells, frame_bytes, parts_with}
+use Rattle.delta_codec.specs.Frames.{AreCells, Heading, Spells, frame_bytes, parts_with}
 use Rattle.delta_codec.specs.Measures.{IsMeasured}
 use Rattle.delta_codec.specs.Parts.{CellParts}
 use Rattle.delta_codec.proofs.Counting.{few_totals}
@@ -50,9 +50,14 @@ cells_are frame runs ranges are limits measured =
       known = λ k d lt. sym (are.same _) ∙ (held k d lt).known;
     }
 
-pub frame_spelled : (frame : Frame) (runs : List Run) (bytes : List ℕ) → IsSite frame.maker → IsInRanges frame → IsRunsOf runs frame.delta.members.known → All IsRun runs → length runs ≤ MOST_RUNS → IsWithinLimits frame.delta.members → All IsMeasured (map.entries frame.delta.members.live) → All (λ total. IsTotal total.0 total.1) (map.entries frame.delta.totals.entries) → bytes ≡ frame_bytes (parts_with frame runs) → Spells frame bytes
+-- the heading of a frame
+abbrev pub heading_of : Frame → Heading
+heading_of frame = record { maker = frame.maker; number = frame.number }
+
+-- what is written of a frame within the ranges spells it
+pub frame_spelled : (frame : Frame) (runs : List Run) (bytes : List ℕ) → IsSite frame.maker → IsInRanges frame → IsRunsOf runs frame.delta.members.known → All IsRun runs → length runs ≤ MOST_RUNS → IsWithinLimits frame.delta.members → All IsMeasured (map.entries frame.delta.members.live) → All (λ total. IsTotal total.0 total.1) (map.entries frame.delta.totals.entries) → bytes ≡ frame_bytes (parts_with (heading_of frame) frame.delta runs) → Spells frame bytes
 frame_spelled frame runs bytes site ranges are each few limits measured totals spelled = record {
-  parts = parts_with frame runs;
+  parts = parts_with (heading_of frame) frame.delta runs;
   of_frame = record { maker = refl; number = refl; runs = are; cells = refl; totals = refl };
   within = record {
     heading = record { maker = site; number = ranges.number };

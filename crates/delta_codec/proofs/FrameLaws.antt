@@ -294,16 +294,31 @@ same_holding None None a b e = refl
 same_live : (x y : Frame) → IsSameFrame x y → x.delta.members.live ≡ y.delta.members.live
 same_live x y same = map.same_map dots_total dots_exact _ _ (λ d. same_holding (map.get x.delta.members.live d) (map.get y.delta.members.live d) (set.contains x.delta.members.known d) (set.contains y.delta.members.known d) (same.delta.conditions d))
 
+-- what is spelled is spelled of each that says the same
+pub spells_same : (x y : Frame) (bytes : List ℕ) → Spells x bytes → IsSameFrame x y → Spells y bytes
+spells_same x y bytes s same = record {
+  parts = s.parts;
+  of_frame = record {
+    maker = s.of_frame.maker ∙ same.maker;
+    number = s.of_frame.number ∙ same.number;
+    runs = subst (λ (k : set.FinSet dot_cmp). IsRunsOf s.parts.runs k) same.delta.known s.of_frame.runs;
+    cells = s.of_frame.cells ∙ ap map.entries (same_live x y same);
+    totals = s.of_frame.totals ∙ ap map.entries same.delta.totals;
+  };
+  within = s.within;
+  spelled = s.spelled;
+}
+
 pub one_spelling : (x y : Frame) (a b : List ℕ) → IsSameFrame x y → Spells x a → Spells y b → a ≡ b
 one_spelling x y a b same s t =
-    let maker : s.parts.heading.maker ≡ t.parts.heading.maker = s.of_frame.maker ∙ same.maker ∙ sym t.of_frame.maker in
-    let number : s.parts.heading.number ≡ t.parts.heading.number = s.of_frame.number ∙ same.number ∙ sym t.of_frame.number in
-    let runs_of : IsRunsOf s.parts.runs y.delta.members.known = subst (λ (k : set.FinSet dot_cmp). IsRunsOf s.parts.runs k) same.delta.known s.of_frame.runs in
-    let runs : s.parts.runs ≡ t.parts.runs = runs_unique s.parts.runs t.parts.runs y.delta.members.known runs_of t.of_frame.runs in
-    let cells : s.parts.cells ≡ t.parts.cells = s.of_frame.cells ∙ ap map.entries (same_live x y same) ∙ sym t.of_frame.cells in
-    let totals : s.parts.totals ≡ t.parts.totals = s.of_frame.totals ∙ ap map.entries same.delta.totals ∙ sym t.of_frame.totals in
-    let parts : s.parts ≡ t.parts = λ i. record { heading = record { maker = maker i; number = number i }; runs = runs i; cells = cells i; totals = totals i } in
-    s.spelled ∙ ap frame_bytes parts ∙ sym t.spelled
+    let o : Spells y a = spells_same x y a s same in
+    let maker : o.parts.heading.maker ≡ t.parts.heading.maker = o.of_frame.maker ∙ sym t.of_frame.maker in
+    let number : o.parts.heading.number ≡ t.parts.heading.number = o.of_frame.number ∙ sym t.of_frame.number in
+    let runs : o.parts.runs ≡ t.parts.runs = runs_unique o.parts.runs t.parts.runs y.delta.members.known o.of_frame.runs t.of_frame.runs in
+    let cells : o.parts.cells ≡ t.parts.cells = o.of_frame.cells ∙ sym t.of_frame.cells in
+    let totals : o.parts.totals ≡ t.parts.totals = o.of_frame.totals ∙ sym t.of_frame.totals in
+    let parts : o.parts ≡ t.parts = λ i. record { heading = record { maker = maker i; number = number i }; runs = runs i; cells = cells i; totals = totals i } in
+    o.spelled ∙ ap frame_bytes parts ∙ sym t.spelled
 
 -- bytes that begin with the spellings of two frames
 both_found : (bytes : List ℕ) (x y : Frame) (n m : ℕ) → n ≤ length bytes → m ≤ length bytes → (s : Spells x (take n bytes)) → (t : Spells y (take m bytes)) → (kept_of s.parts ≡ kept_of t.parts) × (n ≡ m)

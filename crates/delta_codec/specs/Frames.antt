@@ -11,6 +11,7 @@ use Rattle.dots.specs.Totals.{IsTotal, key_cmp}
 use Rattle.dots.specs.Values.{IsCount, IsSite}
 use Rattle.causal_context.specs.Contexts.{IsRun}
 use Rattle.delta.specs.declared.frame.Frame.{Frame}
+use Rattle.delta.specs.DeltaStates.{DeltaState}
 use Rattle.delta_codec.specs.declared.limits.TheConstants.{MOST_TOTALS, VERSION}
 use Rattle.delta_codec.specs.Parts.{CellParts, IsCell, IsListOf, TotalParts, byte, cell_bytes, list_bytes, run_bytes, total_bytes}
 
@@ -87,11 +88,11 @@ pub record Spells (frame : Frame) (bytes : List ℕ) : Type 0 where
   pub within : AreParts parts
   pub spelled : bytes ≡ frame_bytes parts
 
--- the parts of a frame whose context has these runs
-abbrev pub parts_with : Frame → List Run → FrameParts
-parts_with frame runs = record {
-  heading = record { maker = frame.maker; number = frame.number };
+-- the parts of a frame with this heading and this delta, whose context has these runs
+abbrev pub parts_with : Heading → DeltaState → List Run → FrameParts
+parts_with heading delta runs = record {
+  heading = heading;
   runs = runs;
-  cells = map.entries frame.delta.members.live;
-  totals = map.entries frame.delta.totals.entries;
+  cells = map.entries delta.members.live;
+  totals = map.entries delta.totals.entries;
 }

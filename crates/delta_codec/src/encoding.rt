@@ -2,7 +2,7 @@ ghost use Rattle.std.specs.Prelude.{◌≡◌, ◌++◌, ◌≤◌, IfOk, OnOk, 
 ghost use Rattle.std.specs.FinMap as map;
 ghost use Rattle.std.specs.List.{All};
 ghost use Rattle.dots.specs.declared.limits.TheConstants.{MOST_RUNS};
-ghost use Rattle.delta.specs.Frames.{IsInRanges};
+ghost use Rattle.delta.specs.Frames.{IsInRanges, frame_of};
 ghost use Rattle.delta_codec.specs.Frames.{Spells, content_bytes, frame_bytes};
 ghost use Rattle.delta_codec.specs.Frames.{parts_with};
 ghost use Rattle.delta_codec.specs.Measures.{IsMeasured};
@@ -11,34 +11,66 @@ use crate::sizes::content_size;
 use crate::writing::{put_cell_list, put_number4, put_opening, put_run_list, put_total_list};
 use crate::{Frame, Memory};
 use causal_context::Run;
+use delta::Delta;
+use dots::SiteId;
 use std::alloc::Global;
 
-// What stands behind the length of a frame whose context has these runs.
-fn put_content(out: &mut Vec<u8>, frame: &Frame, runs: &[Run]) -> Result<(), Memory>
+// What stands behind the length of a frame with this delta, whose context has these runs.
+fn put_content(
+    out: &mut Vec<u8>,
+    maker: SiteId,
+    number: u64,
+    delta: &Delta,
+    runs: &[Run],
+) -> Result<(), Memory>
     requires { length runs.now ≤ MOST_RUNS }
-    ensures { OnOk result (out.new.items
-        ≡ out.old.items ++ content_bytes (parts_with frame.now runs.now)) }
+    ensures { OnOk result (out.new.items ≡ out.old.items ++ content_bytes
+        (parts_with (record { maker = maker; number = number }) delta.now runs.now)) }
 {
-    put_opening(out, frame.maker, frame.number)?;
+    put_opening(out, maker, number)?;
     put_run_list(out, runs)?;
-    put_cell_list(out, frame.delta.members())?;
-    put_total_list(out, frame.delta.totals())?;
+    put_cell_list(out, delta.members())?;
+    put_total_list(out, delta.totals())?;
     Ok(())
 }
 
-// The bytes of a frame whose context has these runs.
-fn encode_with(alloc: Global, frame: &Frame, runs: &[Run]) -> Result<Vec<u8>, Memory>
+// The bytes of a frame with this delta, whose context has these runs.
+fn encode_with(
+    alloc: Global,
+    maker: SiteId,
+    number: u64,
+    delta: &Delta,
+    runs: &[Run],
+) -> Result<Vec<u8>, Memory>
     requires { length runs.now ≤ MOST_RUNS }
-    ensures value { IfOk result
-        (λ bytes. bytes.items ≡ frame_bytes (parts_with frame.now runs.now)) }
-    ensures within { All IsMeasured (map.entries frame.now.delta.members.live) }
+    ensures value { IfOk result (λ bytes. bytes.items ≡ frame_bytes
+        (parts_with (record { maker = maker; number = number }) delta.now runs.now)) }
+    ensures within { All IsMeasured (map.entries delta.now.members.live) }
 {
-    let size = content_size(frame, runs);
+    let size = content_size(delta, runs);
     let mut out = Vec::new(alloc);
     out.reserve_exact(4 + size)?;
     put_number4(&mut out, size as u32)?;
-    put_content(&mut out, frame, runs)?;
+    put_content(&mut out, maker, number, delta, runs)?;
     Ok(out)
+}
+
+/// The bytes that spell the frame of this maker and number with this delta, as `encode` gives those of a frame. The delta stays where it
+/// lies, and nothing of it is copied. The one fault is want of memory (this project's own).
+pub fn encode_parts(
+    alloc: Global,
+    maker: SiteId,
+    number: u64,
+    delta: &Delta,
+) -> Result<Vec<u8>, Memory>
+    ensures { let frame = frame_of maker number delta.now in
+        IsInRanges frame → IfOk result (λ bytes. Spells frame bytes.items) }
+{
+    let _ = maker.number(); // so that it is known to be a site's
+    let _ = delta.members().cells(); // so that its limits are known
+    let _ = delta.totals().iter(); // and those of its totals
+    let runs = delta.members().context().as_slice();
+    encode_with(alloc, maker, number, delta, runs)
 }
 
 /// The bytes that spell a frame, for a frame within the ranges of the format: its number is from 1 to 2^40, and each queue's
@@ -47,8 +79,5 @@ fn encode_with(alloc: Global, frame: &Frame, runs: &[Run]) -> Result<Vec<u8>, Me
 pub fn encode(alloc: Global, frame: &Frame) -> Result<Vec<u8>, Memory>
     ensures { IsInRanges frame.now → IfOk result (λ bytes. Spells frame.now bytes.items) }
 {
-    let _ = frame.maker.number(); // so that it is known to be a site's
-    let _ = frame.delta.members().cells(); // so that its limits are known
-    let _ = frame.delta.totals().iter(); // and those of its totals
-    encode_with(alloc, frame, frame.delta.members().context().as_slice())
+    encode_parts(alloc, frame.maker, frame.number, &frame.delta)
 }

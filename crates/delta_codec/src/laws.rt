@@ -16,6 +16,11 @@ pub fn each_frame_has_one_spelling()
     ensures { (x y : Frame) (a b : List ℕ) → IsSameFrame x y → Spells x a → Spells y b → a ≡ b }
 {}
 
+/// Bytes that spell a frame spell each of its maker and number whose delta says the same, so a copy of a delta is spelled as the delta is.
+pub fn a_spelling_is_of_all_that_say_the_same()
+    ensures { (x y : Frame) (bytes : List ℕ) → Spells x bytes → IsSameFrame x y → Spells y bytes }
+{}
+
 /// Bytes spell at most one frame, and no spelling begins another.
 pub fn bytes_spell_one_frame()
     ensures one { (x y : Frame) (bytes : List ℕ)

@@ -18,6 +18,6 @@ pub use decode_fault::DecodeFault;
 pub use decoding::decode;
 pub use delta::Frame;
 pub use dots::Memory;
-pub use encoding::encode;
+pub use encoding::{encode, encode_parts};
 pub use limits::{LEAST_LENGTH, MOST_LENGTH, MOST_TOTALS, VERSION};
 pub use splitter::Splitter;

@@ -6,14 +6,14 @@ ghost use Rattle.dots.specs.declared.limits.TheConstants.{MOST_LIVE, MOST_RUNS};
 ghost use Rattle.dots.specs.Values.{IsName, IsPenalty, IsText};
 ghost use Rattle.dots.specs.WithinLimits.{IsDot, IsLabel, IsPause, IsStamp};
 ghost use Rattle.delta_codec.specs.declared.limits.TheConstants.{MOST_LENGTH, MOST_TOTALS};
-ghost use Rattle.delta_codec.specs.Frames.{content_bytes, parts_with};
+ghost use Rattle.delta_codec.specs.Frames.{Heading, content_bytes, parts_with};
 ghost use Rattle.delta_codec.specs.Measures.{IsMeasured, most_cell};
 ghost use Rattle.delta_codec.specs.Parts.{IsField, cell_bytes, field_bytes, fields_bytes};
 ghost use Rattle.delta_codec.specs.Parts.{label_bytes, pause_bytes, penalty_bytes, stamp_bytes};
 ghost use Rattle.delta_codec.specs.Parts.{text_bytes, total_bytes};
 
-use crate::Frame;
 use causal_context::Run;
+use delta::Delta;
 use dots::{Dot, Label, Member, Pause, Penalty, Stamp, Text80};
 use lww_registers::{Fields, Register};
 use member_orset::MemberSet;
@@ -152,14 +152,15 @@ pub(crate) fn count_of(totals: &Totals) -> usize
     count
 }
 
-// How many bytes a frame has behind its length, if its context has these runs.
-pub(crate) fn content_size(frame: &Frame, runs: &[Run]) -> usize
+// How many bytes a frame with this delta has behind its length, whatever its heading, if its context has these runs.
+pub(crate) fn content_size(delta: &Delta, runs: &[Run]) -> usize
     requires { length runs.now ≤ MOST_RUNS }
-    ensures value { result ≡ length (content_bytes (parts_with frame.now runs.now)) }
+    ensures value { (heading : Heading)
+        → result ≡ length (content_bytes (parts_with heading delta.now runs.now)) }
     ensures limit { result ≤ MOST_LENGTH }
-    ensures within { All IsMeasured (map.entries frame.now.delta.members.live) }
+    ensures within { All IsMeasured (map.entries delta.now.members.live) }
 {
-    let cells = cells_size(frame.delta.members());
-    let totals = count_of(frame.delta.totals());
+    let cells = cells_size(delta.members());
+    let totals = count_of(delta.totals());
     24 + (17 * runs.len() + (cells + 19 * totals))
 }
