@@ -1,16 +1,17 @@
 -- What a replica stands for once it has made a frame.
 use Rattle.std.proofs.Common.{◌≡◌, ◌≢◌, ◌<◌, ◌≤◌, ℕ, suc, true, false, [], ◌∷◌, refl, sym, ap, subst, ◌∙◌, if◌then◌else◌, arith}
-use Rattle.std.specs.Prelude.{nat_lt}
+use Rattle.std.specs.Prelude.{length, nat_lt}
 use Rattle.std.proofs.lemmas.Bool.Decides.{nat_tests}
 use Rattle.dots.specs.declared.limits.TheConstants.{MOST_COUNT, QUEUES}
 use Rattle.dots.specs.Knowledge.{Knowledge}
-use Rattle.delta.specs.DeltaStates.{IsEmpty}
+use Rattle.delta.specs.DeltaStates.{DeltaState, IsEmpty}
 use Rattle.delta.specs.Standing.{IsDeltaOf}
 use Rattle.delta.proofs.StandingDeltas.{same_stands}
 use Rattle.delta.specs.declared.frame.Frame.{Frame}
-use Rattle.delta.specs.Frames.{IsInRanges}
+use Rattle.delta.specs.Frames.{IsInRanges, frame_of}
 use Rattle.replica.specs.Framing.{HasCopied, HasCut, IsFramed}
 use Rattle.replica.specs.Keeping.{AreInQueues}
+use Rattle.replica.specs.Queues.{AreQueues}
 use Rattle.replica.specs.Site.{SiteState}
 use Rattle.replica.specs.Standing.{StandsFor}
 use Rattle.replica.specs.Steps.{Framed, NoNumber, Nothing, Outcome, SiteKnowledge, after_frame, cut}
@@ -51,12 +52,20 @@ in-ranges n frame some few queues within = record {
     at : (q : ℕ) → q < n → q < QUEUES
     at q h = omega arith
 
+-- so is a site's next frame, of a delta of its queues
+pub next-in-ranges : (s : SiteState) (d : DeltaState) → AreQueues s.names → s.frames < MOST_COUNT → AreInQueues (length s.names) d → IsInRanges (frame_of s.site (suc s.frames) d)
+next-in-ranges s d queues left within = in-ranges (length s.names) (frame_of s.site (suc s.frames) d) (omega arith) (omega (arith, left)) queues.few within
+
 -- ---- cuts
 
--- nothing is cut of an empty buffer
+-- nothing comes of a cut of an empty buffer
+pub nothing-cut : (state : SiteState) (s : SiteKnowledge) → StandsFor state s → IsEmpty state.pending → cut s s.buffer ≡ (s, Nothing)
+nothing-cut state s stands empty = ap (cut s) ((empty-buffer state s stands).0 empty)
+
+-- so the site stands for what it stood for
 pub nothing-means : (old now : SiteState) (s : SiteKnowledge) → old ≡ now → StandsFor now s → IsEmpty old.pending → StandsFor now (cut s s.buffer).0 × ((cut s s.buffer).1 ≡ Nothing)
 nothing-means old now s e stands empty =
-    subst (λ b. StandsFor now (cut s b).0 × ((cut s b).1 ≡ Nothing)) (sym ((empty-buffer now s stands).0 (subst (λ (r : SiteState). IsEmpty r.pending) e empty))) (stands, refl)
+    subst (λ (a : After). StandsFor now a.0 × (a.1 ≡ Nothing)) (sym (nothing-cut now s stands (subst (λ (r : SiteState). IsEmpty r.pending) e empty))) (stands, refl)
 
 -- a buffer that isn't empty is cut as a frame
 cut-some : (s : SiteKnowledge) (buffer : Knowledge) → (buffer ≡ [] → ⊥) → cut s buffer ≡ after_frame s buffer []

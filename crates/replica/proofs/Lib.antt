@@ -18,6 +18,7 @@ pub mod NoNumbers
 pub mod PlannedAdds
 pub mod PlannedCommands
 pub mod PlannedWrites
+pub mod SameSites
 pub mod SeenDots
 pub mod SeenLists
 pub mod SeenOnce
@@ -26,6 +27,7 @@ pub mod SiteChanges
 pub mod SiteViewLaws
 pub mod StandingSites
 pub mod StepLaws
+pub mod TakenCopies
 pub mod TakenSites
 pub mod TakingIn
 pub mod TracesMade

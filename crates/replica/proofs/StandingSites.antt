@@ -16,12 +16,12 @@ use Rattle.delta.proofs.ShownDeltas.{read-as}
 use Rattle.delta.proofs.StandingDeltas.{empty_where, same_stands, stands_for_both}
 use Rattle.replica.specs.declared.refusal.Refusal.{Refusal}
 use Rattle.replica.specs.Changes.{Change, Makes, Meaning, Refused, meaning}
-use Rattle.replica.specs.Commands.{HasJoined, HasMade, IsDone}
+use Rattle.replica.specs.Commands.{Follows, HasJoined, HasMade, IsDone, refusal_meant}
 use Rattle.replica.specs.Promises.{AreAlike, AreAsFull}
-use Rattle.replica.specs.Refusing.{IsWorn}
+use Rattle.replica.specs.Refusing.{IsInstead, IsWorn}
 use Rattle.replica.specs.Site.{IsUnchanged, SiteState, meaning_at, view_of}
 use Rattle.replica.specs.SiteViews.{count_used, greatest, site_view, time_used}
-use Rattle.replica.specs.Standing.{IsMeant, StandsFor}
+use Rattle.replica.specs.Standing.{IsMeant, StandsFor, refusal_of, result_of}
 use Rattle.replica.specs.Steps.{Do, SiteKnowledge, after_meaning, new_site, step}
 use Rattle.replica.proofs.AlikeSites.{means-alike}
 use Rattle.replica.proofs.Below.{unchanged-condition}
@@ -116,18 +116,27 @@ unchanged-stands old new s stands same =
 
 -- ---- commands
 
+-- what follows from a meaning stands for what is meant
+pub follows-means : (old new : SiteState) (s : SiteKnowledge) (change : Change) (result : Result (Unit {0}) Refusal) → StandsFor old s → Follows old (meaning_at old change) new result
+    → StandsFor new (step old.site old.names s (Do change)).0 × (result ≡ result_of (step old.site old.names s (Do change)).1)
+follows-means old new s change result stands follows =
+    subst (λ m. StandsFor new (after_meaning s m).0 × (result ≡ result_of (after_meaning s m).1)) (means-what-it-knows old s change stands)
+    (by (meaning_at old change) (makes-traces old.site old.names change (view_of old old.state) (view_of old old.pending)) follows)
+  where
+    by : (m : Meaning) → ((o : Operation) → m ≡ Makes o → LeavesTrace o) → Follows old m new result → StandsFor new (after_meaning s m).0 × (result ≡ result_of (after_meaning s m).1)
+    by (Makes o) leaves follows = (made-stands old new s o stands follows.1 (leaves o refl), follows.0)
+    by (Refused refusal) leaves follows = (unchanged-stands old new s stands follows.1, follows.0)
+
 -- what is done stands for what is meant
 pub done-means : (old new : SiteState) (s : SiteKnowledge) (change : Change) (result : Result (Unit {0}) Refusal) → StandsFor old s
     → IsDone old (meaning_at old change) new result → IsMeant (IsWorn old) old new result (step old.site old.names s (Do change))
-done-means old new s change result stands done =
-    subst (λ m. IsMeant (IsWorn old) old new result (after_meaning s m)) (means-what-it-knows old s change stands)
-    (by (meaning_at old change) (makes-traces old.site old.names change (view_of old old.state) (view_of old old.pending)) done)
+done-means old new s change result stands (inl follows) = inl (follows-means old new s change result stands follows)
+done-means old new s change result stands (inr other) =
+    inr (other.0, subst (λ m. IsInstead (IsWorn old) (refusal_of (after_meaning s m).1) result) (means-what-it-knows old s change stands) (by (meaning_at old change) other.1))
   where
-    by : (m : Meaning) → ((o : Operation) → m ≡ Makes o → LeavesTrace o) → IsDone old m new result → IsMeant (IsWorn old) old new result (after_meaning s m)
-    by (Makes o) leaves (inl follows) = inl (made-stands old new s o stands follows.1 (leaves o refl), follows.0)
-    by (Makes o) leaves (inr other) = inr other
-    by (Refused refusal) leaves (inl follows) = inl (unchanged-stands old new s stands follows.1, follows.0)
-    by (Refused refusal) leaves (inr other) = inr other
+    by : (m : Meaning) → IsInstead (IsWorn old) (refusal_meant m) result → IsInstead (IsWorn old) (refusal_of (after_meaning s m).1) result
+    by (Makes o) instead = instead
+    by (Refused refusal) instead = instead
 
 -- ---- frames
 

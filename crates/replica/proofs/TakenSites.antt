@@ -30,7 +30,7 @@ use Rattle.replica.specs.Site.{SiteState}
 use Rattle.replica.specs.Standing.{StandsFor}
 use Rattle.replica.specs.Steps as steps
 use Rattle.replica.specs.Steps.{Outcome, SiteKnowledge, Taken}
-use Rattle.replica.specs.Taking.{HasDotPast, HasNoneLater, HasStampPast, HasTaken, IsMeantFault, IsNotMine, IsRefusedTake, IsWrittenPast, MayHear, SpeaksOfStrangeQueue, take_fault_of}
+use Rattle.replica.specs.Taking.{HasDotPast, HasNoneLater, HasStampPast, HasTaken, IsMeantFault, IsNotMine, IsRefusedTake, IsWrittenPast, MayHear, MayTake, SpeaksOfStrangeQueue, take_fault_of}
 use Rattle.replica.proofs.Below.{below-joined, below-through, unchanged-condition}
 use Rattle.replica.proofs.KeptJoins.{dots-joined, queues-joined, stamps-joined}
 use Rattle.replica.proofs.StandingSites.{equal-same, taken-stands}
@@ -171,6 +171,26 @@ module _ (s : SiteState) (d : DeltaState) where
   refusals-taken hears r u done refused =
       refusals-heard (λ f. ⊥) (λ f. r ≡ Err f) hears refused (λ f. (λ p. absurd p, λ e. absurd (cc))) (λ p. p) (λ p. p)
 
+  -- and the site may take it
+  pub may-take : MayHear s d → Agree s.state d → (r : Result (Unit {0}) JoinFault) (u : Unit {0}) → r ≡ Ok u → IsRefusedJoin s.state d (λ f. r ≡ Err f) → MayTake s d
+  may-take hears agree r u done refused = record {
+    joins = record { hears = hears; agree = agree };
+    cells = few;
+    runs = at (runs_joined s.state.members d.members) MOST_RUNS (λ many. never join.RunsFull (refused.runs_full.1 (agree, record { few = few; places = places }, many)));
+  }
+    where
+      at : (n m : ℕ) → (m < n → ⊥) → n ≤ m
+      at n m h = omega arith
+
+      never : (f : JoinFault) → r ≡ Err f → ⊥
+      never f e = cc
+
+      few : cells_joined s.state.members d.members ≤ MOST_LIVE
+      few = at (cells_joined s.state.members d.members) MOST_LIVE (λ many. never join.CellsFull (refused.cells_full.1 (agree, inl many)))
+
+      places : (s.state.members.retired + map.len s.state.members.live) + map.len d.members.live ≤ 1048576
+      places = at ((s.state.members.retired + map.len s.state.members.live) + map.len d.members.live) 1048576 (λ many. never join.CellsFull (refused.cells_full.1 (agree, inr many)))
+
   -- of one that wasn't joined that of the join
   pub refusals-joined : MayHear s d → (r : Result (Unit {0}) JoinFault) (fault : JoinFault) → r ≡ Err fault → IsRefusedJoin s.state d (λ f. r ≡ Err f) → IsRefusedTake s d (λ f. take_fault_of fault ≡ f)
   refusals-joined hears r fault is refused =
@@ -257,18 +277,10 @@ module _ (old : SiteState) (d : DeltaState) (s : SiteKnowledge) (k : Knowledge) 
   fault-meant within others r refused join.Memory is = tt
 
   -- and so is a take
-  pub take-meant : (new : SiteState) (r : Result (Unit {0}) JoinFault) (u : Unit {0}) → r ≡ Ok u → IsRefusedJoin old.state d (λ f. r ≡ Err f) → Agree old.state d → HasTaken old d new → HasNoneLater old k
-      → StandsFor new (steps.take s k).0 × ((steps.take s k).1 ≡ Taken)
-  take-meant new r u done refused agree taken later =
-      let few : cells_joined old.state.members d.members ≤ MOST_LIVE = at (cells_joined old.state.members d.members) MOST_LIVE (λ many. absurd (let e = refused.cells_full.1 (agree, inl many) in cc)) in
-      let places : (old.state.members.retired + map.len old.state.members.live) + map.len d.members.live ≤ 1048576 =
-      at ((old.state.members.retired + map.len old.state.members.live) + map.len d.members.live) 1048576 (λ many. absurd (let e = refused.cells_full.1 (agree, inr many) in cc)) in
-      let short : runs_joined old.state.members d.members ≤ MOST_RUNS =
-      at (runs_joined old.state.members d.members) MOST_RUNS (λ many. absurd (let e = refused.runs_full.1 (agree, record { few = few; places = places }, many) in cc)) in
-      subst (λ (a : SiteKnowledge × Outcome). StandsFor new a.0 × (a.1 ≡ Taken)) (sym (is-taken few short)) (
-        taken-stands old new s d k stands says agree taken.state taken.site (equal-same old.pending new.pending taken.pending) taken.last_count taken.last_time taken.frames later.counts later.times,
+  pub take-meant : (new : SiteState) → MayTake old d → HasTaken old d new → HasNoneLater old k → StandsFor new (steps.take s k).0 × ((steps.take s k).1 ≡ Taken)
+  take-meant new may taken later =
+      subst (λ (a : SiteKnowledge × Outcome). StandsFor new a.0 × (a.1 ≡ Taken)) (sym (is-taken may.cells may.runs)) (
+        taken-stands old new s d k stands says may.joins.agree taken.state taken.site (equal-same old.pending new.pending taken.pending) taken.last_count taken.last_time taken.frames later.counts
+            later.times,
         refl,
       )
-    where
-      at : (n m : ℕ) → (m < n → ⊥) → n ≤ m
-      at n m h = omega arith

@@ -50,14 +50,14 @@ unchanged-agrees d same x u agree = λ dot.
     subst (λ c. ConditionsAgree c (condition_of x.members dot)) (λ i. condition_at (map.get (sym u.members.live i) dot) (set.contains (sym u.members.known i) dot)) (agree dot)
 
 -- as many dots are live in the join with either
-same-cells : (d x copy : DeltaState) → IsSame x copy → cells_joined d.members copy.members ≡ cells_joined d.members x.members
+pub same-cells : (d x copy : DeltaState) → IsSame x copy → cells_joined d.members copy.members ≡ cells_joined d.members x.members
 unfolding joined_dots
 same-cells d x copy same = λ i.
     let known = sym same.known in let live = sym (copied-live x copy same) in
     set.len (set.retain (set.union d.members.known (known i))
     (λ dot. is_live (condition_joined (condition_of d.members dot) (condition_at (map.get (live i) dot) (set.contains (known i) dot)))))
 
-same-runs : (d x copy : DeltaState) → IsSame x copy → runs_joined d.members copy.members ≡ runs_joined d.members x.members
+pub same-runs : (d x copy : DeltaState) → IsSame x copy → runs_joined d.members copy.members ≡ runs_joined d.members x.members
 same-runs d x copy same = ap (λ known. run_count (set.union d.members.known known)) (sym same.known)
 
 same-live : (x copy : DeltaState) → IsSame x copy → map.len copy.members.live ≡ map.len x.members.live

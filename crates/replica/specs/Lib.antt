@@ -1,6 +1,7 @@
 pub mod Changes
 pub mod Changing
 pub mod Commands
+pub mod Deeds
 pub mod DotLists
 pub mod Fitting
 pub mod Framing

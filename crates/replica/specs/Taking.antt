@@ -4,7 +4,7 @@ use Rattle.std.specs.FinMap as map
 use Rattle.std.specs.FinSet as set
 use Rattle.dots.specs.declared.call_totals.CallTotals.{CallTotals}
 use Rattle.dots.specs.declared.calls.Calls.{Calls}
-use Rattle.dots.specs.declared.limits.TheConstants.{MOST_RUNS}
+use Rattle.dots.specs.declared.limits.TheConstants.{MOST_LIVE, MOST_RUNS}
 use Rattle.dots.specs.Values.{Dot}
 use Rattle.dots.specs.Orders.{dot_cmp}
 use Rattle.dots.specs.Registers.{Entry}
@@ -106,6 +106,12 @@ pub record MayHear (s : SiteState) (d : DeltaState) : Type 0 where
 pub record MayJoin (s : SiteState) (d : DeltaState) : Type 0 where
   pub hears : MayHear s d
   pub agree : Agree s.state d
+
+-- and the join has few enough live dots and runs, so the site may take the delta
+pub record MayTake (s : SiteState) (d : DeltaState) : Type 0 where
+  pub joins : MayJoin s d
+  pub cells : cells_joined s.state.members d.members ≤ MOST_LIVE
+  pub runs : runs_joined s.state.members d.members ≤ MOST_RUNS
 
 -- The refusals of a frame with this delta. Each stands exactly for its cause, where no cause before it stands.
 pub record IsRefusedTake (s : SiteState) (d : DeltaState) (IsRefused : TakeFault → Type 0) : Type 0 where

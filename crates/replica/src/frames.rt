@@ -9,7 +9,7 @@ ghost use Rattle.replica.specs.Site.{IsUnchanged};
 ghost use Rattle.replica.specs.Standing.{StandsFor};
 ghost use Rattle.replica.specs.Steps.{Cut, SiteKnowledge, Take, Whole, step};
 ghost use Rattle.replica.specs.Taking.{HasNoneLater, HasTaken, IsMeantTake};
-ghost use Rattle.replica.specs.Taking.{IsRefusedFor, IsRefusedTake, take_fault_of};
+ghost use Rattle.replica.specs.Taking.{IsRefusedFor, IsRefusedTake, MayTake, take_fault_of};
 
 use crate::foreign::hear;
 use crate::{CutFault, Frame, Replica, TakeFault};
@@ -99,6 +99,7 @@ impl Replica {
     /// 6 `Memory`. The first two are this project's own.
     pub fn take(&mut self, frame: Frame) -> Result<(), (TakeFault, Frame)>
         ensures joined { OnOk result (HasTaken self.old frame.delta self.new) }
+        ensures may { OnOk result (MayTake self.old frame.delta) }
         ensures refusals { IsRefusedTake self.old frame.delta (λ fault. IsRefusedFor result fault) }
         ensures back { IfErr result (λ refused. refused.1 ≡ frame) }
         ensures unchanged { OnErr result (IsUnchanged self.old self.new) }

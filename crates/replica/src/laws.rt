@@ -1,16 +1,29 @@
-//! What the definitions of commands and steps promise. The functions have no body: their contracts are the laws.
-ghost use Rattle.std.specs.Prelude.{◌≡◌, ℕ, List};
+//! What the definitions of commands and steps promise, and of what stands for them. The functions have no body: their contracts are the laws.
+ghost use Rattle.std.specs.Prelude.{◌≡◌, ◌<◌, ℕ, List, Result, suc};
+ghost use Rattle.dots.specs.declared.limits.TheConstants.{MOST_COUNT};
 ghost use Rattle.dots.specs.Operations.{Operation};
 ghost use Rattle.dots.specs.Knowledge.{Knowledge};
+ghost use Rattle.delta.specs.declared.frame.Frame.{Frame};
+ghost use Rattle.delta.specs.DeltaStates.{DeltaState, IsEmpty, IsSame};
+ghost use Rattle.delta.specs.Frames.{IsInRanges, frame_of};
+ghost use Rattle.delta.specs.Standing.{IsDeltaOf};
+ghost use Rattle.replica.specs.declared.refusal.Refusal.{Refusal};
 ghost use Rattle.replica.specs.Promises.{ForeseesOneMore, OlderAreNamed, MakesTraces};
 ghost use Rattle.replica.specs.Promises.{MakesWithinLimits, MeansTheSame, AreAlike, AreAsFull};
 ghost use Rattle.replica.specs.Promises.{MeansTheSameAlike, RefusalsChangeNothing};
 ghost use Rattle.replica.specs.Changes.{Change, Makes, meaning};
+ghost use Rattle.replica.specs.Commands.{Follows};
+ghost use Rattle.replica.specs.Deeds.{IsCutDeed, IsNew, IsTakeDeed, IsWholeDeed};
+ghost use Rattle.replica.specs.Framing.{IsFramed};
+ghost use Rattle.replica.specs.Keeping.{IsKept};
 ghost use Rattle.replica.specs.MadeOperations.{IsMadeAt};
-ghost use Rattle.replica.specs.Site.{IsUnchanged, SiteState};
+ghost use Rattle.replica.specs.Queues.{AreQueues};
+ghost use Rattle.replica.specs.Site.{IsSameSite, IsUnchanged, SiteState, meaning_at};
 ghost use Rattle.replica.specs.SiteViews.{SiteView, site_view};
-ghost use Rattle.replica.specs.Standing.{StandsFor};
-ghost use Rattle.replica.specs.Steps.{SiteKnowledge, Step};
+ghost use Rattle.replica.specs.Standing.{StandsFor, result_of};
+ghost use Rattle.replica.specs.Steps.{Cut, Do, Nothing, SiteKnowledge, Step, Take, Taken, Whole};
+ghost use Rattle.replica.specs.Steps.{new_site, step};
+ghost use Rattle.replica.specs.Taking.{HasNoneLater, MayTake};
 
 /// The visible and the known dots that a site view gives with one operation more are those of the knowledge that has it: so
 /// whether a site is full is asked of what it would know (this project's own).
@@ -66,4 +79,65 @@ pub fn a_refused_step_changes_nothing()
 pub fn an_unchanged_replica_stands_for_the_same()
     ensures { (old new : SiteState) (s : SiteKnowledge)
         → StandsFor old s → IsUnchanged old new → StandsFor new s }
+{}
+
+/// A replica says the same as itself; what is unchanged says the same, and so does what is equal; and it is so both ways, and from one to the next (this project's
+/// own).
+pub fn to_say_the_same_is_an_equivalence()
+    ensures reflexive { (s : SiteState) → IsSameSite s s }
+    ensures symmetric { (s t : SiteState) → IsSameSite s t → IsSameSite t s }
+    ensures transitive { (s t u : SiteState)
+        → IsSameSite s t → IsSameSite t u → IsSameSite s u }
+    ensures unchanged { (old new : SiteState) → IsUnchanged old new → IsSameSite old new }
+    ensures equal { (old new : SiteState) → new ≡ old → IsSameSite old new }
+{}
+
+/// Replicas that say the same stand for the same (this project's own).
+pub fn replicas_that_say_the_same_stand_for_the_same()
+    ensures { (old new : SiteState) (s : SiteKnowledge)
+        → StandsFor old s → IsSameSite old new → StandsFor new s }
+{}
+
+/// What is done at a replica is the step of the site that it stands for, whatever rooms it has: a new one stands for a new site; a command that is answered
+/// by its meaning, a cut, a frame of all that is known and a take lead to what the site knows after that step, with its outcome, where a frame stands for what
+/// it carries and this has no later number of the site; and a cut of an empty buffer is none (RR-7506: a replica is changed at its source, and merges what it is
+/// sent).
+pub fn deeds_stand_for_steps()
+    ensures new { (state : SiteState) → IsNew state → StandsFor state new_site }
+    ensures command { (old new : SiteState) (s : SiteKnowledge) (change : Change)
+        (result : Result (Unit {0}) Refusal) → StandsFor old s
+        → Follows old (meaning_at old change) new result
+        → let after = step old.site old.names s (Do change) in
+        StandsFor new after.0 × (result ≡ result_of after.1) }
+    ensures nothing { (state : SiteState) (s : SiteKnowledge) → StandsFor state s
+        → IsEmpty state.pending → step state.site state.names s Cut ≡ (s, Nothing) }
+    ensures cut { (old new : SiteState) (frame : Frame) (s : SiteKnowledge) → StandsFor old s
+        → IsCutDeed old frame new
+        → let after = step old.site old.names s Cut in
+        StandsFor new after.0 × IsFramed frame after.1 }
+    ensures whole { (old new : SiteState) (frame : Frame) (s : SiteKnowledge) → StandsFor old s
+        → IsWholeDeed old frame new
+        → let after = step old.site old.names s Whole in
+        StandsFor new after.0 × IsFramed frame after.1 }
+    ensures take { (old new : SiteState) (d : DeltaState) (s : SiteKnowledge) (k : Knowledge)
+        → StandsFor old s → IsDeltaOf d k → HasNoneLater old k → IsTakeDeed old d new
+        → let after = step old.site old.names s (Take k) in
+        StandsFor new after.0 × (after.1 ≡ Taken) }
+{}
+
+/// What a site may take it may take of each delta that says the same, and so it is of what it has taken. So it makes no difference whether a frame or a copy of it is
+/// taken (this project's own).
+pub fn what_says_the_same_is_taken_the_same()
+    ensures may { (s : SiteState) (d e : DeltaState) → IsSame d e → MayTake s d → MayTake s e }
+    ensures taken { (old new : SiteState) (d e : DeltaState)
+        → IsSame d e → IsTakeDeed old d new → IsTakeDeed old e new }
+{}
+
+/// The next frame of a replica, be it of its buffer or of all that it knows, is within the ranges of the format while a number is left, so it can be spelled from
+/// its parts (this project's own).
+pub fn a_next_frame_is_in_ranges()
+    ensures pending { (s : SiteState) → IsKept s → AreQueues s.names → s.frames < MOST_COUNT
+        → IsInRanges (frame_of s.site (suc s.frames) s.pending) }
+    ensures state { (s : SiteState) → IsKept s → AreQueues s.names → s.frames < MOST_COUNT
+        → IsInRanges (frame_of s.site (suc s.frames) s.state) }
 {}

@@ -6,7 +6,7 @@ use Rattle.replica.specs.Site.{SiteState}
 use Rattle.replica.specs.Steps.{take}
 use Rattle.replica.specs.Taking.{IsMeantFault, IsRefusedTake, MayHear}
 use Rattle.replica.proofs.KeptSites.{unchanged-kept}
-use Rattle.replica.proofs.TakenSites.{agrees-before, fault-meant, prepared-agrees, refusals-joined, refusals-taken, refusals-unheard, take-meant, taken-kept, unchanged-self}
+use Rattle.replica.proofs.TakenSites.{agrees-before, fault-meant, may-take, prepared-agrees, refusals-joined, refusals-taken, refusals-unheard, take-meant, taken-kept, unchanged-self}
 use Rattle.replica.proofs.TakingIn.{unchanged-ids, unchanged-joined}
 use Rattle.replica.proofs.replica.Replica.take.Goals as goal
 
@@ -51,6 +51,16 @@ returns-clause-refusals c =
     let refused = subst (λ (r : SiteState). IsRefusedJoin r.state d (λ f. c.prepare.result ≡ Err f)) c.self.view_is c.prepare.ensures.refusals in
     refusals-taken s d c.in_default.ensures.heard c.prepare.result c.in_default-prepare.field-0 c.in_default-prepare.is refused
 
+pub returns-clause-may : goal.returns-clause-may
+returns-clause-may c =
+    let s = c.args.self.now in
+    let d = c.args.frame.delta in
+    let others = subst IsWithinLimits c.members-2.ensures c.cells-2.ensures.limits in
+    let kept = c.in_default-prepare.ensures.kept in
+    let refused = subst (λ (r : SiteState). IsRefusedJoin r.state d (λ f. c.prepare.result ≡ Err f)) c.self.view_is c.prepare.ensures.refusals in
+    let agree = agrees-before c.self.inside.state c.prepare.new.self d kept (prepared-agrees c.prepare.new.self d others c.in_default-prepare.ensures.ready) in
+    may-take s d c.in_default.ensures.heard (subst (λ (r : SiteState). Agree r.state d) c.self.view_is agree) c.prepare.result c.in_default-prepare.field-0 c.in_default-prepare.is refused
+
 pub returns-clause-meaning : goal.returns-clause-meaning
 returns-clause-meaning c = λ s k stands says later.
     let old = c.args.self.now in
@@ -60,9 +70,10 @@ returns-clause-meaning c = λ s k stands says later.
     let refused = subst (λ (r : SiteState). IsRefusedJoin r.state d (λ f. c.prepare.result ≡ Err f)) c.self.view_is c.prepare.ensures.refusals in
     let agree = agrees-before c.self.inside.state c.prepare.new.self d kept (prepared-agrees c.prepare.new.self d others c.in_default-prepare.ensures.ready) in
     let agrees = subst (λ (r : SiteState). Agree r.state d) c.self.view_is agree in
+    let may = may-take old d c.in_default.ensures.heard agrees c.prepare.result c.in_default-prepare.field-0 c.in_default-prepare.is refused in
     let joined = unchanged-joined c.self.inside.state c.prepare.new.self d c.absorb.new.self kept c.absorb.ensures.joined in
     let ids = unchanged-ids c.self.inside.state c.prepare.new.self c.absorb.new.self kept c.absorb.ensures.ids in
-    take-meant old d s k stands says _ c.prepare.result c.in_default-prepare.field-0 c.in_default-prepare.is refused agrees
+    take-meant old d s k stands says _ may
     (record {
       site = ap (λ r. r.site) c.self.view_is;
       names = ap (λ r. r.names) c.self.view_is;
