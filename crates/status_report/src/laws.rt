@@ -1,16 +1,26 @@
 //! What the definitions of the status text and of answers promise. The functions have no body: their contracts are the laws.
+ghost use Rattle.std.specs.Prelude.{◌≡◌};
 ghost use Rattle.replica.specs.Refusing.{IsWorn};
 ghost use Rattle.replica.specs.Site.{SiteState};
 ghost use Rattle.replica.specs.Standing.{StandsFor};
 ghost use Rattle.replica.specs.Steps.{SiteKnowledge};
 ghost use Rattle.status_report.specs.declared.asks.Answer.{Answer};
 ghost use Rattle.status_report.specs.declared.asks.Ask.{Ask};
+ghost use Rattle.status_report.specs.declared.request.StatusRequest.{StatusRequest};
 ghost use Rattle.status_report.specs.Knowing.{IsAnswered, IsOneStep, SameStatusTexts, answer_in};
+ghost use Rattle.status_report.specs.Knowing.{status_in};
+ghost use Rattle.status_report.specs.Status.{report_of};
 
 /// Consistent knowledges of the same operations have the same status texts, so neither the order of operations nor their
 /// repetition shows (RR-7506: replicas that have delivered the same updates are equivalent).
 pub fn knowledges_of_the_same_operations_have_the_same_status()
     ensures { SameStatusTexts }
+{}
+
+/// The report of a site is the status text of what the site stands for (Asterisk's QueueStatus).
+pub fn a_report_is_the_status_text_of_what_its_site_stands_for()
+    ensures { (state : SiteState) (s : SiteKnowledge) (request : StatusRequest)
+        → StandsFor state s → report_of state request ≡ status_in s.known state.names request }
 {}
 
 /// Whatever is answered by the contract of `ask` is one step of the site: the new state stands for what the site knows then. That is what it knows after its own
