@@ -12,3 +12,5 @@ mod Unchanged
 mod OutcomeLaws
 mod TakenEntries
 mod VisibleCounts
+mod Held
+mod Growing

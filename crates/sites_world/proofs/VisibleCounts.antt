@@ -19,7 +19,7 @@ use Rattle.dots.proofs.JoinedKnowledge.{member-some}
 use Rattle.dots.proofs.MemberOrder.{exact_members, members_total}
 use Rattle.dots.proofs.Membership.{any-in, cases-in, first-in, in-any, later-in, nothing-in, some-in}
 use Rattle.dots.proofs.TruthTables.{equal_of}
-use Rattle.sites_world.specs.Promises.{IsVisibleDotOf, visible_members}
+use Rattle.sites_world.specs.Promises.{IsVisibleDotOf, members_seen, visible_members}
 use Rattle.sites_world.proofs.Dots.{visible-parts}
 
 -- sets of dots
@@ -41,7 +41,7 @@ module _ {K : Type 0} (R : K → K → Ordering) (o : IsTotalOrder R) (exact : s
   item-of : (s : set.FinSet R) (q : K) → set.contains s q ≡ true → Contains (set.items s) q
   item-of s q h = tied-in (set.items s) q (sym (set.contains-items s q) ∙ h)
 
-  of-item : (s : set.FinSet R) (q : K) → Contains (set.items s) q → set.contains s q ≡ true
+  pub of-item : (s : set.FinSet R) (q : K) → Contains (set.items s) q → set.contains s q ≡ true
   of-item s q here = set.contains-items s q ∙ in-tied (set.items s) q here
 
 -- ---- dots that are each at a place of its own
@@ -221,7 +221,7 @@ module _ (k : Knowledge) (sites : ℕ)
       itself a = grind (arith, nat_tests)
 
   pub few-visible : set.len (visible_dots k) ≤ set.len (visible_members k) * sites
-  unfolding visible_members
+  unfolding members_seen
   few-visible =
       let members = filter_map (member_of k) (set.items (visible_dots k)) in
       let once = each-once members in

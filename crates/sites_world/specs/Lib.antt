@@ -4,3 +4,4 @@ pub mod WorldStates
 pub mod Telling
 pub mod Outcomes
 pub mod Promises
+pub mod Holding

@@ -10,6 +10,7 @@ use Rattle.dots.specs.declared.member.Member.{Member}
 use Rattle.dots.specs.Orders.{member_cmp}
 use Rattle.dots.specs.Values.{Dot}
 use Rattle.dots.specs.Operations.{Operation}
+use Rattle.dots.specs.Rows.{DotView, dot_view}
 use Rattle.dots.specs.Knowledge.{IsConsistent, Knowledge, SameOperations, member_of, visible_dots}
 use Rattle.delta.specs.DeltaStates.{DeltaState, IsSame}
 use Rattle.delta.specs.Joining.{Agree, IsJoinOf}
@@ -81,9 +82,13 @@ abbrev pub HaveOneDotASite : Type 0
 HaveOneDotASite = (names : List (List ℕ)) (sites : ℕ) (w : World) (k : Knowledge) (m : Member) (dot other : Dot) → IsReached names sites w → IsIn w k
     → IsVisibleDotOf k m dot → IsVisibleDotOf k m other → dot.site ≡ other.site → dot ≡ other
 
--- the members that have a visible dot
-unfoldable pub visible_members : Knowledge → set.FinSet member_cmp
-visible_members k = set.from_list (filter_map (member_of k) (set.items (visible_dots k)))
+-- the members that visible dots are of
+unfoldable pub members_seen : DotView → set.FinSet member_cmp
+members_seen r = set.from_list (filter_map r.member (set.items r.visible))
+
+-- the members that have a visible dot in a knowledge
+abbrev pub visible_members : Knowledge → set.FinSet member_cmp
+visible_members k = members_seen (dot_view k)
 
 -- so there are at most as many visible dots as members that have one times sites
 abbrev pub HaveFewVisibleDots : Type 0

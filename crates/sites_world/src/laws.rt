@@ -1,6 +1,9 @@
-//! What the definition of the world of operations promises. The functions have no body: their contracts are the laws.
+//! What the definition of the world of operations promises, and of what is held in a world. The functions have no body: their contracts are the laws.
 ghost use Rattle.std.specs.Prelude.{ℕ, List};
 ghost use Rattle.sites_world.specs.declared.event.Event.{Event};
+ghost use Rattle.sites_world.specs.Holding.{EventsGrow, HeldAgree, HoldFewCells, HoldOneDotASite};
+ghost use Rattle.sites_world.specs.Holding.{MayJoinFrames, MayTakeEntries, RunsGrow};
+ghost use Rattle.sites_world.specs.Holding.{TakenStaysKnown};
 ghost use Rattle.sites_world.specs.Promises.{AddAtTheirSites, AreConsistentTogether};
 ghost use Rattle.sites_world.specs.Promises.{DeltasAgree, DeltasCommute, HaveOneAddADot};
 ghost use Rattle.sites_world.specs.Promises.{GiveSameAnswer, HaveHistories, HaveOneDotASite};
@@ -76,6 +79,33 @@ pub fn a_member_has_one_visible_dot_of_a_site()
 pub fn visible_dots_are_at_most_members_times_sites()
     ensures visible { HaveFewVisibleDots }
     ensures live { HaveFewLiveDots }
+{}
+
+/// Whatever is held in a world, be it the state or the buffer of a site or a frame of the pool, has at most one live dot of a member and a site. So it has at most
+/// as many live dots as members that have one times sites (this project's own).
+pub fn what_is_held_has_one_dot_of_a_member_and_a_site()
+    ensures dots { HoldOneDotASite }
+    ensures cells { HoldFewCells }
+{}
+
+/// Any two deltas that are held in a world agree, so no join of them is in conflict (RR-7506: states form a join semilattice).
+pub fn what_is_held_agrees()
+    ensures { HeldAgree }
+{}
+
+/// A site of a world that events lead to may take each of its entries: what stands for the entry is of the site's queues, says of the site nothing that it hasn't
+/// made, and agrees with what the site knows. So each site may join each frame of the pool; only that it is too much can refuse it (this project's own).
+pub fn a_site_may_take_every_entry()
+    ensures entries { MayTakeEntries }
+    ensures frames { MayJoinFrames }
+{}
+
+/// A world only grows, event by event: it has as many sites, each knows what it knew, and its pool keeps its entries. So a site that has taken an entry knows each
+/// operation of it from then on (RR-7506: states only grow).
+pub fn a_world_only_grows()
+    ensures event { EventsGrow }
+    ensures events { RunsGrow }
+    ensures taken { TakenStaysKnown }
 {}
 
 /// A take that is told as taken gives its site every operation of the entry: the site knows what the

@@ -1,0 +1,120 @@
+-- A world of operations only grows: each site knows what it knew, and the pool keeps its entries.
+use Rattle.std.proofs.Common.{◌≡◌, ◌⊎◌, inl, inr, ℕ, suc, Bool, true, false, nat_lt, List, [], ◌∷◌, ◌++◌, append-nil, append_assoc, Contains, slice_get, slice_set, Option, Some, None, refl, sym, ap, subst, ◌∙◌, arith}
+use Rattle.std.specs.FinSet as set
+use Rattle.std.proofs.lemmas.List.{length-set}
+use Rattle.std.proofs.lemmas.Option.{slice_get_within}
+use Rattle.dots.specs.declared.limits.TheConstants.{MOST_COUNT, MOST_LIVE, MOST_RUNS}
+use Rattle.dots.specs.DotSets.{run_count}
+use Rattle.dots.specs.Knowledge.{Knowledge, known_dots, visible_dots}
+use Rattle.replica.specs.Changes.{Makes, Meaning, Refused, change_of, meaning}
+use Rattle.replica.specs.SiteViews.{site_view}
+use Rattle.replica.specs.Steps.{SiteKnowledge, after_frame, after_meaning, cut, take}
+use Rattle.status_report.specs.declared.asks.Ask.{Ask}
+use Rattle.status_report.specs.declared.asks.Ask.TheVariants.{Command as asked_command, Status}
+use Rattle.status_report.specs.Knowing.{answer_in}
+use Rattle.sites_world.specs.declared.event.Event.{Event}
+use Rattle.sites_world.specs.declared.event.Event.TheVariants as event
+use Rattle.sites_world.specs.Histories.{IsPartOf}
+use Rattle.sites_world.specs.Holding.{EventsGrow, HasGrown, RunsGrow, TakenStaysKnown}
+use Rattle.sites_world.specs.Worlds.{Entry, Happening, World, happens, happens_at, happens_where, run, site_of, taken}
+use Rattle.sites_world.proofs.Lists.{get-set-other, get-set-same, one-some}
+use Rattle.sites_world.proofs.OutcomeLaws.{frame_by, take_by}
+use Rattle.sites_world.proofs.Parts.{second-part}
+use Rattle.sites_world.proofs.TakenEntries.{taken-gives}
+
+-- ---- one site
+
+-- an answer leaves what the site knew
+ask-more : (site : ℕ) (names : List (List ℕ)) (s : SiteKnowledge) (asked : Ask) → IsPartOf s.known (answer_in site names s asked).0.known
+ask-more site names s (Status request) = λ o here. here
+ask-more site names s (asked_command command) = by (meaning site names (site_view site s.known) (site_view site s.buffer) (change_of command))
+  where
+    by : (m : Meaning) → IsPartOf s.known (after_meaning s m).0.known
+    by (Makes o) = second-part (o ∷ []) s.known
+    by (Refused refusal) = λ o here. here
+
+-- so does a frame that is made
+frame-more : (s : SiteKnowledge) (frame buffer : Knowledge) → IsPartOf s.known (after_frame s frame buffer).0.known
+frame-more s frame buffer = by (nat_lt MOST_COUNT (suc s.frames))
+  where
+    by : (b : Bool) → IsPartOf s.known (frame_by s frame buffer b).0.known
+    by true = λ o here. here
+    by false = λ o here. here
+
+-- be it of a buffer
+cut-more : (s : SiteKnowledge) (buffer : Knowledge) → IsPartOf s.known (cut s buffer).0.known
+cut-more s [] = λ o here. here
+cut-more s (o ∷ os) = frame-more s (o ∷ os) []
+
+-- and a frame that is taken
+take-more : (s : SiteKnowledge) (frame : Knowledge) → IsPartOf s.known (take s frame).0.known
+take-more s frame = by (nat_lt MOST_LIVE (set.len (visible_dots (frame ++ s.known)))) (nat_lt MOST_RUNS (run_count (known_dots (frame ++ s.known))))
+  where
+    by : (cells runs : Bool) → IsPartOf s.known (take_by s frame cells runs).0.known
+    by true runs = λ o here. here
+    by false true = λ o here. here
+    by false false = second-part frame s.known
+
+taken-more : (s : SiteKnowledge) (found : Option Entry) → IsPartOf s.known (taken s found).site.known
+taken-more s None = λ o here. here
+taken-more s (Some entry) = take-more s entry.carried
+
+at-more : (names : List (List ℕ)) (pool : List Entry) (s : SiteKnowledge) (e : Event) → IsPartOf s.known (happens_at names pool s e).site.known
+at-more names pool s (event.Ask site asked) = ask-more site names s asked
+at-more names pool s (event.Cut site) = cut-more s s.buffer
+at-more names pool s (event.Whole site) = frame-more s s.known s.buffer
+at-more names pool s (event.Take site place) = taken-more s (slice_get pool place)
+
+-- ---- worlds
+
+-- a world is a later one of itself
+grown-itself : (w : World) → HasGrown w w
+grown-itself w = record { count = refl; known = λ site s was. (s, was, λ o here. here); added = []; pool = sym (append-nil w.pool) }
+
+-- a later one of a later one is
+grown-through : (w mid after : World) → HasGrown w mid → HasGrown mid after → HasGrown w after
+grown-through w mid after one two = record {
+  count = two.count ∙ one.count;
+  known = λ site s was. let first = one.known site s was in let last = two.known site first.0 first.1 in (last.0, last.1, λ o here. last.2 o (first.2 o here));
+  added = one.added ++ two.added;
+  pool = two.pool ∙ ap (λ pool. pool ++ two.added) one.pool ∙ append_assoc w.pool one.added two.added;
+}
+
+-- so is one in which a site knows more
+grown-at : (w : World) (at : ℕ) (s : SiteKnowledge) (h : Happening) → slice_get w.sites at ≡ Some s → IsPartOf s.known h.site.known
+    → HasGrown w (record { sites = slice_set w.sites at h.site; pool = w.pool ++ h.added })
+grown-at w at s h is more = record {
+  count = length-set w.sites at h.site;
+  known = λ site u was. by site u was (same-place site);
+  added = h.added;
+  pool = refl;
+}
+  where
+    same-place : (site : ℕ) → (site ≡ at) ⊎ (site ≡ at → ⊥)
+    same-place site = grind arith
+
+    by : (site : ℕ) (u : SiteKnowledge) → slice_get w.sites site ≡ Some u → ((site ≡ at) ⊎ (site ≡ at → ⊥))
+        → (t : SiteKnowledge) × (slice_get (slice_set w.sites at h.site) site ≡ Some t) × IsPartOf u.known t.known
+    by site u was (inl same) =
+        let one : u ≡ s = one-some u s (sym was ∙ ap (slice_get w.sites) same ∙ is) in
+        (h.site, ap (slice_get (slice_set w.sites at h.site)) same ∙ get-set-same w.sites at h.site (slice_get_within w.sites at s is), λ o here. more o (subst (λ v. Contains v.known o) one here))
+    by site u was (inr apart) = (u, get-set-other w.sites at site h.site apart ∙ was, λ o here. here)
+
+pub event-grows : EventsGrow
+event-grows names w e = by (slice_get w.sites (site_of e)) refl
+  where
+    by : (found : Option SiteKnowledge) → slice_get w.sites (site_of e) ≡ found → HasGrown w (happens_where names w (site_of e) found e).0
+    by None is = grown-itself w
+    by (Some s) is = grown-at w (site_of e) s (happens_at names w.pool s e) is (at-more names w.pool s e)
+
+pub run-grows : RunsGrow
+run-grows names w [] = grown-itself w
+run-grows names w (e ∷ es) = grown-through w (happens names w e).0 (run names (happens names w e).0 es).0 (event-grows names w e) (run-grows names (happens names w e).0 es)
+
+pub taken-stays : TakenStaysKnown
+taken-stays names w site place entry later t told found now o here =
+    let after = (happens names w (event.Take site place)).0 in
+    let has = taken-gives names w site place told in
+    let last = (run-grows names after later).known site has.now has.is in
+    subst (λ v. Contains v.known o) (one-some last.0 t (sym last.1 ∙ now))
+    (last.2 o (has.given o (subst (λ x. Contains x.carried o) (one-some entry has.entry (sym found ∙ has.carried)) here)))

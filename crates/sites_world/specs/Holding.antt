@@ -1,0 +1,82 @@
+-- What is held in a world: the deltas of its sites and of its frames; and how a world of operations grows.
+use Rattle.std.specs.Prelude.{ℕ, ◌≡◌, ◌≤◌, ◌*◌, ◌++◌, List, ◌∷◌, Contains, Some, Ok, length, slice_get}
+use Rattle.std.specs.FinMap as map
+use Rattle.std.specs.FinSet as set
+use Rattle.dots.specs.declared.member.Member.{Member}
+use Rattle.dots.specs.Rows.{dots_of}
+use Rattle.dots.specs.Values.{Dot}
+use Rattle.member_orset.specs.Members.{dot_view_of}
+use Rattle.delta.specs.DeltaStates.{DeltaState}
+use Rattle.delta.specs.Joining.{Agree}
+use Rattle.delta.specs.declared.frame.Frame.{Frame}
+use Rattle.replica.specs.Site.{SiteState}
+use Rattle.replica.specs.Steps.{SiteKnowledge}
+use Rattle.replica.specs.Taking.{MayJoin}
+use Rattle.sites_world.specs.declared.event.Event.{Event}
+use Rattle.sites_world.specs.declared.event.Event.TheVariants as event
+use Rattle.sites_world.specs.declared.outcome.Outcome.TheVariants.{Took}
+use Rattle.sites_world.specs.Histories.{IsPartOf}
+use Rattle.sites_world.specs.Promises.{members_seen}
+use Rattle.sites_world.specs.Telling.{MayBeTaken}
+use Rattle.sites_world.specs.Worlds.{Entry, IsReached, World, happens, run}
+use Rattle.sites_world.specs.WorldStates.{IsSiteOf, IsWorld, WorldState}
+
+-- ---- deltas
+
+-- a delta is held: it is the state of a site, or its buffer, or a frame of the pool says it
+pub data IsHeldIn (state : WorldState) (d : DeltaState) : Type 0 where
+  State : (site : ℕ) (s : SiteState) → slice_get state.sites site ≡ Some s → d ≡ s.state → IsHeldIn state d
+  Pending : (site : ℕ) (s : SiteState) → slice_get state.sites site ≡ Some s → d ≡ s.pending → IsHeldIn state d
+  Said : (place : ℕ) (frame : Frame) → slice_get state.pool place ≡ Some frame → d ≡ frame.delta → IsHeldIn state d
+
+-- no two of these dots are of one site
+abbrev pub HasOneASite : List Dot → Type 0
+HasOneASite dots = (dot other : Dot) → Contains dots dot → Contains dots other → dot.site ≡ other.site → dot ≡ other
+
+-- in whatever is held no two live dots of a member are
+abbrev pub HoldOneDotASite : Type 0
+HoldOneDotASite = (state : WorldState) (d : DeltaState) (m : Member) → IsWorld state → IsHeldIn state d → HasOneASite (dots_of (dot_view_of d.members) m)
+
+-- so it has at most as many live dots as members that have one times sites
+abbrev pub HoldFewCells : Type 0
+HoldFewCells = (state : WorldState) (d : DeltaState) → IsWorld state → IsHeldIn state d
+    → map.len d.members.live ≤ set.len (members_seen (dot_view_of d.members)) * length state.sites
+
+-- any two that are held agree
+abbrev pub HeldAgree : Type 0
+HeldAgree = (state : WorldState) (x y : DeltaState) → IsWorld state → IsHeldIn state x → IsHeldIn state y → Agree x y
+
+-- ---- takes
+
+-- a site of a world that events lead to may take each of its entries
+abbrev pub MayTakeEntries : Type 0
+MayTakeEntries = (names : List (List ℕ)) (sites : ℕ) (w : World) (site place : ℕ) (state : SiteState) (s : SiteKnowledge) (entry : Entry) → IsReached names sites w
+    → slice_get w.sites site ≡ Some s → IsSiteOf names site state s → slice_get w.pool place ≡ Some entry → MayBeTaken state entry.carried
+
+-- so each site may join each frame of the pool
+abbrev pub MayJoinFrames : Type 0
+MayJoinFrames = (state : WorldState) (site place : ℕ) (s : SiteState) (frame : Frame) → IsWorld state → slice_get state.sites site ≡ Some s
+    → slice_get state.pool place ≡ Some frame → MayJoin s frame.delta
+
+-- ---- later worlds
+
+-- a later world has as many sites, each of which knows what it knew, and its pool begins with the same entries
+pub record HasGrown (w after : World) : Type 0 where
+  pub count : length after.sites ≡ length w.sites
+  pub known : (site : ℕ) (s : SiteKnowledge) → slice_get w.sites site ≡ Some s → (t : SiteKnowledge) × (slice_get after.sites site ≡ Some t) × IsPartOf s.known t.known
+  pub added : List Entry
+  pub pool : after.pool ≡ w.pool ++ added
+
+-- after an event it is a later one
+abbrev pub EventsGrow : Type 0
+EventsGrow = (names : List (List ℕ)) (w : World) (e : Event) → HasGrown w (happens names w e).0
+
+-- and after events
+abbrev pub RunsGrow : Type 0
+RunsGrow = (names : List (List ℕ)) (w : World) (events : List Event) → HasGrown w (run names w events).0
+
+-- so a site that has taken an entry knows each operation of it, whatever events come then
+abbrev pub TakenStaysKnown : Type 0
+TakenStaysKnown = (names : List (List ℕ)) (w : World) (site place : ℕ) (entry : Entry) (later : List Event) (t : SiteKnowledge)
+    → (happens names w (event.Take site place)).1 ≡ Took (Ok tt) → slice_get w.pool place ≡ Some entry
+    → slice_get (run names w (event.Take site place ∷ later)).0.sites site ≡ Some t → IsPartOf entry.carried t.known
