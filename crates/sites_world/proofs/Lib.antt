@@ -9,6 +9,7 @@ mod ToldAnswers
 mod MayTake
 mod Happenings
 mod Unchanged
+mod ToldByConditions
 mod OutcomeLaws
 mod TakenEntries
 mod VisibleCounts

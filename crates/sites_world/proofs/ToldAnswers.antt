@@ -46,7 +46,7 @@ refused-stays site names s (asked_command command) r e = by (meaning site names 
     by (refused_meaning x) e = refl
 
 -- an answer is told as it is, or it is a refusal
-told-cases : (worn : Bool) (answer : Answer) → (answer_told worn answer ≡ Answered answer) ⊎ ((answer_told worn answer ≡ NoMemory) × ((r : Refusal) × (answer ≡ Refused r)))
+pub told-cases : (worn : Bool) (answer : Answer) → (answer_told worn answer ≡ Answered answer) ⊎ ((answer_told worn answer ≡ NoMemory) × ((r : Refusal) × (answer ≡ Refused r)))
 told-cases worn Done = inl refl
 told-cases worn (Report bytes) = inl refl
 told-cases worn (Refused refusal.NoSuchQueue) = inl refl
@@ -59,7 +59,7 @@ told-cases worn (Refused refusal.TotalFull) = inl refl
 told-cases worn (Refused refusal.Memory) = inr (refl, (refusal.Memory, refl))
 
 -- a refusal that stands in place of another is told as want of memory
-stands-told : (W : Type 0) (worn : Bool) (told : Option Refusal) (r : Refusal) → (W → worn ≡ true) → MayStandFor W told r → answer_told worn (Refused r) ≡ NoMemory
+pub stands-told : (W : Type 0) (worn : Bool) (told : Option Refusal) (r : Refusal) → (W → worn ≡ true) → MayStandFor W told r → answer_told worn (Refused r) ≡ NoMemory
 stands-told W worn told refusal.NoSuchQueue is may = absurd may
 stands-told W worn told refusal.AlreadyThere is may = absurd may
 stands-told W worn told refusal.NotThere is may = absurd may

@@ -5,3 +5,4 @@ pub mod Telling
 pub mod Outcomes
 pub mod Promises
 pub mod Holding
+pub mod Conditions

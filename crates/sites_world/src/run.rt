@@ -7,13 +7,15 @@ ghost use Rattle.replica.specs.Site.{IsUnchanged};
 ghost use Rattle.replica.specs.Standing.{StandsFor};
 ghost use Rattle.replica.specs.Steps.{Cut, SiteKnowledge, Take, Whole, step};
 ghost use Rattle.status_report.specs.Knowing.{answer_in};
+ghost use Rattle.sites_world.specs.Conditions.{ComesAt, ComesOfAsk, ComesOfCut, ComesOfEntry};
+ghost use Rattle.sites_world.specs.Conditions.{ComesOfWhole, GrowsBy, LeadAll, Leads};
 ghost use Rattle.sites_world.specs.Outcomes.{changes_nothing};
 ghost use Rattle.sites_world.specs.Telling.{HasEntry, HasHappenedAt, IsAnsweredSo, IsFramedSo};
 ghost use Rattle.sites_world.specs.Telling.{IsTakenSo, MayBeTaken};
 ghost use Rattle.sites_world.specs.Telling.{answer_told, take_fault_told};
 ghost use Rattle.sites_world.specs.Worlds.{Entry, IsReached, World, happens_at, site_of};
 ghost use Rattle.sites_world.specs.WorldStates.{Correspond, HasHappened, HaveHappened, IsFrameOf};
-ghost use Rattle.sites_world.specs.WorldStates.{StandsForWorld};
+ghost use Rattle.sites_world.specs.WorldStates.{IsWorld, StandsForWorld};
 
 use crate::{Event, Outcome};
 use dots::SiteId;
@@ -39,6 +41,7 @@ fn ask_site(alloc: Global, replica: &mut Replica, asked: Ask) -> Outcome
     ensures meaning { (s : SiteKnowledge) → StandsFor replica.old s → IsAnsweredSo replica.new s
         (answer_in replica.old.site replica.old.names s asked) result }
     ensures unchanged { changes_nothing result ≡ true → IsUnchanged replica.old replica.new }
+    ensures conditions { ComesOfAsk replica.old asked result replica.new }
 {
     let worn = replica.is_worn();
     answer_told(worn, ask(alloc, replica, asked))
@@ -52,6 +55,9 @@ fn cut_site(replica: &mut Replica, pool: &mut Vec<Frame>) -> Outcome
         pool.old.items pool.new.items (step replica.old.site replica.old.names s Cut) result }
     ensures unchanged { changes_nothing result ≡ true → IsUnchanged replica.old replica.new }
     ensures pool { changes_nothing result ≡ true → pool.new.items ≡ pool.old.items }
+    ensures conditions { GrowsBy
+        (ComesOfCut (length pool.old.items) replica.old result replica.new)
+        pool.old.items pool.new.items }
 {
     if pool.reserve(1).is_err() {
         return Outcome::NoMemory;
@@ -82,6 +88,9 @@ fn whole_site(replica: &mut Replica, pool: &mut Vec<Frame>) -> Outcome
         pool.old.items pool.new.items (step replica.old.site replica.old.names s Whole) result }
     ensures unchanged { changes_nothing result ≡ true → IsUnchanged replica.old replica.new }
     ensures pool { changes_nothing result ≡ true → pool.new.items ≡ pool.old.items }
+    ensures conditions { GrowsBy
+        (ComesOfWhole (length pool.old.items) replica.old result replica.new)
+        pool.old.items pool.new.items }
 {
     if pool.reserve(1).is_err() {
         return Outcome::NoMemory;
@@ -119,6 +128,9 @@ fn take_site(replica: &mut Replica, frame: &Frame) -> Outcome
         → IsDeltaOf frame.now.delta k → MayBeTaken replica.old k → IsTakenSo replica.new s
         (step replica.old.site replica.old.names s (Take k)) result }
     ensures unchanged { changes_nothing result ≡ true → IsUnchanged replica.old replica.new }
+    ensures conditions { (k : Knowledge) → IsDeltaOf frame.now.delta k
+        → MayBeTaken replica.old k
+        → ComesOfEntry (Some frame.now) replica.old result replica.new }
 {
     let Ok(copy) = frame.copy() else {
         return Outcome::NoMemory;
@@ -152,6 +164,11 @@ fn happen_at(alloc: Global, replica: &mut Replica, pool: &mut Vec<Frame>, event:
         → MayBeTaken replica.old entry.carried)
         → HasHappenedAt replica.new s pool.old.items pool.new.items entries
         (happens_at replica.old.names entries s event) result }
+    ensures conditions { (entries : List Entry) → Correspond IsFrameOf pool.old.items entries
+        → ((place : ℕ) (entry : Entry) → slice_get entries place ≡ Some entry
+        → MayBeTaken replica.old entry.carried)
+        → GrowsBy (ComesAt pool.old.items replica.old event result replica.new)
+        pool.old.items pool.new.items }
     ensures entry { result ≡ Outcome.NoMemory → HasEntry pool.old.items event }
     ensures unchanged { changes_nothing result ≡ true → IsUnchanged replica.old replica.new }
     ensures pool { changes_nothing result ≡ true → pool.new.items ≡ pool.old.items }
@@ -180,6 +197,11 @@ pub(crate) fn happen(
         (record { names = names; sites = sites.old.items; pool = pool.old.items }) w
         → HasHappened (record { names = names; sites = sites.new.items; pool = pool.new.items })
         w event result }
+    ensures conditions { (names : List (List ℕ))
+        → IsWorld (record { names = names; sites = sites.old.items; pool = pool.old.items })
+        → Leads (record { names = names; sites = sites.old.items; pool = pool.old.items })
+        event result
+        (record { names = names; sites = sites.new.items; pool = pool.new.items }) }
     ensures count { length sites.new.items ≡ length sites.old.items }
     ensures unchanged { changes_nothing result ≡ true
         → Correspond (λ site. IsUnchanged) sites.old.items sites.new.items }
@@ -204,6 +226,11 @@ fn happen_by_copy(
         (record { names = names; sites = sites.old.items; pool = pool.old.items }) w
         → HasHappened (record { names = names; sites = sites.new.items; pool = pool.new.items })
         w event.now result }
+    ensures conditions { (names : List (List ℕ))
+        → IsWorld (record { names = names; sites = sites.old.items; pool = pool.old.items })
+        → Leads (record { names = names; sites = sites.old.items; pool = pool.old.items })
+        event.now result
+        (record { names = names; sites = sites.new.items; pool = pool.new.items }) }
     ensures count { length sites.new.items ≡ length sites.old.items }
 {
     match event.copy() {
@@ -229,6 +256,11 @@ pub(crate) fn run_all(
         (record { names = names; sites = sites.old.items; pool = pool.old.items }) w
         → HaveHappened (record { names = names; sites = sites.new.items; pool = pool.new.items })
         w events.now outcomes.new.items }
+    ensures conditions { (names : List (List ℕ))
+        → IsWorld (record { names = names; sites = sites.old.items; pool = pool.old.items })
+        → LeadAll (record { names = names; sites = sites.old.items; pool = pool.old.items })
+        events.now outcomes.new.items
+        (record { names = names; sites = sites.new.items; pool = pool.new.items }) }
     ensures count { length sites.new.items ≡ length sites.old.items }
 {
     for event in events {

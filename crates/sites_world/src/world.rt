@@ -3,6 +3,7 @@ ghost use Rattle.std.specs.Prelude.{length, option_map, slice_get, true};
 ghost use Rattle.delta.specs.Frames.{IsInRanges};
 ghost use Rattle.replica.specs.Queues.{AreQueues};
 ghost use Rattle.replica.specs.Site.{SiteState};
+ghost use Rattle.sites_world.specs.Conditions.{LeadAll, Leads};
 ghost use Rattle.sites_world.specs.Outcomes.{changes_nothing};
 ghost use Rattle.sites_world.specs.Worlds.{IsReached, World as world_of_operations, new_world};
 ghost use Rattle.sites_world.specs.WorldStates.{HasHappened, HaveHappened, IsFresh, IsSiteOf};
@@ -92,12 +93,14 @@ impl World {
     /// event leads to what it leads to in the world of operations, with the outcome that it has there (RR-7506: what a site shows is
     /// the reading of the updates that were delivered to it; the events are this project's own). So each report is the status text
     /// of what its site knows then, and no frame is refused as `NoSuchQueue`, `NotMine` or `Conflict`. After `NoMemory`, and after
-    /// each other outcome that tells that nothing is changed, the sites say what they said and the pool is as it was.
+    /// each other outcome that tells that nothing is changed, the sites say what they said and the pool is as it was. The clause `conditions` tells all of it of
+    /// states and frames alone, without a world of operations.
     pub fn happen(&mut self, event: Event) -> Outcome
         ensures was { IsWorld self.old }
         ensures meaning { (w : world_of_operations)
             → IsReached self.old.names (length self.old.sites) w → StandsForWorld self.old w
             → HasHappened self.new w event result }
+        ensures conditions { Leads self.old event result self.new }
         ensures unchanged { changes_nothing result ≡ true → IsUnchanged self.old self.new }
         ensures names { self.new.names ≡ self.old.names }
         ensures count { length self.new.sites ≡ length self.old.sites }
@@ -114,6 +117,8 @@ impl World {
         ensures meaning { IfOk result (λ outcomes. (w : world_of_operations)
             → IsReached self.old.names (length self.old.sites) w → StandsForWorld self.old w
             → HaveHappened self.new w events.now outcomes.items) }
+        ensures conditions { IfOk result
+            (λ outcomes. LeadAll self.old events.now outcomes.items self.new) }
         ensures unchanged { OnErr result (self.new ≡ self.old) }
         ensures names { self.new.names ≡ self.old.names }
         ensures count { length self.new.sites ≡ length self.old.sites }

@@ -4,6 +4,8 @@ use Rattle.sites_world.specs.Outcomes.{changes_nothing}
 use Rattle.sites_world.specs.Telling.{IsAnsweredSo}
 use Rattle.sites_world.proofs.ToldAnswers.{told-answer}
 use Rattle.sites_world.proofs.Unchanged.{answered-unchanged}
+use Rattle.sites_world.specs.Conditions.{ComesOfAsk}
+use Rattle.sites_world.proofs.ToldByConditions.{asked-comes}
 use Rattle.sites_world.proofs.run.ask_site.Goals as goal
 
 -- the answer is told
@@ -18,3 +20,11 @@ pub returns-clause-unchanged : goal.returns-clause-unchanged
 returns-clause-unchanged c = λ nothing.
     answered-unchanged c.is_worn-worn.result c.args.replica.now c.ask.new.replica c.args.asked c.ask.result c.ask.ensures.command c.ask.ensures.status_unchanged
     (ap changes_nothing (sym c.answer_told.ensures) ∙ nothing)
+
+-- it is what comes of the ask
+pub returns-clause-conditions : goal.returns-clause-conditions
+returns-clause-conditions c =
+    let old = c.args.replica.now in
+    let new = c.ask.new.replica in
+    subst (λ o. ComesOfAsk old c.args.asked o new) (sym c.answer_told.ensures)
+    (asked-comes c.is_worn-worn.result old new c.args.asked c.ask.result c.is_worn-worn.ensures.1 c.ask.ensures.command c.ask.ensures.status c.ask.ensures.status_unchanged)

@@ -1,10 +1,12 @@
 use Rattle.delta.specs.Frames.{IsInRanges}
-use Rattle.std.proofs.Common.{[], ◌∷◌, ◌++◌, IfSome, Ok, Some, length, sym, ap, subst, ◌∙◌}
+use Rattle.std.proofs.Common.{refl, [], ◌∷◌, ◌++◌, IfSome, Ok, Some, length, sym, ap, subst, ◌∙◌}
 use Rattle.replica.specs.Framing.{HasCut, IsMeantCut}
 use Rattle.replica.specs.Steps.{cut}
 use Rattle.sites_world.specs.declared.outcome.Outcome.TheVariants.{Cut}
 use Rattle.sites_world.specs.Telling.{IsFramedSo}
 use Rattle.sites_world.proofs.ToldAnswers.{told-frame}
+use Rattle.sites_world.specs.Conditions.{ComesOfCut}
+use Rattle.sites_world.proofs.ToldByConditions.{number-left, some-cut}
 use Rattle.sites_world.proofs.run.cut_site.Goals as goal
 
 -- the frame is the last of the pool
@@ -20,3 +22,28 @@ returns-in-Ok-Some-clause-meaning c = λ s stands.
     let told = c.put_frame.ensures.told ∙ ap (λ fs. Cut (Ok (Some (length fs)))) c.reserve.ensures.items in
     subst (IsFramedSo new s old pool (cut s s.buffer)) (sym told)
     (told-frame new s old pool (cut s s.buffer) c.in-Ok-Some.frame meant.0 meant.1 (has.heading.maker ∙ sym has.site) ranges grown)
+
+-- the pool has the frame of the cut
+pub returns-in-Ok-Some-clause-conditions : goal.returns-in-Ok-Some-clause-conditions
+returns-in-Ok-Some-clause-conditions c =
+    let replica = c.args.replica.now in
+    let new = c.cut.new.self in
+    let old = c.args.pool.now.items in
+    let frame = c.in-Ok-Some.frame in
+    let has = subst (λ made. IfSome made (λ frame. HasCut replica frame new)) c.in-Ok-Some.field-0-is c.in-Ok-Some.ensures.frame in
+    let ranges = subst (λ made. IfSome made (λ frame. IsInRanges frame)) c.in-Ok-Some.field-0-is c.in-Ok-Some.ensures.in_ranges in
+    let told = c.put_frame.ensures.told ∙ ap (λ fs. Cut (Ok (Some (length fs)))) c.reserve.ensures.items in
+    record {
+      added = frame ∷ [];
+      comes = subst (λ o. ComesOfCut (length old) replica o new (frame ∷ [])) (sym told) (
+        refl,
+        frame,
+        refl,
+        record {
+          some = λ empty. some-cut c.in-Ok-Some.field-0 frame c.in-Ok-Some.field-0-is (c.in-Ok-Some.ensures.nothing.1 empty);
+          left = number-left replica frame has.heading ranges;
+          made = has;
+        },
+      );
+      is = c.put_frame.ensures.pool ∙ ap (λ fs. fs ++ frame ∷ []) c.reserve.ensures.items;
+    }

@@ -4,6 +4,7 @@ use Rattle.sites_world.proofs.Happenings.{at-site-happened, may-take-all, no-sit
 use Rattle.sites_world.proofs.Lists.{at-least}
 use Rattle.sites_world.proofs.SteppedHistories.{reached-history}
 use Rattle.sites_world.proofs.Unchanged.{site-unchanged, sites-unchanged}
+use Rattle.sites_world.proofs.ToldByConditions.{leads-at, leads-nowhere}
 use Rattle.sites_world.proofs.run.happen.Goals as goal
 
 -- at the site of the event
@@ -41,3 +42,24 @@ returns-in-None-clause-meaning c = λ names w reached stands.
 
 pub returns-in-None-clause-unchanged : goal.returns-in-None-clause-unchanged
 returns-in-None-clause-unchanged c = λ nothing. sites-unchanged c.args.sites.now.items
+
+-- told by conditions
+pub returns-in-Some-clause-conditions : goal.returns-in-Some-clause-conditions
+returns-in-Some-clause-conditions c = λ names is.
+    let sites = c.args.sites.now.items in
+    let pool = c.args.pool.now.items in
+    let old = c.in-Some.replica.now in
+    let at = c.from.ensures ∙ c.number.ensures.value ∙ c.site_of.ensures in
+    let long = c.args.sites.now.ok.0 in
+    let within = c.in-Some.ensures.variant.0 refl in
+    let here = slice_get_read sites (length sites) c.from.result old refl (omega (arith, within, long)) c.in-Some.ensures.value in
+    leads-at names sites pool is c.args.event c.from.result old c.happen_at.new.replica c.happen_at.new.pool.items c.happen_at.result at here
+    (c.happen_at.ensures.conditions is.world.pool is.stands.pool)
+
+pub returns-in-None-clause-conditions : goal.returns-in-None-clause-conditions
+returns-in-None-clause-conditions c = λ names is.
+    let sites = c.args.sites.now.items in
+    let at = c.from.ensures ∙ c.number.ensures.value ∙ c.site_of.ensures in
+    let long = c.args.sites.now.ok.0 in
+    let past = at-least c.from.result (length sites) (λ less. true≢false (sym (c.in-None.ensures.variant.1 (omega (arith, less, long))))) in
+    leads-nowhere (record { names = names; sites = sites; pool = c.args.pool.now.items }) c.args.event (omega (arith, past, at))

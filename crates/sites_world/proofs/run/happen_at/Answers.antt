@@ -1,4 +1,4 @@
-use Rattle.std.proofs.Common.{slice_get, sym, ap, subst, ◌∙◌}
+use Rattle.std.proofs.Common.{[], append-nil, refl, slice_get, sym, ap, subst, ◌∙◌}
 use Rattle.replica.specs.Steps.{after_frame, cut}
 use Rattle.sites_world.specs.declared.outcome.Outcome.TheVariants.{NoEntry}
 use Rattle.sites_world.specs.Telling.{HasHappenedAt}
@@ -6,6 +6,7 @@ use Rattle.sites_world.specs.Worlds.{happens_at, site_of, taken}
 use Rattle.sites_world.specs.WorldStates.{IsFrameOf}
 use Rattle.sites_world.proofs.Happenings.{framed-happened, missing-happened, taken-happened}
 use Rattle.sites_world.proofs.Lists.{correspond-get, correspond-none-get}
+use Rattle.sites_world.specs.Conditions.{ComesAt, ComesOfEntry, GrowsBy}
 use Rattle.sites_world.proofs.run.happen_at.Goals as goal
 
 pub returns-in-Cut-clause-meaning : goal.returns-in-Cut-clause-meaning
@@ -45,3 +46,45 @@ returns-in-None-clause-meaning c = λ s entries stands at corresponds may.
     subst (λ e. HasHappenedAt c.args.replica.now s old old entries (happens_at c.args.replica.now.names entries s e) NoEntry) (sym c.in-Take.is)
     (subst (λ x. HasHappenedAt c.args.replica.now s old old entries (taken s x) NoEntry) (sym none)
     (missing-happened c.args.replica.now s old entries corresponds stands))
+
+-- ---- told by conditions
+
+pub returns-in-Ask-clause-conditions : goal.returns-in-Ask-clause-conditions
+returns-in-Ask-clause-conditions c = λ entries corresponds may.
+    let old = c.args.pool.now.items in
+    subst (λ e. GrowsBy (ComesAt old c.args.replica.now e c.ask_site.result c.ask_site.new.replica) old old) (sym c.in-Ask.is)
+    (record { added = []; comes = (c.ask_site.ensures.conditions, refl); is = sym (append-nil old) })
+
+pub returns-in-Cut-clause-conditions : goal.returns-in-Cut-clause-conditions
+returns-in-Cut-clause-conditions c = λ entries corresponds may.
+    subst (λ e. GrowsBy (ComesAt c.args.pool.now.items c.args.replica.now e c.cut_site.result c.cut_site.new.replica) c.args.pool.now.items c.cut_site.new.pool.items) (sym c.in-Cut.is)
+    c.cut_site.ensures.conditions
+
+pub returns-in-Whole-clause-conditions : goal.returns-in-Whole-clause-conditions
+returns-in-Whole-clause-conditions c = λ entries corresponds may.
+    subst (λ e. GrowsBy (ComesAt c.args.pool.now.items c.args.replica.now e c.whole_site.result c.whole_site.new.replica) c.args.pool.now.items c.whole_site.new.pool.items) (sym c.in-Whole.is)
+    c.whole_site.ensures.conditions
+
+pub returns-in-Some-clause-conditions : goal.returns-in-Some-clause-conditions
+returns-in-Some-clause-conditions c = λ entries corresponds may.
+    let old = c.args.pool.now.items in
+    let frame = c.in-Some.frame.now in
+    let at = ap (λ fs. slice_get fs c.in-Take.entry) (sym c.as_slice.ensures.value) ∙ sym c.in-Some.ensures in
+    let found = correspond-get IsFrameOf old entries corresponds c.in-Take.entry frame at in
+    subst (λ e. GrowsBy (ComesAt old c.args.replica.now e c.take_site.result c.take_site.new.replica) old old) (sym c.in-Take.is)
+    (record {
+      added = [];
+      comes = (
+        subst (λ x. ComesOfEntry x c.args.replica.now c.take_site.result c.take_site.new.replica) (sym at)
+            (c.take_site.ensures.conditions found.0.carried found.2.delta (may c.in-Take.entry found.0 found.1)),
+        refl,
+      );
+      is = sym (append-nil old);
+    })
+
+pub returns-in-None-clause-conditions : goal.returns-in-None-clause-conditions
+returns-in-None-clause-conditions c = λ entries corresponds may.
+    let old = c.args.pool.now.items in
+    let none = ap (λ fs. slice_get fs c.in-Take.entry) (sym c.as_slice.ensures.value) ∙ sym c.in-None.ensures in
+    subst (λ e. GrowsBy (ComesAt old c.args.replica.now e NoEntry c.args.replica.now) old old) (sym c.in-Take.is)
+    (record { added = []; comes = (subst (λ x. ComesOfEntry x c.args.replica.now NoEntry c.args.replica.now) (sym none) (refl, refl), refl); is = sym (append-nil old) })

@@ -2,7 +2,9 @@ use Rattle.std.proofs.Common.{[], ◌∷◌, ◌++◌, length, refl, take, sym, 
 use Rattle.std.proofs.lemmas.List.{take_all, take_more}
 use Rattle.sites_world.specs.Worlds.{IsReached, done_of, run}
 use Rattle.sites_world.specs.WorldStates.{HaveHappened, WorldState}
-use Rattle.sites_world.proofs.Happenings.{happened-more, none-happened, reached-more}
+use Rattle.sites_world.specs.Conditions.{LeadAll}
+use Rattle.sites_world.proofs.ToldByConditions.{lead-on}
+use Rattle.sites_world.proofs.Happenings.{happened-more, none-happened, reached-more, world-after}
 use Rattle.sites_world.proofs.run.run_all.Goals as goal
 
 -- at first nothing has happened
@@ -12,6 +14,7 @@ loop-event-init c = record {
   told = let len = c.args.outcomes.now.ok.0 in let none = ap length c.requires.none in omega (arith, len, none);
   room = let room = c.requires.room in omega (arith, room);
   happened = λ names w reached stands. none-happened (record { names = names; sites = c.args.sites.now.items; pool = c.args.pool.now.items }) w c.args.outcomes.now.items c.requires.none stands;
+  led = λ names is. let old : WorldState = record { names = names; sites = c.args.sites.now.items; pool = c.args.pool.now.items } in subst (λ os. LeadAll old [] os old) (sym c.requires.none) refl;
 }
 
 -- the event has happened after those before it
@@ -34,6 +37,19 @@ loop-event-preserved c = record {
       let more = happened-more names w es os e o c.happen_by_copy-outcome.new.sites.items c.happen_by_copy-outcome.new.pool.items c.loop-event.sites.items c.loop-event.pool.items before happened in
       let grown = take_more events c.loop-event.event-index e c.loop-event-test.true ∙ ap (λ x. es ++ x ∷ []) (sym c.event-item.is) in
       subst (λ xs. HaveHappened new w xs c.push_reserved.new.self.items) (sym grown) (subst (HaveHappened new w (es ++ e ∷ [])) (sym c.push_reserved.ensures.items) more);
+  led = λ names is.
+      let events = c.args.events.now in
+      let es = take c.loop-event.event-index events in
+      let os = c.loop-event.outcomes.items in
+      let e = c.event-item.result in
+      let o = c.happen_by_copy-outcome.result in
+      let old : WorldState = record { names = names; sites = c.args.sites.now.items; pool = c.args.pool.now.items } in
+      let mid : WorldState = record { names = names; sites = c.loop-event.sites.items; pool = c.loop-event.pool.items } in
+      let new : WorldState = record { names = names; sites = c.happen_by_copy-outcome.new.sites.items; pool = c.happen_by_copy-outcome.new.pool.items } in
+      let still = world-after names c.args.sites.now.items c.loop-event.sites.items c.args.pool.now.items c.loop-event.pool.items es os is c.loop-event.invariant.count (c.loop-event.invariant.happened names) in
+      let more = lead-on old es os mid new e o (c.loop-event.invariant.led names is) (c.happen_by_copy-outcome.ensures.conditions names still) in
+      let grown = take_more events c.loop-event.event-index e c.loop-event-test.true ∙ ap (λ x. es ++ x ∷ []) (sym c.event-item.is) in
+      subst (λ xs. LeadAll old xs c.push_reserved.new.self.items new) (sym grown) (subst (λ xs. LeadAll old (es ++ e ∷ []) xs new) (sym c.push_reserved.ensures.items) more);
 }
 
 -- all have
@@ -43,4 +59,8 @@ returns c = record {
       subst (λ xs. HaveHappened (record { names = names; sites = c.loop-event.sites.items; pool = c.loop-event.pool.items }) w xs c.loop-event.outcomes.items)
       (take_all c.loop-event.event-index c.args.events.now c.loop-event-test.false) (c.loop-event.invariant.happened names w reached stands);
   count = c.loop-event.invariant.count;
+  conditions = λ names is.
+      let old : WorldState = record { names = names; sites = c.args.sites.now.items; pool = c.args.pool.now.items } in
+      let new : WorldState = record { names = names; sites = c.loop-event.sites.items; pool = c.loop-event.pool.items } in
+      subst (λ xs. LeadAll old xs c.loop-event.outcomes.items new) (take_all c.loop-event.event-index c.args.events.now c.loop-event-test.false) (c.loop-event.invariant.led names is);
 }

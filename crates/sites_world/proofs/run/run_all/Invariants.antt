@@ -1,6 +1,7 @@
 use Rattle.std.proofs.Common.{◌≡◌, ◌≤◌, ℕ, List, length, take, vec_len, vec_capacity}
 use Rattle.sites_world.specs.Worlds.{IsReached, World}
-use Rattle.sites_world.specs.WorldStates.{HaveHappened, StandsForWorld}
+use Rattle.sites_world.specs.Conditions.{LeadAll}
+use Rattle.sites_world.specs.WorldStates.{HaveHappened, IsWorld, StandsForWorld}
 use Rattle.sites_world.proofs.run.run_all.Given as goal
 
 -- the events so far have happened, and there is room for the outcomes of the others
@@ -12,4 +13,7 @@ invariant-loop-event l = record {
   happened : (names : List (List ℕ)) (w : World) → IsReached names (length l.initial.sites.items) w
       → StandsForWorld (record { names = names; sites = l.initial.sites.items; pool = l.initial.pool.items }) w
       → HaveHappened (record { names = names; sites = l.sites.items; pool = l.pool.items }) w (take l.event-index l.events) l.outcomes.items;
+  led : (names : List (List ℕ)) → IsWorld (record { names = names; sites = l.initial.sites.items; pool = l.initial.pool.items })
+      → LeadAll (record { names = names; sites = l.initial.sites.items; pool = l.initial.pool.items }) (take l.event-index l.events) l.outcomes.items
+      (record { names = names; sites = l.sites.items; pool = l.pool.items });
 }

@@ -1,11 +1,15 @@
-use Rattle.std.proofs.Common.{inl, sym, ap, subst, ◌∙◌, true≢false}
+use Rattle.std.proofs.Common.{refl, inl, sym, ap, subst, ◌∙◌, true≢false}
 use Rattle.delta.proofs.StandingDeltas.{same_stands}
 use Rattle.replica.specs.Steps.{take}
+use Rattle.replica.proofs.PlannedCommands.{itself}
+use Rattle.replica.proofs.StandingSites.{equal-same}
 use Rattle.sites_world.specs.declared.outcome.Outcome.TheVariants.{Took}
 use Rattle.sites_world.specs.Outcomes.{changes_nothing}
 use Rattle.sites_world.specs.Telling.{IsTakenSo}
 use Rattle.sites_world.specs.Worlds.{take_told}
 use Rattle.sites_world.proofs.ToldAnswers.{told-fault}
+use Rattle.sites_world.specs.Conditions.{ComesOfDelta}
+use Rattle.sites_world.proofs.ToldByConditions.{fault-comes}
 use Rattle.sites_world.proofs.run.take_site.Goals as goal
 use Rattle.sites_world.proofs.run.take_site.Goals.{in-Ok-take, in-Err}
 
@@ -32,3 +36,24 @@ returns-clause-unchanged c = λ nothing. elim c.match-take.branch [
   | in-Ok-take w ↦ absurd (true≢false (sym nothing ∙ ap changes_nothing w.result-is))
   | in-Err w ↦ w.in-Err.ensures.unchanged
 ]
+
+-- the copy was taken, or is too much
+pub returns-clause-conditions : goal.returns-clause-conditions
+returns-clause-conditions c = λ k is may.
+    let old = c.args.replica.now in
+    let new = c.take.new.self in
+    let copy = c.in-Ok.copy.delta in
+    let copied = same_stands c.args.frame.now.delta copy k c.in-Ok.ensures.same.delta is in
+    elim c.match-take.branch [
+      | in-Ok-take w ↦ (copy, c.in-Ok.ensures.same.delta, subst (λ o. ComesOfDelta old copy o new) (sym w.result-is) (record { may = w.in-Ok-take.ensures.may; taken = w.in-Ok-take.ensures.joined }))
+      | in-Err w ↦ (
+        copy,
+        c.in-Ok.ensures.same.delta,
+        subst (λ o. ComesOfDelta old copy o new) (sym (w.result-is ∙ w.take_fault_told.ensures))
+            (fault-comes c.is_worn-worn.result old new k copy w.in-Err.fault may copied w.in-Err.ensures.unchanged w.in-Err.ensures.refusals),
+      )
+    ]
+
+-- no copy was made
+pub returns-in_default-clause-conditions : goal.returns-in_default-clause-conditions
+returns-in_default-clause-conditions c = λ k is may. (c.args.frame.now.delta, equal-same c.args.frame.now.delta c.args.frame.now.delta refl, itself c.args.replica.now)

@@ -1,0 +1,142 @@
+-- What comes of events is told by conditions alone.
+use Rattle.std.proofs.Common.{◌≡◌, ◌<◌, ◌≤◌, inl, inr, ℕ, Bool, true, false, List, [], ◌∷◌, ◌++◌, append-nil, length, slice_get, slice_set, Option, Some, None, Result, Ok, Err, refl, sym, ap, subst, ◌∙◌, arith}
+use Rattle.dots.specs.declared.limits.TheConstants.{MOST_COUNT}
+use Rattle.dots.specs.Knowledge.{Knowledge}
+use Rattle.delta.specs.DeltaStates.{DeltaState}
+use Rattle.delta.specs.Frames.{IsInRanges}
+use Rattle.delta.specs.Standing.{IsDeltaOf}
+use Rattle.delta.specs.declared.frame.Frame.{Frame}
+use Rattle.replica.specs.declared.cut_fault.CutFault.{CutFault}
+use Rattle.replica.specs.declared.refusal.Refusal.{Refusal}
+use Rattle.replica.specs.declared.take_fault.TakeFault.{TakeFault}
+use Rattle.replica.specs.declared.take_fault.TakeFault.TheVariants as take_fault
+use Rattle.replica.specs.Changes.{Makes, Meaning, Refused as refused_meaning, change_of}
+use Rattle.replica.specs.Commands.{Follows, IsDone, refusal_meant}
+use Rattle.replica.specs.Framing.{IsNextOf}
+use Rattle.replica.specs.Refusing.{IsWorn}
+use Rattle.replica.specs.Site.{IsUnchanged, SiteState, meaning_at}
+use Rattle.replica.specs.Taking.{IsRefusedTake}
+use Rattle.status_report.specs.declared.asks.Answer.{Answer}
+use Rattle.status_report.specs.declared.asks.Answer.TheVariants.{Refused}
+use Rattle.status_report.specs.declared.asks.Ask.{Ask}
+use Rattle.status_report.specs.declared.asks.Ask.TheVariants.{Command as asked_command, Status}
+use Rattle.status_report.specs.Answers.{AnswersCommand, AnswersStatus, KeepsAtStatus, answer_of}
+use Rattle.sites_world.specs.declared.event.Event.{Event}
+use Rattle.sites_world.specs.declared.event.Event.TheVariants as event
+use Rattle.sites_world.specs.declared.outcome.Outcome.{Outcome}
+use Rattle.sites_world.specs.declared.outcome.Outcome.TheVariants.{NoMemory, NoSite}
+use Rattle.sites_world.specs.Conditions.{ComesAt, ComesOfAsk, ComesOfDelta, GrowsBy, LeadAll, Leads, LeadsWhere}
+use Rattle.sites_world.specs.Telling.{IsAsk, MayBeTaken, answer_told, take_fault_told}
+use Rattle.sites_world.specs.Worlds.{Entry, site_of}
+use Rattle.sites_world.specs.WorldStates.{IsSiteOf, IsWorld, WorldState}
+use Rattle.sites_world.proofs.Happenings.{may-take-all}
+use Rattle.sites_world.proofs.Lists.{correspond-get, set-again, some-within}
+use Rattle.sites_world.proofs.SteppedHistories.{reached-history}
+use Rattle.sites_world.proofs.ToldAnswers.{stands-told, told-cases}
+use Rattle.sites_world.proofs.Unchanged.{equal-unchanged}
+use Rattle.replica.proofs.PlannedCommands.{itself}
+use Rattle.std.proofs.lemmas.Option.{slice_get_past}
+
+-- ---- asks
+
+-- a command that is refused as it means changes nothing
+refused-follows : (old new : SiteState) (m : Meaning) (r : Refusal) → Follows old m new (Err r) → IsUnchanged old new
+refused-follows old new (Makes o) r follows = absurd (no-ok follows.0)
+  where
+    no-ok : ◌≡◌ {A = Result (Unit {0}) Refusal} (Err r) (Ok tt) → ⊥
+    no-ok e = (cc)
+refused-follows old new (refused_meaning x) r follows = follows.1
+
+-- an answer is told as what has come of its ask
+pub asked-comes : (worn : Bool) (old new : SiteState) (asked : Ask) (answer : Answer) → (IsWorn old → worn ≡ true) → AnswersCommand old asked new answer → AnswersStatus old asked answer
+    → KeepsAtStatus old asked new → ComesOfAsk old asked (answer_told worn answer) new
+asked-comes worn old new (Status request) answer wears command (inl report) kept = subst (λ a. ComesOfAsk old (Status request) (answer_told worn a) new) (sym report) (refl, kept)
+asked-comes worn old new (Status request) answer wears command (inr refused) kept =
+    subst (λ a. ComesOfAsk old (Status request) (answer_told worn a) new) (sym refused) (equal-unchanged old new kept)
+asked-comes worn old new (asked_command command) answer wears (result, is, done) status kept =
+    subst (λ a. ComesOfAsk old (asked_command command) (answer_told worn a) new) (sym is) (by result done)
+  where
+    by : (result : Result (Unit {0}) Refusal) → IsDone old (meaning_at old (change_of command)) new result → ComesOfAsk old (asked_command command) (answer_told worn (answer_of result)) new
+    by (Ok u) (inl follows) = (Ok u, refl, follows)
+    by (Err r) (inl follows) = elim (told-cases worn (Refused r)) [
+      | inl told ↦ subst (λ o. ComesOfAsk old (asked_command command) o new) (sym told) (Err r, refl, follows)
+      | inr none ↦ subst (λ o. ComesOfAsk old (asked_command command) o new) (sym none.0) (refused-follows old new (meaning_at old (change_of command)) r follows)
+    ]
+    by result (inr other) =
+        subst (λ o. ComesOfAsk old (asked_command command) o new)
+        (sym (ap (λ x. answer_told worn (answer_of x)) other.1.is ∙ stands-told (IsWorn old) worn (refusal_meant (meaning_at old (change_of command))) other.1.refusal wears other.1.may)) other.0
+
+-- ---- takes
+
+-- a fault is told as what has come of the take
+pub fault-comes : (worn : Bool) (old new : SiteState) (k : Knowledge) (d : DeltaState) (fault : TakeFault) → MayBeTaken old k → IsDeltaOf d k → IsUnchanged old new
+    → IsRefusedTake old d (λ f. fault ≡ f) → ComesOfDelta old d (take_fault_told worn fault) new
+fault-comes worn old new k d take_fault.NoSuchQueue may is same refused = absurd (may.queues d is (refused.no_such_queue.0 refl))
+fault-comes worn old new k d take_fault.NotMine may is same refused = absurd (may.own d is (refused.not_mine.0 refl).1)
+fault-comes worn old new k d take_fault.Conflict may is same refused = absurd (may.agrees d is (refused.conflict.0 refl).1)
+fault-comes true old new k d take_fault.CellsFull may is same refused = same
+fault-comes false old new k d take_fault.CellsFull may is same refused = let w = refused.cells_full.0 refl in (w.0, w.1, same)
+fault-comes worn old new k d take_fault.RunsFull may is same refused = let w = refused.runs_full.0 refl in (w.0, w.2, same)
+fault-comes worn old new k d take_fault.Memory may is same refused = same
+
+-- ---- frames
+
+-- a frame within the ranges of the format that is a site's next one had a number left
+pub number-left : (s : SiteState) (frame : Frame) → IsNextOf s frame → IsInRanges frame → s.frames < MOST_COUNT
+number-left s frame next ranges = let few = ranges.number.1 in let is = next.number in omega (arith, few, is)
+
+-- where one was cut, something was
+pub some-cut : (cut : Option Frame) (frame : Frame) → cut ≡ Some frame → ◌≡◌ {A = Result (Option Frame) CutFault} (Ok cut) (Ok None) → ⊥
+some-cut cut frame is none = (cc)
+
+-- ---- in a world
+
+module _ (names : List (List ℕ)) (sites : List SiteState) (pool : List Frame) (is : IsWorld (record { names = names; sites = sites; pool = pool })) where
+  abbrev from : WorldState
+  from = record { names = names; sites = sites; pool = pool }
+
+  -- what has come at a site has come in its world
+  pub leads-at : (e : Event) (at : ℕ) (old new : SiteState) (grown : List Frame) (o : Outcome) → at ≡ site_of e → slice_get sites at ≡ Some old
+      → (((place : ℕ) (entry : Entry) → slice_get is.world.pool place ≡ Some entry → MayBeTaken old entry.carried) → GrowsBy (ComesAt pool old e o new) pool grown)
+      → Leads from e o (record { names = names; sites = slice_set sites at new; pool = grown })
+  leads-at e at old new grown o at_is here come =
+      let knows = correspond-get (IsSiteOf names) sites is.world.sites is.stands.sites at old here in
+      let may = may-take-all names sites pool is.world is.stands (reached-history names (length sites) is.world is.reached) at old knows.0 here knows.1 in
+      subst (λ n. Leads from e o (record { names = names; sites = slice_set sites n new; pool = grown })) (sym at_is)
+      (subst (LeadsWhere from e o (record { names = names; sites = slice_set sites (site_of e) new; pool = grown })) (sym (ap (slice_get sites) (sym at_is) ∙ here))
+      (record { new = new; comes = come may; sites = refl; names = refl }))
+
+-- an event at no site changes nothing
+pub leads-nowhere : (from : WorldState) (e : Event) → length from.sites ≤ site_of e → Leads from e NoSite from
+leads-nowhere from e past = subst (LeadsWhere from e NoSite from) (sym (slice_get_past from.sites (site_of e) past)) (refl, refl)
+
+-- want of memory comes of an ask where nothing is changed
+wanting-comes : (old new : SiteState) (asked : Ask) → IsUnchanged old new → ComesOfAsk old asked NoMemory new
+wanting-comes old new (asked_command command) same = same
+wanting-comes old new (Status request) same = same
+
+-- so it does of one for whose copy memory was wanting
+pub leads-wanting : (from : WorldState) (e : Event) → IsAsk e → site_of e < length from.sites → Leads from e NoMemory from
+leads-wanting from (event.Ask site asked) is within = by (slice_get from.sites site) refl
+  where
+    by : (found : Option SiteState) → slice_get from.sites site ≡ found → LeadsWhere from (event.Ask site asked) NoMemory from found
+    by None none = absurd (some-within from.sites site within none)
+    by (Some old) here = record {
+      new = old;
+      comes = record { added = []; comes = (wanting-comes old old asked (itself old), refl); is = sym (append-nil from.pool) };
+      sites = sym (set-again from.sites site old here);
+      names = refl;
+    }
+leads-wanting from (event.Cut site) is within = absurd is
+leads-wanting from (event.Whole site) is within = absurd is
+leads-wanting from (event.Take site place) is within = absurd is
+
+-- ---- events in turn
+
+-- events lead on with one more
+pub lead-on : (from : WorldState) (es : List Event) (os : List Outcome) (mid to : WorldState) (e : Event) (o : Outcome) → LeadAll from es os mid → Leads mid e o to
+    → LeadAll from (es ++ e ∷ []) (os ++ o ∷ []) to
+lead-on from [] [] mid to e o all one = (to, subst (λ w. Leads w e o to) all one, refl)
+lead-on from [] (p ∷ os) mid to e o all one = absurd all
+lead-on from (f ∷ es) [] mid to e o all one = absurd all
+lead-on from (f ∷ es) (p ∷ os) mid to e o (next, first, rest) one = (next, first, lead-on next es os mid to e o rest one)

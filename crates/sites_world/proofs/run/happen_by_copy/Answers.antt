@@ -1,0 +1,27 @@
+use Rattle.std.proofs.Common.{◌∙◌, arith}
+use Rattle.sites_world.proofs.ToldByConditions.{leads-nowhere, leads-wanting}
+use Rattle.sites_world.proofs.Happenings.{no-site-happened}
+use Rattle.sites_world.proofs.run.happen_by_copy.Goals as goal
+
+-- the copy of an ask wanted memory
+pub returns-in-Err-clause-conditions : goal.returns-in-Err-clause-conditions
+returns-in-Err-clause-conditions c = λ names is.
+    let at = c.from.ensures ∙ c.number.ensures.value ∙ c.site_of.ensures in
+    let less = c.if-from-len.true in
+    let len = c.len.ensures in
+    leads-wanting (record { names = names; sites = c.args.sites.now.items; pool = c.args.pool.now.items }) c.args.event.now c.in-Err.ensures.asks (omega (arith, at, less, len))
+
+-- there is no such site
+pub returns-in-Err-2-clause-meaning : goal.returns-in-Err-2-clause-meaning
+returns-in-Err-2-clause-meaning c = λ names w reached stands.
+    let at = c.from.ensures ∙ c.number.ensures.value ∙ c.site_of.ensures in
+    let past = c.if-from-len.false in
+    let len = c.len.ensures in
+    no-site-happened names c.args.sites.now.items c.args.pool.now.items w stands c.args.event.now (omega (arith, at, past, len))
+
+pub returns-in-Err-2-clause-conditions : goal.returns-in-Err-2-clause-conditions
+returns-in-Err-2-clause-conditions c = λ names is.
+    let at = c.from.ensures ∙ c.number.ensures.value ∙ c.site_of.ensures in
+    let past = c.if-from-len.false in
+    let len = c.len.ensures in
+    leads-nowhere (record { names = names; sites = c.args.sites.now.items; pool = c.args.pool.now.items }) c.args.event.now (omega (arith, at, past, len))

@@ -1,0 +1,101 @@
+-- What comes of events, told by conditions alone: by the states of sites and the frames of the pool before them and after them.
+use Rattle.std.specs.Prelude.{ℕ, ◌≡◌, ◌<◌, List, [], ◌∷◌, ◌++◌, Option, Some, None, Result, Ok, Err, length, slice_get, slice_set}
+use Rattle.std.specs.FinMap as map
+use Rattle.dots.specs.declared.limits.TheConstants.{MOST_COUNT, MOST_RUNS}
+use Rattle.member_orset.specs.Members.{LacksPlaces, cells_joined, runs_joined}
+use Rattle.delta.specs.DeltaStates.{DeltaState, IsEmpty, IsSame}
+use Rattle.delta.specs.declared.frame.Frame.{Frame}
+use Rattle.replica.specs.declared.refusal.Refusal.{Refusal}
+use Rattle.replica.specs.declared.take_fault.TakeFault.TheVariants as take_fault
+use Rattle.replica.specs.Changes.{change_of}
+use Rattle.replica.specs.Commands.{Follows}
+use Rattle.replica.specs.Deeds.{IsCutDeed, IsTakeDeed, IsWholeDeed}
+use Rattle.replica.specs.Site.{IsUnchanged, SiteState, meaning_at}
+use Rattle.replica.specs.Taking.{MayJoin}
+use Rattle.status_report.specs.declared.asks.Answer.TheVariants.{Report}
+use Rattle.status_report.specs.declared.asks.Ask.{Ask}
+use Rattle.status_report.specs.declared.asks.Ask.TheVariants.{Command as asked_command, Status}
+use Rattle.status_report.specs.Answers.{answer_of}
+use Rattle.status_report.specs.Status.{report_of}
+use Rattle.sites_world.specs.declared.event.Event.{Event}
+use Rattle.sites_world.specs.declared.event.Event.TheVariants as event
+use Rattle.sites_world.specs.declared.outcome.Outcome.{Outcome}
+use Rattle.sites_world.specs.declared.outcome.Outcome.TheVariants.{Answered, Cut, NoEntry, NoMemory, NoSite, Took}
+use Rattle.sites_world.specs.Worlds.{site_of}
+use Rattle.sites_world.specs.WorldStates.{WorldState}
+
+-- ---- at one site
+
+-- what comes of an ask at a site, and the site after it: a command does what it means, and a status is answered by its report; or memory was wanting
+abbrev pub ComesOfAsk : SiteState → Ask → Outcome → SiteState → Type 0
+ComesOfAsk old (asked_command command) (Answered answer) new =
+    (result : Result (Unit {0}) Refusal) × (answer ≡ answer_of result) × Follows old (meaning_at old (change_of command)) new result
+ComesOfAsk old (Status request) (Answered answer) new = (answer ≡ Report (report_of old request)) × (new ≡ old)
+ComesOfAsk old asked NoMemory new = IsUnchanged old new
+ComesOfAsk old asked other new = ⊥
+
+-- of a cut, with so many entries in the pool, and which frames this gets
+abbrev pub ComesOfCut : ℕ → SiteState → Outcome → SiteState → List Frame → Type 0
+ComesOfCut entries old (Cut (Ok None)) new added = IsEmpty old.pending × (new ≡ old) × (added ≡ [])
+ComesOfCut entries old (Cut (Ok (Some place))) new added = (place ≡ entries) × (frame : Frame) × (added ≡ frame ∷ []) × IsCutDeed old frame new
+ComesOfCut entries old (Cut (Err fault)) new added = (IsEmpty old.pending → ⊥) × (old.frames ≡ MOST_COUNT) × (new ≡ old) × (added ≡ [])
+ComesOfCut entries old NoMemory new added = (new ≡ old) × (added ≡ [])
+ComesOfCut entries old other new added = ⊥
+
+-- of a frame of all
+abbrev pub ComesOfWhole : ℕ → SiteState → Outcome → SiteState → List Frame → Type 0
+ComesOfWhole entries old (Cut (Ok (Some place))) new added = (place ≡ entries) × (frame : Frame) × (added ≡ frame ∷ []) × IsWholeDeed old frame new
+ComesOfWhole entries old (Cut (Err fault)) new added = (old.frames ≡ MOST_COUNT) × (new ≡ old) × (added ≡ [])
+ComesOfWhole entries old NoMemory new added = (new ≡ old) × (added ≡ [])
+ComesOfWhole entries old other new added = ⊥
+
+-- of the take of a delta: it is taken, or it is too much
+abbrev pub ComesOfDelta : SiteState → DeltaState → Outcome → SiteState → Type 0
+ComesOfDelta old d (Took (Ok u)) new = IsTakeDeed old d new
+ComesOfDelta old d (Took (Err take_fault.CellsFull)) new =
+    MayJoin old d × LacksPlaces old.state.members (cells_joined old.state.members d.members) (map.len d.members.live) × IsUnchanged old new
+ComesOfDelta old d (Took (Err take_fault.RunsFull)) new = MayJoin old d × (MOST_RUNS < runs_joined old.state.members d.members) × IsUnchanged old new
+ComesOfDelta old d NoMemory new = IsUnchanged old new
+ComesOfDelta old d other new = ⊥
+
+-- of the take of an entry's frame, whose delta is copied first; or there is no such entry
+abbrev pub ComesOfEntry : Option Frame → SiteState → Outcome → SiteState → Type 0
+ComesOfEntry None old o new = (o ≡ NoEntry) × (new ≡ old)
+ComesOfEntry (Some frame) old o new = (copy : DeltaState) × IsSame frame.delta copy × ComesOfDelta old copy o new
+
+-- of an event, with these frames in the pool
+abbrev pub ComesAt : List Frame → SiteState → Event → Outcome → SiteState → List Frame → Type 0
+ComesAt pool old (event.Ask site asked) o new added = ComesOfAsk old asked o new × (added ≡ [])
+ComesAt pool old (event.Cut site) o new added = ComesOfCut (length pool) old o new added
+ComesAt pool old (event.Whole site) o new added = ComesOfWhole (length pool) old o new added
+ComesAt pool old (event.Take site place) o new added = ComesOfEntry (slice_get pool place) old o new × (added ≡ [])
+
+-- a pool grows by frames of which this holds
+pub record GrowsBy (Holds : List Frame → Type 0) (pool grown : List Frame) : Type 0 where
+  pub added : List Frame
+  pub comes : Holds added
+  pub is : grown ≡ pool ++ added
+
+-- ---- in a world
+
+-- an event at a site leads from one world to another: it comes at that site, and all others are as they were
+pub record LeadsAt (from : WorldState) (e : Event) (o : Outcome) (to : WorldState) (old : SiteState) : Type 0 where
+  pub new : SiteState
+  pub comes : GrowsBy (ComesAt from.pool old e o new) from.pool to.pool
+  pub sites : to.sites ≡ slice_set from.sites (site_of e) new
+  pub names : to.names ≡ from.names
+
+-- where there is no such site it changes nothing
+abbrev pub LeadsWhere : WorldState → Event → Outcome → WorldState → Option SiteState → Type 0
+LeadsWhere from e o to None = (o ≡ NoSite) × (to ≡ from)
+LeadsWhere from e o to (Some old) = LeadsAt from e o to old
+
+-- an event with this outcome leads from one world to another
+abbrev pub Leads : WorldState → Event → Outcome → WorldState → Type 0
+Leads from e o to = LeadsWhere from e o to (slice_get from.sites (site_of e))
+
+-- events with one outcome each do, one after the other
+abbrev pub LeadAll : WorldState → List Event → List Outcome → WorldState → Type 0
+LeadAll from [] [] to = to ≡ from
+LeadAll from (e ∷ es) (o ∷ os) to = (mid : WorldState) × Leads from e o mid × LeadAll mid es os to
+LeadAll from es os to = ⊥
