@@ -119,7 +119,8 @@ impl Context {
     }
 
     /// Adds the dots of a site from a first count to a last; 1 ≤ first ≤ last ≤ 2^40. No fault changes the dots. 1 `RunsFull`,
-    /// exactly where there would be more than 65,536 runs; 2 `Memory`.
+    /// exactly where there would be more than 65,536 runs; 2 `Memory`, which is never wanted where there are no more runs than before,
+    /// nor where there is room for one more run.
     pub fn insert_run(&mut self, site: SiteId, first: u64, last: u64) -> Result<(), ContextFault>
         requires least { 1 ≤ first }
         requires ordered { first ≤ last }
@@ -128,6 +129,10 @@ impl Context {
             (self.new.dots ≡ set.union self.old.dots (dots_between site first last)) }
         ensures full { (result ≡ Err ContextFault.RunsFull)
             ↔ (MOST_RUNS < run_count (set.union self.old.dots (dots_between site first last))) }
+        ensures no_more { run_count (set.union self.old.dots (dots_between site first last))
+            ≤ run_count self.old.dots → IsOk result }
+        ensures with_room { run_count self.old.dots < self.old.room
+            → result ≢ Err ContextFault.Memory }
         ensures err { OnErr result (self.new.dots ≡ self.old.dots) }
     {
         let _ = site.number();
