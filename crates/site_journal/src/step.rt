@@ -1,0 +1,70 @@
+ghost use Rattle.std.specs.Prelude.{◌≡◌, ◌↔◌, IfOk, IsTrue};
+
+use dots::{Bytes, Memory};
+use status_report::{Answer, Ask};
+
+/// What was done at a site. Frames are the bytes that spell them.
+#[derive(Drop)]
+pub enum StepDeed {
+    /// This was asked, and so it was answered.
+    Asked(Ask, Answer),
+    /// The frame that these bytes spell was taken.
+    Took(Bytes),
+    /// The buffer was put into this frame, or was empty.
+    Cut(Option<Bytes>),
+    /// All that the site knows was put into this frame.
+    Whole(Bytes),
+}
+
+/// A step of a site: who did it, and what was done.
+#[derive(Drop)]
+pub struct Step {
+    /// The number of the pass by which it was done.
+    pub pass: u32,
+    /// What was done.
+    pub deed: StepDeed,
+}
+
+impl StepDeed {
+    /// The same deed once more. The one fault is want of memory.
+    pub fn copy(&self) -> Result<StepDeed, Memory>
+        ensures same { IfOk result (λ copy. copy ≡ self.now) }
+    {
+        match self {
+            StepDeed::Asked(asked, answer) => {
+                let asked = asked.copy()?;
+                let answer = answer.copy()?;
+                Ok(StepDeed::Asked(asked, answer))
+            }
+            StepDeed::Took(bytes) => {
+                let bytes = bytes.copy()?;
+                Ok(StepDeed::Took(bytes))
+            }
+            StepDeed::Cut(None) => Ok(StepDeed::Cut(None)),
+            StepDeed::Cut(Some(bytes)) => {
+                let bytes = bytes.copy()?;
+                Ok(StepDeed::Cut(Some(bytes)))
+            }
+            StepDeed::Whole(bytes) => {
+                let bytes = bytes.copy()?;
+                Ok(StepDeed::Whole(bytes))
+            }
+        }
+    }
+
+    /// Whether it is the same deed as the other. It takes no memory.
+    pub fn same(&self, other: &StepDeed) -> bool
+        ensures { IsTrue result ↔ (self.now ≡ other.now) }
+    {
+        match (self, other) {
+            (StepDeed::Asked(asked, answer), StepDeed::Asked(others, told)) => {
+                asked.same(others) && answer.same(told)
+            }
+            (StepDeed::Took(bytes), StepDeed::Took(others)) => bytes.same(others),
+            (StepDeed::Cut(None), StepDeed::Cut(None)) => true,
+            (StepDeed::Cut(Some(bytes)), StepDeed::Cut(Some(others))) => bytes.same(others),
+            (StepDeed::Whole(bytes), StepDeed::Whole(others)) => bytes.same(others),
+            _ => false,
+        }
+    }
+}

@@ -1,0 +1,86 @@
+//! What the passes of a link know, and the rule that relates this to what the channel holds.
+ghost use Rattle.std.specs.Prelude.{◌≡◌, ◌++◌, ◌∷◌, [], ◌≤◌, length};
+
+use crossbeam_channel::protocol::{Join, Lesson, Outcome, Protocol, Split};
+use dots::Bytes;
+use std::collections::LinkedList;
+
+/// What a pass may do, and what was sent and received by it. No value of it is made: proofs alone speak of it.
+pub struct Log {
+    /// Whether it may send.
+    pub sends: bool,
+    /// Whether it may receive.
+    pub receives: bool,
+    /// All that it has sent, where it may.
+    pub sent: LinkedList<Bytes>,
+    /// All that it has received, where it may.
+    pub received: LinkedList<Bytes>,
+}
+
+/// The rule of a link: what was sent is what was received, and then what the channel holds.
+pub struct InOrder;
+
+impl Protocol<Bytes, Log> for InOrder {
+    ghost use Rattle.std.specs.Prelude.{true, []};
+    ghost use Rattle.site_links.specs.Relaying.{IsRelayed, log};
+
+    ghost holds = { IsRelayed };
+
+    ghost first = { log true true [] [] };
+}
+
+/// One pass sends, and another receives.
+pub struct Roles;
+
+impl Split<Log> for Roles {
+    ghost use Rattle.std.specs.Prelude.{true, false, []};
+    ghost use Rattle.site_links.specs.Relaying.{log};
+
+    ghost left = { λ v. log true false v.sent [] };
+
+    ghost right = { λ v. log false true [] v.received };
+}
+
+impl Join<Log> for Roles {
+    ghost use Rattle.std.specs.Prelude.{true, false, []};
+    ghost use Rattle.site_links.specs.Relaying.{log};
+
+    ghost both = { λ v w. log true true v.sent w.received };
+
+    ghost spent = { log false false [] [] };
+}
+
+/// An item was sent.
+pub struct Sent;
+
+impl Outcome<Bytes, Log> for Sent {
+    ghost use Rattle.site_links.specs.Relaying.{log};
+
+    ghost then = { λ v x w. w ≡ log v.sends v.receives (v.sent ++ x ∷ []) v.received };
+}
+
+impl Lesson<Bytes, Log> for Sent {
+    ghost fact = { λ v items. Unit {0} };
+}
+
+/// An item was received; no more were received than may be sent.
+pub struct Received;
+
+impl Outcome<Bytes, Log> for Received {
+    ghost use Rattle.site_links.specs.Relaying.{log};
+    ghost use Rattle.site_links.specs.declared.limits.TheConstants.{MOST_ITEMS};
+
+    ghost then = { λ v x w. (w ≡ log v.sends v.receives v.sent (v.received ++ x ∷ []))
+        × (length (v.received ++ x ∷ []) ≤ MOST_ITEMS) };
+}
+
+impl Lesson<Bytes, Log> for Received {
+    ghost fact = { λ v items. Unit {0} };
+}
+
+/// What the channel holds is what was sent and not yet received.
+pub struct Total;
+
+impl Lesson<Bytes, Log> for Total {
+    ghost fact = { λ v items. v.sent ≡ v.received ++ items };
+}

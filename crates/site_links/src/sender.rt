@@ -1,0 +1,75 @@
+ghost use Rattle.std.specs.Prelude.{◌≡◌, ◌++◌, ◌∷◌, [], IfErr, OnOk, true};
+
+use crate::MOST_ITEMS;
+use crate::log::{InOrder, Log, Sent};
+use crossbeam_channel::{Pass, RuledSender};
+use dots::Bytes;
+use std::marker::Model;
+use std::sync::Wait;
+
+/// The end of a link that sends.
+#[derive(Drop)]
+pub struct LinkSender {
+    pub(crate) end: RuledSender<Bytes, Log, InOrder>,
+    pub(crate) pass: Pass<Bytes, Log>,
+    pub(crate) sent: u64,
+    pub(crate) is_down: bool,
+}
+
+impl Model for LinkSender {
+    ghost use Rattle.std.specs.Prelude.{◌≡◌, ◌≤◌, true, length};
+    ghost use Rattle.crossbeam_channel.specs.Claims.{IsSeatAt};
+    ghost use Rattle.crossbeam_channel.specs.Ends.{sends_on};
+    ghost use Rattle.site_links.specs.Links.{Sending, known_of, link_of};
+    ghost use Rattle.site_links.specs.declared.limits.TheConstants.{MOST_ITEMS};
+
+    ghost Value = { Sending };
+
+    ghost view = { λ s. record {
+      link = link_of (sends_on s.end);
+      sent = (known_of s.pass).sent;
+      down = s.is_down;
+    } };
+
+    ghost invariant = { λ s. IsSeatAt (sends_on s.end) s.pass × ((known_of s.pass).sends ≡ true)
+        × (s.sent ≡ length (known_of s.pass).sent) × (s.sent ≤ MOST_ITEMS) };
+}
+
+impl LinkSender {
+    /// Sends these bytes as the next item, and waits while the link holds as many as it may. They come back where the receiver is gone, or
+    /// 2^40 items were sent: then the link is down (this project's own).
+    pub fn send<R: Wait>(&mut self, rt: &R, bytes: Vec<u8>) -> Result<(), Vec<u8>>
+        ensures sent { OnOk result
+            (self.new ≡ record self.old { sent = self.old.sent ++ bytes.items ∷ [] }) }
+        ensures back { IfErr result (λ back. back.items ≡ bytes.items) }
+        ensures down { IfErr result (λ back. self.new ≡ record self.old { down = true }) }
+    {
+        if self.sent >= MOST_ITEMS {
+            self.is_down = true;
+            return Err(bytes);
+        }
+        let LinkSender {
+            end,
+            pass,
+            sent,
+            is_down,
+        } = self;
+        match end.send_as::<Sent, R>(rt, pass, Bytes::new(bytes)) {
+            Ok(()) => {
+                *sent += 1;
+                Ok(())
+            }
+            Err(refused) => {
+                *is_down = true;
+                Err(refused.into_inner().into_vec())
+            }
+        }
+    }
+
+    /// Whether a send has handed its bytes back. It takes no memory, like all that only reads.
+    pub fn down(&self) -> bool
+        ensures { result ≡ self.now.down }
+    {
+        self.is_down
+    }
+}

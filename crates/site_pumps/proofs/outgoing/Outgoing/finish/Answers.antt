@@ -1,0 +1,29 @@
+use Rattle.std.proofs.Common.{subst, sym, ap, ◌∙◌, ◌++◌, ◌∷◌, []}
+use Rattle.site_pumps.specs.Carried.{Begins, Carries, EachLink}
+use Rattle.site_pumps.specs.Deeds.{cut_frames, whole_frames}
+use Rattle.site_pumps.specs.Outgoing.{IsFrontOf}
+use Rattle.site_pumps.specs.Plans.{planned}
+use Rattle.site_pumps.proofs.Carrying.{on_err, each_fewer}
+use Rattle.site_pumps.proofs.UnderWay.{stopped, broken_at_held, broken_at_end, ended}
+use Rattle.site_pumps.proofs.outgoing.Outgoing.finish.Goals as goal
+
+pub returns-then-is_err-clause-err : goal.returns-then-is_err-clause-err
+returns-then-is_err-clause-err g c = λ start plan w. subst (λ l. IsFrontOf plan l start c.args.links.now) (sym c.reserve.ensures.items) (stopped _ _ _ _ _ _ w)
+
+pub returns-in_err-send_each-clause-err : goal.returns-in_err-send_each-clause-err
+returns-in_err-send_each-clause-err g c = on_err c.from_residual.result (λ start plan w. subst (λ l. IsFrontOf plan l start c.send_each.new.links) (sym c.reserve.ensures.items)
+    (broken_at_held _ _ _ _ _ _ _ w (subst (λ l. EachLink (Begins l) c.args.links.now c.send_each.new.links) c.as_slice.ensures.value c.in_err-send_each.ensures.err)))
+
+pub returns-in_err-receipt-clause-err : goal.returns-in_err-receipt-clause-err
+returns-in_err-receipt-clause-err g c = on_err c.from_residual-in_err-receipt.result (λ start plan w. subst (λ l. IsFrontOf plan l start c.send_each.new.links) (sym c.reserve.ensures.items)
+    (broken_at_held _ _ _ _ _ _ _ w (each_fewer _ _ _ (subst (λ l. EachLink (Carries l) c.args.links.now c.send_each.new.links) c.as_slice.ensures.value c.in_ok-send_each.ensures.ok))))
+
+pub returns-in-Ok-clause-ok : goal.returns-in-Ok-clause-ok
+returns-in-Ok-clause-ok g c = λ start plan w. subst (λ l. EachLink (Carries (planned plan (cut_frames l) (whole_frames l))) start c.send_whole-sent.new.links)
+    (sym (c.push_reserved.ensures.items ∙ ap (λ l. l ++ c.in_ok-receipt.receipt ∷ []) c.reserve.ensures.items))
+    (ended _ _ _ _ _ _ _ _ _ c.in_ok-receipt.ensures.deed w (subst (λ l. EachLink (Carries l) c.args.links.now c.send_each.new.links) c.as_slice.ensures.value c.in_ok-send_each.ensures.ok) c.in-Ok.ensures.ok)
+
+pub returns-in-Err-clause-err : goal.returns-in-Err-clause-err
+returns-in-Err-clause-err g c = λ start plan w. subst (λ l. IsFrontOf plan l start c.send_whole-sent.new.links)
+    (sym (c.push_reserved.ensures.items ∙ ap (λ l. l ++ c.in_ok-receipt.receipt ∷ []) c.reserve.ensures.items))
+    (broken_at_end _ _ _ _ _ _ _ _ _ c.in_ok-receipt.ensures.deed w (subst (λ l. EachLink (Carries l) c.args.links.now c.send_each.new.links) c.as_slice.ensures.value c.in_ok-send_each.ensures.ok) c.in-Err.ensures.err)

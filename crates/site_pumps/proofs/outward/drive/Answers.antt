@@ -1,0 +1,43 @@
+use Rattle.std.proofs.Common.{rules, arith, ◌≡◌, ◌+◌, ◌∙◌, [], ap, map, refl}
+use Rattle.std.proofs.lemmas.Result.{on_ok_weaker, on_err_weaker}
+use Rattle.site_journal.specs.declared.receipt.Receipt.{Receipt}
+use Rattle.site_pumps.proofs.Carrying.{on_err}
+use Rattle.site_pumps.proofs.Receipts.{cuts_more, cuts_whole}
+use Rattle.site_pumps.proofs.UnderWay.{at_start_of}
+use Rattle.site_pumps.proofs.outward.drive.Goals as goal
+use Rattle.site_pumps.proofs.outward.drive.Goals.{in-None, in-Some+then-not-wait}
+
+pub loop-init : goal.loop-init
+loop-init g c = let fresh = c.requires.fresh in record {
+  cuts = (0, omega arith, ([], refl, ap (map (λ (r : Receipt). r.deed)) fresh.0));
+  under_way = at_start_of _ _ _ _ _ fresh.0 fresh.2 fresh.1;
+  few = omega (arith, fresh.2);
+  ordinal = refl;
+  share = omega (arith, fresh.3);
+}
+
+pub loop-preserved : goal.loop-preserved
+loop-preserved g c = let was = c.loop.invariant in let cut = c.in_ok-cut.ensures in record {
+  cuts = (was.cuts.0 + 1, omega (arith, c.if-not-wait.ensures.rings, was.cuts.1), cuts_more _ _ _ cut.receipt.0 cut.receipt.2 cut.receipt.1 was.cuts.2);
+  under_way = cut.ok _ was.under_way;
+  few = search rules;
+  ordinal = search rules;
+  share = search rules;
+}
+
+pub returns-in_err-cut-clause-front : goal.returns-in_err-cut-clause-front
+returns-in_err-cut-clause-front g c = on_err c.from_residual.result (c.in_err-cut.ensures.err _ c.loop.invariant.under_way)
+
+pub returns-in_err-cut-2-clause-front : goal.returns-in_err-cut-2-clause-front
+returns-in_err-cut-2-clause-front g c = on_err c.from_residual-in_err-cut-2.result (c.in_err-cut-2.ensures.err _ c.loop.invariant.under_way)
+
+pub returns-clause-sent : goal.returns-clause-sent
+returns-clause-sent g c = on_ok_weaker c.finish.result (λ f. f _ _ (c.in_ok-cut-2.ensures.ok _ c.loop.invariant.under_way)) c.finish.ensures.ok
+
+pub returns-clause-front : goal.returns-clause-front
+returns-clause-front g c = on_err_weaker c.finish.result (λ f. f _ _ (c.in_ok-cut-2.ensures.ok _ c.loop.invariant.under_way)) c.finish.ensures.err
+
+pub returns-clause-receipts : goal.returns-clause-receipts
+returns-clause-receipts g c = let was = c.loop.invariant in let cut = c.in_ok-cut-2.ensures in
+    let same : g.B.Bell.rings c.match-next.bell ≡ g.B.Bell.rings c.loop.bell = elim c.match-next.branch [ in-None w ↦ ap g.B.Bell.rings w.bell-is | in-Some+then-not-wait w ↦ ap g.B.Bell.rings w.bell-is ∙ w.if-not-wait.ensures.rings ] in
+    on_ok_weaker c.finish.result (λ r. (was.cuts.0, same ∙ was.cuts.1, cuts_whole _ _ _ r.0 r.2 r.1 (cuts_more _ _ _ cut.receipt.0 cut.receipt.2 cut.receipt.1 was.cuts.2))) c.finish.ensures.receipt

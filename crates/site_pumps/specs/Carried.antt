@@ -1,0 +1,22 @@
+-- What became of links to which items were sent.
+use Rattle.std.specs.Prelude.{ℕ, ◌≡◌, ◌≤◌, ◌<◌, true, false, List, [], ◌++◌, length, slice_index_or}
+use Rattle.site_links.specs.Links.{Sending}
+
+-- a front of these items was sent, and nothing where the link was down before
+abbrev pub Begins : List (List ℕ) → Sending → Sending → Type 0
+Begins items old new = (new.link ≡ old.link) × (old.down ≡ true → new ≡ old) × (front : List (List ℕ)) × (rest : List (List ℕ)) × (items ≡ front ++ rest) × (new.sent ≡ old.sent ++ front)
+
+-- all of these items were sent, or a front of them where the link is down
+abbrev pub Carries : List (List ℕ) → Sending → Sending → Type 0
+Carries items old new = (new.link ≡ old.link) × (old.down ≡ true → new ≡ old) × (front : List (List ℕ)) × (rest : List (List ℕ)) × (items ≡ front ++ rest) × (new.sent ≡ old.sent ++ front) × (new.down ≡ false → rest ≡ [])
+
+-- each link is as R says
+pub record EachLink (R : Sending → Sending → Type 0) (olds news : List Sending) : Type 0 where
+  pub count : length news ≡ length olds
+  pub each : (k : ℕ) (none : Sending) → k < length olds → R (slice_index_or olds k none) (slice_index_or news k none)
+
+-- the links before this one are as R says, and the others as they were
+pub record SoFar (R : Sending → Sending → Type 0) (olds news : List Sending) (reached : ℕ) : Type 0 where
+  pub count : length news ≡ length olds
+  pub done : (k : ℕ) (none : Sending) → k < reached → R (slice_index_or olds k none) (slice_index_or news k none)
+  pub left : (k : ℕ) (none : Sending) → reached ≤ k → slice_index_or news k none ≡ slice_index_or olds k none

@@ -1,0 +1,32 @@
+-- What a plan makes of the frames that are cut.
+use Rattle.std.specs.Prelude.{ℕ, ◌+◌, ◌%◌, List, [], ◌∷◌, ◌++◌, length, slice_index_or}
+use Rattle.site_pumps.specs.declared.deed.Deed.{Deed}
+use Rattle.site_pumps.specs.declared.deed.Deed.TheVariants.{Deliver, Lose, Twice, Hold}
+
+-- the deed for the frame of this number: the deeds are used in turn, again from their front; where there are none, each frame is delivered
+abbrev pub deed_at : List Deed → ℕ → Deed
+deed_at [] number = Deliver
+deed_at (deed ∷ deeds) number = slice_index_or (deed ∷ deeds) (number % length (deed ∷ deeds)) Deliver
+
+-- what is sent for a frame, where these frames are held
+abbrev pub sent_for : Deed → List (List ℕ) → List ℕ → List (List ℕ)
+sent_for Deliver held frame = frame ∷ held
+sent_for Lose held frame = held
+sent_for Twice held frame = frame ∷ frame ∷ held
+sent_for Hold held frame = []
+
+-- which frames are held after it
+abbrev pub held_after : Deed → List (List ℕ) → List ℕ → List (List ℕ)
+held_after Deliver held frame = []
+held_after Lose held frame = []
+held_after Twice held frame = []
+held_after Hold held frame = held ++ frame ∷ []
+
+-- what is sent for the frames from this number on, where these are held before
+abbrev pub planned_from : List Deed → ℕ → List (List ℕ) → List (List ℕ) → List (List ℕ)
+planned_from plan number held [] = held
+planned_from plan number held (frame ∷ frames) = sent_for (deed_at plan number) held frame ++ planned_from plan (number + 1) (held_after (deed_at plan number) held frame) frames
+
+-- what is sent for all frames that are cut, and the whole states after them
+abbrev pub planned : List Deed → List (List ℕ) → List (List ℕ) → List (List ℕ)
+planned plan frames wholes = planned_from plan 0 [] frames ++ wholes

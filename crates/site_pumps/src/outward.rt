@@ -1,0 +1,88 @@
+ghost use Rattle.std.specs.Prelude.{◌≡◌, ◌⊎◌, ◌+◌, ⊤, [], ℕ, None, Some, true, MatchOption, IfErr, OnErr};
+ghost use Rattle.std.specs.Prelude.{OnOk, vec_len};
+ghost use Rattle.site_pumps.specs.Carried.{Carries, EachLink};
+ghost use Rattle.site_pumps.specs.Deeds.{AreCutsAndWhole, cut_frames, whole_frames};
+ghost use Rattle.site_pumps.specs.Outgoing.{IsFrontOf};
+ghost use Rattle.site_pumps.specs.Plans.{planned};
+
+use crate::Deed;
+use crate::outgoing::Outgoing;
+use site_journal::{Bell, DeskFault, Port, Receipt};
+use site_links::LinkSender;
+use std::alloc::Global;
+use std::sync::Wait;
+
+/// What a pump gives that sends.
+#[derive(Drop)]
+pub struct Pumped {
+    /// The receipts of its cuts, and behind them that of the frame of all, if it came so far.
+    pub receipts: Vec<Receipt>,
+    /// The fault that stopped it, if one did.
+    pub fault: Option<DeskFault>,
+}
+
+// A cut at each ring and one more, the held frames, and a frame of all that the site knows.
+fn drive<R: Wait, P: Port<R>, B: Bell<R>>(
+    rt: &R,
+    alloc: Global,
+    outgoing: &mut Outgoing,
+    port: &mut P,
+    links: &mut [LinkSender],
+    bell: &mut B,
+    plan: &[Deed],
+) -> Result<(), DeskFault>
+    requires fresh { (outgoing.old.receipts.items ≡ []) × (outgoing.old.held.items ≡ [])
+        × (outgoing.old.used ≡ 0) × (vec_len outgoing.old.receipts ≡ 0) }
+    ensures sent { OnOk result (EachLink (Carries (planned plan.now
+        (cut_frames outgoing.new.receipts.items) (whole_frames outgoing.new.receipts.items)))
+        links.old links.new) }
+    ensures front { OnErr result
+        (IsFrontOf plan.now outgoing.new.receipts.items links.old links.new) }
+    ensures receipts { OnOk result ((rung : ℕ) × (B.rings bell.new ≡ B.rings bell.old + rung)
+        × AreCutsAndWhole (rung + 1) outgoing.new.receipts.items) }
+    ensures ended { OnOk result (B.ended bell.new ≡ true) }
+    ensures fault { IfErr result (λ e. (P.fault port.new ≡ Some e) ⊎ (e ≡ DeskFault.Memory)) }
+    ensures ordinal { P.ordinal port.new ≡ P.ordinal port.old }
+    ensures share { P.share port.new ≡ P.share port.old + vec_len outgoing.new.receipts }
+{
+    for _ in rt.forever() {
+        if !bell.wait(rt) {
+            break;
+        }
+        outgoing.cut(rt, alloc, port, links, plan)?;
+    }
+    outgoing.cut(rt, alloc, port, links, plan)?;
+    outgoing.finish(rt, port, links)
+}
+
+/// Cuts at each ring of the bell, and sends each frame on all links alike, as the plan says: its deeds are used in turn, again from
+/// its front, and where there are none each frame is delivered; a cut without a frame uses none. Once the bell has ended it cuts once
+/// more, sends what is held, and then a frame of all that the site knows, whatever the plan. A link that is down gets no more, and the
+/// others go on. A fault stops it: the port's own, or `Memory` where there is no room (this project's own).
+pub fn pump_out<R: Wait, P: Port<R>, B: Bell<R>>(
+    rt: &R,
+    alloc: Global,
+    port: &mut P,
+    links: &mut [LinkSender],
+    bell: &mut B,
+    plan: &[Deed],
+) -> Pumped
+    ensures sent { result.fault ≡ None → EachLink (Carries (planned plan.now
+        (cut_frames result.receipts.items) (whole_frames result.receipts.items)))
+        links.old links.new }
+    ensures front { IsFrontOf plan.now result.receipts.items links.old links.new }
+    ensures receipts { result.fault ≡ None → (rung : ℕ)
+        × (B.rings bell.new ≡ B.rings bell.old + rung)
+        × AreCutsAndWhole (rung + 1) result.receipts.items }
+    ensures ended { result.fault ≡ None → B.ended bell.new ≡ true }
+    ensures fault { MatchOption result.fault ⊤
+        (λ cause. (P.fault port.new ≡ Some cause) ⊎ (cause ≡ DeskFault.Memory)) }
+    ensures ordinal { P.ordinal port.new ≡ P.ordinal port.old }
+    ensures share { P.share port.new ≡ P.share port.old + vec_len result.receipts }
+{
+    let mut outgoing = Outgoing::new(alloc);
+    match drive(rt, alloc, &mut outgoing, port, links, bell, plan) {
+        Ok(()) => outgoing.done(),
+        Err(fault) => outgoing.stopped(fault),
+    }
+}

@@ -1,0 +1,7 @@
+//! Tests of links and pumps by their public calls, upon one thread. It has no code of its own.
+#![tactic(auto)]
+
+#[cfg(test)]
+mod links;
+#[cfg(test)]
+mod pumps;
