@@ -18,55 +18,48 @@ span k (suc d) = size k + span (suc k) d
 doubled : (n : ℕ) → 2 ^ suc n ≡ 2 ^ n + 2 ^ n
 doubled n = omega (arith, pow-succ' 2 n)
 
-span_power : (a d : ℕ) → span (suc a) d + 2 ^ (a + 4) ≡ 2 ^ (a + d + 4)
-span_power a zero = let e : a + 4 ≡ a + 0 + 4 = omega arith in let same : 2 ^ (a + 4) ≡ 2 ^ (a + 0 + 4) = ap (λ m. 2 ^ m) e in omega (arith, same)
+span_power : (a d : ℕ) → span (suc a) d + 2 ^ a ≡ 2 ^ (a + d)
+span_power a zero = let e : a ≡ a + 0 = omega arith in let same : 2 ^ a ≡ 2 ^ (a + 0) = ap (λ m. 2 ^ m) e in omega (arith, same)
 span_power a (suc d) =
-    let e : suc a + d + 4 ≡ a + suc d + 4 = omega arith in let f : suc a + 4 ≡ suc (a + 4) = omega arith in
-    let all : span (suc (suc a)) d + 2 ^ (suc a + 4) ≡ 2 ^ (suc a + d + 4) = span_power (suc a) d in
-    let twice : 2 ^ (suc a + 4) ≡ 2 ^ (a + 4) + 2 ^ (a + 4) = ap (λ m. 2 ^ m) f ∙ doubled (a + 4) in
-    let same : 2 ^ (suc a + d + 4) ≡ 2 ^ (a + suc d + 4) = ap (λ m. 2 ^ m) e in
+    let e : suc a + d ≡ a + suc d = omega arith in
+    let all : span (suc (suc a)) d + 2 ^ suc a ≡ 2 ^ (suc a + d) = span_power (suc a) d in
+    let twice : 2 ^ suc a ≡ 2 ^ a + 2 ^ a = doubled a in
+    let same : 2 ^ (suc a + d) ≡ 2 ^ (a + suc d) = ap (λ m. 2 ^ m) e in
     omega (arith, all, twice, same)
 
 pub span-total : (m : ℕ) → span 0 m ≡ total m
 span-total zero = refl
 span-total (suc d) =
-    let all : span 1 d + 2 ^ (0 + 4) ≡ 2 ^ (0 + d + 4) = span_power 0 d in let e : 0 + d + 4 ≡ d + 4 = omega arith in let same : 2 ^ (0 + d + 4) ≡ 2 ^ (d + 4) = ap (λ m. 2 ^ m) e in
-    let first : 2 ^ (0 + 4) ≡ 16 = refl in omega (arith, all, same, first)
-
-high_bit : (i j : ℕ) → 16 ≤ i → i < 2 ^ suc j → 4 ≤ j
-high_bit i zero large lt = let p : 2 ^ 1 ≡ 2 = refl in absurd (omega (arith, large, lt, p))
-high_bit i (suc zero) large lt = let p : 2 ^ 2 ≡ 4 = refl in absurd (omega (arith, large, lt, p))
-high_bit i (suc (suc zero)) large lt = let p : 2 ^ 3 ≡ 8 = refl in absurd (omega (arith, large, lt, p))
-high_bit i (suc (suc (suc zero))) large lt = let p : 2 ^ 4 ≡ 16 = refl in absurd (omega (arith, large, lt, p))
-high_bit i (suc (suc (suc (suc j)))) large lt = omega arith
+    let all : span 1 d + 2 ^ 0 ≡ 2 ^ (0 + d) = span_power 0 d in let e : 0 + d ≡ d = omega arith in let same : 2 ^ (0 + d) ≡ 2 ^ d = ap (λ m. 2 ^ m) e in
+    let first : 2 ^ 0 ≡ 1 = refl in omega (arith, all, same, first)
 
 -- the next chunk is as large as all before it together
 pub total-next : (m : ℕ) → total (suc (suc m)) ≡ total (suc m) + total (suc m)
-total-next m = let e : suc m + 4 ≡ suc (m + 4) = omega arith in ap (λ k. 2 ^ k) e ∙ doubled (m + 4)
+total-next m = doubled m
 
-pub total-limit : (m : ℕ) → m ≤ 17 → total m ≤ 2 ^ 20
+pub total-limit : (m : ℕ) → m ≤ 21 → total m ≤ 2 ^ 20
 total-limit zero le = omega arith
-total-limit (suc m) le = let few : m + 4 ≤ 20 = omega arith in pow-le-pow_right {n = 2} (omega arith) few
+total-limit (suc m) le = let few : m ≤ 20 = omega arith in pow-le-pow_right {n = 2} (omega arith) few
 
-pub total-below : (m : ℕ) → m ≤ 17 → total m < 2 ^ 20 → suc m ≤ 17
+pub total-below : (m : ℕ) → m ≤ 21 → total m < 2 ^ 20 → suc m ≤ 21
 total-below m le lt =
-    let full : m ≡ 17 → ⊥ = λ e. let t : total m ≡ 2 ^ 20 = ap total e in omega (arith, t, lt) in omega (arith, le, full)
+    let full : m ≡ 21 → ⊥ = λ e. let t : total m ≡ 2 ^ 20 = ap total e in omega (arith, t, lt) in omega (arith, le, full)
 
 -- the size of the next chunk, from what all before it hold
-pub next_size : (m capacity s : ℕ) → capacity ≡ total m → ((capacity ≡ 0) × (s ≡ 16)) ⊎ ((capacity ≡ 0 → ⊥) × (s ≡ capacity)) → (s ≡ size m) × (capacity + s ≡ total (suc m))
-next_size zero capacity s e (inl (none, is)) = let first : 2 ^ (0 + 4) ≡ 16 = refl in (is, omega (arith, none, is, first))
+pub next_size : (m capacity s : ℕ) → capacity ≡ total m → ((capacity ≡ 0) × (s ≡ 1)) ⊎ ((capacity ≡ 0 → ⊥) × (s ≡ capacity)) → (s ≡ size m) × (capacity + s ≡ total (suc m))
+next_size zero capacity s e (inl (none, is)) = let first : 2 ^ 0 ≡ 1 = refl in (is, omega (arith, none, is, first))
 next_size zero capacity s e (inr (some, is)) = absurd (some e)
-next_size (suc m) capacity s e (inl (none, is)) = let some : 1 ≤ 2 ^ (m + 4) = one-le-pow (m + 4) 2 (omega arith) in absurd (omega (arith, e, none, some))
+next_size (suc m) capacity s e (inl (none, is)) = let some : 1 ≤ 2 ^ m = one-le-pow m 2 (omega arith) in absurd (omega (arith, e, none, some))
 next_size (suc m) capacity s e (inr (some, is)) = (is ∙ e, omega (arith, total-next m, e, is))
 
 -- past the first chunk, the highest bit of an index tells its chunk
-pub located : (i p one : ℕ) → 16 ≤ i → i < 2 ^ 64 → p ≡ 63 - count_leading_zeros 64 i → one ≡ (1 * 2 ^ p) % 2 ^ 64 → (3 ≤ p) × (one ≤ i) × IsAt i (p - 3) (i - one)
+pub located : (i p one : ℕ) → 1 ≤ i → i < 2 ^ 64 → p ≡ 63 - count_leading_zeros 64 i → one ≡ (1 * 2 ^ p) % 2 ^ 64 → (one ≤ i) × IsAt i (p + 1) (i - one)
 located i p one large fits is bit =
     let top = leading_top 64 i (omega arith) fits in let j = top.0 in let same : p ≡ j = omega (arith, top.1, is) in
-    let high : 4 ≤ j = high_bit i j large top.3 in let power : one ≡ 2 ^ j = bit ∙ one_shl p 64 (omega (arith, top.1, same)) ∙ ap (λ m. 2 ^ m) same in
-    let after_first : p - 3 ≡ suc (j - 4) = omega arith in let exact : j - 4 + 4 ≡ j = omega arith in
-    let start : total (p - 3) ≡ 2 ^ j = ap total after_first ∙ ap (λ m. 2 ^ m) exact in let large_enough : size (p - 3) ≡ 2 ^ j = ap size after_first ∙ ap (λ m. 2 ^ m) exact in
-    (omega arith, omega (arith, power, top.2), (omega (arith, start, power, top.2), omega (arith, large_enough, power, top.2, top.3, doubled j)))
+    let power : one ≡ 2 ^ j = bit ∙ one_shl p 64 (omega (arith, top.1, same)) ∙ ap (λ m. 2 ^ m) same in
+    let after_first : p + 1 ≡ suc j = omega (arith, same) in
+    let start : total (p + 1) ≡ 2 ^ j = ap total after_first in let large_enough : size (p + 1) ≡ 2 ^ j = ap size after_first in
+    (omega (arith, power, top.2), (omega (arith, start, power, top.2), omega (arith, large_enough, power, top.2, top.3, doubled j)))
 
 module _ {X : Type 0} where
   same_column : (b c : Column X) → Some b ≡ Some c → b ≡ c

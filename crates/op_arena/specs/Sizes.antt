@@ -2,15 +2,15 @@
 use Rattle.std.specs.Prelude.{◌≡◌, ℕ, zero, suc, ◌+◌, ◌-◌, ◌^◌, ◌<◌, min, List, [], ◌∷◌, ◌++◌, length}
 use Rattle.op_arena.specs.Columns.{Column}
 
--- how many values a chunk holds: 16, 16, 32, 64, ..
+-- how many values a chunk holds: 1, 1, 2, 4, ..
 abbrev pub size : ℕ → ℕ
-size zero = 16
-size (suc chunk) = 2 ^ (chunk + 4)
+size zero = 1
+size (suc chunk) = 2 ^ chunk
 
 -- how many values so many chunks hold together
 abbrev pub total : ℕ → ℕ
 total zero = 0
-total (suc chunks) = 2 ^ (chunks + 4)
+total (suc chunks) = 2 ^ chunks
 
 -- the value at the index is at this place of this chunk
 abbrev pub IsAt : ℕ → ℕ → ℕ → Type 0

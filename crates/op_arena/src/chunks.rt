@@ -10,9 +10,9 @@ use std::alloc::{AllocError, Global};
 use std::marker::Model;
 
 // How many values the first chunk holds.
-const FIRST: usize = 16;
+const FIRST: usize = 1;
 
-// Chunks of 16, 16, 32, 64, .. places. Each is full before the next one gets a value.
+// Chunks of 1, 1, 2, 4, .. places. Each is full before the next one gets a value.
 #[derive(Drop)]
 pub(crate) struct Chunks<T> {
     chunks: Vec<Chunk<T>>,
@@ -34,7 +34,7 @@ impl<T> Model for Chunks<T> {
     ghost view = { λ c. column (all_items c.chunks.items) c.capacity };
 
     ghost invariant = { λ c. IsLaid 0 c.len c.chunks.items
-        × (c.capacity ≡ total (length c.chunks.items)) × (length c.chunks.items ≤ 17) };
+        × (c.capacity ≡ total (length c.chunks.items)) × (length c.chunks.items ≤ 21) };
 }
 
 // The chunk that the value at `index` is in, and its place there.
@@ -45,7 +45,7 @@ fn locate(index: usize) -> (usize, usize)
         return (0, index);
     }
     let power = 63 - index.leading_zeros() as usize;
-    (power - 3, index - (1 << power))
+    (power + 1, index - (1 << power))
 }
 
 impl<T> Chunks<T> {

@@ -195,7 +195,7 @@ fn fills_up_to_the_last_cell(rt: HostRuntime) {
     assert_cells(&rt, &arena, 1_048_576, 0);
     assert_spare(&rt, &arena, 0);
     reserve(&rt, &mut arena, 1, Err(ArenaFault::Full));
-    for index in [16, 1_048_575] {
+    for index in [1, 2, 16, 1_048_575] {
         assert_value(&rt, &arena, CellId::new(index, 0), Some(index));
     }
 }

@@ -6,8 +6,5 @@ use Rattle.op_arena.proofs.chunks.locate.Goals as goal
 pub overflow_sub-result : goal.overflow_sub-result
 overflow_sub-result c = (located c.args.index (63 - count_leading_zeros 64 c.args.index) ((1 * 2 ^ (63 - count_leading_zeros 64 c.args.index)) % 2 ^ 64) c.if-index-lt-FIRST.false c.ranges.index.fits refl refl).0
 
-pub overflow_sub-result-2 : goal.overflow_sub-result-2
-overflow_sub-result-2 c = (located c.args.index (63 - count_leading_zeros 64 c.args.index) ((1 * 2 ^ (63 - count_leading_zeros 64 c.args.index)) % 2 ^ 64) c.if-index-lt-FIRST.false c.ranges.index.fits refl refl).1
-
 pub returns : goal.returns
-returns c = (located c.args.index (63 - count_leading_zeros 64 c.args.index) ((1 * 2 ^ (63 - count_leading_zeros 64 c.args.index)) % 2 ^ 64) c.if-index-lt-FIRST.false c.ranges.index.fits refl refl).2
+returns c = (located c.args.index (63 - count_leading_zeros 64 c.args.index) ((1 * 2 ^ (63 - count_leading_zeros 64 c.args.index)) % 2 ^ 64) c.if-index-lt-FIRST.false c.ranges.index.fits refl refl).1

@@ -9,7 +9,7 @@ use Rattle.op_arena.proofs.chunks.Chunks.grow.Goals as goal
 pub invariant_of-self-2 : goal.invariant_of-self-2
 invariant_of-self-2 g c =
     let s = c.self.inside in let cs = s.chunks.items in let m = length cs in let added = c.if-self-eq0.size in let asked : s.capacity < 2 ^ 20 = rw (← c.self.view_is) at c.requires in
-    let choice : ((s.capacity ≡ 0) × (added ≡ 16)) ⊎ ((s.capacity ≡ 0 → ⊥) × (added ≡ s.capacity)) =
+    let choice : ((s.capacity ≡ 0) × (added ≡ 1)) ⊎ ((s.capacity ≡ 0 → ⊥) × (added ≡ s.capacity)) =
     elim c.if-self-eq0.branch [ then-self-eq0 w ↦ inl (w.if-self-eq0.true, w.size-is) | else-self-eq0 w ↦ inr (w.if-self-eq0.false, w.size-is) ] in
     let next = next_size m s.capacity added c.self.invariant.1 choice in
     let items : c.push_reserved.new.self.items ≡ cs ++ column [] (size m) ∷ [] = c.push_reserved.ensures.items ∙ (λ i. c.reserve.ensures.items i ++ (c.in_ok-chunk.ensures ∙ ap (column []) next.0) i ∷ []) in
@@ -19,7 +19,7 @@ invariant_of-self-2 g c =
 pub returns-clause-items : goal.returns-clause-items
 returns-clause-items g c =
     let s = c.self.inside in let cs = s.chunks.items in let m = length cs in let added = c.if-self-eq0.size in let asked : s.capacity < 2 ^ 20 = rw (← c.self.view_is) at c.requires in
-    let choice : ((s.capacity ≡ 0) × (added ≡ 16)) ⊎ ((s.capacity ≡ 0 → ⊥) × (added ≡ s.capacity)) =
+    let choice : ((s.capacity ≡ 0) × (added ≡ 1)) ⊎ ((s.capacity ≡ 0 → ⊥) × (added ≡ s.capacity)) =
     elim c.if-self-eq0.branch [ then-self-eq0 w ↦ inl (w.if-self-eq0.true, w.size-is) | else-self-eq0 w ↦ inr (w.if-self-eq0.false, w.size-is) ] in
     let next = next_size m s.capacity added c.self.invariant.1 choice in
     let items : c.push_reserved.new.self.items ≡ cs ++ column [] (size m) ∷ [] = c.push_reserved.ensures.items ∙ (λ i. c.reserve.ensures.items i ++ (c.in_ok-chunk.ensures ∙ ap (column []) next.0) i ∷ []) in
@@ -28,7 +28,7 @@ returns-clause-items g c =
 pub returns-clause-limit : goal.returns-clause-limit
 returns-clause-limit g c =
     let s = c.self.inside in let cs = s.chunks.items in let m = length cs in let added = c.if-self-eq0.size in let asked : s.capacity < 2 ^ 20 = rw (← c.self.view_is) at c.requires in
-    let choice : ((s.capacity ≡ 0) × (added ≡ 16)) ⊎ ((s.capacity ≡ 0 → ⊥) × (added ≡ s.capacity)) =
+    let choice : ((s.capacity ≡ 0) × (added ≡ 1)) ⊎ ((s.capacity ≡ 0 → ⊥) × (added ≡ s.capacity)) =
     elim c.if-self-eq0.branch [ then-self-eq0 w ↦ inl (w.if-self-eq0.true, w.size-is) | else-self-eq0 w ↦ inr (w.if-self-eq0.false, w.size-is) ] in
     let next = next_size m s.capacity added c.self.invariant.1 choice in
     omega (arith, next.1, total-limit (suc m) (total-below m c.self.invariant.2 (omega (arith, asked, c.self.invariant.1))))
