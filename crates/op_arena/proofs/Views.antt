@@ -1,15 +1,13 @@
 -- What a look-up among the values and the spent ids of cells finds.
-use Rattle.std.proofs.Common.{◌≡◌, ℕ, zero, suc, ◌+◌, ◌<◌, Bool, true, false, cond, ◌&&◌, ◌||◌, List, [], ◌∷◌, ◌++◌, slice_get, Some, None, refl, sym, ap, ◌∙◌, arith, inl, inr}
+use Rattle.std.proofs.Common.{◌≡◌, ℕ, zero, suc, ◌+◌, ◌*◌, ◌<◌, ◌≤◌, Bool, true, false, cond, ◌&&◌, ◌||◌, List, [], ◌∷◌, ◌++◌, slice_get, Some, None, refl, sym, ap, ◌∙◌, arith, inl, inr}
 use Rattle.std.specs.Prelude.{Option, nat_eq, nat_lt, is_some}
 use Rattle.std.specs.List.{list_any}
 use Rattle.std.specs.FinMap as map
 use Rattle.std.specs.FinSet as set
 use Rattle.std.specs.FinMap.{find}
 use Rattle.std.specs.Ordering.{eq_by_cmp, is_eq, nat_cmp}
-use Rattle.std.specs.Cmp.{IsTotalOrder, nat_cmp_total, tied_then, unsigned_tied, nat_eq_equiv}
+use Rattle.std.specs.Cmp.{tied_then, unsigned_tied, nat_eq_equiv}
 use Rattle.std.proofs.lemmas.Bool.{cases_eq, eq-eqb, ne_eqb, lt-ltb, le-ltb, cases_order}
-use Rattle.std.proofs.lemmas.Cmp.{on_total, then_total}
-use Rattle.std.proofs.lemmas.Map.Lookups.{exact_pairs, exact_unsigned}
 use Rattle.op_arena.specs.Ids.{Id, id_of, id_cmp}
 use Rattle.op_arena.specs.Slots.{count, value_of, is_held, state_retired, is_retired, spent_at, with_value, entries_from, ids_before, spent_from, held_in, spent_in, KeepsLast}
 use Rattle.op_arena.proofs.IdOrder.{ids_exact, ids_total}
@@ -72,6 +70,16 @@ len_cond false id ids e = omega arith
 len_cond true id ids e =
     set.len-insert ids_total (set.from_list ids) id
     ∙ ap (λ b. cond b (set.len (set.from_list {R = id_cmp} ids)) (set.len (set.from_list {R = id_cmp} ids) + 1)) (set.contains-from_list ids_total ids id ∙ e) ∙ omega arith
+
+-- so many ids of a cell, before ids of other cells
+len_before : (i n : ℕ) (ids : List Id) → ((g : ℕ) → list_any (eq_by_cmp id_cmp (id_of i g)) ids ≡ false)
+    → set.len (set.from_list {R = id_cmp} (ids_before i n ++ ids)) ≡ n + set.len (set.from_list {R = id_cmp} ids)
+len_before i zero ids none = omega arith
+len_before i (suc n) ids none =
+    let new : list_any (eq_by_cmp id_cmp (id_of i n)) (ids_before i n ++ ids) ≡ false =
+    any_append (eq_by_cmp id_cmp (id_of i n)) (ids_before i n) ids ∙ (λ k. any_before i n (id_of i n) refl k || none n k) ∙ or_false _ ∙ le-ltb n n (omega arith) in
+    let one : set.len (set.from_list {R = id_cmp} (id_of i n ∷ (ids_before i n ++ ids))) ≡ 1 + set.len (set.from_list {R = id_cmp} (ids_before i n ++ ids)) = len_cond true (id_of i n) (ids_before i n ++ ids) new in
+    omega (arith, one, len_before i n ids none)
 
 module _ {T : Type 0} where
   -- what an id of this generation finds at its cell
@@ -202,6 +210,31 @@ module _ {T : Type 0} where
       ∙ spent_or_retired last q.generation (slice_get ss q.index) (at_last last (slice_get ss q.index) (keeps q.index))
       ∙ sym (set.contains-from_list ids_total (last_ids last 0 ss) q ∙ last_from last 0 q.index ss q (omega arith))) in
       ap set.len same ∙ len_last last 0 ss
+
+  -- how many generations are spent of all cells together
+  abbrev all_spent : List (Slot T) → ℕ
+  all_spent [] = 0
+  all_spent (s ∷ ss) = spent_at s.generation s.state + all_spent ss
+
+  len_spent : (i : ℕ) (ss : List (Slot T)) → set.len (set.from_list {R = id_cmp} (spent_from i ss)) ≡ all_spent ss
+  len_spent i [] = set.len-empty id_cmp
+  len_spent i (s ∷ ss) =
+      len_before i (spent_at s.generation s.state) (spent_from (suc i) ss) (λ g. any_later (suc i) ss (id_of i g) (omega arith)) ∙ ap (λ n. spent_at s.generation s.state + n) (len_spent (suc i) ss)
+
+  -- one cell more, which is retired only after its last generation
+  spent_more : (last g : ℕ) (s : State T) (n spent : ℕ) → KeepsLast last g s → n * (last + 1) ≤ spent → (cond (state_retired s) 1 0 + n) * (last + 1) ≤ spent_at g s + spent
+  spent_more last g (Free next) n spent keeps few = omega (arith, few)
+  spent_more last g (Held v) n spent keeps few = omega (arith, few)
+  spent_more last g Retired n spent keeps few = omega (arith, few, keeps)
+
+  spent_of_retired : (last : ℕ) (ss : List (Slot T)) → ((i : ℕ) (s : Slot T) → slice_get ss i ≡ Some s → KeepsLast last s.generation s.state) → count is_retired ss * (last + 1) ≤ all_spent ss
+  spent_of_retired last [] keeps = omega arith
+  spent_of_retired last (s ∷ ss) keeps = spent_more last s.generation s.state (count is_retired ss) (all_spent ss) (keeps 0 s refl) (spent_of_retired last ss (λ i t e. keeps (suc i) t e))
+
+  -- each retired cell has spent an id in each of its generations
+  pub len-worn : (last : ℕ) (ss : List (Slot T)) → ((i : ℕ) (s : Slot T) → slice_get ss i ≡ Some s → KeepsLast last s.generation s.state) → count is_retired ss * (last + 1) ≤ set.len (spent_in ss)
+  unfolding spent_in
+  len-worn last ss keeps = omega (arith, spent_of_retired last ss keeps, len_spent 0 ss)
 
   pub held-empty : held_in {T = T} [] ≡ map.empty
   unfolding held_in

@@ -1,6 +1,6 @@
-ghost use Rattle.std.specs.Prelude.{◌≡◌, ℕ, ◌+◌, ◌-◌, ◌^◌, ◌<◌, ◌≤◌, ◌↔◌, cond, nat_lt, ◌&&◌};
+ghost use Rattle.std.specs.Prelude.{◌≡◌, ℕ, ◌+◌, ◌-◌, ◌*◌, ◌^◌, ◌<◌, ◌≤◌, ◌↔◌, cond, nat_lt};
 ghost use Rattle.std.specs.Prelude.{is_some, option_copied, IsTrue, IsOk, OnOk, Err, None, Some};
-ghost use Rattle.std.specs.Prelude.{true, false};
+ghost use Rattle.std.specs.Prelude.{◌&&◌, true, false};
 ghost use Rattle.std.specs.Option.{option_copied_mut};
 ghost use Rattle.std.specs.Borrow.{sem};
 ghost use Rattle.std.specs.FinMap as map;
@@ -81,10 +81,12 @@ impl<T, const LAST: u32> Arena<T, LAST> {
         (self.slots.capacity() - (self.held + self.retired)) as u32
     }
 
-    /// How many cells are retired: the number of spent ids of generation `LAST`. It takes no memory.
+    /// How many cells are retired: the number of spent ids of generation `LAST`. Each of them has spent an id in each of its
+    /// generations. It takes no memory.
     pub fn retired(&self) -> u32
         ensures value { result ≡ cells_retired LAST self.now }
         ensures limit { result ≤ 2 ^ 20 }
+        ensures worn { result * (LAST + 1) ≤ set.len self.now.spent }
     {
         self.retired as u32
     }
