@@ -4,6 +4,7 @@ ghost use Rattle.std.specs.FinSet as set;
 ghost use Rattle.std.specs.List.{All};
 ghost use Rattle.std.specs.Slice.Iter.{iter_rest};
 ghost use Rattle.dots.specs.DotSets.{IsRunsOf, IsPrefix, dots_between, run_count};
+ghost use Rattle.dots.specs.WithinLimits.{AreDots};
 ghost use Rattle.causal_context.specs.Contexts.{IsPrepared, IsRun};
 
 use crate::cover::covers_runs;
@@ -73,10 +74,11 @@ impl Context {
         }
     }
 
-    /// How many runs the dots make.
+    /// How many runs the dots make. Each dot is within the limits of sites and counts.
     pub fn runs(&self) -> usize
         ensures value { result ≡ run_count self.now.dots }
         ensures limit { result ≤ MOST_RUNS }
+        ensures dots { AreDots self.now.dots }
     {
         self.runs.len()
     }

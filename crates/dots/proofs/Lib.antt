@@ -3,6 +3,8 @@ pub mod Apart
 pub mod ConditionLaws
 pub mod ConditionOrder
 pub mod CountLaws
+pub mod Counting
+pub mod DotCounts
 pub mod DotOrder
 pub mod FieldLaws
 pub mod Filters

@@ -1,7 +1,39 @@
-use Rattle.std.proofs.Common.{◌≡◌, length, vec_len, rules, ap, sym, ◌∙◌}
+use Rattle.std.proofs.Common.{◌≡◌, ◌≤◌, true, length, List, vec_len, rules, ap, sym, subst, ◌∙◌, arith}
+use Rattle.std.specs.FinSet as sets
+use Rattle.std.specs.List.{All}
+use Rattle.std.proofs.lemmas.Bool.Decides.{nat_tests}
+use Rattle.std.proofs.lemmas.List.Elements.{All-contains}
+use Rattle.dots.specs.DotSets.{Run, in_run, set_of}
+use Rattle.dots.specs.Orders.{dot_cmp}
+use Rattle.dots.specs.Values.{Dot, IsSite}
+use Rattle.dots.specs.WithinLimits.{AreDots, IsDot}
+use Rattle.dots.proofs.Membership.{in-any}
 use Rattle.dots.proofs.RunCounts.{run_count-runs}
+use Rattle.dots.proofs.Runs.{contains-set_of}
+use Rattle.causal_context.specs.Contexts.{IsRun}
 use Rattle.causal_context.proofs.Views.{is_runs}
 use Rattle.causal_context.proofs.context.Context.runs.Goals as goal
+
+-- a dot of a run that is within the limits is
+of_run : (q : Dot) (r : Run) → IsRun r → in_run q r ≡ true → IsDot q
+of_run q r limits h = record {
+  site = subst IsSite (same_site q r h) limits.site;
+  count = let first = limits.least in let last = limits.most in let from = least q r h in let to = most q r h in (omega (arith, first, from), omega (arith, last, to));
+}
+  where
+    same_site : (q : Dot) (r : Run) → in_run q r ≡ true → r.site ≡ q.site
+    same_site q r h = grind (arith, nat_tests)
+
+    least : (q : Dot) (r : Run) → in_run q r ≡ true → r.first ≤ q.count
+    least q r h = grind (arith, nat_tests)
+
+    most : (q : Dot) (r : Run) → in_run q r ≡ true → q.count ≤ r.last
+    most q r h = grind (arith, nat_tests)
+
+-- and so is each dot of such runs
+are_dots : (rs : List Run) (dots : sets.FinSet dot_cmp) → set_of rs ≡ dots → All IsRun rs → AreDots dots
+are_dots rs dots is limits q h =
+    let found = in-any (in_run q) rs (sym (contains-set_of rs q) ∙ ap (λ s. sets.contains s q) is ∙ h) in of_run q found.0 (All-contains IsRun rs found.0 limits found.1) found.2
 
 pub returns-clause-value : goal.returns-clause-value
 returns-clause-value c =
@@ -10,3 +42,6 @@ returns-clause-value c =
     let e = sym (run_count-runs rs dots (is_runs rs dots (ap (λ k. k.dots) c.self.view_is) c.self.invariant.apart)) in
     let len : vec_len c.self.inside.runs ≡ length rs = search rules in
     c.len.ensures ∙ len ∙ e
+
+pub returns-clause-dots : goal.returns-clause-dots
+returns-clause-dots c = are_dots c.self.inside.runs.items c.args.self.now.dots (ap (λ k. k.dots) c.self.view_is) c.self.invariant.limits
