@@ -1,5 +1,5 @@
 -- What a set says once another was absorbed, and what it keeps.
-use Rattle.std.proofs.Common.{◌≡◌, ◌≤◌, Bool, true, false, not, ◌&&◌, ◌||◌, List, get_or, Option, Some, None, is_some, refl, sym, ap, subst, ◌∙◌, inl, inr, ◌⊎◌}
+use Rattle.std.proofs.Common.{◌≡◌, ◌≤◌, Bool, true, false, not, ◌&&◌, ◌||◌, List, get_or, Option, Some, None, is_some, refl, sym, ap, subst, ◌∙◌, true≢false, inl, inr, ◌⊎◌}
 use Rattle.std.specs.Prelude.{if◌then◌else◌}
 use Rattle.std.specs.FinMap as map
 use Rattle.std.specs.FinSet as set
@@ -13,12 +13,13 @@ use Rattle.dots.specs.Conditions.{ConditionsAgree}
 use Rattle.dots.proofs.DotOrder.{dots_total}
 use Rattle.dots.proofs.KeySets.{len_of_keys}
 use Rattle.op_arena.specs.Ids.{Id}
-use Rattle.member_orset.specs.CellIds.{IdsFollow}
+use Rattle.member_orset.specs.CellIds.{AreOfTheDead, IdsFollow}
 use Rattle.member_orset.specs.Joining.{AgreeWith, IsJoinedWith, IsThinned, dead_in_runs, holding_joined, holding_with}
 use Rattle.member_orset.specs.LiveLists.{HoldingsAgree}
 use Rattle.member_orset.specs.LiveStates.{LiveState}
 use Rattle.member_orset.specs.Members.{AreKept, CanBeJoined, HasField, Holding, Members, both_joined, cells_joined, condition_at, joined_dots}
 use Rattle.member_orset.proofs.Agreeing.{agree_back}
+use Rattle.member_orset.proofs.Deaths.{still-dead}
 use Rattle.member_orset.proofs.FieldReadings.{joined_field}
 use Rattle.member_orset.proofs.IdSteps.{follow_grown}
 use Rattle.member_orset.proofs.JoinedSets.{contains-joined}
@@ -104,3 +105,17 @@ module _ (s t : Members) (heard : (q : Dot) (h : Holding) → map.get s.live q �
               join.live q ∙ (λ j. holding_with (left j) (set.contains s.known q) (there j))
           | inr n ↦ absurd (let e = sym none ∙ thin.ids q ∙ ap (λ b. if b then None else map.get old.ids q) n ∙ had in cc e)
         ]
+
+    -- and at most as many ids are spent as dots are dead
+    pub dead_after : ((q : Dot) → map.contains_key old.ids q ≡ map.contains_key old.live q) → ((q : Dot) → map.contains_key after.ids q ≡ map.contains_key after.live q)
+        → AreOfTheDead s.known (map.contains_key old.live) old.spent → AreOfTheDead (set.union s.known t.known) (map.contains_key after.live) after.spent
+    dead_after named named_after few =
+        still-dead s.known (set.union s.known t.known) (map.contains_key old.live) (map.contains_key after.live) old.ids after.ids old.spent after.spent (follow_after named_after) named named_after
+        (λ q h. known_live q (map.get old.live q) refl h)
+        (λ q h. set.contains-union dots_total s.known t.known q ∙ ap (λ b. b || set.contains t.known q) h)
+        (λ q h n. let none = ap (λ m. map.get m q) (sym old_is) ∙ none_of (map.get old.live q) n in
+        ap is_some (live_after q ∙ (λ i. holding_joined (none i) (h i) (map.get t.live q) (set.contains t.known q)))) few
+      where
+        known_live : (q : Dot) (o : Option Holding) → map.get old.live q ≡ o → is_some (map.get old.live q) ≡ true → set.contains s.known q ≡ true
+        known_live q None e h = absurd (true≢false (sym h ∙ ap is_some e))
+        known_live q (Some x) e h = heard q x (ap (λ m. map.get m q) (sym old_is) ∙ e)

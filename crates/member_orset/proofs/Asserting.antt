@@ -21,7 +21,7 @@ use Rattle.dots.proofs.OneMoreDot.{insert_known}
 use Rattle.member_orset.specs.declared.join_fault.JoinFault.{JoinFault}
 use Rattle.member_orset.specs.declared.join_fault.JoinFault.TheVariants.{Conflict}
 use Rattle.member_orset.specs.Refusals.{IsRefusedAssert}
-use Rattle.member_orset.specs.Members.{AreKept, ConditionsConflict, HasField, HasPlaces, HasPlacesFor, Holding, LacksPlacesFor, Members, cells_with, condition_at, condition_of}
+use Rattle.member_orset.specs.Members.{AreKept, ConditionsConflict, HasField, Holding, Members, cells_with, condition_at, condition_of}
 use Rattle.member_orset.specs.LiveLists.{HoldingsAgree, HoldingsConflict}
 use Rattle.member_orset.specs.LiveStates.{fields_met, met_with}
 use Rattle.member_orset.proofs.Agreeing.{conditions_apart, conflict_at}
@@ -37,6 +37,10 @@ pub on_ok_both : {E : Type 0} (r : Result (Unit {0}) E) (P Q R : Type 0) → (P 
 on_ok_both (Ok u) P Q R f p q = f p q
 on_ok_both (Err e) P Q R f p q = tt
 
+pub on_err : {E : Type 0} (r : Result (Unit {0}) E) (P Q : Type 0) → (P → Q) → OnErr r P → OnErr r Q
+on_err (Ok u) P Q f p = tt
+on_err (Err e) P Q f p = f p
+
 pub on_err_both : {E : Type 0} (r : Result (Unit {0}) E) (P Q R : Type 0) → (P → Q → R) → OnErr r P → OnErr r Q → OnErr r R
 on_err_both (Ok u) P Q R f p q = tt
 on_err_both (Err e) P Q R f p q = f p q
@@ -47,13 +51,6 @@ known_already known d h = sym (insert_known known d h)
 
 pub no_more_runs : (known : set.FinSet dot_cmp) (d : Dot) → set.contains known d ≡ true → run_count known ≤ MOST_RUNS → MOST_RUNS < run_count (set.insert known d) → ⊥
 no_more_runs known d h few more = let same = ap run_count (insert_known known d h) in omega arith
-
--- there are places or there are not
-pub places_clash : (used after other : ℕ) → HasPlacesFor used after other → LacksPlacesFor used after other → ⊥
-places_clash used after other h l = elim l [
-  | inl m ↦ let few = h.few in omega arith
-  | inr m ↦ let places = h.places in omega arith
-]
 
 -- ---- what is kept
 
@@ -206,17 +203,20 @@ refused_conflict s d m f conflict heard runs =
     known (Some h) e = heard h e
 
 -- for none, of a known dot
-pub refused_none : (s : Members) (d : Dot) (m : Member) (f : DotFields) → HoldingsAgree (map.get s.live d) (m, f) → set.contains s.known d ≡ true → HasPlaces s (cells_with s d) 1 → run_count s.known ≤ MOST_RUNS
+pub refused_none : (s : Members) (d : Dot) (m : Member) (f : DotFields) → HoldingsAgree (map.get s.live d) (m, f) → set.contains s.known d ≡ true → cells_with s d ≤ MOST_LIVE → run_count s.known ≤ MOST_RUNS
     → IsRefusedAssert s d m f (λ fault. ◌≡◌ {A = Answer} (Ok tt) (Err fault))
-refused_none s d m f agree there places runs =
+refused_none s d m f agree there few runs =
     let agreed : ConditionsAgree (condition_of s d) (Some (Live m f)) = agreed_at (map.get s.live d) (set.contains s.known d) agree in
     record {
       agree = λ _. agreed;
       conflict = (λ e. absurd (cc e), λ h. absurd (conditions_apart (condition_of s d) (Some (Live m f)) agreed h));
-      cells_full = (λ e. absurd (cc e), λ h. absurd (places_clash (s.retired + map.len s.live) (cells_with s d) 1 places h.1));
+      cells_full = (λ e. absurd (cc e), λ h. absurd (no_more (cells_with s d) few h.1));
       runs_full = (λ e. absurd (cc e), λ h. absurd (no_more_runs s.known d there runs h.1));
     }
   where
+    no_more : (n : ℕ) → n ≤ MOST_LIVE → MOST_LIVE < n → ⊥
+    no_more n few many = omega (arith, few, many)
+
     agreed_at : (o : Option Holding) (b : Bool) → HoldingsAgree o (m, f) → ConditionsAgree (condition_at o b) (Some (Live m f))
     agreed_at None true a = tt
     agreed_at None false a = tt

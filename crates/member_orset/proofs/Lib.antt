@@ -43,4 +43,6 @@ pub mod MemberDots
 pub mod ShownFields
 pub mod Presence
 pub mod DeadDots
+pub mod Deaths
+pub mod KeptSets
 pub mod Shows

@@ -1,5 +1,5 @@
 -- The ids that live dots have: which are there after a change, and which are spent for good.
-use Rattle.std.specs.Prelude.{ℕ, ◌≡◌, ◌≢◌, ◌<◌, ◌⊎◌, true, false, nat_eq, Some, None}
+use Rattle.std.specs.Prelude.{ℕ, ◌≡◌, ◌≢◌, ◌<◌, ◌≤◌, ◌⊎◌, Bool, true, false, not, nat_eq, Some, None}
 use Rattle.std.specs.FinMap as map
 use Rattle.std.specs.FinSet as set
 use Rattle.dots.specs.Values.{Dot}
@@ -17,6 +17,14 @@ IdSet = set.FinSet id_cmp
 -- how many places aren't used again: that many ids of the last generation are spent
 abbrev pub retired_of : ℕ → IdSet → ℕ
 retired_of last spent = set.len (set.retain spent (λ id. nat_eq id.generation last))
+
+-- the dots that are known and not live
+unfoldable pub dead_among : set.FinSet dot_cmp → (Dot → Bool) → set.FinSet dot_cmp
+dead_among known live = set.retain known (λ dot. not (live dot))
+
+-- there are at most as many spent ids as dead dots
+abbrev pub AreOfTheDead : set.FinSet dot_cmp → (Dot → Bool) → IdSet → Type 0
+AreOfTheDead known live spent = set.len spent ≤ set.len (dead_among known live)
 
 -- no two dots have one id, and none that is spent
 pub record AreApart (ids : IdMap) (spent : IdSet) : Type 0 where

@@ -1,5 +1,5 @@
 -- What contracts see of live dots: the member and the fields of each, its id, the ids that are spent, and room.
-use Rattle.std.specs.Prelude.{ℕ, ◌≡◌, ◌≤◌, ◌+◌, Option, Some, None, refl}
+use Rattle.std.specs.Prelude.{ℕ, ◌≡◌, ◌≤◌, ◌+◌, ◌*◌, Option, Some, None, refl}
 use Rattle.std.specs.FinMap as map
 use Rattle.std.specs.FinSet as set
 use Rattle.std.specs.Coded.{Coded, code_by, coded×, coded_ℕ}
@@ -28,12 +28,13 @@ live_code =
     (λ s. (s.live, (s.ids, (s.spent, s.room))))
     (λ p. record { live = p.0; ids = p.1.0; spent = p.1.1.0; room = p.1.1.1 }) (λ _. refl)
 
--- what holds of live dots, whatever was done: each has an id, which is its own and not spent, and with the places that aren't
--- used again they are few enough
+-- what holds of live dots, whatever was done: each has an id, which is its own and not spent; with the places that aren't used
+-- again they are few enough; and each of those places has spent an id in each of its generations
 pub record AreLive (last : ℕ) (s : LiveState) : Type 0 where
   pub named : (dot : Dot) → map.contains_key s.ids dot ≡ map.contains_key s.live dot
   pub apart : AreApart s.ids s.spent
   pub places : retired_of last s.spent + map.len s.live ≤ most_places
+  pub worn : retired_of last s.spent * (last + 1) ≤ set.len s.spent
 
 -- spent ids with that of a dot, where it has one
 abbrev pub spent_with : Option Id → IdSet → IdSet

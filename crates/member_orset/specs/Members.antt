@@ -1,6 +1,6 @@
 -- What contracts see of a set of members: the dots that it knows, the live ones with member and fields, and, aside of
 -- what it means, how much room it has.
-use Rattle.std.specs.Prelude.{ℕ, ◌≡◌, ◌≢◌, ◌≤◌, ◌<◌, ◌+◌, ◌⊎◌, Bool, true, false, Option, Some, None, Result, Ok, Err, refl, if◌then◌else◌}
+use Rattle.std.specs.Prelude.{ℕ, ◌≡◌, ◌≢◌, ◌≤◌, ◌+◌, ◌⊎◌, Bool, true, false, Option, Some, None, Result, Ok, Err, refl, if◌then◌else◌}
 use Rattle.std.specs.Option.{option_map, option_and_then}
 use Rattle.std.specs.FinMap as map
 use Rattle.std.specs.FinSet as set
@@ -14,10 +14,11 @@ use Rattle.dots.specs.DotSets.{dot_code, run_count}
 use Rattle.dots.specs.Conditions.{DotFields, Condition, Live, Dead, ConditionsAgree, FieldsInConflict, condition_joined, no_fields}
 use Rattle.dots.specs.Rows.{DotView}
 use Rattle.dots.specs.Codes.{member_code, fields_code}
+use Rattle.dots.specs.WithinLimits.{AreDots}
 use Rattle.op_arena.specs.Ids.{Id, id_code}
 use Rattle.member_orset.specs.declared.join_fault.JoinFault.{JoinFault}
 use Rattle.member_orset.specs.declared.places.TheConstants.{LAST_GENERATION}
-use Rattle.member_orset.specs.CellIds.{AreApart, IdMap, IdSet, IdsFollow, retired_of}
+use Rattle.member_orset.specs.CellIds.{AreApart, AreOfTheDead, IdMap, IdSet, IdsFollow, retired_of}
 
 -- the member and the fields of a live dot
 abbrev pub Holding : Type 0
@@ -85,6 +86,11 @@ pub record AreKept (known : set.FinSet dot_cmp) (live : map.FinMap dot_cmp Holdi
   pub heard : (dot : Dot) (h : Holding) → map.get live dot ≡ Some h → set.contains known dot ≡ true
   pub set : (dot : Dot) (h : Holding) → map.get live dot ≡ Some h → HasField h.1
 
+-- what a set keeps, with its spent ids: they are at most as many as the dead dots
+pub record IsSet (known : set.FinSet dot_cmp) (live : map.FinMap dot_cmp Holding) (spent : IdSet) : Type 0 where
+  pub kept : AreKept known live
+  pub dead : AreOfTheDead known (map.contains_key live) spent
+
 -- the live dot that has an id, with its member and fields
 pub record HasId (s : Members) (id : Id) (h : Holding) : Type 0 where
   pub dot : Dot
@@ -95,12 +101,17 @@ pub record HasId (s : Members) (id : Id) (h : Holding) : Type 0 where
 abbrev pub most_places : ℕ
 most_places = 1048576
 
--- what holds of every set: few enough live dots, places and runs; each live dot is known, has a field, and alone has an id,
--- which isn't spent; and the places that aren't used again are those of the spent ids of the last generation
+-- the greatest number of places that aren't used again: each had 2 ^ 32 dots, and there are 2 ^ 46 dots
+abbrev pub most_retired : ℕ
+most_retired = 16384
+
+-- what holds of every set: few enough live dots, runs, and places that aren't used again, which are those of the spent ids of
+-- the last generation; each dot is within the limits; and each live dot is known, has a field, and alone has an id, which isn't spent
 pub record IsWithinLimits (s : Members) : Type 0 where
   pub cells : map.len s.live ≤ MOST_LIVE
-  pub places : s.retired + map.len s.live ≤ most_places
+  pub rested : s.retired ≤ most_retired
   pub runs : run_count s.known ≤ MOST_RUNS
+  pub known : AreDots s.known
   pub held : (dot : Dot) (h : Holding) → map.get s.live dot ≡ Some h → IsLiveIn s dot h
   pub named : (dot : Dot) → map.contains_key s.ids dot ≡ map.contains_key s.live dot
   pub apart : AreApart s.ids s.spent
@@ -140,25 +151,6 @@ live_with live known = if known then live else live + 1
 -- how many live dots there are once a dot is live that may be known already
 abbrev pub cells_with : Members → Dot → ℕ
 cells_with s dot = live_with (map.len s.live) (set.contains s.known dot)
-
--- a side with so many places in use, or not to be used again, can take what leaves so many live dots, of which the other
--- side has so many
-pub record HasPlacesFor (used after other : ℕ) : Type 0 where
-  pub few : after ≤ MOST_LIVE
-  pub places : used + other ≤ most_places
-
--- or it can't
-abbrev pub LacksPlacesFor : ℕ → ℕ → ℕ → Type 0
-LacksPlacesFor used after other = (MOST_LIVE < after) ⊎ (most_places < used + other)
-
--- a set can take what leaves so many live dots, of which the other side has so many: they are few enough, and so are
--- the places that aren't used again with the live dots of both sides
-abbrev pub HasPlaces : Members → ℕ → ℕ → Type 0
-HasPlaces s after other = HasPlacesFor (s.retired + map.len s.live) after other
-
--- or it can't
-abbrev pub LacksPlaces : Members → ℕ → ℕ → Type 0
-LacksPlaces s after other = LacksPlacesFor (s.retired + map.len s.live) after other
 
 -- a dot whose conditions in two sets are in conflict
 pub record Conflicts (s t : Members) : Type 0 where
@@ -205,7 +197,7 @@ runs_joined s t = run_count (set.union s.known t.known)
 -- for the live dots and the runs of both
 pub record IsPrepared (s t : Members) : Type 0 where
   pub agree : CanBeJoined s t
-  pub places : HasPlaces s (cells_joined s t) (map.len t.live)
+  pub cells : cells_joined s t ≤ MOST_LIVE
   pub runs : runs_joined s t ≤ MOST_RUNS
   pub cell_room : map.len s.live + map.len t.live ≤ s.cell_room
   pub run_room : run_count s.known + run_count t.known ≤ s.run_room

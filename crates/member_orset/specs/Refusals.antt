@@ -1,9 +1,8 @@
 -- For which causes a set refuses a change. Each record takes what it means that a call was refused for a cause, and says
 -- exactly when it was; where several causes stand, the first in the order of `JoinFault` is told.
-use Rattle.std.specs.Prelude.{◌<◌, ◌↔◌, Option, Some}
-use Rattle.std.specs.FinMap as map
+use Rattle.std.specs.Prelude.{◌<◌, ◌≤◌, ◌↔◌, Option, Some}
 use Rattle.std.specs.FinSet as set
-use Rattle.dots.specs.declared.limits.TheConstants.{MOST_RUNS}
+use Rattle.dots.specs.declared.limits.TheConstants.{MOST_LIVE, MOST_RUNS}
 use Rattle.dots.specs.declared.member.Member.{Member}
 use Rattle.dots.specs.Values.{Dot}
 use Rattle.dots.specs.DotSets.{run_count}
@@ -11,7 +10,7 @@ use Rattle.dots.specs.Conditions.{DotFields, Condition, Live, ConditionsAgree}
 use Rattle.member_orset.specs.declared.join_fault.JoinFault.{JoinFault}
 use Rattle.member_orset.specs.declared.join_fault.JoinFault.TheVariants.{Conflict, CellsFull, RunsFull}
 use Rattle.member_orset.specs.Members.{Members, CanBeJoined, Conflicts, ConditionsConflict}
-use Rattle.member_orset.specs.Members.{HasPlaces, LacksPlaces, cells_joined, cells_with, condition_of, runs_joined}
+use Rattle.member_orset.specs.Members.{cells_joined, cells_with, condition_of, runs_joined}
 
 -- the kill of a dot is refused for too many runs alone
 pub record IsRefusedKill (s : Members) (dot : Dot) (IsRefused : JoinFault → Type 0) : Type 0 where
@@ -32,16 +31,16 @@ pub record IsRefusedAssert (s : Members) (dot : Dot) (member : Member) (fields :
       ↔ ConditionsConflict (condition_of s dot) (live_condition member fields)
   pub cells_full : IsRefused CellsFull
       ↔ (ConditionsAgree (condition_of s dot) (live_condition member fields)
-      × LacksPlaces s (cells_with s dot) 1)
+      × (MOST_LIVE < cells_with s dot))
   pub runs_full : IsRefused RunsFull
-      ↔ (HasPlaces s (cells_with s dot) 1 × (MOST_RUNS < run_count (set.insert s.known dot)))
+      ↔ ((cells_with s dot ≤ MOST_LIVE) × (MOST_RUNS < run_count (set.insert s.known dot)))
 
 -- the join with another set is refused for these causes
 pub record IsRefusedJoin (s t : Members) (IsRefused : JoinFault → Type 0) : Type 0 where
   pub conflict : IsRefused Conflict ↔ Conflicts s t
   pub cells_full : IsRefused CellsFull
-      ↔ (CanBeJoined s t × LacksPlaces s (cells_joined s t) (map.len t.live))
+      ↔ (CanBeJoined s t × (MOST_LIVE < cells_joined s t))
   pub runs_full : IsRefused RunsFull
       ↔ (CanBeJoined s t
-      × HasPlaces s (cells_joined s t) (map.len t.live)
+      × (cells_joined s t ≤ MOST_LIVE)
       × (MOST_RUNS < runs_joined s t))

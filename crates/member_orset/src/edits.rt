@@ -7,12 +7,12 @@ ghost use Rattle.dots.specs.DotSets.{run_count};
 ghost use Rattle.dots.specs.Conditions.{FieldsAgree};
 ghost use Rattle.member_orset.specs.CellIds.{IdsFollow, retired_of};
 ghost use Rattle.member_orset.specs.LiveStates.{AreLive, fields_met};
-ghost use Rattle.member_orset.specs.Members.{HasPlacesFor, LacksPlacesFor, live_with, most_places};
+ghost use Rattle.member_orset.specs.Members.{live_with, most_places};
 
 use crate::JoinFault;
 use crate::live_cells::LiveCells;
 use crate::live_dot::LiveDot;
-use crate::places::{LAST_GENERATION, MOST_PLACES};
+use crate::places::LAST_GENERATION;
 use causal_context::{Context, ContextFault};
 use dots::{Dot, MOST_LIVE, MOST_RUNS};
 use lww_registers::Fields;
@@ -49,19 +49,14 @@ fn fault_without_room(context: &Context, dot: Dot) -> JoinFault
     JoinFault::Memory
 }
 
-// Whether there are few enough live dots and places once a dot is live that may be known already.
+// Whether there are few enough live dots once a dot is live that may be known already.
 pub(crate) fn has_place(context: &Context, cells: &LiveCells<LAST_GENERATION>, dot: Dot) -> bool
     ensures there { IsTrue result
-        ↔ HasPlacesFor (retired_of LAST_GENERATION cells.now.spent + map.len cells.now.live)
-        (live_with (map.len cells.now.live) (set.contains context.now.dots dot)) 1 }
+        ↔ (live_with (map.len cells.now.live) (set.contains context.now.dots dot) ≤ MOST_LIVE) }
     ensures missing { IsFalse result
-        ↔ LacksPlacesFor (retired_of LAST_GENERATION cells.now.spent + map.len cells.now.live)
-        (live_with (map.len cells.now.live) (set.contains context.now.dots dot)) 1 }
+        ↔ (MOST_LIVE < live_with (map.len cells.now.live) (set.contains context.now.dots dot)) }
 {
     let live = cells.len();
-    if cells.retired() as usize + live >= MOST_PLACES {
-        return false;
-    }
     live < MOST_LIVE || live == MOST_LIVE && context.contains(dot)
 }
 
@@ -102,7 +97,7 @@ pub(crate) fn bring(
     ensures err_known { OnErr result (context.new.dots ≡ context.old.dots) }
     ensures err_live { OnErr result (cells.new.live ≡ cells.old.live) }
     ensures err_ids { OnErr result (cells.new.ids ≡ cells.old.ids) }
-    ensures err_spent { OnErr result (cells.new.spent ≡ cells.old.spent) }
+    ensures spent { cells.new.spent ≡ cells.old.spent }
 {
     let _ = cells.len(); // so that it is known what holds of them
     if cells.reserve(1).is_err() {

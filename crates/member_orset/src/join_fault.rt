@@ -6,8 +6,7 @@ pub enum JoinFault {
     /// A dot is live on both sides with two members, or with a field of one stamp and two values.
     #[error("conflict")]
     Conflict,
-    /// There would be more than 16,384 live dots, or the places of dead dots that aren't used again and the live dots
-    /// of both sides would be more than 1,048,576.
+    /// There would be more than 16,384 live dots.
     #[error("too many live dots")]
     CellsFull,
     /// There would be more than 65,536 runs of known dots.

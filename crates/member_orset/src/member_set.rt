@@ -8,10 +8,10 @@ ghost use Rattle.dots.specs.DotSets.{run_count};
 ghost use Rattle.dots.specs.Rows.{dots_of, row_of, rows_of};
 ghost use Rattle.dots.specs.Conditions.{Live, Dead};
 ghost use Rattle.member_orset.specs.CellIds.{retired_of};
-ghost use Rattle.member_orset.specs.Members.{AreKept, CanBeJoined, Conflicts, HasField, HasId};
-ghost use Rattle.member_orset.specs.Members.{HasPlaces, IsJoinOf, IsPrepared, IsPresent};
+ghost use Rattle.member_orset.specs.Members.{CanBeJoined, Conflicts, HasField, HasId};
+ghost use Rattle.member_orset.specs.Members.{IsJoinOf, IsPrepared, IsPresent, IsSet};
 ghost use Rattle.member_orset.specs.Members.{IsRefusedFor, IsUnchanged, IsWithinLimits, KeepsIds};
-ghost use Rattle.member_orset.specs.Members.{LacksPlaces, SaysTheSame, cells_joined};
+ghost use Rattle.member_orset.specs.Members.{SaysTheSame, cells_joined, most_retired};
 ghost use Rattle.member_orset.specs.Members.{condition_of, dot_view_of, joined_at};
 ghost use Rattle.member_orset.specs.LiveDots.{dead_dots_of, live_dots_without};
 ghost use Rattle.member_orset.specs.Refusals.{IsRefusedAssert, IsRefusedJoin, IsRefusedKill};
@@ -25,7 +25,7 @@ use crate::joining::{count_kept, count_unknown, drop_dead, make_room, take_all};
 use crate::live_cells::LiveCells;
 use crate::live_dot::LiveDot;
 use crate::placed_lists::count_outside;
-use crate::places::{LAST_GENERATION, MOST_PLACES};
+use crate::places::LAST_GENERATION;
 use crate::sameness::{are_same_cells, is_same_context};
 use crate::seen::gather;
 use crate::{Cell, Cells, Dots, JoinFault, Row, Rows};
@@ -54,7 +54,7 @@ impl Model for MemberSet {
     ghost coded = { members_code };
 
     ghost use Rattle.member_orset.specs.CellIds.{retired_of};
-    ghost use Rattle.member_orset.specs.Members.{AreKept};
+    ghost use Rattle.member_orset.specs.Members.{IsSet};
     ghost use Rattle.member_orset.specs.declared.places.TheConstants.{LAST_GENERATION};
 
     ghost view = { λ s. record {
@@ -67,7 +67,7 @@ impl Model for MemberSet {
       run_room = s.context.room;
     } };
 
-    ghost invariant = { λ s. AreKept s.context.dots s.cells.live };
+    ghost invariant = { λ s. IsSet s.context.dots s.cells.live s.cells.spent };
 }
 
 impl MemberSet {
@@ -87,7 +87,7 @@ impl MemberSet {
 
     // The set of a context and of live dots.
     pub(crate) fn of(context: Context, cells: LiveCells<LAST_GENERATION>) -> MemberSet
-        requires { AreKept context.dots cells.live }
+        requires { IsSet context.dots cells.live cells.spent }
         ensures known { result.known ≡ context.dots }
         ensures live { result.live ≡ cells.live }
         ensures ids { result.ids ≡ cells.ids }
@@ -185,10 +185,13 @@ impl MemberSet {
         self.cells.at(id)
     }
 
-    /// How many places of dead dots aren't used again.
+    /// How many places of dead dots aren't used again: at most 16,384, since each had 4,294,967,296 dots.
     pub fn retired(&self) -> u32
-        ensures { result ≡ self.now.retired }
+        ensures value { result ≡ self.now.retired }
+        ensures limit { result ≤ most_retired }
     {
+        let _ = self.context.runs(); // so that the limits of the dots are known
+        let _ = self.cells.len(); // so that it is known what holds of them
         self.cells.retired()
     }
 
@@ -206,6 +209,7 @@ impl MemberSet {
         ensures err { OnErr result (IsUnchanged self.old self.new) }
         ensures ids { KeepsIds self.old self.new }
     {
+        let _ = self.cells.len(); // so that it is known what holds of them
         learn(&mut self.context, dot)?;
         self.cells.remove(dot);
         Ok(())
@@ -214,10 +218,9 @@ impl MemberSet {
     /// Joins what it says of a dot with that the dot is live, with this member and these fields, of which one is set: an
     /// unknown dot is live then, a live one has its fields joined with these, and a dead one stays dead. No fault changes
     /// what it says. 1 `Conflict`, exactly where the dot is live with another member, or with another value under the
-    /// stamp of one of these fields; 2 `CellsFull`, exactly where there would be more than 16,384 live dots, or the places
-    /// that aren't used again and the live dots with one more pass 1,048,576; 3 `RunsFull`, exactly where the known dots
-    /// would make more than 65,536 runs; 4 `Memory`, which a known dot never wants, nor an unknown one where there is room
-    /// for one more live dot and one more run.
+    /// stamp of one of these fields; 2 `CellsFull`, exactly where there would be more than 16,384 live dots; 3 `RunsFull`,
+    /// exactly where the known dots would make more than 65,536 runs; 4 `Memory`, which a known dot never wants, nor an
+    /// unknown one where there is room for one more live dot and one more run.
     pub fn assert(&mut self, dot: Dot, member: &Member, fields: &Fields) -> Result<(), JoinFault>
         requires { HasField fields.now }
         ensures known { OnOk result (self.new.known ≡ set.insert self.old.known dot) }
@@ -234,7 +237,8 @@ impl MemberSet {
         ensures err { OnErr result (IsUnchanged self.old self.new) }
         ensures ids { KeepsIds self.old self.new }
     {
-        let _ = self.context.runs(); // so that their limit is known
+        let _ = self.context.runs(); // so that their limits are known
+        let _ = self.cells.len(); // so that it is known what holds of them
         if !agrees_with(&self.cells, dot, member, fields) {
             return Err(JoinFault::Conflict);
         }
@@ -269,9 +273,8 @@ impl MemberSet {
     }
 
     /// Makes room for what another set says, which `absorb` then joins. It leaves what is said as it is. 1 `Conflict`,
-    /// exactly where `agrees` is false; 2 `CellsFull`, exactly where the join has more than 16,384 live dots, or the places
-    /// that aren't used again and the live dots of both sets pass 1,048,576; 3 `RunsFull`, exactly where the known dots of
-    /// both make more than 65,536 runs; 4 `Memory`.
+    /// exactly where `agrees` is false; 2 `CellsFull`, exactly where the join has more than 16,384 live dots; 3 `RunsFull`,
+    /// exactly where the known dots of both make more than 65,536 runs; 4 `Memory`.
     pub fn prepare(&mut self, other: &MemberSet) -> Result<(), JoinFault>
         ensures ready { OnOk result (IsPrepared self.new other.now) }
         ensures refusals { IsRefusedJoin self.old other.now (λ fault. result ≡ Err fault) }
@@ -280,10 +283,12 @@ impl MemberSet {
         ensures cell_room { self.old.cell_room ≤ self.new.cell_room }
         ensures run_room { self.old.run_room ≤ self.new.run_room }
     {
+        let _ = self.context.runs(); // so that their limits are known
+        let _ = self.cells.len(); // so that it is known what holds of them
         if !self.agrees(other) {
             return Err(JoinFault::Conflict);
         }
-        if !self.has_places(other) {
+        if self.joined_cells(other) > MOST_LIVE {
             return Err(JoinFault::CellsFull);
         }
         make_room(
@@ -301,7 +306,7 @@ impl MemberSet {
         if !self.agrees(other) {
             return false;
         }
-        if !self.has_places(other) {
+        if self.joined_cells(other) > MOST_LIVE {
             return false;
         }
         if !self.context.prepared(&other.context) {
@@ -317,6 +322,7 @@ impl MemberSet {
         ensures joined { IsJoinOf self.old other self.new }
         ensures ids { KeepsIds self.old self.new }
     {
+        let _ = self.cells.len(); // so that it is known what holds of them
         let MemberSet { context, cells } = other;
         drop_dead(&mut self.cells, context.as_slice(), &cells);
         take_all(&self.context, &mut self.cells, cells);
@@ -326,8 +332,8 @@ impl MemberSet {
 
     /// Joins what another set says: each dot has the join of its two conditions. A refused set comes back as it was, and
     /// no fault changes what this one says. 1 `Conflict`, exactly where `agrees` is false; 2 `CellsFull`, exactly where
-    /// the join has more than 16,384 live dots, or the places that aren't used again and the live dots of both sets pass
-    /// 1,048,576; 3 `RunsFull`, exactly where the known dots of both make more than 65,536 runs; 4 `Memory`.
+    /// the join has more than 16,384 live dots; 3 `RunsFull`, exactly where the known dots of both make more than 65,536
+    /// runs; 4 `Memory`.
     pub fn join(&mut self, other: MemberSet) -> Result<(), (JoinFault, MemberSet)>
         ensures joined { OnOk result (IsJoinOf self.old other self.new) }
         ensures refusals { IsRefusedJoin self.old other (λ fault. IsRefusedFor result fault) }
@@ -384,17 +390,6 @@ impl MemberSet {
         let _ = other.cells.len();
         let kept = count_kept(self.cells.placed(), other.context.as_slice(), &other.cells);
         kept + count_unknown(&self.context, other.cells.placed())
-    }
-
-    // Whether there are places for the join with another set.
-    fn has_places(&self, other: &MemberSet) -> bool
-        ensures there { IsTrue result
-            ↔ HasPlaces self.now (cells_joined self.now other.now) (map.len other.now.live) }
-        ensures missing { IsFalse result
-            ↔ LacksPlaces self.now (cells_joined self.now other.now) (map.len other.now.live) }
-    {
-        let used = self.cells.retired() as usize + self.cells.len();
-        self.joined_cells(other) <= MOST_LIVE && used + other.cells.len() <= MOST_PLACES
     }
 
     /// Another set that says the same of each dot, with ids of its own, and no place that isn't used again. The one fault is

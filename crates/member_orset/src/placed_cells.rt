@@ -1,5 +1,5 @@
-ghost use Rattle.std.specs.Prelude.{ℕ, ◌≡◌, ◌+◌, ◌<◌, ◌≤◌, ◌↔◌, [], true, false, length, IfErr};
-ghost use Rattle.std.specs.Prelude.{IfOk, IsOk, IsTrue, OnOk, slice_index_or, slice_set};
+ghost use Rattle.std.specs.Prelude.{ℕ, ◌≡◌, ◌+◌, ◌*◌, ◌<◌, ◌≤◌, ◌↔◌, [], true, false, length};
+ghost use Rattle.std.specs.Prelude.{IfErr, IfOk, IsOk, IsTrue, OnOk, slice_index_or, slice_set};
 ghost use Rattle.std.specs.FinMap as map;
 ghost use Rattle.std.specs.FinSet as set;
 ghost use Rattle.std.specs.List.{AllWithin, insert, remove};
@@ -103,8 +103,10 @@ impl<const LAST: u32> PlacedCells<LAST> {
     pub(crate) fn len(&self) -> usize
         ensures value { result ≡ length self.now.dots }
         ensures limit { retired_of LAST self.now.spent + result ≤ most_places }
+        ensures worn { retired_of LAST self.now.spent * (LAST + 1) ≤ set.len self.now.spent }
     {
         let _ = self.cells.spare(); // so that its limit is known
+        let _ = self.cells.retired(); // so that it is known how many ids they spent
         self.dots.len()
     }
 

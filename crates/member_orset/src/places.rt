@@ -2,6 +2,3 @@
 
 // The last generation of a place in memory: after it, the place isn't used again (this project's own).
 pub(crate) const LAST_GENERATION: u32 = 4_294_967_295;
-
-// How many places there are at most: those of live dots, and those that aren't used again.
-pub(crate) const MOST_PLACES: usize = 1_048_576;

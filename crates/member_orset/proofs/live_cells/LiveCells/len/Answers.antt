@@ -18,4 +18,5 @@ returns-clause-limits g c =
       named = named s.dots s.held s.spent c.self.invariant.placed;
       apart = apart s.dots s.held s.spent c.self.invariant.placed;
       places = subst (λ n. retired_of g.row.LAST s.spent + n ≤ most_places) (c.len.ensures.value ∙ sym (len-live s.dots s.held s.spent c.self.invariant.placed)) c.len.ensures.limit;
+      worn = c.len.ensures.worn;
     })

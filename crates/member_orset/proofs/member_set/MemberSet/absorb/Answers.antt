@@ -3,10 +3,10 @@ use Rattle.std.specs.FinMap as map
 use Rattle.std.specs.FinSet as set
 use Rattle.dots.specs.Orders.{dot_cmp}
 use Rattle.dots.specs.DotSets.{IsRunsOf}
-use Rattle.member_orset.specs.CellIds.{IdsFollow}
+use Rattle.member_orset.specs.CellIds.{AreOfTheDead, IdsFollow}
 use Rattle.member_orset.specs.Joining.{AgreeWith, IsJoinedWith, IsThinned, dead_in_runs}
-use Rattle.member_orset.specs.Members.{AreKept, Holding, Members, condition_at}
-use Rattle.member_orset.proofs.Absorbing.{conditions_after, follow_after, held_after, left_agrees}
+use Rattle.member_orset.specs.Members.{Holding, IsSet, Members, condition_at}
+use Rattle.member_orset.proofs.Absorbing.{conditions_after, dead_after, follow_after, held_after, left_agrees}
 use Rattle.member_orset.proofs.member_set.MemberSet.absorb.Goals as goal
 
 pub take_all-requires-clause-agree : goal.take_all-requires-clause-agree
@@ -16,8 +16,8 @@ take_all-requires-clause-agree c =
     let live : c.other.inside.cells.live ≡ t.live = ap (λ (x : Members). x.live) c.other.view_is in
     subst (λ (m : map.FinMap dot_cmp Holding). AgreeWith c.drop_dead.new.cells.live (map.entries m)) (sym live)
     (left_agrees s t
-    (λ q h e. ap (λ (x : Members). set.contains x.known q) (sym c.self.view_is) ∙ c.self.invariant.heard q h (ap (λ (x : Members). map.get x.live q) c.self.view_is ∙ e))
-    (λ q h e. ap (λ (x : Members). set.contains x.known q) (sym c.other.view_is) ∙ c.other.invariant.heard q h (ap (λ (x : Members). map.get x.live q) c.other.view_is ∙ e))
+    (λ q h e. ap (λ (x : Members). set.contains x.known q) (sym c.self.view_is) ∙ c.self.invariant.kept.heard q h (ap (λ (x : Members). map.get x.live q) c.self.view_is ∙ e))
+    (λ q h e. ap (λ (x : Members). set.contains x.known q) (sym c.other.view_is) ∙ c.other.invariant.kept.heard q h (ap (λ (x : Members). map.get x.live q) c.other.view_is ∙ e))
     c.as_slice.result.now (subst (λ (x : Members). IsRunsOf c.as_slice.result.now x.known) c.other.view_is c.as_slice.ensures.value) c.self.inside.cells c.drop_dead.new.cells (ap (λ (x : Members). x.live) c.self.view_is)
     (subst (λ (m : map.FinMap dot_cmp Holding). IsThinned (dead_in_runs c.as_slice.result.now m) c.self.inside.cells c.drop_dead.new.cells) live c.drop_dead.ensures) c.requires.agree)
 
@@ -27,15 +27,26 @@ invariant_of-self c =
     let t = c.args.other in
     let live : c.other.inside.cells.live ≡ t.live = ap (λ (x : Members). x.live) c.other.view_is in
     let known : c.self.inside.context.dots ≡ s.known = ap (λ (x : Members). x.known) c.self.view_is in
-    subst (λ (k : set.FinSet dot_cmp). AreKept k c.take_all.new.cells.live) (sym (c.absorb.ensures.dots ∙ (λ i. set.union (c.self.view_is i).known (c.other.view_is i).known)))
-    (held_after s t
-    (λ q h e. ap (λ (x : Members). set.contains x.known q) (sym c.self.view_is) ∙ c.self.invariant.heard q h (ap (λ (x : Members). map.get x.live q) c.self.view_is ∙ e))
-    (λ q h e. ap (λ (x : Members). set.contains x.known q) (sym c.other.view_is) ∙ c.other.invariant.heard q h (ap (λ (x : Members). map.get x.live q) c.other.view_is ∙ e))
-    c.as_slice.result.now (subst (λ (x : Members). IsRunsOf c.as_slice.result.now x.known) c.other.view_is c.as_slice.ensures.value) c.self.inside.cells c.drop_dead.new.cells (ap (λ (x : Members). x.live) c.self.view_is)
-    (subst (λ (m : map.FinMap dot_cmp Holding). IsThinned (dead_in_runs c.as_slice.result.now m) c.self.inside.cells c.drop_dead.new.cells) live c.drop_dead.ensures) c.take_all.new.cells
-    (subst (λ (m : map.FinMap dot_cmp Holding). IsJoinedWith (set.contains s.known) c.drop_dead.new.cells m c.take_all.new.cells) live
-    (subst (λ (k : set.FinSet dot_cmp). IsJoinedWith (set.contains k) c.drop_dead.new.cells c.other.inside.cells.live c.take_all.new.cells) known c.take_all.ensures))
-    (λ q h e. c.self.invariant.set q h (ap (λ (x : Members). map.get x.live q) c.self.view_is ∙ e)) (λ q h e. c.other.invariant.set q h (ap (λ (x : Members). map.get x.live q) c.other.view_is ∙ e)) c.requires.places.few)
+    let after = c.take_all.new.cells in
+    subst (λ (k : set.FinSet dot_cmp). IsSet k after.live after.spent) (sym (c.absorb.ensures.dots ∙ (λ i. set.union (c.self.view_is i).known (c.other.view_is i).known))) (record {
+      kept = held_after s t
+          (λ q h e. ap (λ (x : Members). set.contains x.known q) (sym c.self.view_is) ∙ c.self.invariant.kept.heard q h (ap (λ (x : Members). map.get x.live q) c.self.view_is ∙ e))
+          (λ q h e. ap (λ (x : Members). set.contains x.known q) (sym c.other.view_is) ∙ c.other.invariant.kept.heard q h (ap (λ (x : Members). map.get x.live q) c.other.view_is ∙ e))
+          c.as_slice.result.now (subst (λ (x : Members). IsRunsOf c.as_slice.result.now x.known) c.other.view_is c.as_slice.ensures.value) c.self.inside.cells c.drop_dead.new.cells (ap (λ (x : Members). x.live) c.self.view_is)
+          (subst (λ (m : map.FinMap dot_cmp Holding). IsThinned (dead_in_runs c.as_slice.result.now m) c.self.inside.cells c.drop_dead.new.cells) live c.drop_dead.ensures) c.take_all.new.cells
+          (subst (λ (m : map.FinMap dot_cmp Holding). IsJoinedWith (set.contains s.known) c.drop_dead.new.cells m c.take_all.new.cells) live
+          (subst (λ (k : set.FinSet dot_cmp). IsJoinedWith (set.contains k) c.drop_dead.new.cells c.other.inside.cells.live c.take_all.new.cells) known c.take_all.ensures))
+          (λ q h e. c.self.invariant.kept.set q h (ap (λ (x : Members). map.get x.live q) c.self.view_is ∙ e)) (λ q h e. c.other.invariant.kept.set q h (ap (λ (x : Members). map.get x.live q) c.other.view_is ∙ e)) c.requires.cells;
+      dead = dead_after s t
+          (λ q h e. ap (λ (x : Members). set.contains x.known q) (sym c.self.view_is) ∙ c.self.invariant.kept.heard q h (ap (λ (x : Members). map.get x.live q) c.self.view_is ∙ e))
+          (λ q h e. ap (λ (x : Members). set.contains x.known q) (sym c.other.view_is) ∙ c.other.invariant.kept.heard q h (ap (λ (x : Members). map.get x.live q) c.other.view_is ∙ e))
+          c.as_slice.result.now (subst (λ (x : Members). IsRunsOf c.as_slice.result.now x.known) c.other.view_is c.as_slice.ensures.value) c.self.inside.cells c.drop_dead.new.cells (ap (λ (x : Members). x.live) c.self.view_is)
+          (subst (λ (m : map.FinMap dot_cmp Holding). IsThinned (dead_in_runs c.as_slice.result.now m) c.self.inside.cells c.drop_dead.new.cells) live c.drop_dead.ensures) c.take_all.new.cells
+          (subst (λ (m : map.FinMap dot_cmp Holding). IsJoinedWith (set.contains s.known) c.drop_dead.new.cells m c.take_all.new.cells) live
+          (subst (λ (k : set.FinSet dot_cmp). IsJoinedWith (set.contains k) c.drop_dead.new.cells c.other.inside.cells.live c.take_all.new.cells) known c.take_all.ensures))
+          c.len.ensures.limits.named c.len-2.ensures.limits.named
+          (subst (λ (k : set.FinSet dot_cmp). AreOfTheDead k (map.contains_key c.self.inside.cells.live) c.self.inside.cells.spent) known c.self.invariant.dead);
+    })
 
 pub returns-clause-joined : goal.returns-clause-joined
 returns-clause-joined c =
@@ -48,8 +59,8 @@ returns-clause-joined c =
       known = dots;
       conditions = λ q. ap (λ k. condition_at (map.get c.take_all.new.cells.live q) (set.contains k q)) dots
           ∙ conditions_after s t
-          (λ q h e. ap (λ (x : Members). set.contains x.known q) (sym c.self.view_is) ∙ c.self.invariant.heard q h (ap (λ (x : Members). map.get x.live q) c.self.view_is ∙ e))
-          (λ q h e. ap (λ (x : Members). set.contains x.known q) (sym c.other.view_is) ∙ c.other.invariant.heard q h (ap (λ (x : Members). map.get x.live q) c.other.view_is ∙ e))
+          (λ q h e. ap (λ (x : Members). set.contains x.known q) (sym c.self.view_is) ∙ c.self.invariant.kept.heard q h (ap (λ (x : Members). map.get x.live q) c.self.view_is ∙ e))
+          (λ q h e. ap (λ (x : Members). set.contains x.known q) (sym c.other.view_is) ∙ c.other.invariant.kept.heard q h (ap (λ (x : Members). map.get x.live q) c.other.view_is ∙ e))
           c.as_slice.result.now (subst (λ (x : Members). IsRunsOf c.as_slice.result.now x.known) c.other.view_is c.as_slice.ensures.value) c.self.inside.cells c.drop_dead.new.cells (ap (λ (x : Members). x.live) c.self.view_is)
           (subst (λ (m : map.FinMap dot_cmp Holding). IsThinned (dead_in_runs c.as_slice.result.now m) c.self.inside.cells c.drop_dead.new.cells) live c.drop_dead.ensures) c.take_all.new.cells
           (subst (λ (m : map.FinMap dot_cmp Holding). IsJoinedWith (set.contains s.known) c.drop_dead.new.cells m c.take_all.new.cells) live
@@ -64,9 +75,9 @@ returns-clause-ids c =
     let known : c.self.inside.context.dots ≡ s.known = ap (λ (x : Members). x.known) c.self.view_is in
     subst (λ (x : Members). IdsFollow x.ids x.spent c.take_all.new.cells.ids c.take_all.new.cells.spent) c.self.view_is
     (follow_after s t
-    (λ q h e. ap (λ (x : Members). set.contains x.known q) (sym c.self.view_is) ∙ c.self.invariant.heard q h (ap (λ (x : Members). map.get x.live q) c.self.view_is ∙ e))
-    (λ q h e. ap (λ (x : Members). set.contains x.known q) (sym c.other.view_is) ∙ c.other.invariant.heard q h (ap (λ (x : Members). map.get x.live q) c.other.view_is ∙ e))
+    (λ q h e. ap (λ (x : Members). set.contains x.known q) (sym c.self.view_is) ∙ c.self.invariant.kept.heard q h (ap (λ (x : Members). map.get x.live q) c.self.view_is ∙ e))
+    (λ q h e. ap (λ (x : Members). set.contains x.known q) (sym c.other.view_is) ∙ c.other.invariant.kept.heard q h (ap (λ (x : Members). map.get x.live q) c.other.view_is ∙ e))
     c.as_slice.result.now (subst (λ (x : Members). IsRunsOf c.as_slice.result.now x.known) c.other.view_is c.as_slice.ensures.value) c.self.inside.cells c.drop_dead.new.cells (ap (λ (x : Members). x.live) c.self.view_is)
     (subst (λ (m : map.FinMap dot_cmp Holding). IsThinned (dead_in_runs c.as_slice.result.now m) c.self.inside.cells c.drop_dead.new.cells) live c.drop_dead.ensures) c.take_all.new.cells
     (subst (λ (m : map.FinMap dot_cmp Holding). IsJoinedWith (set.contains s.known) c.drop_dead.new.cells m c.take_all.new.cells) live
-    (subst (λ (k : set.FinSet dot_cmp). IsJoinedWith (set.contains k) c.drop_dead.new.cells c.other.inside.cells.live c.take_all.new.cells) known c.take_all.ensures)) c.len.ensures.limits.named)
+    (subst (λ (k : set.FinSet dot_cmp). IsJoinedWith (set.contains k) c.drop_dead.new.cells c.other.inside.cells.live c.take_all.new.cells) known c.take_all.ensures)) c.len-2.ensures.limits.named)

@@ -1,16 +1,16 @@
-use Rattle.std.proofs.Common.{◌≤◌, sym, ap, subst, ◌∙◌, arith}
+use Rattle.std.proofs.Common.{◌≤◌, refl, sym, ap, subst, ◌∙◌, arith}
 use Rattle.std.specs.FinMap as map
 use Rattle.std.specs.FinSet as set
 use Rattle.dots.specs.declared.limits.TheConstants.{MOST_LIVE, MOST_RUNS}
 use Rattle.dots.specs.Conditions.{Live}
 use Rattle.dots.specs.DotSets.{run_count}
-use Rattle.dots.specs.Orders.{dot_cmp}
 use Rattle.member_orset.specs.CellIds.{IdsFollow}
 use Rattle.member_orset.specs.LiveLists.{HoldingsAgree, HoldingsConflict}
 use Rattle.member_orset.specs.LiveStates.{fields_met}
-use Rattle.member_orset.specs.Members.{AreKept, HasField, HasPlaces, Holding, Members, cells_with, condition_at, joined_at, live_with}
-use Rattle.member_orset.proofs.Asserting.{brought_conditions, either, held_inserted, held_met, held_more, insert_has, insert_more, known_already, len_one_more, met_conditions, on_err_both, on_ok_both, refused_conflict, refused_none, unknown_not_live}
+use Rattle.member_orset.specs.Members.{HasField, Holding, IsSet, Members, cells_with, condition_at, joined_at, live_with}
+use Rattle.member_orset.proofs.Asserting.{brought_conditions, either, known_already, len_one_more, met_conditions, on_err, on_err_both, on_ok_both, refused_conflict, refused_none, unknown_not_live}
 use Rattle.member_orset.proofs.IdSteps.{follow_same}
+use Rattle.member_orset.proofs.KeptSets.{set-brought, set-met, set-rested, set-same}
 use Rattle.member_orset.proofs.member_set.MemberSet.assert.Goals as goal
 
 pub returns-then-not-agrees_with-clause-refusals : goal.returns-then-not-agrees_with-clause-refusals
@@ -20,11 +20,14 @@ returns-then-not-agrees_with-clause-refusals c =
     let few : run_count c.self.inside.context.dots ≤ MOST_RUNS = omega arith in
     refused_conflict c.args.self.now c.args.dot c.args.member.now c.args.fields.now
     (subst (λ (t : Members). HoldingsConflict (map.get t.live c.args.dot) (c.args.member.now, c.args.fields.now)) c.self.view_is (c.agrees_with.ensures.conflict.0 c.if-not-agrees_with.true))
-    (λ h e. ap (λ (t : Members). set.contains t.known c.args.dot) (sym c.self.view_is) ∙ c.self.invariant.heard c.args.dot h (ap (λ (t : Members). map.get t.live c.args.dot) c.self.view_is ∙ e))
+    (λ h e. ap (λ (t : Members). set.contains t.known c.args.dot) (sym c.self.view_is) ∙ c.self.invariant.kept.heard c.args.dot h (ap (λ (t : Members). map.get t.live c.args.dot) c.self.view_is ∙ e))
     (subst (λ (t : Members). run_count t.known ≤ MOST_RUNS) c.self.view_is few)
 
 pub invariant_of-self : goal.invariant_of-self
-invariant_of-self c = subst (AreKept c.self.inside.context.dots) (sym c.meet.ensures.live) (held_met c.self.inside.context.dots c.self.inside.cells.live c.args.dot c.copy.result c.self.invariant)
+invariant_of-self c =
+    let s = c.self.inside in
+    set-same s.context.dots s.context.dots (fields_met s.cells.live c.args.dot c.copy.result) c.meet.new.cells.live s.cells.spent c.meet.new.cells.spent refl c.meet.ensures.live c.meet.ensures.spent
+    (set-met s.context.dots s.cells.live s.cells.spent c.args.dot c.copy.result c.self.invariant)
 
 pub returns-then-contains-clause-known : goal.returns-then-contains-clause-known
 returns-then-contains-clause-known c =
@@ -45,8 +48,14 @@ returns-then-contains-clause-refusals c =
     refused_none c.args.self.now c.args.dot c.args.member.now c.args.fields.now
     (subst (λ (t : Members). HoldingsAgree (map.get t.live c.args.dot) (c.args.member.now, c.args.fields.now)) c.self.view_is (c.agrees_with.ensures.agree.0 c.if-not-agrees_with.false))
     (ap (λ (t : Members). set.contains t.known c.args.dot) (sym c.self.view_is) ∙ sym c.contains.ensures ∙ c.if-contains.true)
-    (subst (λ (t : Members). HasPlaces t (cells_with t c.args.dot) 1) c.self.view_is (c.has_place.ensures.there.0 c.if-not-has_place.false))
+    (subst (λ (t : Members). cells_with t c.args.dot ≤ MOST_LIVE) c.self.view_is (c.has_place.ensures.there.0 c.if-not-has_place.false))
     (subst (λ (t : Members). run_count t.known ≤ MOST_RUNS) c.self.view_is few)
+
+pub bring-requires-clause-place : goal.bring-requires-clause-place
+bring-requires-clause-place c =
+    let s = c.self.inside in
+    let rested = set-rested s.context s.cells c.runs.ensures.dots c.len.ensures.limits c.self.invariant in
+    omega (arith, rested, c.self.invariant.kept.few)
 
 pub invariant_of-self-2 : goal.invariant_of-self-2
 invariant_of-self-2 c =
@@ -54,14 +63,16 @@ invariant_of-self-2 c =
     let d = c.args.dot in
     let x : Holding = (c.copy-2.result, c.copy-3.result) in
     let unknown = sym c.contains.ensures ∙ c.if-contains.false in
-    let one_more = len_one_more s.cells.live d x (unknown_not_live s.context.dots s.cells.live d c.self.invariant unknown) in
-    let places = c.has_place.ensures.there.0 c.if-not-has_place.false in
-    let few : map.len (map.insert s.cells.live d x) ≤ MOST_LIVE = let most = subst (λ b. live_with (map.len s.cells.live) b ≤ MOST_LIVE) unknown places.few in omega arith in
-    either c.bring.result (AreKept c.bring.new.context.dots c.bring.new.cells.live)
-    (on_ok_both c.bring.result _ _ _ (λ k l. subst (λ (n : set.FinSet dot_cmp). AreKept n c.bring.new.cells.live) (sym k) (subst (AreKept (set.insert s.context.dots d)) (sym l)
-    (held_inserted (set.insert s.context.dots d) s.cells.live d x (insert_has s.context.dots d) (subst HasField (sym c.copy-3.ensures) c.requires) few (held_more s.context.dots (set.insert s.context.dots d) s.cells.live (insert_more s.context.dots d) c.self.invariant))))
+    let one_more = len_one_more s.cells.live d x (unknown_not_live s.context.dots s.cells.live d c.self.invariant.kept unknown) in
+    let most = subst (λ b. live_with (map.len s.cells.live) b ≤ MOST_LIVE) unknown (c.has_place.ensures.there.0 c.if-not-has_place.false) in
+    let few : map.len (map.insert s.cells.live d x) ≤ MOST_LIVE = omega (arith, one_more, most) in
+    let new = c.bring.new in
+    either c.bring.result (IsSet new.context.dots new.cells.live new.cells.spent)
+    (on_ok_both c.bring.result _ _ _ (λ k l. set-same (set.insert s.context.dots d) new.context.dots (map.insert s.cells.live d x) new.cells.live s.cells.spent new.cells.spent k l c.bring.ensures.spent
+    (set-brought s.context.dots s.cells.live s.cells.spent d x unknown (subst HasField (sym c.copy-3.ensures) c.requires) few c.self.invariant))
     c.bring.ensures.known c.bring.ensures.live)
-    (on_err_both c.bring.result _ _ _ (λ k l. subst (λ (n : set.FinSet dot_cmp). AreKept n c.bring.new.cells.live) (sym k) (subst (AreKept s.context.dots) (sym l) c.self.invariant)) c.bring.ensures.err_known c.bring.ensures.err_live)
+    (on_err_both c.bring.result _ _ _ (λ k l. set-same s.context.dots new.context.dots s.cells.live new.cells.live s.cells.spent new.cells.spent k l c.bring.ensures.spent c.self.invariant)
+    c.bring.ensures.err_known c.bring.ensures.err_live)
 
 pub returns-clause-conditions : goal.returns-clause-conditions
 returns-clause-conditions c =
@@ -69,7 +80,7 @@ returns-clause-conditions c =
     let d = c.args.dot in
     let x : Holding = (c.copy-2.result, c.copy-3.result) in
     let unknown = sym c.contains.ensures ∙ c.if-contains.false in
-    let none = unknown_not_live s.context.dots s.cells.live d c.self.invariant unknown in
+    let none = unknown_not_live s.context.dots s.cells.live d c.self.invariant.kept unknown in
     on_ok_both c.bring.result _ _ _ (λ k l q.
     (λ i. condition_at (map.get (l i) q) (set.contains (k i) q)) ∙ brought_conditions s.cells.live s.context.dots d x q none unknown
     ∙ (λ i. joined_at (c.self.view_is i) d (Live (c.copy-2.ensures i) (c.copy-3.ensures i)) q)) c.bring.ensures.known c.bring.ensures.live
@@ -79,4 +90,4 @@ returns-clause-ids c =
     let s = c.self.inside.cells in
     subst (λ (t : Members). IdsFollow t.ids t.spent c.bring.new.cells.ids c.bring.new.cells.spent) c.self.view_is
     (either c.bring.result (IdsFollow s.ids s.spent c.bring.new.cells.ids c.bring.new.cells.spent) c.bring.ensures.ids
-    (on_err_both c.bring.result _ _ _ (λ i p. follow_same s.ids c.bring.new.cells.ids s.spent c.bring.new.cells.spent i p) c.bring.ensures.err_ids c.bring.ensures.err_spent))
+    (on_err c.bring.result _ _ (λ i. follow_same s.ids c.bring.new.cells.ids s.spent c.bring.new.cells.spent i c.bring.ensures.spent) c.bring.ensures.err_ids))

@@ -23,8 +23,8 @@ returns c =
     (λ i. c.count_kept-kept.ensures i + c.count_unknown.ensures.value i)
     ∙ (λ i. count_by (λ (p : Placed). not (dead_in_runs runs (c.other.view_is i).live p.dot)) ps + count_by (λ (p : Placed). not (set.contains (c.self.view_is i).known p.dot)) qs)
     ∙ sym (counted_joined s t
-    (λ q h e. ap (λ (x : Members). set.contains x.known q) (sym c.self.view_is) ∙ c.self.invariant.heard q h (ap (λ (x : Members). map.get x.live q) c.self.view_is ∙ e))
-    (λ q h e. ap (λ (x : Members). set.contains x.known q) (sym c.other.view_is) ∙ c.other.invariant.heard q h (ap (λ (x : Members). map.get x.live q) c.other.view_is ∙ e))
+    (λ q h e. ap (λ (x : Members). set.contains x.known q) (sym c.self.view_is) ∙ c.self.invariant.kept.heard q h (ap (λ (x : Members). map.get x.live q) c.self.view_is ∙ e))
+    (λ q h e. ap (λ (x : Members). set.contains x.known q) (sym c.other.view_is) ∙ c.other.invariant.kept.heard q h (ap (λ (x : Members). map.get x.live q) c.other.view_is ∙ e))
     runs (subst (λ (x : Members). IsRunsOf runs x.known) c.other.view_is c.as_slice.ensures.value) ps qs
     (placed_rise ps c.self.inside.cells.ids c.placed.ensures) (placed_rise qs c.other.inside.cells.ids c.placed-2.ensures)
     (placed_live ps c.self.inside.cells c.placed.ensures c.len.ensures.limits.named ∙ ap (λ (x : Members). map.contains_key x.live) c.self.view_is)

@@ -2,22 +2,20 @@ use Rattle.std.proofs.Common.{sym, subst, ◌∙◌}
 use Rattle.std.specs.FinMap as map
 use Rattle.std.specs.FinSet as set
 use Rattle.dots.specs.Conditions.{Dead}
-use Rattle.dots.specs.Orders.{dot_cmp}
 use Rattle.member_orset.specs.CellIds.{IdMap, IdSet, IdsFollow}
 use Rattle.member_orset.specs.LiveStates.{spent_with}
-use Rattle.member_orset.specs.Members.{AreKept, Members, condition_at, joined_at}
-use Rattle.member_orset.proofs.Asserting.{held_more, held_removed, insert_more}
+use Rattle.member_orset.specs.Members.{Members, condition_at, joined_at}
 use Rattle.member_orset.proofs.Changes.{killed}
 use Rattle.member_orset.proofs.IdSteps.{follow_remove}
+use Rattle.member_orset.proofs.KeptSets.{set-killed, set-same}
 use Rattle.member_orset.proofs.member_set.MemberSet.kill.Goals as goal
 
 pub invariant_of-self-2 : goal.invariant_of-self-2
 invariant_of-self-2 c =
     let s = c.self.inside in
     let d = c.args.dot in
-    subst (λ (k : set.FinSet dot_cmp). AreKept k c.remove.new.self.live) (sym c.in_ok-learn.ensures.ok)
-    (subst (AreKept (set.insert s.context.dots d)) (sym c.remove.ensures.live)
-    (held_more s.context.dots (set.insert s.context.dots d) (map.remove s.cells.live d) (insert_more s.context.dots d) (held_removed s.context.dots s.cells.live d c.self.invariant)))
+    set-same (set.insert s.context.dots d) c.learn.new.context.dots (map.remove s.cells.live d) c.remove.new.self.live (spent_with (map.get s.cells.ids d) s.cells.spent) c.remove.new.self.spent
+    c.in_ok-learn.ensures.ok c.remove.ensures.live c.remove.ensures.spent (set-killed s.context.dots s.cells d c.len.ensures.limits.named c.self.invariant)
 
 pub returns-clause-conditions : goal.returns-clause-conditions
 returns-clause-conditions c q =

@@ -1,10 +1,29 @@
-use Rattle.std.proofs.Common.{refl, ap, ◌∙◌, arith}
+use Rattle.std.proofs.Common.{◌≤◌, refl, sym, ap, ◌∙◌, arith, true≢false}
 use Rattle.std.specs.FinMap as map
-use Rattle.member_orset.specs.CellIds.{retired_of}
-use Rattle.member_orset.specs.Members.{Members}
+use Rattle.dots.specs.declared.limits.TheConstants.{MOST_LIVE}
+use Rattle.member_orset.specs.Members.{CanBeJoined, Members, cells_joined}
 use Rattle.member_orset.proofs.Asserting.{on_ok_both}
+use Rattle.member_orset.proofs.KeptSets.{set-rested}
 use Rattle.member_orset.proofs.Preparing.{prepared_for}
 use Rattle.member_orset.proofs.member_set.MemberSet.prepare.Goals as goal
+
+pub returns-then-not-agrees-clause-refusals : goal.returns-then-not-agrees-clause-refusals
+returns-then-not-agrees-clause-refusals c =
+    let no : CanBeJoined c.args.self.now c.args.other.now → ⊥ = λ agree. true≢false (sym (c.agrees.ensures.agree.1 agree) ∙ c.if-not-agrees.true) in
+    record {
+      conflict = (λ _. c.agrees.ensures.conflict.0 c.if-not-agrees.true, λ _. refl);
+      cells_full = (λ e. absurd (cc e), λ h. absurd (no h.0));
+      runs_full = (λ e. absurd (cc e), λ h. absurd (no h.0));
+    }
+
+pub make_room-requires : goal.make_room-requires
+make_room-requires c =
+    let s = c.self.inside in
+    let rested = set-rested s.context s.cells c.runs.ensures.dots c.len.ensures.limits c.self.invariant in
+    let ours = c.self.invariant.kept.few in
+    let theirs = c.other.invariant.kept.few in
+    let more = c.len-2.ensures.value in
+    omega (arith, rested, ours, theirs, more)
 
 pub returns-clause-ready : goal.returns-clause-ready
 returns-clause-ready c =
@@ -13,7 +32,7 @@ returns-clause-ready c =
     let there = c.other.view_is in
     let known = c.make_room.ensures.same_dots ∙ ap (λ (x : Members). x.known) c.self.view_is in
     let live = c.make_room.ensures.same_live ∙ ap (λ (x : Members). x.live) c.self.view_is in
-    let retired = ap (retired_of _) c.make_room.ensures.same_spent ∙ ap (λ (x : Members). x.retired) c.self.view_is in
-    on_ok_both c.make_room.result _ _ _ (λ room runs. prepared_for s _ t known live retired (c.agrees.ensures.agree.0 c.if-not-agrees.false) (c.has_places.ensures.there.0 c.if-not-has_places.false)
-    c.make_room.new.context c.other.inside.context.dots refl refl (ap (λ (x : Members). x.known) there) runs (let len = c.len.ensures.value in let same = ap (λ (x : Members). map.len x.live) there in omega arith))
+    let few : cells_joined s t ≤ MOST_LIVE = let value = c.joined_cells.ensures in omega arith in
+    on_ok_both c.make_room.result _ _ _ (λ room runs. prepared_for s _ t known live (c.agrees.ensures.agree.0 c.if-not-agrees.false) few
+    c.make_room.new.context c.other.inside.context.dots refl refl (ap (λ (x : Members). x.known) there) runs (let len = c.len-2.ensures.value in let same = ap (λ (x : Members). map.len x.live) there in omega arith))
     c.make_room.ensures.room c.make_room.ensures.runs
