@@ -1,8 +1,8 @@
 -- A set of members that knows no dot: its join with any other is never refused, and changes nothing.
-use Rattle.std.proofs.Common.{◌≡◌, ◌<◌, Bool, true, false, ◌&&◌, Option, Some, None, is_some, Result, Ok, Err, refl, sym, ap, subst, ◌∙◌, arith, inl, inr}
+use Rattle.std.proofs.Common.{◌≡◌, ◌<◌, Bool, true, false, ◌&&◌, Option, Some, None, is_some, Result, Ok, Err, refl, sym, ap, subst, ◌∙◌, arith}
 use Rattle.std.specs.FinMap as map
 use Rattle.std.specs.FinSet as set
-use Rattle.dots.specs.declared.limits.TheConstants.{MOST_RUNS}
+use Rattle.dots.specs.declared.limits.TheConstants.{MOST_LIVE, MOST_RUNS}
 use Rattle.dots.specs.Values.{Dot}
 use Rattle.dots.specs.Orders.{dot_cmp}
 use Rattle.dots.specs.DotSets.{run_count}
@@ -12,7 +12,7 @@ use Rattle.dots.proofs.DotOrder.{dots_exact}
 use Rattle.dots.proofs.KeySets.{len_of_keys}
 use Rattle.dots.proofs.Unions.{union-empty}
 use Rattle.member_orset.specs.declared.join_fault.JoinFault.{JoinFault}
-use Rattle.member_orset.specs.Members.{Members, Holding, IsWithinLimits, CanBeJoined, Conflicts, ConditionsConflict, LacksPlaces, both_joined, cells_joined, condition_at, condition_of, is_live, joined_dots, runs_joined}
+use Rattle.member_orset.specs.Members.{Members, Holding, IsWithinLimits, CanBeJoined, Conflicts, ConditionsConflict, both_joined, cells_joined, condition_at, condition_of, is_live, joined_dots, runs_joined}
 use Rattle.member_orset.specs.Refusals.{IsRefusedJoin}
 
 -- a call that is done
@@ -34,9 +34,6 @@ module _ (t : Members) (within : IsWithinLimits t) (nothing : t.known ≡ set.em
   -- nothing is said of any dot
   pub unknown : (q : Dot) → condition_of t q ≡ None
   unknown q = (λ i. condition_at (none_live t within q (not_known q) i) (not_known q i))
-
-  none_cells : map.len t.live ≡ 0
-  none_cells = sym (len_of_keys t.live set.empty (λ q. set.contains-empty dot_cmp q ∙ sym (ap is_some (none_live t within q (not_known q))))) ∙ set.len-empty dot_cmp
 
   module _ (s : Members) (limits : IsWithinLimits s) where
     pub union_is : set.union s.known t.known ≡ s.known
@@ -76,9 +73,8 @@ module _ (t : Members) (within : IsWithinLimits t) (nothing : t.known ≡ set.em
         with_none (Some Dead) = tt
         with_none (Some (Live m f)) = tt
 
-    has_places : LacksPlaces s (cells_joined s t) (map.len t.live) → ⊥
-    has_places (inl many) = omega (arith, many, as_many, limits.cells)
-    has_places (inr full) = omega (arith, full, none_cells, limits.places)
+    few_cells : MOST_LIVE < cells_joined s t → ⊥
+    few_cells many = omega (arith, many, as_many, limits.cells)
 
     few_runs : MOST_RUNS < runs_joined s t → ⊥
     few_runs h = omega (arith, h, ap run_count union_is, limits.runs)
@@ -87,6 +83,6 @@ module _ (t : Members) (within : IsWithinLimits t) (nothing : t.known ≡ set.em
     pub not_refused : IsRefusedJoin s t (λ fault. done ≡ Err fault)
     not_refused = record {
       conflict = (λ h. (cc), λ h. absurd (no_conflict h));
-      cells_full = (λ h. (cc), λ h. absurd (has_places h.1));
+      cells_full = (λ h. (cc), λ h. absurd (few_cells h.1));
       runs_full = (λ h. (cc), λ h. absurd (few_runs h.2));
     }

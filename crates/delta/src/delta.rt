@@ -101,9 +101,8 @@ impl Delta {
     }
 
     /// Makes room for what another delta says, which `absorb` then joins. It leaves what is said as it is. 1 `Conflict`, exactly
-    /// where `agrees` is false; 2 `CellsFull`, exactly where the join has more than 16,384 live dots, or the places that aren't
-    /// used again and the live dots of both pass 1,048,576; 3 `RunsFull`, exactly where the known dots of both make more than
-    /// 65,536 runs; 4 `Memory`. An empty part of the other costs nothing.
+    /// where `agrees` is false; 2 `CellsFull`, exactly where the join has more than 16,384 live dots; 3 `RunsFull`, exactly where
+    /// the known dots of both make more than 65,536 runs; 4 `Memory`. An empty part of the other costs nothing.
     pub fn prepare(&mut self, other: &Delta) -> Result<(), JoinFault>
         ensures ready { OnOk result (IsPrepared self.new other.now) }
         ensures refusals { IsRefusedJoin self.old other.now (λ fault. result ≡ Err fault) }

@@ -12,10 +12,9 @@ use Rattle.delta.specs.Standing.{IsDeltaOf}
 use Rattle.replica.specs.declared.refusal.Refusal.{Refusal}
 use Rattle.replica.specs.declared.refusal.Refusal.TheVariants.{NoSuchQueue, AlreadyThere, NotThere, MembersFull, Exhausted, TotalFull, Memory}
 use Rattle.replica.specs.Changes.{Meaning, Refused, Makes, is_exhausted, is_full, is_past_total, is_too_long, within_limits}
-use Rattle.replica.specs.Commands.{IsDone, refusal_meant}
+use Rattle.replica.specs.Commands.{IsDone}
 use Rattle.replica.specs.Fitting.{HasRoomFor, IsTooFullFor}
 use Rattle.replica.specs.Making.{IsMade}
-use Rattle.replica.specs.Refusing.{IsToldAfterFull, IsWorn, IsWornDelta}
 use Rattle.replica.specs.Site.{SiteState, IsUnchanged, view_of}
 use Rattle.replica.specs.SiteViews.{SiteView, count_used, time_used}
 use Rattle.replica.proofs.Fullness.{full-joined, too_long-change}
@@ -40,21 +39,6 @@ full-where false false false e t o (inl h) = absurd (true≢false (sym h))
 full-where false false false e t o (inr (inl h)) = absurd (true≢false (sym h))
 full-where false false false e t o (inr (inr h)) = absurd (true≢false (sym h))
 
--- and whichever comes, it comes after the tests of queues and members
-after-full : (f b l e t : Bool) (o : Operation) → IsToldAfterFull (refusal_meant (chosen f b l e t o))
-unfolding chosen
-after-full true b l e t o = tt
-after-full false true l e t o = tt
-after-full false false true e t o = tt
-after-full false false false true t o = tt
-after-full false false false false true o = tt
-after-full false false false false false o = tt
-
--- what is told of an operation, it is told after these tests
-pub told-after : (r buffer : SiteView) (o : Operation) → IsToldAfterFull (refusal_meant (within_limits r buffer o))
-unfolding chosen
-told-after r buffer o = after-full (is_full r o) (is_full buffer o) (is_too_long o) (is_exhausted o) (is_past_total o) o
-
 -- an operation past the limits of one of both, or too long, is refused as full
 pub full-means : (r buffer : SiteView) (o : Operation) → (is_full r o ≡ true) ⊎ ((is_full buffer o ≡ true) ⊎ (is_too_long o ≡ true)) → within_limits r buffer o ≡ Refused MembersFull
 unfolding chosen
@@ -66,7 +50,7 @@ pub makes-it : (r buffer : SiteView) (o : Operation) → is_full r o ≡ false �
 unfolding chosen
 makes-it r buffer o p q l e t = made-where (is_full r o) (is_full buffer o) (is_too_long o) (is_exhausted o) (is_past_total o) o p q l e t
 
--- and one within the limits of places, but past those of its numbers, is refused as exhausted
+-- and one within the limits of live dots and runs, but past those of its numbers, is refused as exhausted
 pub exhausted-means : (r buffer : SiteView) (o : Operation) → is_full r o ≡ false → is_full buffer o ≡ false → is_too_long o ≡ false → is_exhausted o ≡ true
     → within_limits r buffer o ≡ Refused Exhausted
 unfolding chosen
@@ -84,28 +68,23 @@ refused-done old new m r e u = subst (λ m. IsDone old m new (Err r)) (sym e) (i
 
 -- want of memory may stand in place of all
 pub memory-done : (old new : SiteState) (m : Meaning) → IsUnchanged old new → IsDone old m new (Err Memory)
-memory-done old new m u = inr (u, record { refusal = Memory; is = refl; may = tt })
+memory-done old new m u = inr (u, refl)
 
--- a worn site may be told full
-pub worn-done : (old new : SiteState) (r buffer : SiteView) (o : Operation) → IsWorn old → IsUnchanged old new → IsDone old (within_limits r buffer o) new (Err MembersFull)
-worn-done old new r buffer o worn u = inr (u, record { refusal = MembersFull; is = refl; may = (worn, told-after r buffer o) })
-
-module _ (s : SiteState) (d x : DeltaState) (o : Operation) (limits : IsWithinLimits d.members) (there : IsWithinLimits x.members) (stands : IsDeltaOf x (o ∷ [])) where
+module _ (s : SiteState) (d x : DeltaState) (o : Operation) (limits : IsWithinLimits d.members) (stands : IsDeltaOf x (o ∷ [])) where
   -- what finds room isn't full
   not-full : HasRoomFor d x → is_full (view_of s d) o ≡ false
-  not-full room = full-joined s d x o limits stands ∙ by (cells_joined d.members x.members) (runs_joined d.members x.members) room.places.few room.runs
+  not-full room = full-joined s d x o limits stands ∙ by (cells_joined d.members x.members) (runs_joined d.members x.members) room.cells room.runs
     where
       by : (cells runs : ℕ) → cells ≤ MOST_LIVE → runs ≤ MOST_RUNS → (nat_lt MOST_LIVE cells || nat_lt MOST_RUNS runs) ≡ false
       by cells runs few short = grind (arith, nat_tests)
 
-  -- what finds none is full, or worn
-  full-or-worn : IsTooFullFor d x → (is_full (view_of s d) o ≡ true) ⊎ IsWornDelta d
-  full-or-worn (inl (inl many)) = inl (full-joined s d x o limits stands ∙ by (cells_joined d.members x.members) (runs_joined d.members x.members) many)
+  -- what finds none is full
+  too-full : IsTooFullFor d x → is_full (view_of s d) o ≡ true
+  too-full (inl many) = full-joined s d x o limits stands ∙ by (cells_joined d.members x.members) (runs_joined d.members x.members) many
     where
       by : (cells runs : ℕ) → MOST_LIVE < cells → (nat_lt MOST_LIVE cells || nat_lt MOST_RUNS runs) ≡ true
       by cells runs many = grind (arith, nat_tests)
-  full-or-worn (inl (inr worn)) = inr (let few = limits.cells in let few_there = there.cells in omega arith)
-  full-or-worn (inr many) = inl (full-joined s d x o limits stands ∙ by (cells_joined d.members x.members) (runs_joined d.members x.members) many)
+  too-full (inr many) = full-joined s d x o limits stands ∙ by (cells_joined d.members x.members) (runs_joined d.members x.members) many
     where
       by : (cells runs : ℕ) → MOST_RUNS < runs → (nat_lt MOST_LIVE cells || nat_lt MOST_RUNS runs) ≡ true
       by cells runs many = grind (arith, nat_tests)
@@ -142,8 +121,8 @@ module _ (old new : SiteState) (x : DeltaState) (o : Operation) (count time : �
   taken made =
       let state = made.taken.0 in let pending = made.taken.1 in
       let is : meant ≡ Makes o =
-      makes-it (view_of old old.state) (view_of old old.pending) o (not-full old old.state x o limits there stands state.room)
-      (not-full old old.pending x o limits_pending there stands pending.room) (not-too-long x o there stands) exhausted past_total in
+      makes-it (view_of old old.state) (view_of old old.pending) o (not-full old old.state x o limits stands state.room)
+      (not-full old old.pending x o limits_pending stands pending.room) (not-too-long x o there stands) exhausted past_total in
       subst (λ m. IsDone old m new (Ok tt)) (sym is) (inl (
         refl,
         record {
@@ -164,17 +143,11 @@ module _ (old new : SiteState) (x : DeltaState) (o : Operation) (count time : �
       stay : IsUnchanged old new
       stay = stays old new x count time MembersFull made made.taken.0.0 made.taken.0.1
 
-      first : (is_full (view_of old old.state) o ≡ true) ⊎ IsWornDelta old.state → IsDone old meant new (Err MembersFull)
-      first (inl f) = refused-done old new meant MembersFull (full-means (view_of old old.state) (view_of old old.pending) o (inl f)) stay
-      first (inr worn) = worn-done old new (view_of old old.state) (view_of old old.pending) o (inl worn) stay
-
-      second : (is_full (view_of old old.pending) o ≡ true) ⊎ IsWornDelta old.pending → IsDone old meant new (Err MembersFull)
-      second (inl f) = refused-done old new meant MembersFull (full-means (view_of old old.state) (view_of old old.pending) o (inr (inl f))) stay
-      second (inr worn) = worn-done old new (view_of old old.state) (view_of old old.pending) o (inr worn) stay
-
       by : IsTooFullFor old.state x ⊎ IsTooFullFor old.pending x → IsDone old meant new (Err MembersFull)
-      by (inl f) = first (full-or-worn old old.state x o limits there stands f)
-      by (inr f) = second (full-or-worn old old.pending x o limits_pending there stands f)
+      by (inl f) =
+          refused-done old new meant MembersFull (full-means (view_of old old.state) (view_of old old.pending) o (inl (too-full old old.state x o limits stands f))) stay
+      by (inr f) =
+          refused-done old new meant MembersFull (full-means (view_of old old.state) (view_of old old.pending) o (inr (inl (too-full old old.pending x o limits_pending stands f)))) stay
 
   -- what comes of the change is what is meant
   pub made-done : (result : Result (Unit {0}) Refusal) → IsMade old x count time new result → IsDone old meant new result

@@ -16,12 +16,11 @@ use Rattle.delta.proofs.ShownDeltas.{read-as}
 use Rattle.delta.proofs.StandingDeltas.{empty_where, same_stands, stands_for_both}
 use Rattle.replica.specs.declared.refusal.Refusal.{Refusal}
 use Rattle.replica.specs.Changes.{Change, Makes, Meaning, Refused, meaning}
-use Rattle.replica.specs.Commands.{Follows, HasJoined, HasMade, IsDone, refusal_meant}
+use Rattle.replica.specs.Commands.{Follows, HasJoined, HasMade, IsDone}
 use Rattle.replica.specs.Promises.{AreAlike, AreAsFull}
-use Rattle.replica.specs.Refusing.{IsInstead, IsWorn}
 use Rattle.replica.specs.Site.{IsUnchanged, SiteState, meaning_at, view_of}
 use Rattle.replica.specs.SiteViews.{count_used, greatest, site_view, time_used}
-use Rattle.replica.specs.Standing.{IsMeant, StandsFor, refusal_of, result_of}
+use Rattle.replica.specs.Standing.{IsMeant, StandsFor, result_of}
 use Rattle.replica.specs.Steps.{Do, SiteKnowledge, after_meaning, new_site, step}
 use Rattle.replica.proofs.AlikeSites.{means-alike}
 use Rattle.replica.proofs.Below.{unchanged-condition}
@@ -129,14 +128,9 @@ follows-means old new s change result stands follows =
 
 -- what is done stands for what is meant
 pub done-means : (old new : SiteState) (s : SiteKnowledge) (change : Change) (result : Result (Unit {0}) Refusal) → StandsFor old s
-    → IsDone old (meaning_at old change) new result → IsMeant (IsWorn old) old new result (step old.site old.names s (Do change))
+    → IsDone old (meaning_at old change) new result → IsMeant old new result (step old.site old.names s (Do change))
 done-means old new s change result stands (inl follows) = inl (follows-means old new s change result stands follows)
-done-means old new s change result stands (inr other) =
-    inr (other.0, subst (λ m. IsInstead (IsWorn old) (refusal_of (after_meaning s m).1) result) (means-what-it-knows old s change stands) (by (meaning_at old change) other.1))
-  where
-    by : (m : Meaning) → IsInstead (IsWorn old) (refusal_meant m) result → IsInstead (IsWorn old) (refusal_of (after_meaning s m).1) result
-    by (Makes o) instead = instead
-    by (Refused refusal) instead = instead
+done-means old new s change result stands (inr other) = inr other
 
 -- ---- frames
 

@@ -1,5 +1,5 @@
 -- What a replica keeps and stands for once it has taken a frame, and for which causes it refuses one.
-use Rattle.std.proofs.Common.{◌≡◌, ◌+◌, ◌≤◌, ◌<◌, ◌⊎◌, ◌↔◌, inl, inr, ℕ, Bool, true, false, ◌++◌, Option, Some, None, Contains, Result, Ok, Err, length, refl, sym, ap, subst, ◌∙◌, if◌then◌else◌, arith}
+use Rattle.std.proofs.Common.{◌≡◌, ◌≤◌, ◌<◌, ◌⊎◌, ◌↔◌, inl, inr, ℕ, Bool, true, false, ◌++◌, Option, Some, None, Contains, Result, Ok, Err, length, refl, sym, ap, subst, ◌∙◌, if◌then◌else◌, arith}
 use Rattle.std.specs.Prelude.{nat_eq, nat_lt}
 use Rattle.std.specs.FinMap as map
 use Rattle.std.specs.FinSet as set
@@ -176,7 +176,7 @@ module _ (s : SiteState) (d : DeltaState) where
   may-take hears agree r u done refused = record {
     joins = record { hears = hears; agree = agree };
     cells = few;
-    runs = at (runs_joined s.state.members d.members) MOST_RUNS (λ many. never join.RunsFull (refused.runs_full.1 (agree, record { few = few; places = places }, many)));
+    runs = at (runs_joined s.state.members d.members) MOST_RUNS (λ many. never join.RunsFull (refused.runs_full.1 (agree, few, many)));
   }
     where
       at : (n m : ℕ) → (m < n → ⊥) → n ≤ m
@@ -186,10 +186,7 @@ module _ (s : SiteState) (d : DeltaState) where
       never f e = cc
 
       few : cells_joined s.state.members d.members ≤ MOST_LIVE
-      few = at (cells_joined s.state.members d.members) MOST_LIVE (λ many. never join.CellsFull (refused.cells_full.1 (agree, inl many)))
-
-      places : (s.state.members.retired + map.len s.state.members.live) + map.len d.members.live ≤ 1048576
-      places = at ((s.state.members.retired + map.len s.state.members.live) + map.len d.members.live) 1048576 (λ many. never join.CellsFull (refused.cells_full.1 (agree, inr many)))
+      few = at (cells_joined s.state.members d.members) MOST_LIVE (λ many. never join.CellsFull (refused.cells_full.1 (agree, many)))
 
   -- of one that wasn't joined that of the join
   pub refusals-joined : MayHear s d → (r : Result (Unit {0}) JoinFault) (fault : JoinFault) → r ≡ Err fault → IsRefusedJoin s.state d (λ f. r ≡ Err f) → IsRefusedTake s d (λ f. take_fault_of fault ≡ f)
@@ -266,15 +263,12 @@ module _ (old : SiteState) (d : DeltaState) (s : SiteKnowledge) (k : Knowledge) 
       past m n h = grind (arith, nat_tests)
 
   -- a refusal of the join is what is meant
-  pub fault-meant : IsWithinLimits old.state.members → IsWithinLimits d.members → (r : Result (Unit {0}) JoinFault) → IsRefusedJoin old.state d (λ f. r ≡ Err f)
-      → (fault : JoinFault) → r ≡ Err fault → IsMeantFault old (take_fault_of fault) (steps.take s k).1
-  fault-meant within others r refused join.Conflict is = tt
-  fault-meant within others r refused join.CellsFull is = elim (refused.cells_full.0 is).1 [
-    | inl many ↦ inl (many-cells many)
-    | inr places ↦ inr (omega (arith, places, within.cells, others.cells))
-  ]
-  fault-meant within others r refused join.RunsFull is = let full = refused.runs_full.0 is in many-runs full.1.few full.2
-  fault-meant within others r refused join.Memory is = tt
+  pub fault-meant : (r : Result (Unit {0}) JoinFault) → IsRefusedJoin old.state d (λ f. r ≡ Err f)
+      → (fault : JoinFault) → r ≡ Err fault → IsMeantFault (take_fault_of fault) (steps.take s k).1
+  fault-meant r refused join.Conflict is = tt
+  fault-meant r refused join.CellsFull is = many-cells (refused.cells_full.0 is).1
+  fault-meant r refused join.RunsFull is = let full = refused.runs_full.0 is in many-runs full.1 full.2
+  fault-meant r refused join.Memory is = tt
 
   -- and so is a take
   pub take-meant : (new : SiteState) → MayTake old d → HasTaken old d new → HasNoneLater old k → StandsFor new (steps.take s k).0 × ((steps.take s k).1 ≡ Taken)

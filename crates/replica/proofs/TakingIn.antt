@@ -7,7 +7,7 @@ use Rattle.dots.specs.Conditions.{condition_joined, ConditionsAgree}
 use Rattle.dots.specs.DotSets.{run_count}
 use Rattle.dots.specs.Totals.{join_of}
 use Rattle.member_orset.specs.CellIds.{IdsFollow}
-use Rattle.member_orset.specs.Members.{HasPlaces, LacksPlaces, KeepsIds, condition_at, condition_of, cells_joined, is_live, joined_dots, runs_joined}
+use Rattle.member_orset.specs.Members.{KeepsIds, condition_at, condition_of, cells_joined, is_live, joined_dots, runs_joined}
 use Rattle.delta.specs.DeltaStates.{DeltaState, IsSame, IsUnchanged}
 use Rattle.delta.specs.Joining.{Agree, IsJoinOf}
 use Rattle.delta.proofs.Sameness.{says_the_same}
@@ -60,21 +60,16 @@ same-cells d x copy same = λ i.
 pub same-runs : (d x copy : DeltaState) → IsSame x copy → runs_joined d.members copy.members ≡ runs_joined d.members x.members
 same-runs d x copy same = ap (λ known. run_count (set.union d.members.known known)) (sym same.known)
 
-same-live : (x copy : DeltaState) → IsSame x copy → map.len copy.members.live ≡ map.len x.members.live
-same-live x copy same = ap map.len (sym (copied-live x copy same))
-
 -- what finds room as a copy finds it as the first
 pub copy-room : (d x copy : DeltaState) → IsSame x copy → HasRoomFor d copy → HasRoomFor d x
 copy-room d x copy same room = record {
-  places = subst (λ n. HasPlaces d.members n (map.len x.members.live)) (same-cells d x copy same)
-      (subst (HasPlaces d.members (cells_joined d.members copy.members)) (same-live x copy same) room.places);
+  cells = subst (λ n. n ≤ 16384) (same-cells d x copy same) room.cells;
   runs = subst (λ n. n ≤ 65536) (same-runs d x copy same) room.runs;
 }
 
 -- and what finds none as a copy finds none
 pub copy-full : (d x copy : DeltaState) → IsSame x copy → IsTooFullFor d copy → IsTooFullFor d x
-copy-full d x copy same (inl lacks) = inl (subst (λ n. LacksPlaces d.members n (map.len x.members.live)) (same-cells d x copy same)
-    (subst (LacksPlaces d.members (cells_joined d.members copy.members)) (same-live x copy same) lacks))
+copy-full d x copy same (inl many) = inl (subst (λ n. 16384 < n) (same-cells d x copy same) many)
 copy-full d x copy same (inr many) = inr (subst (λ n. 65536 < n) (same-runs d x copy same) many)
 
 -- ids that follow those of a delta that says the same follow those of the delta before

@@ -1,5 +1,5 @@
 -- What a command does to a site, and what it is refused for.
-use Rattle.std.specs.Prelude.{ℕ, ◌≡◌, ◌⊎◌, max, Bool, true, Option, Some, None, Result, Ok, Err, List, [], ◌∷◌, map as each}
+use Rattle.std.specs.Prelude.{ℕ, ◌≡◌, ◌⊎◌, max, Bool, true, Option, Result, Ok, Err, List, [], ◌∷◌, map as each}
 use Rattle.dots.specs.declared.label.Label.{Label}
 use Rattle.dots.specs.declared.member.Member.{Member}
 use Rattle.dots.specs.Values.{Dot}
@@ -12,7 +12,6 @@ use Rattle.replica.specs.declared.refusal.Refusal.{Refusal}
 use Rattle.replica.specs.declared.refusal.Refusal.TheVariants.{Memory}
 use Rattle.replica.specs.Changes.{Meaning, Refused, Makes, add_at, is_exhausted, within_limits, write_at}
 use Rattle.replica.specs.SiteViews.{count_used, dots_seen, time_used}
-use Rattle.replica.specs.Refusing.{IsInstead, IsWorn}
 use Rattle.replica.specs.Site.{SiteState, IsUnchanged, view_of}
 
 -- a delta is joined with that of one operation alone, with which it agrees, and each dot keeps its id
@@ -38,14 +37,9 @@ abbrev pub Follows : SiteState → Meaning → SiteState → Result (Unit {0}) R
 Follows old (Makes o) new result = (result ≡ Ok tt) × HasMade old o new
 Follows old (Refused refusal) new result = (result ≡ Err refusal) × IsUnchanged old new
 
--- the refusal that is meant, if one is
-abbrev pub refusal_meant : Meaning → Option Refusal
-refusal_meant (Makes o) = None
-refusal_meant (Refused refusal) = Some refusal
-
--- what is meant comes of a command; or a refusal that may stand in its place, which changes nothing
+-- what is meant comes of a command; or memory is wanting, and nothing is changed
 abbrev pub IsDone : SiteState → Meaning → SiteState → Result (Unit {0}) Refusal → Type 0
-IsDone old meant new result = Follows old meant new result ⊎ (IsUnchanged old new × IsInstead (IsWorn old) (refusal_meant meant) result)
+IsDone old meant new result = Follows old meant new result ⊎ (IsUnchanged old new × (result ≡ Err Memory))
 
 -- what is told where no number is left for an operation: the refusal that is meant, or that memory is wanting
 abbrev pub IsToldOf : SiteState → Operation → Refusal → Type 0

@@ -5,22 +5,21 @@ use Rattle.dots.specs.Values.{Dot}
 use Rattle.dots.specs.Orders.{dot_cmp}
 use Rattle.dots.specs.DotSets.{run_count}
 use Rattle.member_orset.specs.LiveDots.{live_dots_without}
-use Rattle.std.specs.FinMap as map
 use Rattle.dots.specs.declared.limits.TheConstants.{MOST_LIVE, MOST_RUNS}
-use Rattle.member_orset.specs.Members.{HasPlaces, LacksPlaces, KeepsIds, cells_joined, runs_joined}
+use Rattle.member_orset.specs.Members.{KeepsIds, cells_joined, runs_joined}
 use Rattle.delta.specs.DeltaStates.{DeltaState, IsUnchanged}
 use Rattle.delta.specs.Joining.{IsJoinOf}
 use Rattle.replica.specs.declared.refusal.Refusal.{Refusal}
 use Rattle.replica.specs.declared.refusal.Refusal.TheVariants.{NoSuchQueue, AlreadyThere, NotThere, MembersFull, Exhausted, TotalFull, Memory}
 
--- a delta can take a change: there are places for the live dots, and few enough runs
+-- a delta can take a change: there are few enough live dots and runs then
 pub record HasRoomFor (d x : DeltaState) : Type 0 where
-  pub places : HasPlaces d.members (cells_joined d.members x.members) (map.len x.members.live)
+  pub cells : cells_joined d.members x.members ≤ MOST_LIVE
   pub runs : runs_joined d.members x.members ≤ MOST_RUNS
 
--- it can't: places are missing, or there are too many runs
+-- it can't: there are too many live dots, or too many runs
 abbrev pub IsTooFullFor : DeltaState → DeltaState → Type 0
-IsTooFullFor d x = LacksPlaces d.members (cells_joined d.members x.members) (map.len x.members.live) ⊎ (MOST_RUNS < runs_joined d.members x.members)
+IsTooFullFor d x = (MOST_LIVE < cells_joined d.members x.members) ⊎ (MOST_RUNS < runs_joined d.members x.members)
 
 -- a delta is joined with a change, and each dot keeps its id
 pub record TakesIn (old x new : DeltaState) : Type 0 where
@@ -28,7 +27,7 @@ pub record TakesIn (old x new : DeltaState) : Type 0 where
   pub ids : KeepsIds old.members new.members
   pub room : HasRoomFor old x
 
--- what comes of a change that two deltas are to take: both take it in, or both stay as they are, for want of places or runs in one of them, or of memory
+-- what comes of a change that two deltas are to take: both take it in, or both stay as they are, since one of them would be too full, or for want of memory
 abbrev pub BothTakeIn : DeltaState → DeltaState → DeltaState → DeltaState → DeltaState → Result (Unit {0}) Refusal → Type 0
 BothTakeIn old other x new after (Ok u) = TakesIn old x new × TakesIn other x after
 BothTakeIn old other x new after (Err MembersFull) = (IsUnchanged old new × IsUnchanged other after) × (IsTooFullFor old x ⊎ IsTooFullFor other x)

@@ -11,7 +11,6 @@ pub mod Making
 pub mod Planning
 pub mod Promises
 pub mod Queues
-pub mod Refusing
 pub mod SetFields
 pub mod Settings
 pub mod Site

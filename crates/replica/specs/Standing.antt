@@ -1,10 +1,10 @@
 -- What a replica stands for: what a site knows, what of its own it has put in no frame yet, and its last numbers.
-use Rattle.std.specs.Prelude.{◌≡◌, ◌⊎◌, Option, Some, None, Result, Ok, Err}
+use Rattle.std.specs.Prelude.{◌≡◌, ◌⊎◌, Result, Ok, Err}
 use Rattle.dots.specs.Traces.{LeaveTraces}
 use Rattle.delta.specs.Standing.{IsDeltaOf}
 use Rattle.replica.specs.declared.refusal.Refusal.{Refusal}
+use Rattle.replica.specs.declared.refusal.Refusal.TheVariants.{Memory}
 use Rattle.replica.specs.SiteViews.{greatest, count_used, time_used}
-use Rattle.replica.specs.Refusing.{IsInstead}
 use Rattle.replica.specs.Site.{SiteState, IsUnchanged}
 use Rattle.replica.specs.Steps.{SiteKnowledge, Outcome, Denied}
 
@@ -23,12 +23,7 @@ abbrev pub result_of : Outcome → Result (Unit {0}) Refusal
 result_of (Denied refusal) = Err refusal
 result_of outcome = Ok tt
 
--- the refusal of one that is refused
-abbrev pub refusal_of : Outcome → Option Refusal
-refusal_of (Denied refusal) = Some refusal
-refusal_of outcome = None
-
--- A result and the state after it are what a command means, given the site after it and what comes of it by the meaning; or a refusal stands in its place, which
--- changes nothing.
-abbrev pub IsMeant : Type 0 → SiteState → SiteState → Result (Unit {0}) Refusal → SiteKnowledge × Outcome → Type 0
-IsMeant worn old new result after = (StandsFor new after.0 × (result ≡ result_of after.1)) ⊎ (IsUnchanged old new × IsInstead worn (refusal_of after.1) result)
+-- A result and the state after it are what a command means, given the site after it and what comes of it by the meaning; or memory is wanting, and nothing is
+-- changed.
+abbrev pub IsMeant : SiteState → SiteState → Result (Unit {0}) Refusal → SiteKnowledge × Outcome → Type 0
+IsMeant old new result after = (StandsFor new after.0 × (result ≡ result_of after.1)) ⊎ (IsUnchanged old new × (result ≡ Err Memory))

@@ -11,7 +11,7 @@ use Rattle.dots.specs.Registers.{Entry}
 use Rattle.dots.specs.Conditions.{DotFields}
 use Rattle.dots.specs.Knowledge.{Knowledge}
 use Rattle.dots.specs.Totals.{Entries, Key, totals_of}
-use Rattle.member_orset.specs.Members.{HasPlaces, Holding, KeepsIds, LacksPlaces, Members, cells_joined, runs_joined}
+use Rattle.member_orset.specs.Members.{Holding, KeepsIds, Members, cells_joined, runs_joined}
 use Rattle.member_orset.specs.declared.join_fault.JoinFault.{JoinFault}
 use Rattle.member_orset.specs.declared.join_fault.JoinFault.TheVariants as join
 use Rattle.site_totals.specs.Raising.{number_of}
@@ -20,7 +20,6 @@ use Rattle.delta.specs.Joining.{Agree, Disagree, IsJoinOf}
 use Rattle.delta.specs.declared.frame.Frame.{Frame}
 use Rattle.replica.specs.declared.take_fault.TakeFault.{TakeFault}
 use Rattle.replica.specs.declared.take_fault.TakeFault.TheVariants.{NoSuchQueue, NotMine, Conflict, CellsFull, RunsFull, Memory}
-use Rattle.replica.specs.Refusing.{IsWornDelta}
 use Rattle.replica.specs.Site.{SiteState}
 use Rattle.replica.specs.SiteViews.{count_used, greatest, time_used}
 use Rattle.replica.specs.Standing.{StandsFor}
@@ -119,10 +118,10 @@ pub record IsRefusedTake (s : SiteState) (d : DeltaState) (IsRefused : TakeFault
   pub not_mine : IsRefused NotMine ↔ ((SpeaksOfStrangeQueue (length s.names) d → ⊥) × IsNotMine s d)
   pub conflict : IsRefused Conflict ↔ (MayHear s d × Disagree s.state d)
   pub cells_full : IsRefused CellsFull
-      ↔ (MayJoin s d × LacksPlaces s.state.members (cells_joined s.state.members d.members) (map.len d.members.live))
+      ↔ (MayJoin s d × (MOST_LIVE < cells_joined s.state.members d.members))
   pub runs_full : IsRefused RunsFull
       ↔ (MayJoin s d
-      × HasPlaces s.state.members (cells_joined s.state.members d.members) (map.len d.members.live)
+      × (cells_joined s.state.members d.members ≤ MOST_LIVE)
       × (MOST_RUNS < runs_joined s.state.members d.members))
 
 -- why a frame is refused whose delta can't be joined
@@ -155,16 +154,16 @@ pub record HasNoneLater (s : SiteState) (k : Knowledge) : Type 0 where
   pub counts : greatest (count_used s.site) k ≤ s.last_count
   pub times : greatest (time_used s.site) k ≤ s.last_time
 
--- a refusal is what is meant. `CellsFull` may stand in its place where too many places of dead dots aren't used again; of the other four the meaning knows nothing.
-abbrev pub IsMeantFault : SiteState → TakeFault → Outcome → Type 0
-IsMeantFault old NoSuchQueue outcome = ⊤
-IsMeantFault old NotMine outcome = ⊤
-IsMeantFault old Conflict outcome = ⊤
-IsMeantFault old CellsFull outcome = (outcome ≡ steps.CellsFull) ⊎ IsWornDelta old.state
-IsMeantFault old RunsFull outcome = outcome ≡ steps.RunsFull
-IsMeantFault old Memory outcome = ⊤
+-- a refusal is what is meant; of the causes other than these two the meaning knows nothing
+abbrev pub IsMeantFault : TakeFault → Outcome → Type 0
+IsMeantFault NoSuchQueue outcome = ⊤
+IsMeantFault NotMine outcome = ⊤
+IsMeantFault Conflict outcome = ⊤
+IsMeantFault CellsFull outcome = outcome ≡ steps.CellsFull
+IsMeantFault RunsFull outcome = outcome ≡ steps.RunsFull
+IsMeantFault Memory outcome = ⊤
 
 -- what comes of a take is what is meant, given the site after it and the outcome by the meaning
-abbrev pub IsMeantTake : SiteState → SiteState → Result (Unit {0}) (TakeFault × Frame) → SiteKnowledge × Outcome → Type 0
-IsMeantTake old new (Ok u) after = StandsFor new after.0 × (after.1 ≡ Taken)
-IsMeantTake old new (Err refused) after = IsMeantFault old refused.0 after.1
+abbrev pub IsMeantTake : SiteState → Result (Unit {0}) (TakeFault × Frame) → SiteKnowledge × Outcome → Type 0
+IsMeantTake new (Ok u) after = StandsFor new after.0 × (after.1 ≡ Taken)
+IsMeantTake new (Err refused) after = IsMeantFault refused.0 after.1

@@ -6,7 +6,6 @@ ghost use Rattle.replica.specs.Changes.{change_of, meaning_of_setting};
 ghost use Rattle.replica.specs.Commands.{IsDone};
 ghost use Rattle.replica.specs.Planning.{IsPlanned};
 ghost use Rattle.replica.specs.SetFields.{fields_added};
-ghost use Rattle.replica.specs.Refusing.{IsWorn};
 ghost use Rattle.replica.specs.Site.{IsUnchanged, meaning_at, view_of};
 ghost use Rattle.replica.specs.Settings.{setting_of};
 ghost use Rattle.replica.specs.SiteViews.{dots_seen};
@@ -68,7 +67,7 @@ impl Replica {
     /// 1 `NoSuchQueue` where its queue isn't in the list; 2 `AlreadyThere` where the member of an add is there;
     /// 3 `NotThere` where the site sees no dot that a remove, a pause or a penalty goes over;
     /// 4 `MembersFull` where the state or the buffer would have more than 16,384 live dots or 65,536 runs, or what is made has more
-    /// than 65,536 runs by itself; where `is_worn`, it may also come in place of what stands behind it, or of a command that is done;
+    /// than 65,536 runs by itself;
     /// 5 `Exhausted` where an add's next count, or the next time of an add, a pause or a penalty, is past 2^40. The next time of an
     /// add is one past the site's last; that of the others is past all that they replace too;
     /// 6 `TotalFull` where the site's own total of these calls in the queue is 1,000,000,000;
@@ -82,7 +81,7 @@ impl Replica {
 
         // Where the replica stands for what a site knows, it is the command's meaning there.
         ensures knowledge { (s : SiteKnowledge) → StandsFor self.old s
-            → IsMeant (IsWorn self.old) self.old self.new result
+            → IsMeant self.old self.new result
             (step self.old.site self.old.names s (Do (change_of command))) }
     {
         see_limits(&self.state);

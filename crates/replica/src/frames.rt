@@ -94,9 +94,8 @@ impl Replica {
     /// where a live dot or a total is of a queue that isn't in the list; 2 `NotMine`, exactly where it says of this site what
     /// the site hasn't made: a dot past its last count, a field of a live dot past its last time, or a total past its own;
     /// 3 `Conflict`, exactly where a dot is live in both with two members, or with a field of one stamp and two values;
-    /// 4 `CellsFull`, exactly where the join has more than 16,384 live dots, or the places that aren't used again and the
-    /// live dots of both pass 1,048,576; 5 `RunsFull`, exactly where the known dots of both make more than 65,536 runs;
-    /// 6 `Memory`. The first two are this project's own.
+    /// 4 `CellsFull`, exactly where the join has more than 16,384 live dots; 5 `RunsFull`, exactly where the known dots of
+    /// both make more than 65,536 runs; 6 `Memory`. The first two are this project's own.
     pub fn take(&mut self, frame: Frame) -> Result<(), (TakeFault, Frame)>
         ensures joined { OnOk result (HasTaken self.old frame.delta self.new) }
         ensures may { OnOk result (MayTake self.old frame.delta) }
@@ -105,9 +104,8 @@ impl Replica {
         ensures unchanged { OnErr result (IsUnchanged self.old self.new) }
         ensures meaning { (s : SiteKnowledge) (k : Knowledge) → StandsFor self.old s
             → IsDeltaOf frame.delta k → HasNoneLater self.old k
-            → IsMeantTake self.old self.new result (step self.old.site self.old.names s (Take k)) }
+            → IsMeantTake self.new result (step self.old.site self.old.names s (Take k)) }
     {
-        let _ = self.state.members().cells(); // so that its limits are known
         let _ = frame.delta.members().cells(); // so that its limits are known
         if let Err(fault) = hear(self, &frame.delta) {
             return Err((fault, frame));

@@ -22,7 +22,6 @@ mod replica;
 mod seen_dots;
 mod setting;
 mod take_fault;
-mod worn;
 
 pub use command::Command;
 pub use cut_fault::CutFault;
@@ -33,4 +32,3 @@ pub use queue_list::{ListFault, QueueList};
 pub use refusal::Refusal;
 pub use replica::Replica;
 pub use take_fault::TakeFault;
-pub use worn::MOST_RETIRED;

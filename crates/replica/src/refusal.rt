@@ -13,8 +13,7 @@ pub enum Refusal {
     /// The member isn't in the queue; without a queue, the interface is in none.
     #[error("not there")]
     NotThere,
-    /// The state or the buffer would have more than 16,384 live dots or 65,536 runs, or what is made these runs by itself; or too
-    /// many places aren't used again.
+    /// The state or the buffer would have more than 16,384 live dots or 65,536 runs, or what is made these runs by itself.
     #[error("members full")]
     MembersFull,
     /// A count or a time would pass 2^40.

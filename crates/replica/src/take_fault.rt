@@ -12,8 +12,7 @@ pub enum TakeFault {
     /// A dot is live in the frame and at the site with two members, or with a field of one stamp and two values.
     #[error("conflict")]
     Conflict,
-    /// The site would know more than 16,384 live dots; or the places of dead dots that aren't used again and the live dots
-    /// of both would be more than 1,048,576.
+    /// The site would know more than 16,384 live dots.
     #[error("too many live dots")]
     CellsFull,
     /// The site would know more than 65,536 runs of dots.

@@ -33,7 +33,7 @@ use status_report::Ask;
 use std::alloc::Global;
 
 impl Script {
-    // Lets an event happen. Want of memory is no outcome but the script's fault, and so is what a worn site refuses as full.
+    // Lets an event happen. Want of memory is no outcome but the script's fault.
     fn happen(&mut self, event: Event) -> Result<Outcome, ScriptFault>
         ensures ok { IfOk result (λ outcome. (w : world_of_operations)
             → StandsAt self.old.world w

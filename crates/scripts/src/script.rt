@@ -37,9 +37,8 @@ pub struct Output {
 /// each of them gives `line N: not understood`, N counting all lines from 1 (this project's own).
 ///
 /// Faults: `Read` where the reader fails or gives no end within 1,000,000 reads, `TooLong` where the script has more
-/// than 16,777,216 bytes, `Write` where the writer fails or takes no bytes, `Memory` where memory is wanting, or where a
-/// site that is worn refuses something as full. After the first two nothing was written, after the others what was begun of the
-/// script's text.
+/// than 16,777,216 bytes, `Write` where the writer fails or takes no bytes, `Memory` where memory is wanting. After the first
+/// two nothing was written, after the others what was begun of the script's text.
 pub fn run_script<S: Source, W: Sink>(
     alloc: Global,
     reader: &mut S,

@@ -1,6 +1,5 @@
 -- What a replica answers, as a desk.
 use Rattle.std.specs.Prelude.{◌≡◌}
-use Rattle.replica.specs.Refusing.{IsWorn}
 use Rattle.replica.specs.Site.{SiteState}
 use Rattle.replica.specs.Standing.{StandsFor}
 use Rattle.replica.specs.Steps.{SiteKnowledge}
@@ -16,4 +15,4 @@ pub record AnswersAs (old : SiteState) (asked : Ask) (answer : Answer) (new : Si
   pub unchanged : KeepsAtStatus old asked new
   pub site : new.site ≡ old.site
   pub names : new.names ≡ old.names
-  pub meaning : (s : SiteKnowledge) → StandsFor old s → IsAnswered (IsWorn old) old new answer (answer_in old.site old.names s asked)
+  pub meaning : (s : SiteKnowledge) → StandsFor old s → IsAnswered old new answer (answer_in old.site old.names s asked)

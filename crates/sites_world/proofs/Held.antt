@@ -12,6 +12,7 @@ use Rattle.dots.specs.Knowledge.{Knowledge, member_of, visible_dots}
 use Rattle.dots.specs.Rows.{DotView, ShowAlike, dot_view, dots_of, is_of}
 use Rattle.dots.specs.SetItems.{in_order}
 use Rattle.dots.proofs.AlikeViews.{filter_map-same, own-visible, same-dots}
+use Rattle.dots.proofs.Counting.{of-item}
 use Rattle.dots.proofs.DotOrder.{dots_exact, dots_total}
 use Rattle.dots.proofs.Filters.{passes}
 use Rattle.dots.proofs.MemberOrder.{exact_members}
@@ -32,7 +33,7 @@ use Rattle.sites_world.proofs.Lists.{correspond-get, place-in}
 use Rattle.sites_world.proofs.MayTake.{may-take}
 use Rattle.sites_world.proofs.Parts.{known-asserted, known-part}
 use Rattle.sites_world.proofs.SteppedHistories.{reached-history}
-use Rattle.sites_world.proofs.VisibleCounts.{few-visible, of-item}
+use Rattle.sites_world.proofs.VisibleCounts.{few-visible}
 
 -- what is held stands for a knowledge of the world
 held-in : (state : WorldState) (w : World) (d : DeltaState) → StandsForWorld state w → IsHeldIn state d → (k : Knowledge) × IsIn w k × IsDeltaOf d k
@@ -83,7 +84,7 @@ members-alike : (r s : DotView) → ShowAlike r s → members_seen r ≡ members
 unfolding members_seen
 members-alike r s alike =
     ap set.from_list
-    (filter_map-same r.member s.member (set.items r.visible) (λ dot here. alike.member dot (of-item dot_cmp dots_total dots_exact r.visible dot here))
+    (filter_map-same r.member s.member (set.items r.visible) (λ dot here. alike.member dot (of-item dots_total dots_exact r.visible dot here))
     ∙ ap (λ v. filter_map s.member (set.items v)) alike.visible)
 
 pub few-held : HoldFewCells

@@ -1,6 +1,6 @@
 -- What comes of asks and frames at one site is told as the world of operations has it, or as want of memory.
 use Rattle.delta.specs.Frames.{IsInRanges}
-use Rattle.std.proofs.Common.{◌≡◌, ◌⊎◌, inl, inr, ℕ, Bool, true, false, List, [], ◌∷◌, ◌++◌, length, Option, Some, Ok, refl, sym, ap, subst, ◌∙◌, true≢false}
+use Rattle.std.proofs.Common.{◌≡◌, ◌⊎◌, inl, inr, ℕ, List, [], ◌∷◌, ◌++◌, length, Some, Ok, refl, sym, ap, subst, ◌∙◌}
 use Rattle.delta.specs.DeltaStates.{DeltaState}
 use Rattle.delta.specs.Joining.{Disagree}
 use Rattle.delta.specs.Standing.{IsDeltaOf}
@@ -11,7 +11,6 @@ use Rattle.replica.specs.declared.take_fault.TakeFault.{TakeFault}
 use Rattle.replica.specs.declared.take_fault.TakeFault.TheVariants as take_fault
 use Rattle.replica.specs.Changes.{Makes, Meaning, Refused as refused_meaning, change_of, meaning}
 use Rattle.replica.specs.Framing.{IsFramed}
-use Rattle.replica.specs.Refusing.{IsWorn, MayStandFor}
 use Rattle.replica.specs.Site.{IsUnchanged, SiteState}
 use Rattle.replica.specs.SiteViews.{site_view}
 use Rattle.replica.specs.Standing.{StandsFor, result_of}
@@ -26,7 +25,7 @@ use Rattle.status_report.specs.declared.asks.Answer.TheVariants.{Done, Refused, 
 use Rattle.status_report.specs.declared.asks.Ask.{Ask}
 use Rattle.status_report.specs.declared.asks.Ask.TheVariants.{Command as asked_command, Status}
 use Rattle.status_report.specs.Answers.{answer_of}
-use Rattle.status_report.specs.Knowing.{IsAnswered, answer_in, refusal_told}
+use Rattle.status_report.specs.Knowing.{IsAnswered, answer_in}
 use Rattle.sites_world.specs.declared.outcome.Outcome.TheVariants.{Answered, Cut, NoMemory, Took}
 use Rattle.sites_world.specs.Telling.{HasAdded, IsAnsweredSo, IsFramedSo, IsTakenSo, MayBeTaken, answer_told, take_fault_told}
 use Rattle.sites_world.specs.Worlds.{take_told, frame_told}
@@ -45,38 +44,25 @@ refused-stays site names s (asked_command command) r e = by (meaning site names 
         done-refused e = (cc)
     by (refused_meaning x) e = refl
 
--- an answer is told as it is, or it is a refusal
-pub told-cases : (worn : Bool) (answer : Answer) → (answer_told worn answer ≡ Answered answer) ⊎ ((answer_told worn answer ≡ NoMemory) × ((r : Refusal) × (answer ≡ Refused r)))
-told-cases worn Done = inl refl
-told-cases worn (Report bytes) = inl refl
-told-cases worn (Refused refusal.NoSuchQueue) = inl refl
-told-cases worn (Refused refusal.AlreadyThere) = inl refl
-told-cases worn (Refused refusal.NotThere) = inl refl
-told-cases true (Refused refusal.MembersFull) = inr (refl, (refusal.MembersFull, refl))
-told-cases false (Refused refusal.MembersFull) = inl refl
-told-cases worn (Refused refusal.Exhausted) = inl refl
-told-cases worn (Refused refusal.TotalFull) = inl refl
-told-cases worn (Refused refusal.Memory) = inr (refl, (refusal.Memory, refl))
+-- an answer is told as it is, or it is that memory is wanting
+pub told-cases : (answer : Answer) → (answer_told answer ≡ Answered answer) ⊎ ((answer_told answer ≡ NoMemory) × (answer ≡ Refused refusal.Memory))
+told-cases Done = inl refl
+told-cases (Report bytes) = inl refl
+told-cases (Refused refusal.NoSuchQueue) = inl refl
+told-cases (Refused refusal.AlreadyThere) = inl refl
+told-cases (Refused refusal.NotThere) = inl refl
+told-cases (Refused refusal.MembersFull) = inl refl
+told-cases (Refused refusal.Exhausted) = inl refl
+told-cases (Refused refusal.TotalFull) = inl refl
+told-cases (Refused refusal.Memory) = inr (refl, refl)
 
--- a refusal that stands in place of another is told as want of memory
-pub stands-told : (W : Type 0) (worn : Bool) (told : Option Refusal) (r : Refusal) → (W → worn ≡ true) → MayStandFor W told r → answer_told worn (Refused r) ≡ NoMemory
-stands-told W worn told refusal.NoSuchQueue is may = absurd may
-stands-told W worn told refusal.AlreadyThere is may = absurd may
-stands-told W worn told refusal.NotThere is may = absurd may
-stands-told W worn told refusal.MembersFull is may = ap (λ b. answer_told b (Refused refusal.MembersFull)) (is may.0)
-stands-told W worn told refusal.Exhausted is may = absurd may
-stands-told W worn told refusal.TotalFull is may = absurd may
-stands-told W worn told refusal.Memory is may = refl
-
-pub told-answer : (worn : Bool) (old new : SiteState) (s : SiteKnowledge) (asked : Ask) (answer : Answer) → StandsFor old s → (IsWorn old → worn ≡ true)
-    → IsAnswered (IsWorn old) old new answer (answer_in old.site old.names s asked) → IsAnsweredSo new s (answer_in old.site old.names s asked) (answer_told worn answer)
-told-answer worn old new s asked answer stands is (inl (after, e)) = elim (told-cases worn answer) [
+pub told-answer : (old new : SiteState) (s : SiteKnowledge) (asked : Ask) (answer : Answer) → StandsFor old s → IsAnswered old new answer (answer_in old.site old.names s asked)
+    → IsAnsweredSo new s (answer_in old.site old.names s asked) (answer_told answer)
+told-answer old new s asked answer stands (inl (after, e)) = elim (told-cases answer) [
   | inl told ↦ inl (told ∙ ap Answered e, after)
-  | inr told ↦ inr (told.0, subst (StandsFor new) (refused-stays old.site old.names s asked told.1.0 (sym e ∙ told.1.1)) after)
+  | inr told ↦ inr (told.0, subst (StandsFor new) (refused-stays old.site old.names s asked refusal.Memory (sym e ∙ told.1)) after)
 ]
-told-answer worn old new s asked answer stands is (inr (same, (result, e, instead))) =
-    let refused : answer ≡ Refused instead.refusal = e ∙ ap answer_of instead.is in
-    inr (ap (answer_told worn) refused ∙ stands-told (IsWorn old) worn (refusal_told (answer_in old.site old.names s asked).1) instead.refusal is instead.may, unchanged-stands old new s stands same)
+told-answer old new s asked answer stands (inr (same, refused)) = inr (ap answer_told refused, unchanged-stands old new s stands same)
 
 -- ---- frames that were made
 
@@ -90,21 +76,18 @@ told-frame new s old pool after frame stands framed maker ranges grown = inl (
 
 -- ---- frames that were taken
 
-pub told-fault : (worn : Bool) (old new : SiteState) (s : SiteKnowledge) (k : Knowledge) (d : DeltaState) (fault : TakeFault) → MayBeTaken old k → IsDeltaOf d k → StandsFor old s → IsUnchanged old new
-    → (IsWorn old → worn ≡ true)
+pub told-fault : (old new : SiteState) (s : SiteKnowledge) (k : Knowledge) (d : DeltaState) (fault : TakeFault) → MayBeTaken old k → IsDeltaOf d k → StandsFor old s → IsUnchanged old new
     → (fault ≡ take_fault.NoSuchQueue → SpeaksOfStrangeQueue (length old.names) d) → (fault ≡ take_fault.NotMine → IsNotMine old d) → (fault ≡ take_fault.Conflict → Disagree old.state d)
-    → IsMeantFault old fault (step old.site old.names s (Take k)).1 → IsTakenSo new s (step old.site old.names s (Take k)) (take_fault_told worn fault)
-told-fault worn old new s k d take_fault.NoSuchQueue may is stands same wears strange mine conflict meant = absurd (may.queues d is (strange refl))
-told-fault worn old new s k d take_fault.NotMine may is stands same wears strange mine conflict meant = absurd (may.own d is (mine refl))
-told-fault worn old new s k d take_fault.Conflict may is stands same wears strange mine conflict meant = absurd (may.agrees d is (conflict refl))
-told-fault true old new s k d take_fault.CellsFull may is stands same wears strange mine conflict meant = inr (refl, unchanged-stands old new s stands same)
-told-fault false old new s k d take_fault.CellsFull may is stands same wears strange mine conflict (inl e) = inl (
-  ap (λ x. Took (take_told x)) (sym e),
-  subst (StandsFor new) (sym ((refusals-change-nothing old.site old.names s (Take k)).cells_full e)) (unchanged-stands old new s stands same),
+    → IsMeantFault fault (step old.site old.names s (Take k)).1 → IsTakenSo new s (step old.site old.names s (Take k)) (take_fault_told fault)
+told-fault old new s k d take_fault.NoSuchQueue may is stands same strange mine conflict meant = absurd (may.queues d is (strange refl))
+told-fault old new s k d take_fault.NotMine may is stands same strange mine conflict meant = absurd (may.own d is (mine refl))
+told-fault old new s k d take_fault.Conflict may is stands same strange mine conflict meant = absurd (may.agrees d is (conflict refl))
+told-fault old new s k d take_fault.CellsFull may is stands same strange mine conflict meant = inl (
+  ap (λ x. Took (take_told x)) (sym meant),
+  subst (StandsFor new) (sym ((refusals-change-nothing old.site old.names s (Take k)).cells_full meant)) (unchanged-stands old new s stands same),
 )
-told-fault false old new s k d take_fault.CellsFull may is stands same wears strange mine conflict (inr w) = absurd (true≢false (sym (wears (inl w))))
-told-fault worn old new s k d take_fault.RunsFull may is stands same wears strange mine conflict meant = inl (
+told-fault old new s k d take_fault.RunsFull may is stands same strange mine conflict meant = inl (
   ap (λ x. Took (take_told x)) (sym meant),
   subst (StandsFor new) (sym ((refusals-change-nothing old.site old.names s (Take k)).runs_full meant)) (unchanged-stands old new s stands same),
 )
-told-fault worn old new s k d take_fault.Memory may is stands same wears strange mine conflict meant = inr (refl, unchanged-stands old new s stands same)
+told-fault old new s k d take_fault.Memory may is stands same strange mine conflict meant = inr (refl, unchanged-stands old new s stands same)

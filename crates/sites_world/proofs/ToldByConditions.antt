@@ -11,9 +11,8 @@ use Rattle.replica.specs.declared.refusal.Refusal.{Refusal}
 use Rattle.replica.specs.declared.take_fault.TakeFault.{TakeFault}
 use Rattle.replica.specs.declared.take_fault.TakeFault.TheVariants as take_fault
 use Rattle.replica.specs.Changes.{Makes, Meaning, Refused as refused_meaning, change_of}
-use Rattle.replica.specs.Commands.{Follows, IsDone, refusal_meant}
+use Rattle.replica.specs.Commands.{Follows, IsDone}
 use Rattle.replica.specs.Framing.{IsNextOf}
-use Rattle.replica.specs.Refusing.{IsWorn}
 use Rattle.replica.specs.Site.{IsUnchanged, SiteState, meaning_at}
 use Rattle.replica.specs.Taking.{IsRefusedTake}
 use Rattle.status_report.specs.declared.asks.Answer.{Answer}
@@ -32,7 +31,7 @@ use Rattle.sites_world.specs.WorldStates.{IsSiteOf, IsWorld, WorldState}
 use Rattle.sites_world.proofs.Happenings.{may-take-all}
 use Rattle.sites_world.proofs.Lists.{correspond-get, set-again, some-within}
 use Rattle.sites_world.proofs.SteppedHistories.{reached-history}
-use Rattle.sites_world.proofs.ToldAnswers.{stands-told, told-cases}
+use Rattle.sites_world.proofs.ToldAnswers.{told-cases}
 use Rattle.sites_world.proofs.Unchanged.{equal-unchanged}
 use Rattle.replica.proofs.PlannedCommands.{itself}
 use Rattle.std.proofs.lemmas.Option.{slice_get_past}
@@ -48,36 +47,31 @@ refused-follows old new (Makes o) r follows = absurd (no-ok follows.0)
 refused-follows old new (refused_meaning x) r follows = follows.1
 
 -- an answer is told as what has come of its ask
-pub asked-comes : (worn : Bool) (old new : SiteState) (asked : Ask) (answer : Answer) → (IsWorn old → worn ≡ true) → AnswersCommand old asked new answer → AnswersStatus old asked answer
-    → KeepsAtStatus old asked new → ComesOfAsk old asked (answer_told worn answer) new
-asked-comes worn old new (Status request) answer wears command (inl report) kept = subst (λ a. ComesOfAsk old (Status request) (answer_told worn a) new) (sym report) (refl, kept)
-asked-comes worn old new (Status request) answer wears command (inr refused) kept =
-    subst (λ a. ComesOfAsk old (Status request) (answer_told worn a) new) (sym refused) (equal-unchanged old new kept)
-asked-comes worn old new (asked_command command) answer wears (result, is, done) status kept =
-    subst (λ a. ComesOfAsk old (asked_command command) (answer_told worn a) new) (sym is) (by result done)
+pub asked-comes : (old new : SiteState) (asked : Ask) (answer : Answer) → AnswersCommand old asked new answer → AnswersStatus old asked answer → KeepsAtStatus old asked new
+    → ComesOfAsk old asked (answer_told answer) new
+asked-comes old new (Status request) answer command (inl report) kept = subst (λ a. ComesOfAsk old (Status request) (answer_told a) new) (sym report) (refl, kept)
+asked-comes old new (Status request) answer command (inr refused) kept = subst (λ a. ComesOfAsk old (Status request) (answer_told a) new) (sym refused) (equal-unchanged old new kept)
+asked-comes old new (asked_command command) answer (result, is, done) status kept = subst (λ a. ComesOfAsk old (asked_command command) (answer_told a) new) (sym is) (by result done)
   where
-    by : (result : Result (Unit {0}) Refusal) → IsDone old (meaning_at old (change_of command)) new result → ComesOfAsk old (asked_command command) (answer_told worn (answer_of result)) new
+    by : (result : Result (Unit {0}) Refusal) → IsDone old (meaning_at old (change_of command)) new result → ComesOfAsk old (asked_command command) (answer_told (answer_of result)) new
     by (Ok u) (inl follows) = (Ok u, refl, follows)
-    by (Err r) (inl follows) = elim (told-cases worn (Refused r)) [
+    by (Err r) (inl follows) = elim (told-cases (Refused r)) [
       | inl told ↦ subst (λ o. ComesOfAsk old (asked_command command) o new) (sym told) (Err r, refl, follows)
       | inr none ↦ subst (λ o. ComesOfAsk old (asked_command command) o new) (sym none.0) (refused-follows old new (meaning_at old (change_of command)) r follows)
     ]
-    by result (inr other) =
-        subst (λ o. ComesOfAsk old (asked_command command) o new)
-        (sym (ap (λ x. answer_told worn (answer_of x)) other.1.is ∙ stands-told (IsWorn old) worn (refusal_meant (meaning_at old (change_of command))) other.1.refusal wears other.1.may)) other.0
+    by result (inr other) = subst (λ r. ComesOfAsk old (asked_command command) (answer_told (answer_of r)) new) (sym other.1) other.0
 
 -- ---- takes
 
 -- a fault is told as what has come of the take
-pub fault-comes : (worn : Bool) (old new : SiteState) (k : Knowledge) (d : DeltaState) (fault : TakeFault) → MayBeTaken old k → IsDeltaOf d k → IsUnchanged old new
-    → IsRefusedTake old d (λ f. fault ≡ f) → ComesOfDelta old d (take_fault_told worn fault) new
-fault-comes worn old new k d take_fault.NoSuchQueue may is same refused = absurd (may.queues d is (refused.no_such_queue.0 refl))
-fault-comes worn old new k d take_fault.NotMine may is same refused = absurd (may.own d is (refused.not_mine.0 refl).1)
-fault-comes worn old new k d take_fault.Conflict may is same refused = absurd (may.agrees d is (refused.conflict.0 refl).1)
-fault-comes true old new k d take_fault.CellsFull may is same refused = same
-fault-comes false old new k d take_fault.CellsFull may is same refused = let w = refused.cells_full.0 refl in (w.0, w.1, same)
-fault-comes worn old new k d take_fault.RunsFull may is same refused = let w = refused.runs_full.0 refl in (w.0, w.2, same)
-fault-comes worn old new k d take_fault.Memory may is same refused = same
+pub fault-comes : (old new : SiteState) (k : Knowledge) (d : DeltaState) (fault : TakeFault) → MayBeTaken old k → IsDeltaOf d k → IsUnchanged old new
+    → IsRefusedTake old d (λ f. fault ≡ f) → ComesOfDelta old d (take_fault_told fault) new
+fault-comes old new k d take_fault.NoSuchQueue may is same refused = absurd (may.queues d is (refused.no_such_queue.0 refl))
+fault-comes old new k d take_fault.NotMine may is same refused = absurd (may.own d is (refused.not_mine.0 refl).1)
+fault-comes old new k d take_fault.Conflict may is same refused = absurd (may.agrees d is (refused.conflict.0 refl).1)
+fault-comes old new k d take_fault.CellsFull may is same refused = let w = refused.cells_full.0 refl in (w.0, w.1, same)
+fault-comes old new k d take_fault.RunsFull may is same refused = let w = refused.runs_full.0 refl in (w.0, w.2, same)
+fault-comes old new k d take_fault.Memory may is same refused = same
 
 -- ---- frames
 

@@ -1,5 +1,5 @@
 -- What changes nothing leaves the sites as they were.
-use Rattle.std.proofs.Common.{◌≡◌, inl, inr, ℕ, Bool, true, List, slice_get, slice_set, Some, Result, Ok, Err, refl, sym, ap, subst, ◌∙◌, true≢false}
+use Rattle.std.proofs.Common.{◌≡◌, inl, inr, ℕ, true, List, slice_get, slice_set, Some, Result, Ok, Err, refl, sym, ap, subst, ◌∙◌, true≢false}
 use Rattle.std.proofs.lemmas.Option.{slice_get_within}
 use Rattle.replica.specs.declared.refusal.Refusal.{Refusal}
 use Rattle.replica.specs.Changes.{Makes, Meaning, Refused, change_of}
@@ -24,10 +24,10 @@ done-refused : (r : Refusal) (result : Result (Unit {0}) Refusal) → result ≡
 done-refused r result done refused = cc
 
 -- an answer that tells that nothing is changed leaves the site as it was
-pub answered-unchanged : (worn : Bool) (old new : SiteState) (asked : Ask) (answer : Answer) → AnswersCommand old asked new answer → KeepsAtStatus old asked new
-    → changes_nothing (answer_told worn answer) ≡ true → IsUnchanged old new
-answered-unchanged worn old new (Status request) answer answers kept nothing = equal-unchanged old new kept
-answered-unchanged worn old new (asked_command command) answer (result, is, done) kept nothing = by result is done
+pub answered-unchanged : (old new : SiteState) (asked : Ask) (answer : Answer) → AnswersCommand old asked new answer → KeepsAtStatus old asked new
+    → changes_nothing (answer_told answer) ≡ true → IsUnchanged old new
+answered-unchanged old new (Status request) answer answers kept nothing = equal-unchanged old new kept
+answered-unchanged old new (asked_command command) answer (result, is, done) kept nothing = by result is done
   where
     meant : (m : Meaning) (r : Refusal) → IsDone old m new (Err r) → IsUnchanged old new
     meant m r (inr stays) = stays.0
@@ -35,7 +35,7 @@ answered-unchanged worn old new (asked_command command) answer (result, is, done
     meant (Refused x) r (inl follows) = follows.1
 
     by : (result : Result (Unit {0}) Refusal) → answer ≡ answer_of result → IsDone old (meaning_at old (change_of command)) new result → IsUnchanged old new
-    by (Ok u) is done = absurd (true≢false (sym nothing ∙ ap (λ a. changes_nothing (answer_told worn a)) is))
+    by (Ok u) is done = absurd (true≢false (sym nothing ∙ ap (λ a. changes_nothing (answer_told a)) is))
     by (Err r) is done = meant (meaning_at old (change_of command)) r done
 
 -- sites are as they are

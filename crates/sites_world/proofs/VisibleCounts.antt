@@ -1,11 +1,9 @@
 -- There are at most as many visible dots as members that have one times sites.
-use Rattle.std.proofs.Common.{◌≡◌, ◌≤◌, ◌<◌, ◌+◌, ◌*◌, ◌-◌, ◌⊎◌, inl, inr, nat_eq, ℕ, zero, suc, Bool, true, false, not, cond, ◌&&◌, ◌||◌, List, [], ◌∷◌, ◌++◌, length, length-append, Contains, Option, Some, None, is_some, refl, sym, ap, subst, ◌∙◌, true≢false, arith}
+use Rattle.std.proofs.Common.{◌≡◌, ◌≤◌, ◌<◌, ◌+◌, ◌*◌, ◌-◌, ◌⊎◌, inl, inr, nat_eq, ℕ, zero, suc, Bool, true, false, cond, ◌&&◌, ◌||◌, List, [], ◌∷◌, ◌++◌, length, length-append, Contains, Option, Some, None, is_some, refl, sym, ap, subst, ◌∙◌, true≢false, arith}
 use Rattle.std.proofs.Math.Nat.{suc-mul, zero-mul}
 use Rattle.std.specs.FinSet as set
 use Rattle.std.specs.List.{filter_map, list_any}
-use Rattle.std.specs.Cmp.{IsTotalOrder}
 use Rattle.std.specs.Ordering.{eq_by_cmp, is_eq}
-use Rattle.std.specs.declared.cmp.Ordering.{Ordering}
 use Rattle.std.proofs.lemmas.Bool.{cases_Bool}
 use Rattle.std.proofs.lemmas.Bool.Decides.{nat_tests}
 use Rattle.std.proofs.lemmas.Cmp.{tied_itself}
@@ -14,6 +12,7 @@ use Rattle.dots.specs.declared.member.Member.{Member}
 use Rattle.dots.specs.Values.{Dot}
 use Rattle.dots.specs.Orders.{dot_cmp, member_cmp}
 use Rattle.dots.specs.Knowledge.{Knowledge, member_of, visible_dots}
+use Rattle.dots.proofs.Counting.{item-of, kept-parts, of-item, tied-in}
 use Rattle.dots.proofs.DotOrder.{dots_exact, dots_total}
 use Rattle.dots.proofs.JoinedKnowledge.{member-some}
 use Rattle.dots.proofs.MemberOrder.{exact_members, members_total}
@@ -25,24 +24,6 @@ use Rattle.sites_world.proofs.Dots.{visible-parts}
 -- sets of dots
 abbrev Dots : Type 0
 Dots = set.FinSet dot_cmp
-
--- ---- items of sets
-
-module _ {K : Type 0} (R : K → K → Ordering) (o : IsTotalOrder R) (exact : set.IsAntisymmetric R) where
-  -- one that a test finds in a list is in it
-  tied-in : (ks : List K) (q : K) → list_any (eq_by_cmp R q) ks ≡ true → Contains ks q
-  tied-in ks q h =
-      let p = in-any (eq_by_cmp R q) ks h in subst (Contains ks) (sym (exact q p.0 (equal_of (R q p.0) p.2))) p.1
-
-  in-tied : (ks : List K) (q : K) → Contains ks q → list_any (eq_by_cmp R q) ks ≡ true
-  in-tied ks q here = any-in (eq_by_cmp R q) ks q here (ap is_eq (tied_itself o q))
-
-  -- the items of a set are what it contains
-  item-of : (s : set.FinSet R) (q : K) → set.contains s q ≡ true → Contains (set.items s) q
-  item-of s q h = tied-in (set.items s) q (sym (set.contains-items s q) ∙ h)
-
-  pub of-item : (s : set.FinSet R) (q : K) → Contains (set.items s) q → set.contains s q ≡ true
-  of-item s q here = set.contains-items s q ∙ in-tied (set.items s) q here
 
 -- ---- dots that are each at a place of its own
 
@@ -72,15 +53,6 @@ module _ {P : Type 0} (at : Dot → P → Bool) where
       by true isnt h = absurd (isnt refl)
       by false isnt h = h
 
-  -- a dot of a set without one is another one, and in the set
-  kept-parts : (s : Dots) (gone q : Dot) → set.contains (set.remove s gone) q ≡ true → (set.contains s q ≡ true) × (q ≡ gone → ⊥)
-  kept-parts s gone q h = by (eq_by_cmp dot_cmp q gone) (set.contains s q) refl refl (sym (set.contains-remove dots_total s gone q) ∙ h)
-    where
-      by : (e b : Bool) → eq_by_cmp dot_cmp q gone ≡ e → set.contains s q ≡ b → (not e && b) ≡ true → (set.contains s q ≡ true) × (q ≡ gone → ⊥)
-      by true b tie is h = absurd (true≢false (sym h))
-      by false true tie is h = (is, λ same. true≢false (sym (ap is_eq (tied_itself dots_total q)) ∙ ap (eq_by_cmp dot_cmp q) same ∙ tie))
-      by false false tie is h = absurd (true≢false (sym h))
-
   -- so there are at most as many dots as places
   few-at : (ps : List P) (s : Dots) → AreApart s → AreAt ps s → set.len s ≤ length ps
   few-at [] s apart are = let none = no-dots s (λ dot h. true≢false (sym (are dot h))) in omega (arith, none)
@@ -89,15 +61,15 @@ module _ {P : Type 0} (at : Dot → P → Bool) where
       by : (b : Bool) → list_any (λ dot. at dot p) (set.items s) ≡ b → ((t : Dots) → AreApart t → AreAt ps t → set.len t ≤ length ps) → set.len s ≤ length (p ∷ ps)
       by true e few =
           let found = in-any (λ dot. at dot p) (set.items s) e in
-          let here = of-item dot_cmp dots_total dots_exact s found.0 found.1 in
+          let here = of-item dots_total dots_exact s found.0 found.1 in
           let rest = few (set.remove s found.0)
-          (λ dot other q one two. apart dot other q (kept-parts s found.0 dot one).0 (kept-parts s found.0 other two).0)
-          (λ dot h. let kept = kept-parts s found.0 dot h in at-later dot p ps (λ also. kept.1 (apart dot found.0 p kept.0 here also found.2)) (are dot kept.0)) in
+          (λ dot other q one two. apart dot other q (kept-parts dots_total dots_exact s found.0 dot one).0 (kept-parts dots_total dots_exact s found.0 other two).0)
+          (λ dot h. let kept = kept-parts dots_total dots_exact s found.0 dot h in at-later dot p ps (λ also. kept.1 (apart dot found.0 p kept.0 here also found.2)) (are dot kept.0)) in
           let less = set.len-remove dots_total s found.0 ∙ ap (λ b. cond b (set.len s - 1) (set.len s)) here in
           omega (arith, rest, less)
       by false e few =
           let rest = few s apart (λ dot h. at-later dot p ps (λ also.
-          true≢false (sym (any-in (λ d. at d p) (set.items s) dot (item-of dot_cmp dots_total dots_exact s dot h) also) ∙ e)) (are dot h)) in
+          true≢false (sym (any-in (λ d. at d p) (set.items s) dot (item-of dots_total dots_exact s dot h) also) ∙ e)) (are dot h)) in
           omega (arith, rest)
 
 -- ---- places: a member and a site
@@ -162,7 +134,7 @@ one-more x ms rest = elim (cases_Bool (set.contains (set.from_list {R = member_c
     list = rest.list;
     many = rest.many ∙ sym (grown ∙ ap by there);
     all = λ m here. elim (cases-in x ms m here) [
-      | inl e ↦ rest.all m (subst (Contains ms) e (tied-in member_cmp members_total exact_members ms x (sym (set.contains-from_list members_total ms x) ∙ there)))
+      | inl e ↦ rest.all m (subst (Contains ms) e (tied-in members_total exact_members ms x (sym (set.contains-from_list members_total ms x) ∙ there)))
       | inr later ↦ rest.all m later
     ];
   }
@@ -233,6 +205,6 @@ module _ (k : Knowledge) (sites : ℕ)
       one p.0 dot other (record { visible = here; member = a.0 }) (record { visible = there; member = b.0 }) (a.1 ∙ sym b.1))
       (λ dot here.
       let m = member-of dot here in
-      let listed = some-in (member_of k) (set.items (visible_dots k)) dot m.0 (item-of dot_cmp dots_total dots_exact (visible_dots k) dot here) m.1 in
+      let listed = some-in (member_of k) (set.items (visible_dots k)) dot m.0 (item-of dots_total dots_exact (visible_dots k) dot here) m.1 in
       any-in (is_at k dot) places (m.0, dot.site) (in-all_with_sites once.list sites m.0 dot.site (once.all m.0 listed) (within dot here)) (at-place dot m.0 m.1)) in
       subst (λ n. set.len (visible_dots k) ≤ n) (length-all_with_sites once.list sites ∙ ap (λ n. n * sites) once.many) few

@@ -1,7 +1,7 @@
 -- What comes of an event at one site, told as an outcome: as the world of operations has it, or as want of memory, which changes nothing.
 use Rattle.sites_world.specs.declared.event.Event.{Event}
 use Rattle.sites_world.specs.declared.event.Event.TheVariants as event
-use Rattle.std.specs.Prelude.{ℕ, ◌≡◌, ◌⊎◌, Bool, true, List, [], ◌∷◌, ◌++◌, length, Err, ⊤, ◌<◌}
+use Rattle.std.specs.Prelude.{ℕ, ◌≡◌, ◌⊎◌, true, List, [], ◌∷◌, ◌++◌, length, Err, ⊤, ◌<◌}
 use Rattle.dots.specs.Knowledge.{Knowledge}
 use Rattle.delta.specs.DeltaStates.{DeltaState}
 use Rattle.delta.specs.Joining.{Disagree}
@@ -22,17 +22,15 @@ use Rattle.sites_world.specs.declared.outcome.Outcome.TheVariants.{Answered, Cut
 use Rattle.sites_world.specs.Worlds.{Entry, Happening, frame_told, is_done, take_told}
 use Rattle.sites_world.specs.WorldStates.{Correspond, IsFrameOf}
 
--- an answer as an outcome: want of memory is told as such, and so is `MembersFull` of a site that was worn
-abbrev pub answer_told : Bool → Answer → Outcome
-answer_told worn (Refused refusal.Memory) = NoMemory
-answer_told true (Refused refusal.MembersFull) = NoMemory
-answer_told worn answer = Answered answer
+-- an answer as an outcome: want of memory is told as such
+abbrev pub answer_told : Answer → Outcome
+answer_told (Refused refusal.Memory) = NoMemory
+answer_told answer = Answered answer
 
--- why a frame wasn't taken, as an outcome: want of memory is told as such, and so is `CellsFull` of a site that was worn
-abbrev pub take_fault_told : Bool → TakeFault → Outcome
-take_fault_told worn take_fault.Memory = NoMemory
-take_fault_told true take_fault.CellsFull = NoMemory
-take_fault_told worn fault = Took (Err fault)
+-- why a frame wasn't taken, as an outcome: want of memory is told as such
+abbrev pub take_fault_told : TakeFault → Outcome
+take_fault_told take_fault.Memory = NoMemory
+take_fault_told fault = Took (Err fault)
 
 -- what was asked is answered as the site answers, or memory was wanting and the site knows what it knew
 abbrev pub IsAnsweredSo : SiteState → SiteKnowledge → SiteKnowledge × Answer → Outcome → Type 0

@@ -15,6 +15,6 @@ pub enum Outcome {
     NoSite,
     /// There is the site, and no such entry.
     NoEntry,
-    /// Memory was wanting, or a site that is worn refused something as full. Nothing was changed.
+    /// Memory was wanting, and nothing was changed.
     NoMemory,
 }

@@ -24,12 +24,11 @@ use status_report::{Answer, Ask, ask};
 use std::alloc::Global;
 
 // An answer as an outcome.
-fn answer_told(worn: bool, answer: Answer) -> Outcome
-    ensures { result ≡ answer_told worn answer }
+fn answer_told(answer: Answer) -> Outcome
+    ensures { result ≡ answer_told answer }
 {
     match answer {
         Answer::Refused(Refusal::Memory) => Outcome::NoMemory,
-        Answer::Refused(Refusal::MembersFull) if worn => Outcome::NoMemory,
         answer => Outcome::Answered(answer),
     }
 }
@@ -43,8 +42,7 @@ fn ask_site(alloc: Global, replica: &mut Replica, asked: Ask) -> Outcome
     ensures unchanged { changes_nothing result ≡ true → IsUnchanged replica.old replica.new }
     ensures conditions { ComesOfAsk replica.old asked result replica.new }
 {
-    let worn = replica.is_worn();
-    answer_told(worn, ask(alloc, replica, asked))
+    answer_told(ask(alloc, replica, asked))
 }
 
 // Puts a site's buffer into a frame at the end of the pool.
@@ -103,12 +101,11 @@ fn whole_site(replica: &mut Replica, pool: &mut Vec<Frame>) -> Outcome
 }
 
 // Why a frame wasn't taken, as an outcome.
-fn take_fault_told(worn: bool, fault: TakeFault) -> Outcome
-    ensures { result ≡ take_fault_told worn fault }
+fn take_fault_told(fault: TakeFault) -> Outcome
+    ensures { result ≡ take_fault_told fault }
 {
     match fault {
         TakeFault::Memory => Outcome::NoMemory,
-        TakeFault::CellsFull if worn => Outcome::NoMemory,
         fault => Outcome::Took(Err(fault)),
     }
 }
@@ -135,10 +132,9 @@ fn take_site(replica: &mut Replica, frame: &Frame) -> Outcome
     let Ok(copy) = frame.copy() else {
         return Outcome::NoMemory;
     };
-    let worn = replica.is_worn();
     match replica.take(copy) {
         Ok(()) => Outcome::Took(Ok(())),
-        Err((fault, _)) => take_fault_told(worn, fault),
+        Err((fault, _)) => take_fault_told(fault),
     }
 }
 

@@ -88,8 +88,7 @@ impl World {
     }
 
     /// Does an event at its site, and answers what comes of it: `NoSite` exactly where there is no such site, else, if it takes,
-    /// `NoEntry` exactly where there is no such entry. An event that memory is wanting for, or that a worn site (of more than
-    /// 1,015,808 places in its state or its buffer that aren't used again) refuses as full, has the outcome `NoMemory`. Each other
+    /// `NoEntry` exactly where there is no such entry. An event that memory is wanting for has the outcome `NoMemory`. Each other
     /// event leads to what it leads to in the world of operations, with the outcome that it has there (RR-7506: what a site shows is
     /// the reading of the updates that were delivered to it; the events are this project's own). So each report is the status text
     /// of what its site knows then, and no frame is refused as `NoSuchQueue`, `NotMine` or `Conflict`. After `NoMemory`, and after

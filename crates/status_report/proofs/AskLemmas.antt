@@ -1,7 +1,7 @@
 -- The answer to an ask is what a site that knows the same answers.
-use Rattle.std.proofs.Common.{◌≡◌, ℕ, Result, Ok, Err, IfOk, refl, ap, inl, inr}
+use Rattle.std.proofs.Common.{◌≡◌, ℕ, Result, Ok, Err, IfOk, ap, inl, inr}
 use Rattle.replica.specs.declared.refusal.Refusal.{Refusal}
-use Rattle.replica.specs.Changes.{Meaning, Refused as Denied, Makes}
+use Rattle.replica.specs.Changes.{Meaning}
 use Rattle.replica.specs.Site.{SiteState, sums_of}
 use Rattle.replica.specs.Standing.{StandsFor, IsMeant, result_of}
 use Rattle.replica.specs.Steps.{SiteKnowledge, after_meaning}
@@ -12,12 +12,10 @@ use Rattle.status_report.specs.Knowing.{status_in, totals_in, IsAnswered}
 use Rattle.status_report.specs.Status.{status_text, report_of}
 
 -- a result that is meant is the answer of its meaning
-pub by-meaning : (worn : Type 0) (old new : SiteState) (r : Result (Unit {0}) Refusal) (s : SiteKnowledge) → (m : Meaning) → IsMeant worn old new r (after_meaning s m)
-    → IsAnswered worn old new (answer_of r) ((after_meaning s m).0, answer_of (result_of (after_meaning s m).1))
-by-meaning worn old new r s (Denied refusal) (inl h) = inl (h.0, ap answer_of h.1)
-by-meaning worn old new r s (Denied refusal) (inr h) = inr (h.0, (r, refl, h.1))
-by-meaning worn old new r s (Makes o) (inl h) = inl (h.0, ap answer_of h.1)
-by-meaning worn old new r s (Makes o) (inr h) = inr (h.0, (r, refl, h.1))
+pub by-meaning : (old new : SiteState) (r : Result (Unit {0}) Refusal) (s : SiteKnowledge) → (m : Meaning) → IsMeant old new r (after_meaning s m)
+    → IsAnswered old new (answer_of r) ((after_meaning s m).0, answer_of (result_of (after_meaning s m).1))
+by-meaning old new r s m (inl h) = inl (h.0, ap answer_of h.1)
+by-meaning old new r s m (inr h) = inr (h.0, ap answer_of h.1)
 
 -- the totals of a state are those of the knowledge that it stands for
 totals-are : (state : SiteState) (s : SiteKnowledge) → StandsFor state s → (queue : ℕ) → sums_of state queue ≡ totals_in s.known queue

@@ -1,19 +1,18 @@
 -- What a site that knows these operations answers: the report of what they show (Asterisk's QueueStatus), and commands by their
 -- meaning.
-use Rattle.std.specs.Prelude.{ℕ, ◌≡◌, ◌⊎◌, List, Option, Some, None, Result}
+use Rattle.std.specs.Prelude.{ℕ, ◌≡◌, ◌⊎◌, List}
 use Rattle.dots.specs.declared.call_totals.CallTotals.{CallTotals}
 use Rattle.dots.specs.declared.calls.Calls.TheVariants.{Completed, Abandoned}
 use Rattle.dots.specs.Knowledge.{Knowledge, SameOperations, IsConsistent}
 use Rattle.dots.specs.Rows.{dot_view, rows_of}
 use Rattle.dots.specs.Counts.{queue_total}
 use Rattle.replica.specs.Changes.{change_of}
-use Rattle.replica.specs.Refusing.{IsInstead, MayStandFor}
 use Rattle.replica.specs.Site.{SiteState, IsUnchanged}
 use Rattle.replica.specs.Standing.{StandsFor, result_of}
 use Rattle.replica.specs.Steps.{SiteKnowledge, Do, step}
-use Rattle.replica.specs.declared.refusal.Refusal.{Refusal}
+use Rattle.replica.specs.declared.refusal.Refusal.TheVariants.{Memory}
 use Rattle.status_report.specs.declared.asks.Answer.{Answer}
-use Rattle.status_report.specs.declared.asks.Answer.TheVariants.{Done, Refused, Report}
+use Rattle.status_report.specs.declared.asks.Answer.TheVariants.{Refused, Report}
 use Rattle.status_report.specs.declared.asks.Ask.{Ask}
 use Rattle.status_report.specs.declared.asks.Ask.TheVariants.{Command as asked_command, Status}
 use Rattle.status_report.specs.declared.request.StatusRequest.{StatusRequest}
@@ -38,29 +37,16 @@ abbrev pub answer_in : ℕ → List (List ℕ) → SiteKnowledge → Ask → Sit
 answer_in site names s (asked_command command) = let done = step site names s (Do (change_of command)) in (done.0, answer_of (result_of done.1))
 answer_in site names s (Status request) = (s, Report (status_in s.known names request))
 
--- the refusal of an answer that is one
-abbrev pub refusal_told : Answer → Option Refusal
-refusal_told Done = None
-refusal_told (Refused refusal) = Some refusal
-refusal_told (Report bytes) = None
+-- a state, and an answer, are those of a site that knows this now; or memory is wanting, and the site says the same as before
+abbrev pub IsAnswered : SiteState → SiteState → Answer → SiteKnowledge × Answer → Type 0
+IsAnswered old new answer after = (StandsFor new after.0 × (answer ≡ after.1)) ⊎ (IsUnchanged old new × (answer ≡ Refused Memory))
 
--- A state, and an answer, are those of a site that knows this now; or a refusal that may stand in place of the answer was answered, and the site says the same as before.
-abbrev pub IsAnswered : Type 0 → SiteState → SiteState → Answer → SiteKnowledge × Answer → Type 0
-IsAnswered worn old new answer after =
-    (StandsFor new after.0 × (answer ≡ after.1)) ⊎ (IsUnchanged old new × ((result : Result (Unit {0}) Refusal) × (answer ≡ answer_of result) × IsInstead worn (refusal_told after.1) result))
-
--- a refusal that is answered in place of another answer: want of memory, or `MembersFull` at a worn site
-pub record IsRefusedInstead (worn : Type 0) (told answer : Answer) : Type 0 where
-  pub refusal : Refusal
-  pub is : answer ≡ Refused refusal
-  pub may : MayStandFor worn (refusal_told told) refusal
-
--- what may come of an ask, in place of what a site tells of it: that, or a refusal, and then the site knows what it knew
-abbrev pub MayComeOf : Type 0 → SiteKnowledge → SiteKnowledge × Answer → SiteKnowledge × Answer → Type 0
-MayComeOf worn s told after = (after ≡ told) ⊎ ((after.0 ≡ s) × IsRefusedInstead worn told.1 after.1)
+-- what may come of an ask, in place of what a site tells of it: that, or want of memory, and then the site knows what it knew
+abbrev pub MayComeOf : SiteKnowledge → SiteKnowledge × Answer → SiteKnowledge × Answer → Type 0
+MayComeOf s told after = (after ≡ told) ⊎ ((after.0 ≡ s) × (after.1 ≡ Refused Memory))
 
 -- the step of one site is an answer, and the site after it, for which the new state stands
-pub record IsOneStep (worn : Type 0) (new : SiteState) (answer : Answer) (s : SiteKnowledge) (told : SiteKnowledge × Answer) : Type 0 where
+pub record IsOneStep (new : SiteState) (answer : Answer) (s : SiteKnowledge) (told : SiteKnowledge × Answer) : Type 0 where
   pub after : SiteKnowledge
   pub stands : StandsFor new after
-  pub comes : MayComeOf worn s told (after, answer)
+  pub comes : MayComeOf s told (after, answer)

@@ -1,6 +1,5 @@
 //! What the definitions of the status text and of answers promise. The functions have no body: their contracts are the laws.
 ghost use Rattle.std.specs.Prelude.{◌≡◌};
-ghost use Rattle.replica.specs.Refusing.{IsWorn};
 ghost use Rattle.replica.specs.Site.{SiteState};
 ghost use Rattle.replica.specs.Standing.{StandsFor};
 ghost use Rattle.replica.specs.Steps.{SiteKnowledge};
@@ -24,10 +23,10 @@ pub fn a_report_is_the_status_text_of_what_its_site_stands_for()
 {}
 
 /// Whatever is answered by the contract of `ask` is one step of the site: the new state stands for what the site knows then. That is what it knows after its own
-/// answer; or what it knew, and a refusal stands in the place of that answer: `Memory`, or `MembersFull` at a worn site (this project's own).
+/// answer; or what it knew, and the refusal `Memory` stands in the place of that answer (this project's own).
 pub fn an_ask_is_one_step_of_a_site()
     ensures { (old new : SiteState) (s : SiteKnowledge) (asked : Ask) (answer : Answer)
         → StandsFor old s
-        → IsAnswered (IsWorn old) old new answer (answer_in old.site old.names s asked)
-        → IsOneStep (IsWorn old) new answer s (answer_in old.site old.names s asked) }
+        → IsAnswered old new answer (answer_in old.site old.names s asked)
+        → IsOneStep new answer s (answer_in old.site old.names s asked) }
 {}

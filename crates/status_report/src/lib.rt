@@ -5,7 +5,6 @@
 #![tactic(auto)]
 
 ghost use Rattle.std.specs.Prelude.{◌≡◌};
-ghost use Rattle.replica.specs.Refusing.{IsWorn};
 ghost use Rattle.replica.specs.Standing.{StandsFor};
 ghost use Rattle.replica.specs.Steps.{SiteKnowledge};
 ghost use Rattle.status_report.specs.Answers.{AnswersCommand, AnswersStatus, KeepsAtStatus};
@@ -39,7 +38,7 @@ pub fn ask(alloc: Global, replica: &mut Replica, asked: Ask) -> Answer
 
     // Where the replica stands for what a site knows, the answer is that site's.
     ensures meaning { (s : SiteKnowledge) → StandsFor replica.old s
-        → IsAnswered (IsWorn replica.old) replica.old replica.new result
+        → IsAnswered replica.old replica.new result
         (answer_in replica.old.site replica.old.names s asked) }
 {
     match asked {
@@ -53,7 +52,7 @@ fn answer_command(replica: &mut Replica, command: Command) -> Answer
     ensures site { replica.new.site ≡ replica.old.site }
     ensures names { replica.new.names ≡ replica.old.names }
     ensures meaning { (s : SiteKnowledge) → StandsFor replica.old s
-        → IsAnswered (IsWorn replica.old) replica.old replica.new result
+        → IsAnswered replica.old replica.new result
         (answer_in replica.old.site replica.old.names s (Ask.Command command)) }
 {
     match replica.command(command) {
@@ -65,7 +64,7 @@ fn answer_command(replica: &mut Replica, command: Command) -> Answer
 fn answer_status(alloc: Global, replica: &Replica, request: &StatusRequest) -> Answer
     ensures status { AnswersStatus replica.now (Ask.Status request.now) result }
     ensures meaning { (s : SiteKnowledge) → StandsFor replica.now s
-        → IsAnswered (IsWorn replica.now) replica.now replica.now result
+        → IsAnswered replica.now replica.now result
         (answer_in replica.now.site replica.now.names s (Ask.Status request.now)) }
 {
     match report(alloc, replica, request) {

@@ -1,5 +1,4 @@
-use Rattle.std.proofs.Common.{◌∙◌, ap, inl, inr, refl, Err}
-use Rattle.replica.specs.declared.refusal.Refusal.TheVariants.{Memory}
+use Rattle.std.proofs.Common.{◌∙◌, ap, inl, inr, refl}
 use Rattle.replica.proofs.PlannedCommands.{itself}
 use Rattle.status_report.specs.declared.asks.Answer.TheVariants.{Report}
 use Rattle.status_report.proofs.AskLemmas.{report-is}
@@ -11,4 +10,4 @@ returns-in-Ok-clause-meaning c = λ s stands. inl (stands, ap Report (c.new.ensu
 
 -- want of memory may stand in its place
 pub returns-in-Err-clause-meaning : goal.returns-in-Err-clause-meaning
-returns-in-Err-clause-meaning c = λ s stands. inr (itself c.args.replica.now, (Err Memory, refl, record { refusal = Memory; is = refl; may = tt }))
+returns-in-Err-clause-meaning c = λ s stands. inr (itself c.args.replica.now, refl)

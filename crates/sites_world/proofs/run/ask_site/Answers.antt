@@ -14,11 +14,11 @@ returns-clause-meaning c = λ s stands.
     let old = c.args.replica.now in
     let new = c.ask.new.replica in
     subst (IsAnsweredSo new s (answer_in old.site old.names s c.args.asked)) (sym c.answer_told.ensures)
-    (told-answer c.is_worn-worn.result old new s c.args.asked c.ask.result stands c.is_worn-worn.ensures.1 (c.ask.ensures.meaning s stands))
+    (told-answer old new s c.args.asked c.ask.result stands (c.ask.ensures.meaning s stands))
 
 pub returns-clause-unchanged : goal.returns-clause-unchanged
 returns-clause-unchanged c = λ nothing.
-    answered-unchanged c.is_worn-worn.result c.args.replica.now c.ask.new.replica c.args.asked c.ask.result c.ask.ensures.command c.ask.ensures.status_unchanged
+    answered-unchanged c.args.replica.now c.ask.new.replica c.args.asked c.ask.result c.ask.ensures.command c.ask.ensures.status_unchanged
     (ap changes_nothing (sym c.answer_told.ensures) ∙ nothing)
 
 -- it is what comes of the ask
@@ -27,4 +27,4 @@ returns-clause-conditions c =
     let old = c.args.replica.now in
     let new = c.ask.new.replica in
     subst (λ o. ComesOfAsk old c.args.asked o new) (sym c.answer_told.ensures)
-    (asked-comes c.is_worn-worn.result old new c.args.asked c.ask.result c.is_worn-worn.ensures.1 c.ask.ensures.command c.ask.ensures.status c.ask.ensures.status_unchanged)
+    (asked-comes old new c.args.asked c.ask.result c.ask.ensures.command c.ask.ensures.status c.ask.ensures.status_unchanged)

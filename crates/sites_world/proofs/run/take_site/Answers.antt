@@ -26,7 +26,7 @@ returns-clause-meaning c = λ s k stands is may.
       | in-Err w ↦
           let refused = w.in-Err.ensures.refusals in
           subst (IsTakenSo new s (take s k)) (sym (w.result-is ∙ w.take_fault_told.ensures))
-          (told-fault c.is_worn-worn.result old new s k c.in-Ok.copy.delta w.in-Err.fault may copied stands w.in-Err.ensures.unchanged c.is_worn-worn.ensures.1
+          (told-fault old new s k c.in-Ok.copy.delta w.in-Err.fault may copied stands w.in-Err.ensures.unchanged
           refused.no_such_queue.0 (λ e. (refused.not_mine.0 e).1) (λ e. (refused.conflict.0 e).1) (w.in-Err.ensures.meaning s k stands copied may.none_later))
     ]
 
@@ -50,7 +50,7 @@ returns-clause-conditions c = λ k is may.
         copy,
         c.in-Ok.ensures.same.delta,
         subst (λ o. ComesOfDelta old copy o new) (sym (w.result-is ∙ w.take_fault_told.ensures))
-            (fault-comes c.is_worn-worn.result old new k copy w.in-Err.fault may copied w.in-Err.ensures.unchanged w.in-Err.ensures.refusals),
+            (fault-comes old new k copy w.in-Err.fault may copied w.in-Err.ensures.unchanged w.in-Err.ensures.refusals),
       )
     ]
 

@@ -30,15 +30,13 @@ returns-in-Err-prepare-clause-meaning c = λ s k stands says later.
     let old = c.args.self.now in
     let d = c.args.frame.delta in
     let refused = subst (λ (r : SiteState). IsRefusedJoin r.state d (λ f. c.prepare.result ≡ Err f)) c.self.view_is c.prepare.ensures.refusals in
-    let within = subst (λ (r : SiteState). IsWithinLimits r.state.members) c.self.view_is (subst IsWithinLimits c.members.ensures c.cells.ensures.limits) in
-    let others = subst IsWithinLimits c.members-2.ensures c.cells-2.ensures.limits in
-    subst (λ (t : TakeFault). IsMeantFault old t (take s k).1) (sym c.take_fault_of.ensures)
-    (fault-meant old d s k stands says within others c.prepare.result refused c.in-Err-prepare.fault c.in-Err-prepare.is)
+    subst (λ (t : TakeFault). IsMeantFault t (take s k).1) (sym c.take_fault_of.ensures)
+    (fault-meant old d s k stands says c.prepare.result refused c.in-Err-prepare.fault c.in-Err-prepare.is)
 
 pub invariant_of-self-2 : goal.invariant_of-self-2
 invariant_of-self-2 c =
     let d = c.args.frame.delta in
-    let others = subst IsWithinLimits c.members-2.ensures c.cells-2.ensures.limits in
+    let others = subst IsWithinLimits c.members.ensures c.cells.ensures.limits in
     let kept = c.in_default-prepare.ensures.kept in
     let agree = agrees-before c.self.inside.state c.prepare.new.self d kept (prepared-agrees c.prepare.new.self d others c.in_default-prepare.ensures.ready) in
     taken-kept _ d c.absorb.new.self c.self.invariant (subst (λ (r : SiteState). MayHear r d) (sym c.self.view_is) c.in_default.ensures.heard) agree
@@ -65,7 +63,7 @@ pub returns-clause-meaning : goal.returns-clause-meaning
 returns-clause-meaning c = λ s k stands says later.
     let old = c.args.self.now in
     let d = c.args.frame.delta in
-    let others = subst IsWithinLimits c.members-2.ensures c.cells-2.ensures.limits in
+    let others = subst IsWithinLimits c.members.ensures c.cells.ensures.limits in
     let kept = c.in_default-prepare.ensures.kept in
     let refused = subst (λ (r : SiteState). IsRefusedJoin r.state d (λ f. c.prepare.result ≡ Err f)) c.self.view_is c.prepare.ensures.refusals in
     let agree = agrees-before c.self.inside.state c.prepare.new.self d kept (prepared-agrees c.prepare.new.self d others c.in_default-prepare.ensures.ready) in
