@@ -10,6 +10,7 @@ mod MayTake
 mod Happenings
 mod Unchanged
 mod ToldByConditions
+mod NothingChanged
 mod OutcomeLaws
 mod TakenEntries
 mod VisibleCounts

@@ -39,7 +39,7 @@ use Rattle.std.proofs.lemmas.Option.{slice_get_past}
 -- ---- asks
 
 -- a command that is refused as it means changes nothing
-refused-follows : (old new : SiteState) (m : Meaning) (r : Refusal) → Follows old m new (Err r) → IsUnchanged old new
+pub refused-follows : (old new : SiteState) (m : Meaning) (r : Refusal) → Follows old m new (Err r) → IsUnchanged old new
 refused-follows old new (Makes o) r follows = absurd (no-ok follows.0)
   where
     no-ok : ◌≡◌ {A = Result (Unit {0}) Refusal} (Err r) (Ok tt) → ⊥

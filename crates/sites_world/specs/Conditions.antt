@@ -4,6 +4,7 @@ use Rattle.dots.specs.declared.limits.TheConstants.{MOST_COUNT, MOST_LIVE, MOST_
 use Rattle.member_orset.specs.Members.{cells_joined, runs_joined}
 use Rattle.delta.specs.DeltaStates.{DeltaState, IsEmpty, IsSame}
 use Rattle.delta.specs.declared.frame.Frame.{Frame}
+use Rattle.replica.specs.declared.cut_fault.CutFault.TheVariants.{Exhausted}
 use Rattle.replica.specs.declared.refusal.Refusal.{Refusal}
 use Rattle.replica.specs.declared.take_fault.TakeFault.TheVariants as take_fault
 use Rattle.replica.specs.Changes.{change_of}
@@ -37,14 +38,14 @@ ComesOfAsk old asked other new = ⊥
 abbrev pub ComesOfCut : ℕ → SiteState → Outcome → SiteState → List Frame → Type 0
 ComesOfCut entries old (Cut (Ok None)) new added = IsEmpty old.pending × (new ≡ old) × (added ≡ [])
 ComesOfCut entries old (Cut (Ok (Some place))) new added = (place ≡ entries) × (frame : Frame) × (added ≡ frame ∷ []) × IsCutDeed old frame new
-ComesOfCut entries old (Cut (Err fault)) new added = (IsEmpty old.pending → ⊥) × (old.frames ≡ MOST_COUNT) × (new ≡ old) × (added ≡ [])
+ComesOfCut entries old (Cut (Err fault)) new added = (fault ≡ Exhausted) × (IsEmpty old.pending → ⊥) × (old.frames ≡ MOST_COUNT) × (new ≡ old) × (added ≡ [])
 ComesOfCut entries old NoMemory new added = (new ≡ old) × (added ≡ [])
 ComesOfCut entries old other new added = ⊥
 
 -- of a frame of all
 abbrev pub ComesOfWhole : ℕ → SiteState → Outcome → SiteState → List Frame → Type 0
 ComesOfWhole entries old (Cut (Ok (Some place))) new added = (place ≡ entries) × (frame : Frame) × (added ≡ frame ∷ []) × IsWholeDeed old frame new
-ComesOfWhole entries old (Cut (Err fault)) new added = (old.frames ≡ MOST_COUNT) × (new ≡ old) × (added ≡ [])
+ComesOfWhole entries old (Cut (Err fault)) new added = (fault ≡ Exhausted) × (old.frames ≡ MOST_COUNT) × (new ≡ old) × (added ≡ [])
 ComesOfWhole entries old NoMemory new added = (new ≡ old) × (added ≡ [])
 ComesOfWhole entries old other new added = ⊥
 

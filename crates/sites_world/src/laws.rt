@@ -1,9 +1,13 @@
 //! What the definition of the world of operations promises, and of what is held in a world. The functions have no body: their contracts are the laws.
-ghost use Rattle.std.specs.Prelude.{ℕ, List};
+ghost use Rattle.std.specs.Prelude.{◌≡◌, ℕ, List, true};
+ghost use Rattle.std.specs.List.{All};
 ghost use Rattle.sites_world.specs.declared.event.Event.{Event};
+ghost use Rattle.sites_world.specs.declared.outcome.Outcome.{Outcome};
+ghost use Rattle.sites_world.specs.Conditions.{LeadAll};
 ghost use Rattle.sites_world.specs.Holding.{EventsGrow, HeldAgree, HoldFewCells, HoldOneDotASite};
 ghost use Rattle.sites_world.specs.Holding.{MayJoinFrames, MayTakeEntries, RunsGrow};
 ghost use Rattle.sites_world.specs.Holding.{TakenStaysKnown};
+ghost use Rattle.sites_world.specs.Outcomes.{changes_nothing};
 ghost use Rattle.sites_world.specs.Promises.{AddAtTheirSites, AreConsistentTogether};
 ghost use Rattle.sites_world.specs.Promises.{DeltasAgree, DeltasCommute, HaveOneAddADot};
 ghost use Rattle.sites_world.specs.Promises.{GiveSameAnswer, HaveHistories, HaveOneDotASite};
@@ -12,6 +16,7 @@ ghost use Rattle.sites_world.specs.Promises.{HaveSameStatus, LeadsOn, ReportsAre
 ghost use Rattle.sites_world.specs.Promises.{AreOfTheirEvents, RefusalsChangeNothing, RunsInParts};
 ghost use Rattle.sites_world.specs.Promises.{TellNoEntry, TellNoSite};
 ghost use Rattle.sites_world.specs.Worlds.{World};
+ghost use Rattle.sites_world.specs.WorldStates.{IsUnchanged, WorldState};
 
 /// Each world that events lead to has a history: one list of all operations that any site knows. Each site knows a part of it, with every
 /// add, write and count of its own, and each frame carries a part (RR-7506: the causal history of a replica).
@@ -61,6 +66,13 @@ pub fn an_outcome_is_of_its_event()
 /// entry (this project's own).
 pub fn what_is_refused_changes_nothing()
     ensures { RefusalsChangeNothing }
+{}
+
+/// Where the outcome of each event tells that nothing is changed, each site says after all of them what it said, and the pool is as it was (this project's own).
+pub fn outcomes_that_change_nothing_leave_what_is_said()
+    ensures { (from to : WorldState) (events : List Event) (outcomes : List Outcome)
+        → LeadAll from events outcomes to → All (λ o. changes_nothing o ≡ true) outcomes
+        → IsUnchanged from to }
 {}
 
 /// A status is answered by the status text of what its site knows then (Asterisk's QueueStatus).
