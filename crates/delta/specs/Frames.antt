@@ -1,5 +1,5 @@
 -- What contracts say of a frame.
-use Rattle.std.specs.Prelude.{◌≡◌, ◌<◌, Some}
+use Rattle.std.specs.Prelude.{ℕ, ◌≡◌, ◌<◌, Some}
 use Rattle.std.specs.FinMap as map
 use Rattle.dots.specs.declared.limits.TheConstants.{QUEUES}
 use Rattle.dots.specs.Values.{Dot, IsCount}

@@ -1,8 +1,11 @@
-//! What was done at a site, step by step, the receipts that callers have of it, and the traits by which a desk and those that work for it
-//! know one another.
+//! What a site did, step by step: its journal, the receipts that callers have of it, and whether both agree.
+//!
+//! A journal keeps the replica that it began from, each step since with what came of it, and the replica. The steps lead from the one to
+//! the other at all times, whatever was refused.
 #![tactic(auto)]
 
 mod desk_fault;
+mod journaled;
 mod ports;
 mod receipt;
 mod step;
@@ -10,6 +13,7 @@ mod step;
 pub use delta_codec::DecodeFault;
 pub use desk_fault::DeskFault;
 pub use dots::Memory;
+pub use journaled::{Journaled, MOST_STEPS};
 pub use ports::{Bell, Gate, Port};
 pub use receipt::Receipt;
 pub use replica::TakeFault;

@@ -1,6 +1,8 @@
-//! Tests of links and pumps by their public calls, upon one thread. It has no code of its own.
+//! Tests of journals, links and pumps by their public calls, upon one thread. It has no code of its own.
 #![tactic(auto)]
 
+#[cfg(test)]
+mod journals;
 #[cfg(test)]
 mod links;
 #[cfg(test)]

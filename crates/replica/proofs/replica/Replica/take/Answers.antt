@@ -53,7 +53,7 @@ pub returns-clause-may : goal.returns-clause-may
 returns-clause-may c =
     let s = c.args.self.now in
     let d = c.args.frame.delta in
-    let others = subst IsWithinLimits c.members-2.ensures c.cells-2.ensures.limits in
+    let others = subst IsWithinLimits c.members.ensures c.cells.ensures.limits in
     let kept = c.in_default-prepare.ensures.kept in
     let refused = subst (λ (r : SiteState). IsRefusedJoin r.state d (λ f. c.prepare.result ≡ Err f)) c.self.view_is c.prepare.ensures.refusals in
     let agree = agrees-before c.self.inside.state c.prepare.new.self d kept (prepared-agrees c.prepare.new.self d others c.in_default-prepare.ensures.ready) in

@@ -1,0 +1,23 @@
+use Rattle.std.proofs.Common.{rules, ◌≡◌, ◌++◌, ◌∷◌, [], true≢false, refl, ap, sym, ◌∙◌, subst}
+use Rattle.site_journal.specs.Journals.{HasAdded, IsFull, IsJournal, IsUnchanged}
+use Rattle.site_journal.specs.Legal.{Leads}
+use Rattle.site_journal.specs.declared.step.StepDeed.TheVariants.{Asked}
+use Rattle.site_journal.proofs.Leading.{does, lead_same, one_more}
+use Rattle.site_journal.proofs.journaled.Journaled.call.Goals as goal
+
+-- nothing but room has changed
+pub invariant_of-self-in_default-ask_twice : goal.invariant_of-self-in_default-ask_twice
+invariant_of-self-in_default-ask_twice c =
+    let i = c.self.invariant in
+    rw c.reserve.ensures.items (record { legal = lead_same _ _ _ _ i.legal c.in_default-ask_twice.ensures.err; counted = i.counted; within = i.within; most = i.most })
+
+-- one step more
+pub invariant_of-self-2 : goal.invariant_of-self-2
+invariant_of-self-2 c =
+    let l = does c.self.inside.replica c.ask_twice.new.replica (Asked c.args.asked.now c.in-Ok-ask_twice.answer) c.in-Ok-ask_twice.ensures.asked in
+    rw (c.push_reserved.ensures.items, c.reserve.ensures.items, c.in-Ok.ensures.0) (one_more _ _ _ c.self.invariant l (λ p. true≢false (sym (c.is_full.ensures.1 (subst IsFull c.self.view_is p)) ∙ c.if-is_full.false)))
+
+pub returns-clause-added : goal.returns-clause-added
+returns-clause-added c =
+    let l = does c.self.inside.replica c.ask_twice.new.replica (Asked c.args.asked.now c.in-Ok-ask_twice.answer) c.in-Ok-ask_twice.ensures.asked in
+    rw (← c.self.view_is, c.push_reserved.ensures.items, c.reserve.ensures.items, c.in-Ok.ensures.0, c.in-Ok.ensures.1, c.in-Ok-ask_twice.ensures.same) (record { base = refl; steps = refl; start = refl; count = refl; limit = refl; done = l })

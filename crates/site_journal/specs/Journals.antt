@@ -1,0 +1,122 @@
+-- What contracts see of a journal.
+use Rattle.std.specs.Prelude.{ℕ, ◌≡◌, ◌≤◌, ◌<◌, ◌+◌, ◌⊎◌, ⊤, List, [], ◌∷◌, ◌++◌, length, take, Result, Ok, Err, refl}
+use Rattle.std.specs.Coded.{Coded, code_by, coded×, coded_ℕ, coded_list}
+use Rattle.dots.specs.declared.limits.TheConstants.{MOST_COUNT}
+use Rattle.delta.specs.declared.frame.Frame.{Frame}
+use Rattle.delta_codec.specs.Faults.{HasFault}
+use Rattle.delta_codec.specs.Frames.{Spells}
+use Rattle.delta_codec.specs.declared.decode_fault.DecodeFault.{DecodeFault}
+use Rattle.delta_codec.specs.declared.decode_fault.DecodeFault.TheVariants.{BadRange}
+use Rattle.replica.specs.Site.{IsSameSite, SiteState, site_code}
+use Rattle.replica.specs.Taking.{IsRefusedTake}
+use Rattle.replica.specs.declared.take_fault.TakeFault.{TakeFault}
+use Rattle.status_report.specs.declared.asks.Ask.{Ask}
+use Rattle.site_journal.specs.contracts.step.Step as step
+use Rattle.site_journal.specs.declared.desk_fault.DeskFault.{DeskFault}
+use Rattle.site_journal.specs.declared.step.Step.{Step}
+use Rattle.site_journal.specs.declared.step.StepDeed.{StepDeed}
+use Rattle.site_journal.specs.declared.step.StepDeed.TheVariants.{Asked, Took, Cut, Whole}
+use Rattle.site_journal.specs.Legal.{IsAsked, LeadAll, Leads}
+
+-- The replica that a journal began from, the steps since, how many steps were before, how many there were in all, how many may stand in it, and the
+-- replica.
+pub record JournalState : Type 0 where
+  pub base : SiteState
+  pub steps : List Step
+  pub start : ℕ
+  pub count : ℕ
+  pub limit : ℕ
+  pub replica : SiteState
+
+-- a journal is stored as its fields
+abbrev pub journal_code : Coded JournalState
+journal_code =
+    code_by (SiteState × (List Step × (ℕ × (ℕ × (ℕ × SiteState)))))
+    (coded× site_code (coded× (coded_list step.the_row.coded) (coded× coded_ℕ (coded× coded_ℕ (coded× coded_ℕ site_code)))))
+    (λ j. (j.base, (j.steps, (j.start, (j.count, (j.limit, j.replica))))))
+    (λ p. record { base = p.0; steps = p.1.0; start = p.1.1.0; count = p.1.1.1.0; limit = p.1.1.1.1.0; replica = p.1.1.1.1.1 })
+    (λ _. refl)
+
+-- what holds of every journal: its steps lead from its base to its replica, and are counted
+pub record IsJournal (j : JournalState) : Type 0 where
+  pub legal : LeadAll j.base j.steps j.replica
+  pub counted : j.count ≡ j.start + length j.steps
+  pub within : length j.steps ≤ j.limit
+  pub most : j.count ≤ MOST_COUNT
+
+-- a journal of a replica, without a step
+pub record IsBegun (replica : SiteState) (limit : ℕ) (j : JournalState) : Type 0 where
+  pub base : IsSameSite replica j.base
+  pub steps : j.steps ≡ []
+  pub start : j.start ≡ 0
+  pub count : j.count ≡ 0
+  pub limit_is : j.limit ≡ limit
+  pub replica_is : j.replica ≡ replica
+
+-- no step may be added
+abbrev pub IsFull : JournalState → Type 0
+IsFull j = (j.limit ≤ length j.steps) ⊎ (j.count ≡ MOST_COUNT)
+
+-- nothing has changed
+pub record IsUnchanged (old new : JournalState) : Type 0 where
+  pub base : new.base ≡ old.base
+  pub steps : new.steps ≡ old.steps
+  pub start : new.start ≡ old.start
+  pub count : new.count ≡ old.count
+  pub limit : new.limit ≡ old.limit
+  pub replica : IsSameSite old.replica new.replica
+
+-- one step was added, which is this, at the position of the journal's length
+pub record HasAdded (old : JournalState) (step : Step) (new : JournalState) : Type 0 where
+  pub base : new.base ≡ old.base
+  pub steps : new.steps ≡ old.steps ++ step ∷ []
+  pub start : new.start ≡ old.start
+  pub count : new.count ≡ old.count + 1
+  pub limit : new.limit ≡ old.limit
+  pub done : Leads old.replica step.deed new.replica
+
+-- the steps of a journal were dropped, and the base is the replica as it was
+pub record HasDropped (old new : JournalState) : Type 0 where
+  pub base : IsSameSite old.replica new.base
+  pub steps : new.steps ≡ []
+  pub start : new.start ≡ old.start + length old.steps
+  pub count : new.count ≡ old.count
+  pub limit : new.limit ≡ old.limit
+  pub replica : new.replica ≡ old.replica
+
+-- a deed is this ask with what the site answered to it, which isn't that memory is wanting
+abbrev pub IsAnswerTo : SiteState → Ask → SiteState → StepDeed → Type 0
+IsAnswerTo old asked new (Asked told answer) = (told ≡ asked) × IsAsked old asked answer new
+IsAnswerTo old asked new other = ⊥
+
+-- a deed is a cut
+abbrev pub IsStepOfCut : StepDeed → Type 0
+IsStepOfCut (Cut bytes) = ⊤
+IsStepOfCut other = ⊥
+
+-- a deed is a whole
+abbrev pub IsStepOfWhole : StepDeed → Type 0
+IsStepOfWhole (Whole bytes) = ⊤
+IsStepOfWhole other = ⊥
+
+-- bytes that came back were refused for this cause
+abbrev pub IsRefusedFor : {A B : Type 0} → Result A (DeskFault × B) → DeskFault → Type 0
+IsRefusedFor (Ok x) fault = ⊥
+IsRefusedFor (Err refused) fault = refused.0 ≡ fault
+
+-- a frame stands in front of bytes, and more behind it
+pub record HasMore (bytes : List ℕ) : Type 0 where
+  pub frame : Frame
+  pub len : ℕ
+  pub spelled : Spells frame (take len bytes)
+  pub more : len < length bytes
+
+-- bytes have this fault as one whole frame: their own, or that something follows the frame
+abbrev pub HasFaultAlone : List ℕ → DecodeFault → Type 0
+HasFaultAlone bytes fault = HasFault bytes fault ⊎ ((fault ≡ BadRange) × HasMore bytes)
+
+-- bytes spell a frame that a site refuses for this cause, the first that stands
+pub record IsRefusedFrame (s : SiteState) (bytes : List ℕ) (fault : TakeFault) : Type 0 where
+  pub frame : Frame
+  pub spelled : Spells frame bytes
+  pub refused : IsRefusedTake s frame.delta (λ cause. fault ≡ cause)

@@ -1,0 +1,65 @@
+-- Legal journals: steps that lead from one state of a site to another, each by its meaning there (this project's own).
+use Rattle.std.specs.Prelude.{◌≡◌, ◌≢◌, List, [], ◌∷◌, ℕ, Option, Some, None, Result, Err}
+use Rattle.delta.specs.DeltaStates.{IsEmpty}
+use Rattle.delta.specs.declared.frame.Frame.{Frame}
+use Rattle.delta_codec.specs.Frames.{Spells}
+use Rattle.replica.specs.declared.refusal.Refusal.{Refusal}
+use Rattle.replica.specs.declared.refusal.Refusal.TheVariants.{Memory}
+use Rattle.replica.specs.Changes.{change_of}
+use Rattle.replica.specs.Commands.{IsDone}
+use Rattle.replica.specs.Deeds.{IsCutDeed, IsTakeDeed, IsWholeDeed}
+use Rattle.replica.specs.Site.{IsSameSite, SiteState, meaning_at}
+use Rattle.status_report.specs.Answers.{answer_of}
+use Rattle.status_report.specs.Status.{report_of}
+use Rattle.status_report.specs.declared.asks.Answer.{Answer}
+use Rattle.status_report.specs.declared.asks.Answer.TheVariants.{Report}
+use Rattle.status_report.specs.declared.asks.Ask.{Ask}
+use Rattle.status_report.specs.declared.asks.Ask.TheVariants.{Command as asked_command, Status}
+use Rattle.site_journal.specs.declared.step.Step.{Step}
+use Rattle.site_journal.specs.declared.step.StepDeed.{StepDeed}
+use Rattle.site_journal.specs.declared.step.StepDeed.TheVariants.{Asked, Took, Cut, Whole}
+
+-- what was asked is answered: a command by what it means there, and never for want of memory; a status by its report, which changes nothing
+abbrev pub IsAsked : SiteState → Ask → Answer → SiteState → Type 0
+IsAsked old (asked_command command) answer new =
+    (result : Result (Unit {0}) Refusal) × (answer ≡ answer_of result) × (result ≢ Err Memory) × IsDone old (meaning_at old (change_of command)) new result
+IsAsked old (Status request) answer new = (answer ≡ Report (report_of old request)) × IsSameSite old new
+
+-- a frame that these bytes spell was taken
+pub record IsTook (old : SiteState) (bytes : List ℕ) (new : SiteState) : Type 0 where
+  pub frame : Frame
+  pub spelled : Spells frame bytes
+  pub done : IsTakeDeed old frame.delta new
+
+-- the buffer was put into a frame that these bytes spell
+pub record IsCut (old : SiteState) (bytes : List ℕ) (new : SiteState) : Type 0 where
+  pub frame : Frame
+  pub spelled : Spells frame bytes
+  pub done : IsCutDeed old frame new
+
+-- all that the site knows was put into a frame that these bytes spell
+pub record IsWhole (old : SiteState) (bytes : List ℕ) (new : SiteState) : Type 0 where
+  pub frame : Frame
+  pub spelled : Spells frame bytes
+  pub done : IsWholeDeed old frame new
+
+-- a deed is done at a state
+abbrev pub IsDeed : SiteState → StepDeed → SiteState → Type 0
+IsDeed old (Asked asked answer) new = IsAsked old asked answer new
+IsDeed old (Took bytes) new = IsTook old bytes new
+IsDeed old (Cut None) new = IsEmpty old.pending × IsSameSite old new
+IsDeed old (Cut (Some bytes)) new = IsCut old bytes new
+IsDeed old (Whole bytes) new = IsWhole old bytes new
+
+-- a deed leads from a state to another, whatever room they have
+pub record Leads (from : SiteState) (deed : StepDeed) (to : SiteState) : Type 0 where
+  pub old : SiteState
+  pub new : SiteState
+  pub before : IsSameSite from old
+  pub done : IsDeed old deed new
+  pub after : IsSameSite new to
+
+-- steps lead from a state to another
+abbrev pub LeadAll : SiteState → List Step → SiteState → Type 0
+LeadAll from [] to = IsSameSite from to
+LeadAll from (step ∷ steps) to = (mid : SiteState) × Leads from step.deed mid × LeadAll mid steps to

@@ -1,0 +1,139 @@
+//! Journals of a site: their steps, their limits, and what they refuse.
+use dots::{Interface, Label, Penalty, QueueName, SiteId, Text80};
+use replica::{Command, QueueList, Replica};
+use site_journal::{DecodeFault, DeskFault, Journaled, Step, StepDeed, TakeFault};
+use status_report::{Answer, Ask, StatusRequest};
+use std::alloc::Global;
+use std::process::Abort;
+
+// The first frame of site 0, after it added SIP/1 to the first queue with defaults.
+const ADDED: &[u8] = b"\x00\x00\x00\x5e\x51\x44\x01\x00\x00\x00\x00\x00\x00\x00\x00\x01\
+\x00\x00\x00\x01\x00\x00\x00\x00\x00\x00\x00\x00\x01\x00\x00\x00\x00\x00\x00\x00\x01\
+\x00\x00\x00\x01\x00\x00\x00\x00\x00\x00\x00\x00\x01\x00\x00\x05\x53\x49\x50\x2f\x31\x07\
+\x00\x00\x00\x00\x00\x00\x00\x01\x00\x00\x00\x00\x00\
+\x00\x00\x00\x00\x00\x00\x00\x01\x00\x00\x00\
+\x00\x00\x00\x00\x00\x00\x00\x01\x00\x00\x00\
+\x00\x00\x00\x00";
+
+// The journal of a site that knows nothing, of the queue `sales`, in which so many steps may stand.
+fn journal(rt: &impl Abort, alloc: Global, site: u16, limit: u32) -> Journaled {
+    let name = QueueName::new(b"sales").expect(rt, "a name");
+    let list = QueueList::new(alloc, &[name]).expect(rt, "a list");
+    let site = SiteId::new(site).expect(rt, "a site");
+    let made = Journaled::new(
+        alloc,
+        Replica::new(alloc, site, list),
+        limit.clamp(1, 1_000_000),
+    );
+    made.ok().expect(rt, "memory")
+}
+
+fn status(alloc: Global) -> Ask {
+    Ask::Status(StatusRequest {
+        queue: None,
+        member: None,
+        action_id: dots::Bytes::new(Vec::new(alloc)),
+    })
+}
+
+fn add(rt: &impl Abort) -> Ask {
+    Ask::Command(Command::Add {
+        queue: QueueName::new(b"sales").expect(rt, "a name"),
+        interface: Interface::new(b"SIP/1").expect(rt, "an interface"),
+        penalty: Penalty::new(0).expect(rt, "a penalty"),
+        paused: false,
+        label: Label {
+            name: Text80::empty(),
+            state: Text80::empty(),
+        },
+    })
+}
+
+// Asserts that an ask is a step of this pass, which is answered with a report or else is done.
+fn assert_asked(rt: &impl Abort, journal: &mut Journaled, asked: &Ask, is_reported: bool) {
+    let step = journal.call(7, asked).ok().expect(rt, "a step");
+    assert!(rt; step.pass == 7);
+    match step.deed {
+        StepDeed::Asked(told, Answer::Report(_)) => assert!(rt; is_reported && told.same(asked)),
+        StepDeed::Asked(told, Answer::Done) => assert!(rt; !is_reported && told.same(asked)),
+        _ => rt.panic("another deed"),
+    }
+}
+
+// Asserts how long a journal is, and how many of its steps were before its base.
+fn assert_length(rt: &impl Abort, journal: &Journaled, len: u64, start: u64) {
+    assert!(rt; journal.len() == len && journal.start() == start);
+    assert!(rt; journal.steps().len() as u64 == len.saturating_sub(start));
+}
+
+// Whether a step is a cut of an empty buffer.
+fn is_empty_cut(step: &Step) -> bool {
+    matches!(step.deed, StepDeed::Cut(None))
+}
+
+#[test]
+fn a_full_journal_goes_on_behind_a_checkpoint(rt: HostRuntime) {
+    let alloc = rt.alloc();
+    let mut journal = journal(&rt, alloc, 0, 2);
+    assert_asked(&rt, &mut journal, &status(alloc), true);
+    assert_asked(&rt, &mut journal, &status(alloc), true);
+    assert!(rt; journal.cut(7).err() == Some(DeskFault::JournalFull));
+    assert!(rt; journal.checkpoint().is_ok());
+    assert_length(&rt, &journal, 2, 2);
+    let cut = journal.cut(7).ok().expect(&rt, "a step");
+    assert!(rt; is_empty_cut(&cut));
+    assert_length(&rt, &journal, 3, 2);
+    let whole = journal.whole(8).ok().expect(&rt, "a step");
+    assert!(rt; whole.pass == 8 && matches!(whole.deed, StepDeed::Whole(_)));
+    assert_length(&rt, &journal, 4, 2);
+    drop(cut);
+    drop(whole);
+    drop(journal);
+}
+
+#[test]
+fn a_frame_that_is_cut_is_the_one_that_others_take(rt: HostRuntime) {
+    let alloc = rt.alloc();
+    let mut first = journal(&rt, alloc, 0, 5);
+    assert_asked(&rt, &mut first, &add(&rt), false);
+    let cut = first.cut(7).ok().expect(&rt, "a step");
+    let StepDeed::Cut(Some(bytes)) = cut.deed else {
+        rt.panic("another deed");
+    };
+    assert!(rt; bytes.as_slice() == ADDED);
+    let mut second = journal(&rt, alloc, 1, 5);
+    let taken = second.take(7, bytes.into_vec()).ok().expect(&rt, "a step");
+    assert!(rt; matches!(taken.deed, StepDeed::Took(_)));
+    assert_length(&rt, &second, 1, 0);
+    assert!(rt; second.replica().rows(0).next().is_some());
+    assert!(rt; second.base().rows(0).next().is_none());
+    drop(taken);
+    drop(first);
+    drop(second);
+}
+
+// Asserts that bytes come back for this fault, and that the journal has no step.
+fn assert_refused(rt: &impl Abort, journal: &mut Journaled, bytes: Vec<u8>, fault: DeskFault) {
+    let len = bytes.len();
+    let (told, back) = journal.take(7, bytes).err().expect(rt, "a fault");
+    assert!(rt; told == fault && back.len() == len);
+    assert_length(rt, journal, 0, 0);
+}
+
+#[test]
+fn bytes_that_are_not_taken_come_back(rt: HostRuntime) {
+    let alloc = rt.alloc();
+    let mut own = journal(&rt, alloc, 0, 5);
+    for (front, behind, fault) in [
+        (98, 0, DeskFault::Take(TakeFault::NotMine)),
+        (97, 0, DeskFault::Decode(DecodeFault::Truncated)),
+        (98, 1, DeskFault::Decode(DecodeFault::BadRange)),
+    ] {
+        let mut bytes = Vec::from_slice(alloc, &ADDED[..front]).expect(&rt, "memory");
+        for _ in 0..behind {
+            bytes.push(255).expect(&rt, "memory");
+        }
+        assert_refused(&rt, &mut own, bytes, fault);
+    }
+    drop(own);
+}
