@@ -1,5 +1,5 @@
 -- What contracts see of a journal.
-use Rattle.std.specs.Prelude.{ℕ, ◌≡◌, ◌≤◌, ◌<◌, ◌+◌, ◌⊎◌, ⊤, List, [], ◌∷◌, ◌++◌, length, take, Result, Ok, Err, refl}
+use Rattle.std.specs.Prelude.{ℕ, ◌≡◌, ◌≢◌, ◌≤◌, ◌<◌, ◌+◌, ◌⊎◌, ⊤, List, [], ◌∷◌, ◌++◌, length, take, Result, Ok, Err, refl}
 use Rattle.std.specs.Coded.{Coded, code_by, coded×, coded_ℕ, coded_list}
 use Rattle.dots.specs.declared.limits.TheConstants.{MOST_COUNT}
 use Rattle.delta.specs.declared.frame.Frame.{Frame}
@@ -7,12 +7,15 @@ use Rattle.delta_codec.specs.Faults.{HasFault}
 use Rattle.delta_codec.specs.Frames.{Spells}
 use Rattle.delta_codec.specs.declared.decode_fault.DecodeFault.{DecodeFault}
 use Rattle.delta_codec.specs.declared.decode_fault.DecodeFault.TheVariants.{BadRange}
+use Rattle.delta_codec.specs.declared.decode_fault.DecodeFault.TheVariants as decode_fault
 use Rattle.replica.specs.Site.{IsSameSite, SiteState, site_code}
 use Rattle.replica.specs.Taking.{IsRefusedTake}
 use Rattle.replica.specs.declared.take_fault.TakeFault.{TakeFault}
+use Rattle.replica.specs.declared.take_fault.TakeFault.TheVariants as take_fault
 use Rattle.status_report.specs.declared.asks.Ask.{Ask}
 use Rattle.site_journal.specs.contracts.step.Step as step
 use Rattle.site_journal.specs.declared.desk_fault.DeskFault.{DeskFault}
+use Rattle.site_journal.specs.declared.desk_fault.DeskFault.TheVariants as desk_fault
 use Rattle.site_journal.specs.declared.step.Step.{Step}
 use Rattle.site_journal.specs.declared.step.StepDeed.{StepDeed}
 use Rattle.site_journal.specs.declared.step.StepDeed.TheVariants.{Asked, Took, Cut, Whole}
@@ -98,6 +101,15 @@ IsStepOfCut other = ⊥
 abbrev pub IsStepOfWhole : StepDeed → Type 0
 IsStepOfWhole (Whole bytes) = ⊤
 IsStepOfWhole other = ⊥
+
+-- a take is refused for such a cause: the journal is full, the bytes are no frame, the site refuses the frame, or memory was wanting
+abbrev pub RefusesTake : DeskFault → Type 0
+RefusesTake desk_fault.JournalFull = ⊤
+RefusesTake (desk_fault.Decode fault) = fault ≢ decode_fault.Memory
+RefusesTake (desk_fault.Take fault) = fault ≢ take_fault.Memory
+RefusesTake desk_fault.Memory = ⊤
+RefusesTake desk_fault.Exhausted = ⊥
+RefusesTake (desk_fault.Rewound len) = ⊥
 
 -- bytes that came back were refused for this cause
 abbrev pub IsRefusedFor : {A B : Type 0} → Result A (DeskFault × B) → DeskFault → Type 0

@@ -7,7 +7,7 @@ ghost use Rattle.delta_codec.specs.Frames.{Spells};
 ghost use Rattle.replica.specs.Site.{IsSameSite};
 ghost use Rattle.site_journal.specs.Journals.{HasAdded, HasDropped, HasFaultAlone, IsAnswerTo};
 ghost use Rattle.site_journal.specs.Journals.{IsBegun, IsStepOfCut, IsFull, IsJournal, IsRefusedFor};
-ghost use Rattle.site_journal.specs.Journals.{IsRefusedFrame, IsUnchanged, IsStepOfWhole};
+ghost use Rattle.site_journal.specs.Journals.{RefusesTake, IsRefusedFrame, IsUnchanged, IsStepOfWhole};
 ghost use Rattle.site_journal.specs.Legal.{IsAsked, Leads};
 
 use crate::{DeskFault, Step, StepDeed};
@@ -115,6 +115,7 @@ fn decode_fault(fault: DecodeFault) -> DeskFault
     ensures decode { (told : DecodeFault) → result ≡ DeskFault.Decode told
         → (fault ≡ told) × (fault ≢ DecodeFault.Memory) }
     ensures no_take { (told : TakeFault) → result ≢ DeskFault.Take told }
+    ensures only { RefusesTake result }
     ensures no_full { result ≢ DeskFault.JournalFull }
 {
     match fault {
@@ -126,6 +127,7 @@ fn decode_fault(fault: DecodeFault) -> DeskFault
 // Why a frame is refused, as the fault of a step.
 fn take_fault(fault: TakeFault) -> DeskFault
     ensures take { (told : TakeFault) → result ≡ DeskFault.Take told → fault ≡ told }
+    ensures only { RefusesTake result }
     ensures no_decode { (told : DecodeFault) → result ≢ DeskFault.Decode told }
     ensures no_full { result ≢ DeskFault.JournalFull }
 {
@@ -369,6 +371,7 @@ impl Journaled {
             → HasFaultAlone bytes.items fault }
         ensures refused { (fault : TakeFault) → IsRefusedFor result (DeskFault.Take fault)
             → IsRefusedFrame self.old.replica bytes.items fault }
+        ensures only { IfErr result (λ refused. RefusesTake refused.0) }
         ensures back { IfErr result (λ refused. refused.1.items ≡ bytes.items) }
         ensures unchanged { OnErr result (IsUnchanged self.old self.new) }
     {

@@ -1,4 +1,5 @@
-//! What a site did, step by step: its journal, the receipts that callers have of it, and whether both agree.
+//! What a site did, step by step: its journal, the receipts that callers have of it, and the traits by which a desk and those that work
+//! for it know one another.
 //!
 //! A journal keeps the replica that it began from, each step since with what came of it, and the replica. The steps lead from the one to
 //! the other at all times, whatever was refused.
