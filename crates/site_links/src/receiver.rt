@@ -1,4 +1,4 @@
-ghost use Rattle.std.specs.Prelude.{◌≡◌, ◌++◌, ◌∷◌, [], IfNone, IfSome, true};
+ghost use Rattle.std.specs.Prelude.{◌≡◌, ◌++◌, ◌∷◌, [], IfNone, IfSome, IsNone, true};
 
 use crate::log::{InOrder, Log, Received};
 use crossbeam_channel::{Pass, RuledReceiver};
@@ -36,12 +36,16 @@ impl Model for LinkReceiver {
 }
 
 impl LinkReceiver {
-    /// Waits for the next item. `None` where none is left and the sender is gone: then the link has ended (this project's own).
+    /// Waits for the next item. `None` where none is left and the sender is gone: then the link has ended, for good (this project's own).
     pub fn recv<R: Wait>(&mut self, rt: &R) -> Option<Vec<u8>>
         ensures received { IfSome result (λ bytes.
             self.new ≡ record self.old { received = self.old.received ++ bytes.items ∷ [] }) }
         ensures ended { IfNone result (self.new ≡ record self.old { ended = true }) }
+        ensures stays { self.old.ended ≡ true → IsNone result }
     {
+        if self.has_ended {
+            return None;
+        }
         let LinkReceiver {
             end,
             pass,

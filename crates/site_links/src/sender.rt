@@ -1,4 +1,4 @@
-ghost use Rattle.std.specs.Prelude.{◌≡◌, ◌++◌, ◌∷◌, [], IfErr, OnOk, true};
+ghost use Rattle.std.specs.Prelude.{◌≡◌, ◌++◌, ◌∷◌, [], IfErr, IsErr, OnOk, true};
 
 use crate::MOST_ITEMS;
 use crate::log::{InOrder, Log, Sent};
@@ -37,14 +37,15 @@ impl Model for LinkSender {
 
 impl LinkSender {
     /// Sends these bytes as the next item, and waits while the link holds as many as it may. They come back where the receiver is gone, or
-    /// 2^40 items were sent: then the link is down (this project's own).
+    /// 2^40 items were sent: then the link is down, for good (this project's own).
     pub fn send<R: Wait>(&mut self, rt: &R, bytes: Vec<u8>) -> Result<(), Vec<u8>>
         ensures sent { OnOk result
             (self.new ≡ record self.old { sent = self.old.sent ++ bytes.items ∷ [] }) }
         ensures back { IfErr result (λ back. back.items ≡ bytes.items) }
         ensures down { IfErr result (λ back. self.new ≡ record self.old { down = true }) }
+        ensures stays { self.old.down ≡ true → IsErr result }
     {
-        if self.sent >= MOST_ITEMS {
+        if self.is_down || self.sent >= MOST_ITEMS {
             self.is_down = true;
             return Err(bytes);
         }

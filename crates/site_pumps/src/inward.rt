@@ -42,6 +42,10 @@ pub fn pump_in<R: Wait, P: Port<R>>(
         × (link.new.received ≡ link.old.received
         ++ (items ++ option_map_or (λ bytes. bytes.items ∷ []) result.refused [])) }
     ensures ended { result.fault ≡ None → link.new.ended ≡ true }
+    ensures link { link.new.link ≡ link.old.link }
+    // Bytes come back only of a take that the port has refused.
+    ensures refused { MatchOption result.refused ⊤ (λ bytes. (cause : DeskFault)
+        × (result.fault ≡ Some cause) × (P.fault port.new ≡ Some cause)) }
     ensures fault { MatchOption result.fault ⊤
         (λ cause. (P.fault port.new ≡ Some cause) ⊎ (cause ≡ DeskFault.Memory)) }
     ensures ordinal { P.ordinal port.new ≡ P.ordinal port.old }

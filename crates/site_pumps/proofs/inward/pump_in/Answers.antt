@@ -10,6 +10,7 @@ loop-preserved g c = let was = c.loop.invariant in let bytes = c.in-Some-recv.by
   ap (λ (r : Receiving). r.received) c.in-Some-recv.ensures.received ∙ ap (λ l. l ++ bytes ∷ []) was.2 ∙ append_assoc c.args.link.now.received was.0 (bytes ∷ []),
   search rules,
   search rules,
+  search rules,
 )
 
 pub returns-in-Err-clause-takes : goal.returns-in-Err-clause-takes
