@@ -1,4 +1,6 @@
-ghost use Rattle.std.specs.Prelude.{◌≡◌, IfOk, OnErr};
+ghost use Rattle.std.specs.Prelude.{◌≡◌, ℕ, IfOk, IsOk, OnErr};
+ghost use Rattle.replica.specs.declared.command.Command.{Command};
+ghost use Rattle.status_report.specs.declared.asks.Ask.TheVariants.{Command as asked_command};
 ghost use Rattle.sites_world.specs.Telling.{IsAsk};
 
 use dots::{Memory, SiteId};
@@ -18,10 +20,12 @@ pub enum Event {
 }
 
 impl Event {
-    /// The same event once more. The one fault is want of memory, and an ask alone takes some.
+    /// The same event once more. The one fault is want of memory, and an ask for a status alone takes some.
     pub fn copy(&self) -> Result<Event, Memory>
         ensures ok { IfOk result (λ copy. copy ≡ self.now) }
         ensures asks { OnErr result (IsAsk self.now) }
+        ensures command { (site : ℕ) (command : Command)
+            → self.now ≡ Event.Ask site (asked_command command) → IsOk result }
     {
         match self {
             Event::Ask(site, asked) => {
