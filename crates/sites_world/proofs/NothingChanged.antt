@@ -68,7 +68,7 @@ whole-nothing entries old new NoEntry added comes nothing = absurd comes
 delta-nothing : (old new : SiteState) (d : DeltaState) (o : Outcome) → ComesOfDelta old d o new → changes_nothing o ≡ true → replica.IsUnchanged old new
 delta-nothing old new d (Took (Ok u)) comes nothing = absurd (true≢false (sym nothing))
 delta-nothing old new d (Took (Err take_fault.CellsFull)) comes nothing = comes.2
-delta-nothing old new d (Took (Err take_fault.RunsFull)) comes nothing = comes.2
+delta-nothing old new d (Took (Err take_fault.RunsFull)) (joins, few, many, same) nothing = same
 delta-nothing old new d (Took (Err take_fault.NoSuchQueue)) comes nothing = absurd comes
 delta-nothing old new d (Took (Err take_fault.NotMine)) comes nothing = absurd comes
 delta-nothing old new d (Took (Err take_fault.Conflict)) comes nothing = absurd comes

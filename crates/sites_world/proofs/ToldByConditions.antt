@@ -1,5 +1,5 @@
 -- What comes of events is told by conditions alone.
-use Rattle.std.proofs.Common.{◌≡◌, ◌<◌, ◌≤◌, inl, inr, ℕ, Bool, true, false, List, [], ◌∷◌, ◌++◌, append-nil, length, slice_get, slice_set, Option, Some, None, Result, Ok, Err, refl, sym, ap, subst, ◌∙◌, arith}
+use Rattle.std.proofs.Common.{◌≡◌, ◌<◌, ◌≤◌, inl, inr, ℕ, List, [], ◌∷◌, ◌++◌, append-nil, length, slice_get, slice_set, Option, Some, None, Result, Ok, Err, refl, sym, ap, subst, ◌∙◌, arith}
 use Rattle.dots.specs.declared.limits.TheConstants.{MOST_COUNT}
 use Rattle.dots.specs.Knowledge.{Knowledge}
 use Rattle.delta.specs.DeltaStates.{DeltaState}
@@ -70,7 +70,7 @@ fault-comes old new k d take_fault.NoSuchQueue may is same refused = absurd (may
 fault-comes old new k d take_fault.NotMine may is same refused = absurd (may.own d is (refused.not_mine.0 refl).1)
 fault-comes old new k d take_fault.Conflict may is same refused = absurd (may.agrees d is (refused.conflict.0 refl).1)
 fault-comes old new k d take_fault.CellsFull may is same refused = let w = refused.cells_full.0 refl in (w.0, w.1, same)
-fault-comes old new k d take_fault.RunsFull may is same refused = let w = refused.runs_full.0 refl in (w.0, w.2, same)
+fault-comes old new k d take_fault.RunsFull may is same refused = let w = refused.runs_full.0 refl in (w.0, w.1, w.2, same)
 fault-comes old new k d take_fault.Memory may is same refused = same
 
 -- ---- frames

@@ -1,5 +1,5 @@
 -- What comes of events, told by conditions alone: by the states of sites and the frames of the pool before them and after them.
-use Rattle.std.specs.Prelude.{ℕ, ◌≡◌, ◌<◌, List, [], ◌∷◌, ◌++◌, Option, Some, None, Result, Ok, Err, length, slice_get, slice_set}
+use Rattle.std.specs.Prelude.{ℕ, ◌≡◌, ◌<◌, ◌≤◌, List, [], ◌∷◌, ◌++◌, Option, Some, None, Result, Ok, Err, length, slice_get, slice_set}
 use Rattle.dots.specs.declared.limits.TheConstants.{MOST_COUNT, MOST_LIVE, MOST_RUNS}
 use Rattle.member_orset.specs.Members.{cells_joined, runs_joined}
 use Rattle.delta.specs.DeltaStates.{DeltaState, IsEmpty, IsSame}
@@ -49,11 +49,12 @@ ComesOfWhole entries old (Cut (Err fault)) new added = (fault ≡ Exhausted) × 
 ComesOfWhole entries old NoMemory new added = (new ≡ old) × (added ≡ [])
 ComesOfWhole entries old other new added = ⊥
 
--- of the take of a delta: it is taken, or it is too much
+-- of the take of a delta: it is taken, or too many dots would be live, or else the known ones would have too many runs
 abbrev pub ComesOfDelta : SiteState → DeltaState → Outcome → SiteState → Type 0
 ComesOfDelta old d (Took (Ok u)) new = IsTakeDeed old d new
 ComesOfDelta old d (Took (Err take_fault.CellsFull)) new = MayJoin old d × (MOST_LIVE < cells_joined old.state.members d.members) × IsUnchanged old new
-ComesOfDelta old d (Took (Err take_fault.RunsFull)) new = MayJoin old d × (MOST_RUNS < runs_joined old.state.members d.members) × IsUnchanged old new
+ComesOfDelta old d (Took (Err take_fault.RunsFull)) new =
+    MayJoin old d × (cells_joined old.state.members d.members ≤ MOST_LIVE) × (MOST_RUNS < runs_joined old.state.members d.members) × IsUnchanged old new
 ComesOfDelta old d NoMemory new = IsUnchanged old new
 ComesOfDelta old d other new = ⊥
 
