@@ -7,7 +7,7 @@ use Rattle.std.specs.Ordering.{eq_by_cmp}
 use Rattle.std.proofs.lemmas.Option.{slice_get_within}
 use Rattle.dots.specs.declared.member.Member.{Member}
 use Rattle.dots.specs.Values.{Dot}
-use Rattle.dots.specs.Orders.{dot_cmp, member_cmp}
+use Rattle.dots.specs.Orders.{member_cmp}
 use Rattle.dots.specs.Knowledge.{Knowledge, member_of, visible_dots}
 use Rattle.dots.specs.Rows.{DotView, ShowAlike, dot_view, dots_of, is_of}
 use Rattle.dots.specs.SetItems.{in_order}

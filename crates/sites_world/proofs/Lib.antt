@@ -16,3 +16,5 @@ mod TakenEntries
 mod VisibleCounts
 mod Held
 mod Growing
+mod WithinLimits
+mod GrowingStates

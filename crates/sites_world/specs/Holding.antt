@@ -1,25 +1,31 @@
 -- What is held in a world: the deltas of its sites and of its frames; and how a world of operations grows.
-use Rattle.std.specs.Prelude.{ℕ, ◌≡◌, ◌≤◌, ◌*◌, ◌++◌, List, ◌∷◌, Contains, Some, Ok, length, slice_get}
+use Rattle.std.specs.Prelude.{true, ℕ, ◌≡◌, ◌≤◌, ◌*◌, ◌++◌, List, ◌∷◌, Contains, Some, Ok, length, slice_get}
 use Rattle.std.specs.FinMap as map
 use Rattle.std.specs.FinSet as set
+use Rattle.dots.specs.declared.calls.Calls.{Calls}
 use Rattle.dots.specs.declared.member.Member.{Member}
+use Rattle.dots.specs.Conditions.{IsConditionBelow}
 use Rattle.dots.specs.Rows.{dots_of}
+use Rattle.dots.specs.Totals.{totals_of}
 use Rattle.dots.specs.Values.{Dot}
-use Rattle.member_orset.specs.Members.{dot_view_of}
+use Rattle.site_totals.specs.Raising.{number_of}
+use Rattle.member_orset.specs.Members.{condition_of, dot_view_of}
 use Rattle.delta.specs.DeltaStates.{DeltaState}
 use Rattle.delta.specs.Joining.{Agree}
 use Rattle.delta.specs.declared.frame.Frame.{Frame}
 use Rattle.replica.specs.Site.{SiteState}
 use Rattle.replica.specs.Steps.{SiteKnowledge}
 use Rattle.replica.specs.Taking.{MayJoin}
+use Rattle.sites_world.specs.Conditions.{LeadAll, Leads}
 use Rattle.sites_world.specs.declared.event.Event.{Event}
 use Rattle.sites_world.specs.declared.event.Event.TheVariants as event
+use Rattle.sites_world.specs.declared.outcome.Outcome.{Outcome}
 use Rattle.sites_world.specs.declared.outcome.Outcome.TheVariants.{Took}
 use Rattle.sites_world.specs.Histories.{IsPartOf}
 use Rattle.sites_world.specs.Promises.{members_seen}
 use Rattle.sites_world.specs.Telling.{MayBeTaken}
 use Rattle.sites_world.specs.Worlds.{Entry, IsReached, World, happens, run}
-use Rattle.sites_world.specs.WorldStates.{IsSiteOf, IsWorld, WorldState}
+use Rattle.sites_world.specs.WorldStates.{Correspond, IsSiteOf, IsWorld, WorldState}
 
 -- ---- deltas
 
@@ -80,3 +86,41 @@ abbrev pub TakenStaysKnown : Type 0
 TakenStaysKnown = (names : List (List ℕ)) (w : World) (site place : ℕ) (entry : Entry) (later : List Event) (t : SiteKnowledge)
     → (happens names w (event.Take site place)).1 ≡ Took (Ok tt) → slice_get w.pool place ≡ Some entry
     → slice_get (run names w (event.Take site place ∷ later)).0.sites site ≡ Some t → IsPartOf entry.carried t.known
+
+-- ---- growth, told of states alone
+
+-- another delta says all that a delta does: it knows each dot of it, has each dot's condition or one above, so that a dead dot is dead there, and no total is less
+pub record IsSaidBy (d e : DeltaState) : Type 0 where
+  pub known : (dot : Dot) → set.contains d.members.known dot ≡ true → set.contains e.members.known dot ≡ true
+  pub conditions : (dot : Dot) → IsConditionBelow (condition_of d.members dot) (condition_of e.members dot)
+  pub totals : (site queue : ℕ) (calls : Calls) → number_of calls (totals_of d.totals.entries site queue) ≤ number_of calls (totals_of e.totals.entries site queue)
+
+-- a site says all that it said, and none of its last numbers is less
+pub record SiteGrows (old new : SiteState) : Type 0 where
+  pub site : new.site ≡ old.site
+  pub names : new.names ≡ old.names
+  pub state : IsSaidBy old.state new.state
+  pub last_count : old.last_count ≤ new.last_count
+  pub last_time : old.last_time ≤ new.last_time
+  pub frames : old.frames ≤ new.frames
+
+-- the sites are as many, with the same queues, each says all that it said, and the pool keeps its frames
+pub record StatesGrow (from to : WorldState) : Type 0 where
+  pub names : to.names ≡ from.names
+  pub sites : Correspond (λ site. SiteGrows) from.sites to.sites
+  pub added : List Frame
+  pub pool : to.pool ≡ from.pool ++ added
+
+-- so it is after each event, with whatever outcome
+abbrev pub LeadsGrow : Type 0
+LeadsGrow = (from to : WorldState) (e : Event) (o : Outcome) → Leads from e o to → StatesGrow from to
+
+-- and after events
+abbrev pub LeadAllGrows : Type 0
+LeadAllGrows = (from to : WorldState) (events : List Event) (outcomes : List Outcome) → LeadAll from events outcomes to → StatesGrow from to
+
+-- so a site that has taken a frame says all that the frame does, whatever events come then
+abbrev pub TakenStaysSaid : Type 0
+TakenStaysSaid = (from to : WorldState) (site place : ℕ) (frame : Frame) (new : SiteState) (later : List Event) (outcomes : List Outcome)
+    → slice_get from.pool place ≡ Some frame → LeadAll from (event.Take site place ∷ later) (Took (Ok tt) ∷ outcomes) to → slice_get to.sites site ≡ Some new
+    → IsSaidBy frame.delta new.state

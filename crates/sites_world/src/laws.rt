@@ -5,11 +5,12 @@ ghost use Rattle.sites_world.specs.declared.event.Event.{Event};
 ghost use Rattle.sites_world.specs.declared.outcome.Outcome.{Outcome};
 ghost use Rattle.sites_world.specs.Conditions.{LeadAll};
 ghost use Rattle.sites_world.specs.Holding.{EventsGrow, HeldAgree, HoldFewCells, HoldOneDotASite};
-ghost use Rattle.sites_world.specs.Holding.{MayJoinFrames, MayTakeEntries, RunsGrow};
-ghost use Rattle.sites_world.specs.Holding.{TakenStaysKnown};
+ghost use Rattle.sites_world.specs.Holding.{LeadAllGrows, LeadsGrow, MayJoinFrames, MayTakeEntries};
+ghost use Rattle.sites_world.specs.Holding.{RunsGrow, TakenStaysKnown, TakenStaysSaid};
 ghost use Rattle.sites_world.specs.Outcomes.{changes_nothing};
 ghost use Rattle.sites_world.specs.Promises.{AddAtTheirSites, AreConsistentTogether};
-ghost use Rattle.sites_world.specs.Promises.{DeltasAgree, DeltasCommute, HaveOneAddADot};
+ghost use Rattle.sites_world.specs.Promises.{DeltasAgree, DeltasCommute, EventsKeepLimits};
+ghost use Rattle.sites_world.specs.Promises.{HaveOneAddADot, WorldsAreWithinLimits};
 ghost use Rattle.sites_world.specs.Promises.{GiveSameAnswer, HaveHistories, HaveOneDotASite};
 ghost use Rattle.sites_world.specs.Promises.{HaveFewLiveDots, HaveFewVisibleDots, TakesGive};
 ghost use Rattle.sites_world.specs.Promises.{HaveSameStatus, LeadsOn, ReportsAreReadings};
@@ -106,7 +107,8 @@ pub fn what_is_held_agrees()
 {}
 
 /// A site of a world that events lead to may take each of its entries: what stands for the entry is of the site's queues, says of the site nothing that it hasn't
-/// made, and agrees with what the site knows. So each site may join each frame of the pool; only that it is too much can refuse it (this project's own).
+/// made, and agrees with what the site knows. So each site may join each frame of the pool. Nothing is told of limits: a take is still refused where too many dots
+/// would be live, or the known ones would have too many runs (this project's own).
 pub fn a_site_may_take_every_entry()
     ensures entries { MayTakeEntries }
     ensures frames { MayJoinFrames }
@@ -118,6 +120,23 @@ pub fn a_world_only_grows()
     ensures event { EventsGrow }
     ensures events { RunsGrow }
     ensures taken { TakenStaysKnown }
+{}
+
+/// States grow, whatever comes of events: there are as many sites, with the same queues; each knows each dot that it knew, with its condition or one above, has no
+/// total that is less, and has used no fewer numbers; and the pool keeps its frames. So a site that has taken a frame says all that the frame does from then on, and
+/// what is dead there is dead. It follows from the conditions of events alone, whatever states they are of (RR-7506: states only grow).
+pub fn states_only_grow()
+    ensures event { LeadsGrow }
+    ensures events { LeadAllGrows }
+    ensures taken { TakenStaysSaid }
+{}
+
+/// Each operation that a site knows or has in its buffer, and that an entry carries, is within the limits of operations, where the queues are, there are at most 64
+/// sites, and the values of each command were within theirs. A `QueueList` and the values of an `Event` are, and a world is made of no more sites (this project's
+/// own).
+pub fn operations_of_a_world_are_within_limits()
+    ensures event { EventsKeepLimits }
+    ensures events { WorldsAreWithinLimits }
 {}
 
 /// A take that is told as taken gives its site every operation of the entry: the site knows what the
