@@ -2,6 +2,8 @@
 use Rattle.replica.specs.Queues.{number_of}
 use Rattle.std.proofs.Common.{◌≡◌, ◌≢◌, ◌↔◌, inl, inr, ℕ, suc, Bool, true, false, ◌||◌, nat_lt, List, [], ◌∷◌, ◌++◌, append-nil, length, slice_get, slice_set, Option, Some, None, Ok, Err, refl, sym, ap, ◌∙◌, true≢false, if◌then◌else◌, is_some}
 use Rattle.std.specs.FinSet as set
+use Rattle.std.specs.List.{AllByRecursion}
+use Rattle.std.proofs.lemmas.List.Elements.{All-from_recursion}
 use Rattle.std.specs.Prelude.{⊤}
 use Rattle.dots.specs.declared.limits.TheConstants.{MOST_COUNT, MOST_LIVE, MOST_RUNS}
 use Rattle.dots.specs.declared.member.Member.{Member}
@@ -22,10 +24,11 @@ use Rattle.status_report.specs.Answers.{answer_of}
 use Rattle.status_report.specs.Knowing.{answer_in}
 use Rattle.sites_world.specs.declared.event.Event.{Event}
 use Rattle.sites_world.specs.declared.event.Event.TheVariants as event
+use Rattle.sites_world.specs.declared.outcome.Outcome.{Outcome}
 use Rattle.sites_world.specs.declared.outcome.Outcome.TheVariants as outcome
 use Rattle.sites_world.specs.Outcomes.{IsAnswerTo, IsOutcomeOf, IsToldRefusal, changes_nothing}
-use Rattle.sites_world.specs.Worlds.{Entry, Happening, World, answered, framed, happens, happens_at, happens_where, has_entry, site_of, take_told, taken}
-use Rattle.sites_world.specs.Promises.{TellNoEntry, TellNoSite}
+use Rattle.sites_world.specs.Worlds.{Entry, Happening, World, answered, framed, happens, happens_at, happens_where, has_entry, is_done, run, site_of, take_told, taken}
+use Rattle.sites_world.specs.Promises.{HaveOutcomes, TellNoEntry, TellNoSite}
 use Rattle.sites_world.proofs.Lists.{none-some, set-again}
 
 -- ---- which outcomes
@@ -223,3 +226,31 @@ refusals-change-nothing names w e h = by (slice_get w.sites (site_of e)) refl h
         let sites = ap (slice_set w.sites (site_of e)) stays.site ∙ set-again w.sites (site_of e) s is in
         let pool = ap (λ added. w.pool ++ added) stays.added ∙ append-nil w.pool in
         λ i. record { sites = sites i; pool = pool i }
+
+-- ---- outcomes of events in turn
+
+-- what may come of an event isn't want of memory
+told-done : (e : Event) (o : Outcome) → IsOutcomeOf e o → is_done o ≡ true
+told-done e (outcome.Answered answer) is = refl
+told-done e (outcome.Cut result) is = refl
+told-done e (outcome.Took result) is = refl
+told-done e outcome.NoSite is = refl
+told-done e outcome.NoEntry is = refl
+told-done (event.Ask site asked) outcome.NoMemory is = absurd is
+told-done (event.Cut site) outcome.NoMemory is = absurd is
+told-done (event.Whole site) outcome.NoMemory is = absurd is
+told-done (event.Take site place) outcome.NoMemory is = absurd is
+
+all-done : (names : List (List ℕ)) (w : World) (events : List Event) → AllByRecursion (λ o. is_done o ≡ true) (run names w events).1
+all-done names w [] = tt
+all-done names w (e ∷ es) = (told-done e (happens names w e).1 (of-their-events names w e), all-done names (happens names w e).0 es)
+
+one-each : (names : List (List ℕ)) (w : World) (events : List Event) → length (run names w events).1 ≡ length events
+one-each names w [] = refl
+one-each names w (e ∷ es) = ap suc (one-each names (happens names w e).0 es)
+
+pub have-outcomes : (names : List (List ℕ)) (w : World) (events : List Event) → HaveOutcomes names w events
+have-outcomes names w events = record {
+  one_each = one-each names w events;
+  done = All-from_recursion (λ o. is_done o ≡ true) (run names w events).1 (all-done names w events);
+}

@@ -27,7 +27,7 @@ use Rattle.status_report.specs.Knowing.{status_in}
 use Rattle.sites_world.specs.declared.event.Event.{Event}
 use Rattle.sites_world.specs.declared.event.Event.TheVariants as event
 use Rattle.sites_world.specs.Histories.{HasHistory, IsIn, IsOf, IsPartOf, Makes}
-use Rattle.sites_world.specs.Worlds.{Entry, IsReached, World, happens, has_entry, new_world, run, site_of}
+use Rattle.sites_world.specs.Worlds.{Entry, IsReached, World, happens, has_entry, is_done, new_world, run, site_of}
 
 -- each world that events lead to has a history
 abbrev pub HaveHistories : Type 0
@@ -143,6 +143,11 @@ TellNoEntry = (names : List (List ℕ)) (w : World) (e : Event) → ((happens na
 -- what tells that nothing is changed comes where nothing is
 abbrev pub RefusalsChangeNothing : Type 0
 RefusalsChangeNothing = (names : List (List ℕ)) (w : World) (e : Event) → changes_nothing (happens names w e).1 ≡ true → (happens names w e).0 ≡ w
+
+-- events have one outcome each, and none of them is want of memory
+pub record HaveOutcomes (names : List (List ℕ)) (w : World) (events : List Event) : Type 0 where
+  pub one_each : length (run names w events).1 ≡ length events
+  pub done : All (λ o. is_done o ≡ true) (run names w events).1
 
 -- ---- limits
 

@@ -10,7 +10,7 @@ ghost use Rattle.sites_world.specs.Holding.{RunsGrow, TakenStaysKnown, TakenStay
 ghost use Rattle.sites_world.specs.Outcomes.{changes_nothing};
 ghost use Rattle.sites_world.specs.Promises.{AddAtTheirSites, AreConsistentTogether};
 ghost use Rattle.sites_world.specs.Promises.{DeltasAgree, DeltasCommute, EventsKeepLimits};
-ghost use Rattle.sites_world.specs.Promises.{HaveOneAddADot, WorldsAreWithinLimits};
+ghost use Rattle.sites_world.specs.Promises.{HaveOneAddADot, HaveOutcomes, WorldsAreWithinLimits};
 ghost use Rattle.sites_world.specs.Promises.{GiveSameAnswer, HaveHistories, HaveOneDotASite};
 ghost use Rattle.sites_world.specs.Promises.{HaveFewLiveDots, HaveFewVisibleDots, TakesGive};
 ghost use Rattle.sites_world.specs.Promises.{HaveSameStatus, LeadsOn, ReportsAreReadings};
@@ -61,6 +61,12 @@ pub fn an_outcome_is_of_its_event()
     ensures kind { AreOfTheirEvents }
     ensures no_site { TellNoSite }
     ensures no_entry { TellNoEntry }
+{}
+
+/// In the world of operations each list of events has one list of outcomes, one for each event, and none of these is `NoMemory` (this project's own).
+pub fn each_event_has_one_outcome()
+    ensures { (names : List (List ℕ)) (w : World) (events : List Event)
+        → HaveOutcomes names w events }
 {}
 
 /// What is refused changes nothing, and nor does a status, a cut of an empty buffer, or an event where there is no such site or
