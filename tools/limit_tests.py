@@ -41,10 +41,10 @@ def report(interfaces):
     )
 
 
-def check_script(what, told):
-    """Runs a script of two sites: lines, and what each of them must write."""
+def check_script(what, sites, told):
+    """Runs a script of so many sites: lines, and what each of them must write."""
     script, wanted = ("".join(it).encode() for it in zip(*((f"{line}\n", printed) for line, printed in told)))
-    ran = run(BUILT, ["script", "2", "sales"], script)
+    ran = run(BUILT, ["script", str(sites), "sales"], script)
     if ran.stdout != wanted or ran.returncode:
         why = first_difference(wanted, ran.stdout) if ran.stdout != wanted else f"the status is {ran.returncode}"
         raise Failed(f"in the script of {what} {why}")
@@ -78,20 +78,37 @@ def members_past_the_limit():
         ("1 offer sales", "offer 0 SIP/0\n"),
         ("1 ami Action: QueueStatus", report(interfaces)),
     ]
-    check_script("a member past the limit", told)
+    check_script("a member past the limit", 2, told)
     return f"a script of {MOST_MEMBERS:,} members and one more"
+
+
+def halves_of_all_members():
+    """Two sites take every second add of a third, which adds as many members as there may be; then each takes what the other knows, and
+    all three show them all."""
+    interfaces = [f"SIP/{it}" for it in range(MOST_MEMBERS)]
+    told = []
+    for number, interface in enumerate(interfaces):
+        told += [(add(0, interface), ADDED), ("0 cut", f"entry {number}\n"), (f"{1 + number % 2} take {number}", "taken\n")]
+    told += [(f"{site} whole", f"entry {MOST_MEMBERS + site}\n") for site in range(3)]
+    told += [(f"{taker} take {MOST_MEMBERS + maker}", "taken\n") for taker, maker in [(1, 2), (2, 1), (1, 0), (2, 0)]]
+    told += [(f"{site} ami Action: QueueStatus", report(interfaces)) for site in range(3)]
+    check_script("two halves of all members", 3, told)
+    return f"a script of two halves of {MOST_MEMBERS:,} members"
 
 
 def runs_past_the_limit():
     """A site takes every second of another's removes, until it has as many runs of dots as it may have. It then refuses one more, of
-    another or of its own, and still counts calls."""
+    another or of its own, and still counts calls. A third that has one run fewer adds."""
     told = []
     for taken in range(MOST_RUNS + 1):
         told += [(add(0, "a"), ADDED), ("0 cut", f"entry {2 * taken}\n"), (remove(0, "a"), REMOVED), ("0 cut", f"entry {2 * taken + 1}\n")]
         told.append((f"1 take {2 * taken + 1}", "taken\n" if taken < MOST_RUNS else "refused RunsFull\n"))
         told += [(add(0, "a"), ADDED), (remove(0, "a"), REMOVED)]
+    last = 2 * MOST_RUNS + 2
     told += [(add(1, "b"), FULL), ("1 completed sales", "done\n"), ("1 ami Action: QueueStatus|Member: b", report([]).replace("Completed: 0", "Completed: 1"))]
-    check_script("a run past the limit", told)
+    told += [(f"2 take {2 * taken + 1}", "taken\n") for taken in range(MOST_RUNS - 1)]
+    told += [(add(2, "b"), ADDED), ("2 cut", f"entry {last}\n"), (f"1 take {last}", "refused RunsFull\n")]
+    check_script("a run past the limit", 3, told)
     return f"a script of {MOST_RUNS:,} runs and one more"
 
 
@@ -130,7 +147,7 @@ def changes_with_little_memory():
 
 
 TESTS = {
-    "queue_sites": [members_past_the_limit, runs_past_the_limit, changes_with_little_memory],
+    "queue_sites": [members_past_the_limit, halves_of_all_members, runs_past_the_limit, changes_with_little_memory],
     "frame_cases": [frames_past_the_limits],
 }
 

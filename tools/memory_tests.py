@@ -22,28 +22,28 @@ class MemoryTest(NamedTuple):
 
 TESTS = [
     MemoryTest(
-        crate="tests_of_parts",
+        crate="tests_of_sites",
         name="streams::memory_of_a_feed",
         what="a feed",
         whole="at once",
         refused={"again": "only delayed its messages"},
     ),
     MemoryTest(
-        crate="tests_of_sets",
+        crate="tests_of_parts",
         name="frames::memory_of_a_frame",
         what="a frame that is read and spelled",
         whole="spelled",
         refused={"refused": "refused one of the two with Memory"},
     ),
     MemoryTest(
-        crate="tests_of_sets",
+        crate="tests_of_parts",
         name="joins::memory_of_a_first_join",
         what="a join into an empty set",
         whole="joined",
         refused={"refused": "refused it with Memory, and left both sets as they were"},
     ),
     MemoryTest(
-        crate="tests_of_sets",
+        crate="tests_of_parts",
         name="joins::memory_of_a_join",
         what="a join",
         whole="joined",

@@ -1,15 +1,23 @@
-//! Tests of the parts by their public calls: values, arenas, contexts, registers, totals and
-//! streams. It has no code of its own.
+//! Tests of what a site's state is made of, by their public calls: values, arenas, contexts, registers, totals, sets of members, deltas
+//! and frames. This crate has no code of its own.
 #![tactic(auto)]
 
 #[cfg(test)]
 mod arenas;
 #[cfg(test)]
+mod cell_ids;
+#[cfg(test)]
 mod contexts;
 #[cfg(test)]
-mod registers;
+mod deltas;
 #[cfg(test)]
-mod streams;
+mod frames;
+#[cfg(test)]
+mod joins;
+#[cfg(test)]
+mod member_sets;
+#[cfg(test)]
+mod registers;
 #[cfg(test)]
 mod totals;
 #[cfg(test)]

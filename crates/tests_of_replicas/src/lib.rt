@@ -1,16 +1,18 @@
-//! Tests of replicas by their public calls: what commands and frames do at them and what they are
-//! refused for, and what is shown then. This crate has no code of its own.
+//! Tests of replicas and of the reference model by their public calls: which frames from elsewhere a replica takes, what operations show
+//! in many orders, and what the steps of sites do and show. This crate has no code of its own.
 #![tactic(auto)]
 
 #[cfg(test)]
-mod commands;
-#[cfg(test)]
-mod exchanges;
-#[cfg(test)]
 mod frames;
 #[cfg(test)]
-mod limits;
+mod histories;
 #[cfg(test)]
-mod lines;
+mod model_lines;
+#[cfg(test)]
+mod operations;
+#[cfg(test)]
+mod replica_lines;
+#[cfg(test)]
+mod steps;
 #[cfg(test)]
 mod told;

@@ -1,9 +1,9 @@
 //! Values, told as words.
-use dots::{Dot, Interface, Label, Member, Penalty, QueueName, SiteId, Text80};
+use dots::{Dot, Interface, Label, Member, Penalty, QueueName, Row, SiteId, Text80};
 use replica::QueueList;
 use std::alloc::Global;
 use std::process::Abort;
-use std::str::SplitWhitespace;
+use std::str::{SplitWhitespace, from_utf8};
 
 pub(crate) type Words<'a> = SplitWhitespace<'a>;
 
@@ -79,4 +79,32 @@ pub(crate) fn list(rt: &impl Abort, alloc: Global, words: &mut Words<'_>) -> Que
 pub(crate) fn dot(rt: &impl Abort, word: &str) -> Dot {
     let (of, count) = parts(rt, word, '.');
     Dot::new(site(rt, of), number(rt, count)).expect(rt, word)
+}
+
+// A queue; every one is told as `-`.
+pub(crate) fn queue(rt: &impl Abort, word: &str) -> Option<QueueName> {
+    if word == "-" {
+        None
+    } else {
+        Some(name(rt, word))
+    }
+}
+
+pub(crate) fn utf8<'a>(rt: &impl Abort, bytes: &'a [u8]) -> &'a str {
+    from_utf8(bytes).expect(rt, "a text")
+}
+
+// A row: its penalty, whether it is paused, why, its name and its state interface.
+pub(crate) fn row_text(rt: &impl Abort, alloc: Global, row: Option<Row<'_>>) -> String {
+    match row {
+        Some(row) => {
+            let (penalty, paused) = (row.penalty, row.paused);
+            let reason = utf8(rt, row.reason);
+            let (name, state) = (utf8(rt, row.name), utf8(rt, row.state));
+            format!(in alloc; "{penalty} {paused} '{reason}' '{name}' '{state}'").expect(
+                rt, "memory",
+            )
+        }
+        None => String::from_str(alloc, "none").expect(rt, "memory"),
+    }
 }

@@ -1,5 +1,5 @@
 //! What the steps of sites do and show, as the definitions say, with each of their outcomes.
-use crate::lines::{Names, assert_lines};
+use crate::model_lines::{Names, assert_lines};
 
 // The greatest count, time and number of a frame is 1,099,511,627,776.
 const NAMES: Names = Names {

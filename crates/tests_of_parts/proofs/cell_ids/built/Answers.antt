@@ -3,7 +3,7 @@ use Rattle.std.specs.FinMap as map
 use Rattle.dots.specs.declared.limits.TheConstants.{MOST_LIVE}
 use Rattle.dots.specs.Orders.{dot_cmp}
 use Rattle.member_orset.specs.Members.{Holding}
-use Rattle.tests_of_sets.proofs.cell_ids.built.Goals as goal
+use Rattle.tests_of_parts.proofs.cell_ids.built.Goals as goal
 
 pub cell-requires-clause-greater : goal.cell-requires-clause-greater
 cell-requires-clause-greater g c q h =

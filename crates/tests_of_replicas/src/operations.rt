@@ -1,62 +1,9 @@
-//! Values, told as words.
-use dots::{Dot, Interface, Label, Member, Pause, Penalty, QueueName, SiteId, Stamp, Text80};
+//! Operations, told as words.
+use crate::told::{Words, dot, label, member, number, parts, penalty, site, small, text, word};
+use dots::{Dot, Member, Pause, SiteId, Stamp};
 use reference_model::{Calls, Operation, Setting, Total};
-use replica::QueueList;
 use std::alloc::Global;
 use std::process::Abort;
-use std::str::SplitWhitespace;
-
-pub(crate) type Words<'a> = SplitWhitespace<'a>;
-
-pub(crate) fn word<'a>(rt: &impl Abort, words: &mut Words<'a>) -> &'a str {
-    words.next().expect(rt, "a word")
-}
-
-// Both parts of a word, before and behind a mark.
-fn parts<'a>(rt: &impl Abort, word: &'a str, mark: char) -> (&'a str, &'a str) {
-    word.split_once(mark).expect(rt, word)
-}
-
-pub(crate) fn number(rt: &impl Abort, word: &str) -> u64 {
-    word.parse::<u64>().expect(rt, word)
-}
-
-pub(crate) fn small(rt: &impl Abort, word: &str) -> u32 {
-    word.parse::<u32>().expect(rt, word)
-}
-
-pub(crate) fn queue_number(rt: &impl Abort, word: &str) -> u16 {
-    word.parse::<u16>().expect(rt, word)
-}
-
-pub(crate) fn site(rt: &impl Abort, word: &str) -> SiteId {
-    SiteId::new(queue_number(rt, word)).expect(rt, word)
-}
-
-// A text; an empty one is told as `-`.
-pub(crate) fn text(rt: &impl Abort, word: &str) -> Text80 {
-    let text = if word == "-" { "" } else { word };
-    Text80::new(text.as_bytes()).expect(rt, word)
-}
-
-pub(crate) fn penalty(rt: &impl Abort, word: &str) -> Penalty {
-    Penalty::new(small(rt, word)).expect(rt, word)
-}
-
-pub(crate) fn interface(rt: &impl Abort, word: &str) -> Interface {
-    Interface::new(word.as_bytes()).expect(rt, word)
-}
-
-pub(crate) fn name(rt: &impl Abort, word: &str) -> QueueName {
-    QueueName::new(word.as_bytes()).expect(rt, word)
-}
-
-pub(crate) fn label(rt: &impl Abort, name: &str, state: &str) -> Label {
-    Label {
-        name: text(rt, name),
-        state: text(rt, state),
-    }
-}
 
 pub(crate) fn calls(word: &str) -> Calls {
     if word == "completed" {
@@ -64,24 +11,6 @@ pub(crate) fn calls(word: &str) -> Calls {
     } else {
         Calls::Abandoned
     }
-}
-
-// A member: the number of its queue, and its interface, as `0/SIP/1`.
-pub(crate) fn member(rt: &impl Abort, word: &str) -> Member {
-    let (queue, of) = parts(rt, word, '/');
-    Member {
-        queue: queue_number(rt, queue),
-        interface: interface(rt, of),
-    }
-}
-
-// The list of queues of these names.
-pub(crate) fn list(rt: &impl Abort, alloc: Global, words: &mut Words<'_>) -> QueueList {
-    let mut names = Vec::new(alloc);
-    for word in words {
-        names.push(name(rt, word)).expect(rt, "memory");
-    }
-    QueueList::new(alloc, &names).expect(rt, "a list")
 }
 
 // What is set: `penalty 3`, `pause yes lunch` or `label Ann Custom:1`.
@@ -96,12 +25,6 @@ pub(crate) fn setting(rt: &impl Abort, kind: &str, words: &mut Words<'_>) -> Set
     } else {
         Setting::Label(label(rt, first, second))
     }
-}
-
-// A dot: its site and its count, as `0.1`.
-fn dot(rt: &impl Abort, word: &str) -> Dot {
-    let (of, count) = parts(rt, word, '.');
-    Dot::new(site(rt, of), number(rt, count)).expect(rt, word)
 }
 
 // A stamp: its time and its site, as `1.0`.

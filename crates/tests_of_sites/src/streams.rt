@@ -1,15 +1,26 @@
+//! Feeds of messages, and sources and sinks over memory and over readers and writers of std's.
 ghost use Rattle.std.specs.Prelude.{◌≡◌, ◌<◌, false};
 
-use crate::values::{assert_bytes, assert_same};
 use ami_text::laws::{messages_so_far, stream_has_one_outcome, stream_of_two_pieces};
 use ami_text::{
     Failed, Feed, FeedFault, Memory, MemorySink, MemorySource, Message, Sink, Source, StdSink,
     StdSource,
 };
 use std::alloc::Global;
+use std::fmt::Debug;
 use std::io;
 use std::io::{Error, ErrorKind, Read, Write};
 use std::process::Abort;
+
+// Checks that a value is the wanted one.
+fn assert_same<T: PartialEq + Debug>(rt: &impl Abort, value: &T, want: &T) {
+    assert_eq!(rt; value, want);
+}
+
+// Checks bytes.
+fn assert_bytes(rt: &impl Abort, bytes: &[u8], want: &[u8]) {
+    assert!(rt; *bytes == *want);
+}
 
 // Feeds a piece.
 fn feed_all(rt: &impl Abort, feed: &mut Feed, piece: &[u8]) {

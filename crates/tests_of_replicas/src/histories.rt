@@ -1,6 +1,6 @@
 //! What operations show in the orders in which sites take them, and in others, with the report
 //! written out by hand.
-use crate::lines::{Names, assert_lines};
+use crate::model_lines::{Names, assert_lines};
 use dots::Penalty;
 use reference_model::Total;
 

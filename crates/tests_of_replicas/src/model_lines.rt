@@ -1,9 +1,10 @@
 //! What the lines of a story give at two sites of the reference model.
+use crate::operations::{calls, operations, setting};
 use crate::told::{
-    Words, calls, interface, label, list, member, name, number, operations, penalty, queue_number,
-    setting, site, text, word,
+    Words, interface, label, list, member, name, number, penalty, queue, queue_number, row_text,
+    site, text, utf8, word,
 };
-use dots::{Bytes, Member, QueueName, Text80};
+use dots::{Bytes, Member, Text80};
 use reference_model::{
     Change, Operation, Outcome, SiteKnowledge, Step, after_step, dots_of_member, row, rows, status,
     totals,
@@ -12,7 +13,6 @@ use replica::QueueList;
 use status_report::StatusRequest;
 use std::alloc::Global;
 use std::process::Abort;
-use std::str::from_utf8;
 
 // What stories tell by name: operations, and the texts of reports.
 #[derive(Clone, Copy)]
@@ -44,15 +44,6 @@ fn new_world(rt: &impl Abort, alloc: Global, queues: &mut Words<'_>) -> World {
         first: new_site(alloc),
         second: new_site(alloc),
         frames: Vec::new(alloc),
-    }
-}
-
-// A queue; every one is told as `-`.
-fn queue(rt: &impl Abort, word: &str) -> Option<QueueName> {
-    if word == "-" {
-        None
-    } else {
-        Some(name(rt, word))
     }
 }
 
@@ -149,23 +140,10 @@ fn do_step(
     given
 }
 
-fn utf8<'a>(rt: &impl Abort, bytes: &'a [u8]) -> &'a str {
-    from_utf8(bytes).expect(rt, "a text")
-}
-
-// The row of a member: its penalty, whether it is paused, why, its name and its state interface.
-fn row_text(rt: &impl Abort, alloc: Global, known: &[Operation], member: &Member) -> String {
-    match row(alloc, known, member).expect(rt, "memory") {
-        Some(row) => {
-            let (penalty, paused) = (row.penalty, row.paused);
-            let reason = utf8(rt, row.reason);
-            let (name, state) = (utf8(rt, row.name), utf8(rt, row.state));
-            format!(in alloc; "{penalty} {paused} '{reason}' '{name}' '{state}'").expect(
-                rt, "memory",
-            )
-        }
-        None => String::from_str(alloc, "none").expect(rt, "memory"),
-    }
+// The row of a member.
+fn row_of(rt: &impl Abort, alloc: Global, known: &[Operation], member: &Member) -> String {
+    let row = row(alloc, known, member).expect(rt, "memory");
+    row_text(rt, alloc, row)
 }
 
 // The interfaces of a queue with their penalties.
@@ -265,7 +243,7 @@ fn seen(
     words: &mut Words<'_>,
 ) -> String {
     match kind {
-        "row" => row_text(rt, alloc, known, &member(rt, word(rt, words))),
+        "row" => row_of(rt, alloc, known, &member(rt, word(rt, words))),
         "rows" => rows_text(rt, alloc, known, queue_number(rt, word(rt, words))),
         "dots" => dots_text(rt, alloc, known, &member(rt, word(rt, words))),
         "totals" => totals_text(rt, alloc, known, queue_number(rt, word(rt, words))),

@@ -1,4 +1,4 @@
-//! Sets of members: what asserts and kills say, what is read of a set, and how many dots may be live. What joins say is shown by the
+//! Sets of members: what asserts and kills say, and what is read of a set. What joins say is shown by the
 //! cases of `cases/deltas`, and how sets are built by those of `cases/frames`.
 ghost use Rattle.member_orset.specs.Members.{HasField};
 
@@ -183,8 +183,8 @@ fn asserts_and_kills_are_told(rt: HostRuntime) {
 // one may be unknown.
 type Seen = ([ToldDot; 2], &'static [(ToldDot, bool)], usize);
 
-// For the set of two live dots of site 0 with a dead one between them, of a live one of site 1, and of 40 dead ones of site 2, each
-// second one.
+// For the set of two live dots of site 0 with a dead one between them, of a live one of site 1, and of 65,534 dead ones of site 2, each
+// second one: with the runs of the others as many runs as there may be.
 const SEEN: &[Seen] = &[
     (
         [(0, 3), (0, 3)],
@@ -217,6 +217,27 @@ const SEEN: &[Seen] = &[
             (SECOND, false),
         ],
         41,
+    ),
+    (
+        [(2, 131_070), (2, 131_070)],
+        &[
+            ((2, 131_067), false),
+            ((2, 131_068), true),
+            ((2, 131_070), true),
+            (SECOND, false),
+        ],
+        65_535,
+    ),
+    // As many runs as there may be.
+    (
+        [(0, 3), (2, 131_070)],
+        &[
+            (FIRST, false),
+            (SECOND, true),
+            ((0, 3), true),
+            ((2, 131_068), true),
+        ],
+        65_536,
     ),
 ];
 
@@ -262,7 +283,7 @@ fn what_is_read_of_a_set(rt: HostRuntime) {
         Told::Kill(SECOND),
     ];
     let mut set = set_of(&rt, rt.alloc(), LIVE);
-    for half in 1..41 {
+    for half in 1..65_535 {
         change_all(&rt, &mut set, &[Told::Kill((2, 2 * half))]);
     }
     for row in SEEN {
@@ -270,31 +291,5 @@ fn what_is_read_of_a_set(rt: HostRuntime) {
     }
     assert_member(&rt, &set);
     assert_dead(&rt, rt.alloc(), &set);
-    drop(set);
-}
-
-// A set with 16,384 live dots of site 0.
-pub(crate) fn full_set(rt: &impl Abort, alloc: Global) -> MemberSet {
-    let mut set = MemberSet::new(alloc);
-    for count in 1..16_385 {
-        change_all(rt, &mut set, &[Told::Put((0, count), SIP_1, count, 0)]);
-    }
-    set
-}
-
-// One more live dot is taken once another is dead, asserted or joined in.
-#[test]
-fn at_most_16384_dots_are_live(rt: HostRuntime) {
-    const ONE_MORE: Told = Told::Put(OTHER, SIP_1, 20_000, 0);
-    let mut set = full_set(&rt, rt.alloc());
-    assert!(rt; change(&rt, &mut set, ONE_MORE) == Err(JoinFault::CellsFull));
-    change_all(
-        &rt,
-        &mut set,
-        &[Told::Kill((0, 9)), ONE_MORE, Told::Kill((0, 8))],
-    );
-    let one = set_of(&rt, rt.alloc(), &[Told::Put((1, 2), SIP_1, 5, 7)]);
-    assert!(rt; set.join(one).is_ok());
-    assert!(rt; set.cells() == 16_384);
     drop(set);
 }

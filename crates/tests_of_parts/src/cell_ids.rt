@@ -25,7 +25,7 @@ fn assert_dead(rt: &impl Abort, set: &MemberSet, id: CellId) {
 // Joins a set with the first dot and another one into one of the first dot. It then lets the first dot be dead, and one more be live.
 fn assert_ids(rt: &impl Abort, set: &mut MemberSet, joined: MemberSet) {
     let first = id_of(rt, set, FIRST, SIP_1);
-    assert!(rt; set.join(joined).is_ok());
+    assert!(rt; set.agrees(&joined) && set.join(joined).is_ok());
     let other = id_of(rt, set, OTHER, SIP_2);
     assert!(rt; id_of(rt, set, FIRST, SIP_1) == first && other != first);
     change_all(rt, set, &[Told::Kill(FIRST)]);
