@@ -1,15 +1,16 @@
 -- Steps that lead from one state of a site to another.
-use Rattle.std.proofs.Common.{◌≡◌, ◌≢◌, ℕ, ◌≤◌, ◌+◌, ◌⊎◌, inl, inr, List, [], ◌∷◌, ◌++◌, length, refl, ap, sym, ◌∙◌, subst, arith, Ok, Err, Result}
+use Rattle.std.proofs.Common.{◌≡◌, ◌≤◌, ◌+◌, inl, inr, List, [], ◌∷◌, ◌++◌, length, refl, ap, sym, ◌∙◌, subst, arith, Ok, Err, Result}
 use Rattle.std.proofs.lemmas.List.{length-append}
 use Rattle.replica.specs.declared.refusal.Refusal.{Refusal}
 use Rattle.replica.specs.declared.refusal.Refusal.TheVariants.{Memory}
 use Rattle.replica.specs.Changes.{Meaning, Makes, Refused as refused_meaning, change_of}
 use Rattle.replica.specs.Commands.{IsDone}
+use Rattle.replica.specs.Site as sites
 use Rattle.replica.specs.Site.{IsSameSite, SiteState, meaning_at}
-use Rattle.replica.proofs.SameSites.{equal-site, site-itself, site-through, unchanged-site}
+use Rattle.replica.proofs.SameSites.{equal-site, site-itself, site-through}
 use Rattle.status_report.specs.Answers.{AnswersCommand, AnswersStatus, KeepsAtStatus, answer_of}
 use Rattle.status_report.specs.declared.asks.Answer.{Answer}
-use Rattle.status_report.specs.declared.asks.Answer.TheVariants.{Done, Refused, Report}
+use Rattle.status_report.specs.declared.asks.Answer.TheVariants.{Done, Refused}
 use Rattle.status_report.specs.declared.asks.Ask.{Ask}
 use Rattle.status_report.specs.declared.asks.Ask.TheVariants.{Command as asked_command, Status}
 use Rattle.site_journal.specs.declared.step.Step.{Step}
@@ -53,17 +54,29 @@ abbrev IsRefused : Result (Unit {0}) Refusal → Type 0
 IsRefused (Ok u) = ⊥
 IsRefused (Err refusal) = Unit {0}
 
+-- a site is unchanged that is the same
+still : (s : SiteState) → sites.IsUnchanged s s
+still s = record {
+  site = refl;
+  names = refl;
+  state = record { members = record { known = refl; live = refl; ids = refl; spent = refl; retired = refl }; totals = refl };
+  pending = record { members = record { known = refl; live = refl; ids = refl; spent = refl; retired = refl }; totals = refl };
+  last_count = refl;
+  last_time = refl;
+  frames = refl;
+}
+
 -- a refused command changes nothing
-refused_same : (old new : SiteState) (meant : Meaning) (refusal : Refusal) → IsDone old meant new (Err refusal) → IsSameSite old new
-refused_same old new (Makes o) refusal (inl h) = absurd (subst IsRefused h.0 tt)
-refused_same old new (refused_meaning r) refusal (inl h) = unchanged-site old new h.1
-refused_same old new meant refusal (inr h) = unchanged-site old new h.0
+refused_still : (old new : SiteState) (meant : Meaning) (refusal : Refusal) → IsDone old meant new (Err refusal) → sites.IsUnchanged old new
+refused_still old new (Makes o) refusal (inl h) = absurd (subst IsRefused h.0 tt)
+refused_still old new (refused_meaning r) refusal (inl h) = h.1
+refused_still old new meant refusal (inr h) = h.0
 
 -- nothing but room has changed where a command is refused, nor where a status is asked for
-pub kept_at : (old new : SiteState) (asked : Ask) (answer : Answer) → AnswersCommand old asked new answer → KeepsAtStatus old asked new → (answer ≡ Done → ⊥) → IsSameSite old new
+pub kept_at : (old new : SiteState) (asked : Ask) (answer : Answer) → AnswersCommand old asked new answer → KeepsAtStatus old asked new → (answer ≡ Done → ⊥) → sites.IsUnchanged old new
 kept_at old new (asked_command command) answer (Ok u, is, done) keeps other = absurd (other is)
-kept_at old new (asked_command command) answer (Err refusal, is, done) keeps other = refused_same old new (meaning_at old (change_of command)) refusal done
-kept_at old new (Status request) answer h keeps other = equal-site old new keeps
+kept_at old new (asked_command command) answer (Err refusal, is, done) keeps other = refused_still old new (meaning_at old (change_of command)) refusal done
+kept_at old new (Status request) answer h keeps other = subst (sites.IsUnchanged old) (sym keeps) (still old)
 
 -- what is done at a state itself leads from it
 pub does : (old new : SiteState) (deed : StepDeed) → IsDeed old deed new → Leads old deed new
@@ -71,4 +84,4 @@ does old new deed h = record { old = old; new = new; before = site-itself old; d
 
 -- a journal is unchanged that is the same
 pub unmoved : (j : JournalState) → IsUnchanged j j
-unmoved j = record { base = refl; steps = refl; start = refl; count = refl; limit = refl; replica = site-itself j.replica }
+unmoved j = record { base = refl; steps = refl; start = refl; count = refl; limit = refl; replica = still j.replica }

@@ -8,6 +8,7 @@ use Rattle.delta_codec.specs.Frames.{Spells}
 use Rattle.delta_codec.specs.declared.decode_fault.DecodeFault.{DecodeFault}
 use Rattle.delta_codec.specs.declared.decode_fault.DecodeFault.TheVariants.{BadRange}
 use Rattle.delta_codec.specs.declared.decode_fault.DecodeFault.TheVariants as decode_fault
+use Rattle.replica.specs.Site as sites
 use Rattle.replica.specs.Site.{IsSameSite, SiteState, site_code}
 use Rattle.replica.specs.Taking.{IsRefusedTake}
 use Rattle.replica.specs.declared.take_fault.TakeFault.{TakeFault}
@@ -18,7 +19,7 @@ use Rattle.site_journal.specs.declared.desk_fault.DeskFault.{DeskFault}
 use Rattle.site_journal.specs.declared.desk_fault.DeskFault.TheVariants as desk_fault
 use Rattle.site_journal.specs.declared.step.Step.{Step}
 use Rattle.site_journal.specs.declared.step.StepDeed.{StepDeed}
-use Rattle.site_journal.specs.declared.step.StepDeed.TheVariants.{Asked, Took, Cut, Whole}
+use Rattle.site_journal.specs.declared.step.StepDeed.TheVariants.{Asked, Cut, Whole}
 use Rattle.site_journal.specs.Legal.{IsAsked, LeadAll, Leads}
 
 -- The replica that a journal began from, the steps since, how many steps were before, how many there were in all, how many may stand in it, and the
@@ -60,14 +61,14 @@ pub record IsBegun (replica : SiteState) (limit : ℕ) (j : JournalState) : Type
 abbrev pub IsFull : JournalState → Type 0
 IsFull j = (j.limit ≤ length j.steps) ⊎ (j.count ≡ MOST_COUNT)
 
--- nothing has changed
+-- nothing has changed but room: the replica's own words say that its ids stay too
 pub record IsUnchanged (old new : JournalState) : Type 0 where
   pub base : new.base ≡ old.base
   pub steps : new.steps ≡ old.steps
   pub start : new.start ≡ old.start
   pub count : new.count ≡ old.count
   pub limit : new.limit ≡ old.limit
-  pub replica : IsSameSite old.replica new.replica
+  pub replica : sites.IsUnchanged old.replica new.replica
 
 -- one step was added, which is this, at the position of the journal's length
 pub record HasAdded (old : JournalState) (step : Step) (new : JournalState) : Type 0 where

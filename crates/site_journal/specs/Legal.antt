@@ -1,5 +1,5 @@
 -- Legal journals: steps that lead from one state of a site to another, each by its meaning there (this project's own).
-use Rattle.std.specs.Prelude.{◌≡◌, ◌≢◌, List, [], ◌∷◌, ℕ, Option, Some, None, Result, Err}
+use Rattle.std.specs.Prelude.{◌≡◌, ◌≢◌, List, [], ◌∷◌, ℕ, Some, None, Result, Err}
 use Rattle.delta.specs.DeltaStates.{IsEmpty}
 use Rattle.delta.specs.declared.frame.Frame.{Frame}
 use Rattle.delta_codec.specs.Frames.{Spells}

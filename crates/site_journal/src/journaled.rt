@@ -1,15 +1,17 @@
-ghost use Rattle.std.specs.Prelude.{◌≡◌, ◌≢◌, ◌≤◌, ◌<◌, ◌+◌, ◌↔◌, ◌⊎◌, Err, IfErr, IfOk, IsTrue, OnErr};
-ghost use Rattle.std.specs.Prelude.{OnOk, length};
+ghost use Rattle.std.specs.Prelude.{◌≡◌, ◌≢◌, ◌≤◌, ◌<◌, ◌+◌, ◌-◌, ◌^◌, ◌↔◌, ◌⊎◌, Err, IfErr, IfOk, IsTrue};
+ghost use Rattle.std.specs.Prelude.{OnErr, OnOk, length, min};
 ghost use Rattle.dots.specs.declared.limits.TheConstants.{MOST_COUNT};
 ghost use Rattle.delta.specs.DeltaStates.{IsEmpty};
 ghost use Rattle.delta.specs.Frames.{IsInRanges, frame_of};
 ghost use Rattle.delta_codec.specs.Frames.{Spells};
-ghost use Rattle.replica.specs.Site.{IsSameSite};
+ghost use Rattle.replica.specs.Site as sites;
+ghost use Rattle.site_journal.specs.Keeping.{kept_by_steps};
 ghost use Rattle.site_journal.specs.Journals.{HasAdded, HasDropped, HasFaultAlone, IsAnswerTo};
 ghost use Rattle.site_journal.specs.Journals.{IsBegun, IsStepOfCut, IsFull, IsJournal, IsRefusedFor};
 ghost use Rattle.site_journal.specs.Journals.{RefusesTake, IsRefusedFrame, IsUnchanged, IsStepOfWhole};
 ghost use Rattle.site_journal.specs.Legal.{IsAsked, Leads};
 
+use crate::keeping::kept_by_steps;
 use crate::{DeskFault, Step, StepDeed};
 use delta::Delta;
 use delta_codec::{DecodeFault, decode, encode_parts};
@@ -35,7 +37,7 @@ fn copied_twice(asked: &Ask) -> Result<(Ask, Ask), Memory>
 fn ask_twice(alloc: Global, replica: &mut Replica, asked: &Ask) -> Result<(Answer, Answer), Memory>
     ensures same { IfOk result (λ both. both.1 ≡ both.0) }
     ensures asked { IfOk result (λ both. IsAsked replica.old asked.now both.0 replica.new) }
-    ensures err { OnErr result (IsSameSite replica.old replica.new) }
+    ensures err { OnErr result (sites.IsUnchanged replica.old replica.new) }
 {
     let copy = asked.copy()?;
     let answer = ask(alloc, replica, copy);
@@ -241,6 +243,14 @@ impl Journaled {
         &self.replica
     }
 
+    /// How many bytes its steps keep beside themselves, 2^64 - 1 at most: the ActionID and the report of each status, and the frames. A
+    /// report of megabytes that is asked for a thousand times keeps gigabytes, until a checkpoint drops the steps.
+    pub fn kept(&self) -> u64
+        ensures { result ≡ min (kept_by_steps self.now.steps) (2 ^ 64 - 1) }
+    {
+        kept_by_steps(self.steps.as_slice())
+    }
+
     // Whether no step may be added.
     fn is_full(&self) -> bool
         ensures { IsTrue result ↔ IsFull self.now }
@@ -297,7 +307,7 @@ impl Journaled {
             × (self.old.replica.frames ≡ MOST_COUNT))) }
         ensures only { IfErr result (λ fault. (fault ≡ DeskFault.JournalFull)
             ⊎ ((fault ≡ DeskFault.Exhausted) ⊎ (fault ≡ DeskFault.Memory))) }
-        ensures unchanged { OnErr result (IsUnchanged self.old self.new) }
+        ensures unchanged { OnErr result (self.new ≡ self.old) }
     {
         if self.is_full() {
             return Err(DeskFault::JournalFull);
@@ -333,7 +343,7 @@ impl Journaled {
             ↔ ((IsFull self.old → ⊥) × (self.old.replica.frames ≡ MOST_COUNT)) }
         ensures only { IfErr result (λ fault. (fault ≡ DeskFault.JournalFull)
             ⊎ ((fault ≡ DeskFault.Exhausted) ⊎ (fault ≡ DeskFault.Memory))) }
-        ensures unchanged { OnErr result (IsUnchanged self.old self.new) }
+        ensures unchanged { OnErr result (self.new ≡ self.old) }
     {
         if self.is_full() {
             return Err(DeskFault::JournalFull);

@@ -7,8 +7,11 @@
 
 mod desk_fault;
 mod journaled;
+mod keeping;
 mod ports;
 mod receipt;
+mod settle_fault;
+mod settling;
 mod step;
 
 pub use delta_codec::DecodeFault;
@@ -18,4 +21,6 @@ pub use journaled::{Journaled, MOST_STEPS};
 pub use ports::{Bell, Gate, Port};
 pub use receipt::Receipt;
 pub use replica::TakeFault;
+pub use settle_fault::SettleFault;
+pub use settling::settle;
 pub use step::{Step, StepDeed};

@@ -1,7 +1,9 @@
 //! Journals of a site: their steps, their limits, and what they refuse.
 use dots::{Interface, Label, Penalty, QueueName, SiteId, Text80};
 use replica::{Command, QueueList, Replica};
-use site_journal::{DecodeFault, DeskFault, Journaled, Step, StepDeed, TakeFault};
+use site_journal::{
+    DecodeFault, DeskFault, Journaled, Receipt, SettleFault, Step, StepDeed, TakeFault, settle,
+};
 use status_report::{Answer, Ask, StatusRequest};
 use std::alloc::Global;
 use std::process::Abort;
@@ -135,5 +137,107 @@ fn bytes_that_are_not_taken_come_back(rt: HostRuntime) {
         }
         assert_refused(&rt, &mut own, bytes, fault);
     }
+    drop(own);
+}
+
+// The receipts of a cut by this pass at each of these positions, as of a site that has nothing to send.
+fn receipts(rt: &impl Abort, alloc: Global, pass: u32, positions: &[u64]) -> Vec<Receipt> {
+    let mut receipts = Vec::new(alloc);
+    for position in positions {
+        let receipt = Receipt {
+            pass,
+            position: *position,
+            deed: StepDeed::Cut(None),
+        };
+        receipts.push(receipt).expect(rt, "memory");
+    }
+    receipts
+}
+
+// Asserts why receipts of the passes 0 and 1 at these positions don't settle a journal, if they don't.
+fn assert_settles(
+    rt: &impl Abort,
+    alloc: Global,
+    journal: &Journaled,
+    first: &[u64],
+    second: &[u64],
+    fault: Option<SettleFault>,
+) {
+    let lists = [
+        receipts(rt, alloc, 0, first),
+        receipts(rt, alloc, 1, second),
+    ];
+    assert!(rt; settle(journal, &lists).err() == fault);
+    drop(lists);
+}
+
+#[test]
+fn receipts_settle_where_they_are_those_of_the_steps(rt: HostRuntime) {
+    let alloc = rt.alloc();
+    let mut own = journal(&rt, alloc, 0, 5);
+    for pass in [1, 0, 1] {
+        let step = own.cut(pass).ok().expect(&rt, "a step");
+        assert!(rt; is_empty_cut(&step));
+    }
+    assert_settles(&rt, alloc, &own, &[1], &[0, 2], None);
+    assert_settles(
+        &rt,
+        alloc,
+        &own,
+        &[2],
+        &[0, 1],
+        Some(SettleFault::Differs(0)),
+    );
+    assert_settles(
+        &rt,
+        alloc,
+        &own,
+        &[1],
+        &[2, 0],
+        Some(SettleFault::Differs(1)),
+    );
+    assert_settles(&rt, alloc, &own, &[1], &[0], Some(SettleFault::Differs(1)));
+    assert_settles(
+        &rt,
+        alloc,
+        &own,
+        &[1],
+        &[0, 2, 3],
+        Some(SettleFault::Differs(1)),
+    );
+    let later = own.cut(7).ok().expect(&rt, "a step");
+    assert!(rt; is_empty_cut(&later));
+    assert_settles(
+        &rt,
+        alloc,
+        &own,
+        &[1],
+        &[0, 2],
+        Some(SettleFault::Differs(7)),
+    );
+    assert!(rt; own.checkpoint().is_ok());
+    assert_settles(
+        &rt,
+        alloc,
+        &own,
+        &[1],
+        &[0, 2],
+        Some(SettleFault::Checkpointed),
+    );
+    drop(own);
+}
+
+#[test]
+fn frames_and_reports_are_kept(rt: HostRuntime) {
+    let alloc = rt.alloc();
+    let mut own = journal(&rt, alloc, 0, 5);
+    assert_asked(&rt, &mut own, &add(&rt), false);
+    assert!(rt; own.kept() == 0);
+    let cut = own.cut(7).ok().expect(&rt, "a step");
+    assert!(rt; own.kept() == ADDED.len() as u64);
+    assert_asked(&rt, &mut own, &status(alloc), true);
+    assert!(rt; own.kept() > ADDED.len() as u64);
+    assert!(rt; own.checkpoint().is_ok() && own.kept() == 0);
+    drop(cut);
     drop(own);
 }

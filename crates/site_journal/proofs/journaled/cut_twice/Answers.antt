@@ -1,4 +1,4 @@
-use Rattle.std.proofs.Common.{◌≡◌, IfSome, Some, None, refl, sym, subst, ◌∙◌, true≢false, arith}
+use Rattle.std.proofs.Common.{IfSome, Some, None, sym, subst, ◌∙◌, true≢false, arith}
 use Rattle.delta.specs.DeltaStates.{IsEmpty}
 use Rattle.delta_codec.proofs.FrameLaws.{spells_same}
 use Rattle.replica.specs.Framing.{HasCut}

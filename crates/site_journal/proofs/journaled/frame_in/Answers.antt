@@ -1,4 +1,4 @@
-use Rattle.std.proofs.Common.{rules, inl, inr, refl}
+use Rattle.std.proofs.Common.{rules, inr, refl}
 use Rattle.site_journal.proofs.journaled.frame_in.Goals as goal
 
 -- more follows the frame

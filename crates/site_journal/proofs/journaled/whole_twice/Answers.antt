@@ -1,4 +1,4 @@
-use Rattle.std.proofs.Common.{◌≡◌, refl, sym, subst, ◌∙◌, arith}
+use Rattle.std.proofs.Common.{sym, subst, ◌∙◌, arith}
 use Rattle.delta.specs.DeltaStates.{IsSame}
 use Rattle.delta_codec.proofs.FrameLaws.{spells_same}
 use Rattle.replica.specs.Framing.{HasCopied}

@@ -1,6 +1,5 @@
-use Rattle.std.proofs.Common.{rules, ◌≡◌, ◌++◌, ◌∷◌, [], true≢false, refl, ap, sym, ◌∙◌, subst}
-use Rattle.site_journal.specs.Journals.{HasAdded, IsFull, IsJournal, IsUnchanged}
-use Rattle.site_journal.specs.Legal.{Leads}
+use Rattle.std.proofs.Common.{◌≡◌, true≢false, refl, ap, sym, ◌∙◌, subst}
+use Rattle.site_journal.specs.Journals.{IsFull}
 use Rattle.delta_codec.specs.Frames.{Spells}
 use Rattle.replica.proofs.SameSites.{unchanged-site}
 use Rattle.replica.specs.Taking.{IsRefusedTake}
@@ -31,7 +30,7 @@ returns-in-Err-take-clause-refused c = λ fault told. record {
 
 pub returns-in-Err-take-clause-unchanged : goal.returns-in-Err-take-clause-unchanged
 returns-in-Err-take-clause-unchanged c =
-    rw (← c.self.view_is, c.reserve.ensures.items) (record { base = refl; steps = refl; start = refl; count = refl; limit = refl; replica = unchanged-site _ _ c.in-Err-take.ensures.unchanged })
+    rw (← c.self.view_is, c.reserve.ensures.items) (record { base = refl; steps = refl; start = refl; count = refl; limit = refl; replica = c.in-Err-take.ensures.unchanged })
 
 -- one step more
 pub invariant_of-self-2 : goal.invariant_of-self-2

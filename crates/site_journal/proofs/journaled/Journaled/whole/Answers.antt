@@ -1,6 +1,5 @@
-use Rattle.std.proofs.Common.{rules, ◌≡◌, ◌++◌, ◌∷◌, [], true≢false, refl, ap, sym, ◌∙◌, subst}
-use Rattle.site_journal.specs.Journals.{HasAdded, IsFull, IsJournal, IsUnchanged}
-use Rattle.site_journal.specs.Legal.{Leads}
+use Rattle.std.proofs.Common.{true≢false, sym, ◌∙◌, subst}
+use Rattle.site_journal.specs.Journals.{IsFull}
 use Rattle.site_journal.proofs.Leading.{one_more}
 use Rattle.site_journal.proofs.journaled.Journaled.whole.Goals as goal
 
