@@ -37,7 +37,7 @@ pub fn deltas_that_agree_are_not_in_conflict()
     ensures { (x y : DeltaState) → Agree x y → Disagree x y → ⊥ }
 {}
 
-/// A knowledge has one delta: two that stand for it are the same. And what is the same stands for the same.
+/// A knowledge has at most one delta: two that stand for it are the same. And what is the same stands for the same.
 pub fn a_knowledge_has_one_delta()
     ensures one { (x y : DeltaState) (k : Knowledge)
         → IsDeltaOf x k → IsDeltaOf y k → IsSame x y }

@@ -48,8 +48,8 @@ pub fn a_command_means_the_same_at_views_that_are_alike()
         → MeansTheSameAlike r s buffer other }
 {}
 
-/// What a command makes is within the limits of operations, where its values, and all operations that the site knows, are within theirs. So each operation
-/// that a site ever makes is (this project's own).
+/// What a command makes is within the limits of operations, where the site's number, its queues, the command's values, and all operations that the site knows, are
+/// within theirs (this project's own).
 pub fn a_command_makes_operations_within_limits()
     ensures { MakesWithinLimits }
 {}

@@ -3,7 +3,7 @@ use dots::Memory;
 use replica::TakeFault;
 use thiserror::Error;
 
-/// Why a step wasn't done, in order. No fault changes anything (this project's own).
+/// Why a step wasn't done. No fault changes the steps, or what the site says (this project's own).
 #[derive(Clone, Copy, Debug, PartialEq, Eq, Error)]
 pub enum DeskFault {
     /// The journal is shorter than its caller has seen; this is how long it is. A desk alone answers so.

@@ -56,7 +56,7 @@ pub trait Port<R> {
 pub trait Bell<R> {
     ghost use Rattle.std.specs.Prelude.{ℕ, Bool};
 
-    /// How often it rang, 2^40 times at most.
+    /// How often it rang; no wait leads past 2^40.
     ghost rings: { Self → ℕ };
 
     /// Whether it has ended, which stays.

@@ -7,6 +7,6 @@ pub enum Deed {
     Lose,
     /// It is sent twice, and those that are held go behind it.
     Twice,
-    /// It is held until the next frame that isn't.
+    /// It is held until the next frame that isn't, or until no more are cut.
     Hold,
 }

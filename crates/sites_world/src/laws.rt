@@ -25,7 +25,7 @@ pub fn a_world_has_a_history()
     ensures { HaveHistories }
 {}
 
-/// A dot is made once: adds of one dot, in any two knowledges of one world, are one operation, which was made at the dot's site
+/// A dot is made once: adds of one dot, in any two knowledges of one world, are one operation, whose stamp is of the dot's site
 /// (RR-8083: each add has a tag of its own).
 pub fn a_dot_is_made_once()
     ensures once { HaveOneAddADot }
@@ -112,7 +112,7 @@ pub fn what_is_held_agrees()
     ensures { HeldAgree }
 {}
 
-/// A site of a world that events lead to may take each of its entries: what stands for the entry is of the site's queues, says of the site nothing that it hasn't
+/// A site of a world that events lead to may join each of its entries: what stands for the entry is of the site's queues, says of the site nothing that it hasn't
 /// made, and agrees with what the site knows. So each site may join each frame of the pool. Nothing is told of limits: a take is still refused where too many dots
 /// would be live, or the known ones would have too many runs (this project's own).
 pub fn a_site_may_take_every_entry()
