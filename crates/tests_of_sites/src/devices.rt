@@ -15,20 +15,6 @@ fn script(rt: &impl Abort, alloc: Global, length: usize, behind: &str) -> Vec<u8
     script
 }
 
-// How a run of a script at one site ends.
-fn end_over(
-    rt: &impl Abort,
-    alloc: Global,
-    reader: &mut MemorySource<'_>,
-    writer: &mut MemorySink,
-) -> Result<u64, ScriptFault> {
-    let queues = list(rt, alloc, &["a"]);
-    let sites = SiteCount::new(1).expect(rt, "a number of sites");
-    let end = run_script(alloc, reader, writer, sites, &queues);
-    drop(queues);
-    end
-}
-
 // How a run of a script at one site ends, and what it has written. The reader gives at most so many bytes a read, and fails at the
 // read behind so many; the writer takes at most so many a write, and fails at the write behind so many.
 fn end_of(
@@ -38,9 +24,11 @@ fn end_of(
     (read, reads): (usize, u64),
     (write, writes): (usize, u64),
 ) -> (Result<u64, ScriptFault>, MemorySink) {
+    let queues = list(rt, alloc, &["a"]);
+    let sites = SiteCount::new(1).expect(rt, "a number of sites");
     let mut reader = MemorySource::failing(script, read.max(1), reads);
     let mut writer = MemorySink::failing(alloc, write, writes);
-    let end = end_over(rt, alloc, &mut reader, &mut writer);
+    let end = run_script(alloc, &mut reader, &mut writer, sites, &queues);
     (end, writer)
 }
 
