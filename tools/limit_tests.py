@@ -1,5 +1,5 @@
-"""Runs the programs on as much as they may hold: scripts of sites with as many members and runs as there may be, frames with as many
-parts, and a long script with little memory."""
+"""Runs the programs on as much as they may hold: scripts of sites with as many members, runs and totals as there may be, frames with
+as many parts, and a long script with little memory."""
 import resource
 import subprocess
 import sys
@@ -41,10 +41,10 @@ def report(interfaces):
     )
 
 
-def check_script(what, sites, told):
-    """Runs a script of so many sites: lines, and what each of them must write."""
+def check_script(what, sites, told, queues=("sales",)):
+    """Runs a script of so many sites with these queues: lines, and what each of them must write."""
     script, wanted = ("".join(it).encode() for it in zip(*((f"{line}\n", printed) for line, printed in told)))
-    ran = run(BUILT, ["script", str(sites), "sales"], script)
+    ran = run(BUILT, ["script", str(sites), *queues], script)
     if ran.stdout != wanted or ran.returncode:
         why = first_difference(wanted, ran.stdout) if ran.stdout != wanted else f"the status is {ran.returncode}"
         raise Failed(f"in the script of {what} {why}")
@@ -98,18 +98,37 @@ def halves_of_all_members():
 
 def runs_past_the_limit():
     """A site takes every second of another's removes, until it has as many runs of dots as it may have. It then refuses one more, of
-    another or of its own, and still counts calls. A third that has one run fewer adds."""
+    another or of its own, and still counts calls; and what takes all that it knows has as many. Another that has one run fewer adds."""
     told = []
     for taken in range(MOST_RUNS + 1):
         told += [(add(0, "a"), ADDED), ("0 cut", f"entry {2 * taken}\n"), (remove(0, "a"), REMOVED), ("0 cut", f"entry {2 * taken + 1}\n")]
         told.append((f"1 take {2 * taken + 1}", "taken\n" if taken < MOST_RUNS else "refused RunsFull\n"))
         told += [(add(0, "a"), ADDED), (remove(0, "a"), REMOVED)]
-    last = 2 * MOST_RUNS + 2
+    whole, last = 2 * MOST_RUNS + 2, 2 * MOST_RUNS + 3
     told += [(add(1, "b"), FULL), ("1 completed sales", "done\n"), ("1 ami Action: QueueStatus|Member: b", report([]).replace("Completed: 0", "Completed: 1"))]
+    told += [("1 whole", f"entry {whole}\n"), (f"3 take {whole}", "taken\n"), (add(3, "b"), FULL)]
     told += [(f"2 take {2 * taken + 1}", "taken\n") for taken in range(MOST_RUNS - 1)]
     told += [(add(2, "b"), ADDED), ("2 cut", f"entry {last}\n"), (f"1 take {last}", "refused RunsFull\n")]
-    check_script("a run past the limit", 3, told)
+    check_script("a run past the limit", 4, told)
     return f"a script of {MOST_RUNS:,} runs and one more"
+
+
+def totals_of_all_sites():
+    """Each of 64 sites counts a call in each of 256 queues. One takes what all others know and then knows as many totals as there may
+    be, and one takes all of these at once; both show the sums."""
+    queues = [f"q{it}" for it in range(256)]
+    told = [(f"{site} completed {queue}", "done\n") for site in range(64) for queue in queues]
+    told += [(f"{site} whole", f"entry {site}\n") for site in range(63)]
+    told += [(f"63 take {site}", "taken\n") for site in range(63)]
+    told += [("63 whole", "entry 63\n"), ("0 take 63", "taken\n")]
+    sums = "".join(f"Event: QueueParams\r\nQueue: {it}\r\nCompleted: 64\r\nAbandoned: 0\r\n\r\n" for it in queues)
+    shown = (
+        "Response: Success\r\nEventList: start\r\nMessage: Queue status will follow\r\n\r\n"
+        f"{sums}Event: QueueStatusComplete\r\nEventList: Complete\r\nListItems: {len(queues)}\r\n\r\n"
+    )
+    told += [(f"{site} ami Action: QueueStatus", shown) for site in (63, 0)]
+    check_script("the totals of all sites", 64, told, queues)
+    return f"a script of {MOST_TOTALS:,} totals"
 
 
 def check_frame(what, given, lines):
@@ -147,7 +166,13 @@ def changes_with_little_memory():
 
 
 TESTS = {
-    "queue_sites": [members_past_the_limit, halves_of_all_members, runs_past_the_limit, changes_with_little_memory],
+    "queue_sites": [
+        members_past_the_limit,
+        halves_of_all_members,
+        runs_past_the_limit,
+        totals_of_all_sites,
+        changes_with_little_memory,
+    ],
     "frame_cases": [frames_past_the_limits],
 }
 
