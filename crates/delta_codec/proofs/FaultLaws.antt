@@ -7,13 +7,14 @@ use Rattle.std.proofs.lemmas.List.{get_or_past, length-append, take-append-le}
 use Rattle.delta_codec.specs.declared.decode_fault.DecodeFault.{DecodeFault}
 use Rattle.delta_codec.specs.declared.decode_fault.DecodeFault.TheVariants.{Truncated}
 use Rattle.delta.specs.declared.frame.Frame.{Frame}
+use Rattle.delta.specs.Frames.{IsSameFrame}
 use Rattle.delta_codec.specs.Decoding.{AreBytes, BeginsWithFrame, IsAtFault}
 use Rattle.delta_codec.specs.Faults.{HasFault, number4}
 use Rattle.delta_codec.specs.Frames.{Spells}
 use Rattle.delta_codec.specs.Reading.{Kept, kept_in}
 use Rattle.delta_codec.proofs.ContentLaws.{kept_of}
 use Rattle.delta_codec.proofs.FrameFaults.{frame_tells}
-use Rattle.delta_codec.proofs.FrameLaws.{frame_found, frame_spelled}
+use Rattle.delta_codec.proofs.FrameLaws.{both_found, frame_found, frame_spelled, one_frame}
 use Rattle.delta_codec.proofs.PartFaults.{fault_is, not_both, outcome}
 use Rattle.delta_codec.proofs.PartLaws.{IsBytes}
 
@@ -60,6 +61,16 @@ one_fault bytes f g all has also =
 
 pub frame_stays : (bytes more : List ℕ) (frame : Frame) (n : ℕ) → n ≤ length bytes → Spells frame (take n bytes) → Spells frame (take n (bytes ++ more))
 frame_stays bytes more frame n there spelled = subst (λ (x : List ℕ). Spells frame x) (sym (take-append-le n bytes more there)) spelled
+
+-- it is the one frame that all of the bytes begin with
+pub front_same : (bytes more : List ℕ) (x y : Frame) (m n : ℕ) → m ≤ length bytes → n ≤ length (bytes ++ more) → Spells x (take m bytes) → Spells y (take n (bytes ++ more))
+    → (m ≡ n) × IsSameFrame x y
+front_same bytes more x y m n here there s t =
+    let all = bytes ++ more in
+    let s' : Spells x (take m all) = frame_stays bytes more x m here s in
+    let within : m ≤ length all = omega (arith, length-append bytes more, here) in
+    let same = (both_found all x y m n within there s' t).1 in
+    (same, one_frame x y (take m all) s' (subst (λ (i : ℕ). Spells y (take i all)) (sym same) t))
 
 pub stays : (bytes more : List ℕ) (fault : DecodeFault) → fault ≢ Truncated → HasFault bytes fault → HasFault (bytes ++ more) fault
 stays bytes more fault not has =

@@ -321,7 +321,7 @@ one_spelling x y a b same s t =
     o.spelled ∙ ap frame_bytes parts ∙ sym t.spelled
 
 -- bytes that begin with the spellings of two frames
-both_found : (bytes : List ℕ) (x y : Frame) (n m : ℕ) → n ≤ length bytes → m ≤ length bytes → (s : Spells x (take n bytes)) → (t : Spells y (take m bytes)) → (kept_of s.parts ≡ kept_of t.parts) × (n ≡ m)
+pub both_found : (bytes : List ℕ) (x y : Frame) (n m : ℕ) → n ≤ length bytes → m ≤ length bytes → (s : Spells x (take n bytes)) → (t : Spells y (take m bytes)) → (kept_of s.parts ≡ kept_of t.parts) × (n ≡ m)
 both_found bytes x y n m in_x in_y s t =
     let a : Kept × ℕ = (kept_of s.parts, n) in
     let b : Kept × ℕ = (kept_of t.parts, m) in

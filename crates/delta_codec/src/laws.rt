@@ -50,10 +50,14 @@ pub fn bytes_have_a_frame_or_a_fault()
         → HasFault bytes fault → fault ≢ Memory }
 {}
 
-/// Whatever follows bytes: the frame that they begin with stays, and so does their fault, unless it is that bytes are missing.
+/// Whatever follows bytes: the frame that they begin with stays, and they begin with no other, longer or shorter; and their fault stays, unless it is that bytes are
+/// missing.
 pub fn a_front_stays()
     ensures frame { (bytes more : List ℕ) (frame : Frame) (n : ℕ) → n ≤ length bytes
         → Spells frame (take n bytes) → Spells frame (take n (bytes ++ more)) }
+    ensures one { (bytes more : List ℕ) (x y : Frame) (m n : ℕ)
+        → m ≤ length bytes → n ≤ length (bytes ++ more)
+        → Spells x (take m bytes) → Spells y (take n (bytes ++ more)) → (m ≡ n) × IsSameFrame x y }
     ensures fault { (bytes more : List ℕ) (fault : DecodeFault)
         → fault ≢ Truncated → HasFault bytes fault → HasFault (bytes ++ more) fault }
 {}

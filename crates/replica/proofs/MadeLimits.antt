@@ -98,6 +98,35 @@ in-each f (x ∷ xs) y h = elim (cases-in (f x) (each f xs) y h) [
   | inr r ↦ let s = in-each f xs y r in (s.0, later-in x xs s.0 s.1, s.2)
 ]
 
+-- what a function gives of an element is in the list that it gives
+pub map-in : {X Y : Type 0} (f : X → Y) (xs : List X) (x : X) → Contains xs x → Contains (each f xs) (f x)
+map-in f [] x h = absurd (nothing-in x h)
+map-in f (y ∷ ys) x h = elim (cases-in y ys x h) [
+  | inl e ↦ subst (Contains (each f (y ∷ ys))) (ap f e) (first-in (f y) (each f ys))
+  | inr r ↦ later-in (f y) (each f ys) (f x) (map-in f ys x r)
+]
+
+-- the member that is shown has the interface, and each dot of it is shown
+pub is-with : (interface : List ℕ) (o : Option Member) (d dot : Dot) (member : Member)
+    → option_and_then {U = Dot × Member} (λ m. if bytes_eq m.interface interface then Some (d, m) else None) o ≡ Some (dot, member) → bytes_eq member.interface interface ≡ true
+is-with interface None d dot member h = absurd (cc)
+is-with interface (Some m) d dot member h = by (bytes_eq m.interface interface) refl h
+  where
+    held : (x y : Dot × Member) → Some x ≡ Some y → x ≡ y
+    held x y e = ap (λ o. unwrap_or o x) e
+
+    shown : Bool → Option (Dot × Member)
+    shown b = if b then Some (d, m) else None
+
+    by : (b : Bool) → bytes_eq m.interface interface ≡ b → shown b ≡ Some (dot, member) → bytes_eq member.interface interface ≡ true
+    by true e same = subst (λ n. bytes_eq n.interface interface ≡ true) (ap (λ p. p.1) (held (d, m) (dot, member) same)) e
+    by false e same = absurd (cc)
+
+pub shown-with : (interface : List ℕ) (d : Dot) (member : Member) → bytes_eq member.interface interface ≡ true → (o : Option Member) → o ≡ Some member
+    → option_and_then {U = Dot × Member} (λ m. if bytes_eq m.interface interface then Some (d, m) else None) o ≡ Some (d, member)
+shown-with interface d member e o is =
+    ap (λ o. option_and_then {U = Dot × Member} (λ m. if bytes_eq m.interface interface then Some (d, m) else None) o) is ∙ ap (λ (b : Bool). if b then Some (d, member) else None) e
+
 pub with-is : (interface : List ℕ) (o : Option Member) (d dot : Dot) (member : Member)
     → option_and_then {U = Dot × Member} (λ m. if bytes_eq m.interface interface then Some (d, m) else None) o ≡ Some (dot, member) → (d ≡ dot) × (o ≡ Some member)
 with-is interface None d dot member h = absurd (cc)

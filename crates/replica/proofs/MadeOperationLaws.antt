@@ -6,12 +6,14 @@ use Rattle.std.specs.Prelude.{nat_eq}
 use Rattle.std.proofs.lemmas.List.Quantifiers.{position-Some}
 use Rattle.dots.specs.declared.member.Member.{Member}
 use Rattle.dots.specs.Values.{Dot}
+use Rattle.dots.specs.Orders.{dot_cmp}
 use Rattle.dots.specs.Operations.{Operation, Setting}
 use Rattle.dots.specs.Knowledge.{Knowledge, is_dot, member_of, visible_dots}
-use Rattle.dots.specs.Rows.{dot_view, dots_of}
+use Rattle.dots.specs.Rows.{dot_view, dots_of, is_of}
 use Rattle.dots.specs.SetItems.{in_order}
 use Rattle.dots.proofs.DotOrder.{dots_total}
-use Rattle.dots.proofs.Membership.{any-in, in-any, in-some, nothing-in}
+use Rattle.dots.proofs.Filters.{filter-in}
+use Rattle.dots.proofs.Membership.{any-in, in-any, in-some, nothing-in, some-in}
 use Rattle.dots.proofs.RowLaws.{dot-of}
 use Rattle.dots.proofs.WithinLimitsLaws.{one-dot}
 use Rattle.member_orset.proofs.DotTests.{same_itself}
@@ -19,7 +21,7 @@ use Rattle.replica.specs.Changes.{Change, Meaning, Makes, AddMember, RemoveMembe
 use Rattle.replica.specs.MadeOperations.{IsMadeAt, IsRemoveAt}
 use Rattle.replica.specs.Queues.{number_of}
 use Rattle.replica.specs.SiteViews.{dots_seen, site_view, with_interface}
-use Rattle.replica.proofs.MadeLimits.{in-each, in_queue-made, made, where_absent-made, where_present-made, with-is}
+use Rattle.replica.proofs.MadeLimits.{in-each, in_queue-made, is-with, made, map-in, shown-with, where_absent-made, where_present-made, with-is}
 use Rattle.replica.proofs.SeenLists.{of-member, paired-with}
 use Rattle.replica.proofs.SeenOnce.{dots-paired, in-paired, seen-visible}
 use Rattle.replica.proofs.SiteViewLaws.{older-named}
@@ -49,15 +51,51 @@ module _ (k : Knowledge) where
       let no_dots = sym (dots-paired own (dots_of (dot_view k) own)) ∙ ap (each (λ (p : Dot × Member). p.0)) none in
       nothing-in dot (subst (λ dots. Contains dots dot) no_dots (dot-of k own dot visible is))
 
-  -- those that are removed are visible
-  remove-may : (queue : Option ℕ) (interface : List ℕ) → IsRemoveAt k (set.from_list (each (λ d. d.0) (dots_seen (dot_view k) queue interface)))
-  remove-may queue interface = record {
+  -- all visible dots of a member that is seen are seen
+  all-seen : (queue : Option ℕ) (interface : List ℕ) (dot other : Dot) (member : Member) → Contains (dots_seen (dot_view k) queue interface) (dot, member)
+      → set.contains (visible_dots k) other ≡ true → member_of k other ≡ Some member → Contains (dots_seen (dot_view k) queue interface) (other, member)
+  all-seen None interface dot other member here visible is =
+      let x = in-some (with_interface (dot_view k) interface) (in_order (visible_dots k)) (dot, member) here in
+      some-in (with_interface (dot_view k) interface) (in_order (visible_dots k)) other (other, member) (filter-in (is_of (dot_view k) member) (in_order (visible_dots k)) other (dot-of k member other visible is))
+      (shown-with interface other member (is-with interface (member_of k x.0) x.0 dot member x.2) (member_of k other) is)
+  all-seen (Some q) interface dot other member here visible is =
+      let own : Member = record { queue = q; interface = interface } in
+      let dots = dots_of (dot_view k) own in
+      let same = paired-with own dots (dot, member) here in
+      subst (λ m. Contains {X = Dot × Member} (each (λ d. (d, own)) dots) (other, m)) (sym same)
+      (map-in (λ d. (d, own)) dots other (dot-of k own other visible (is ∙ ap Some same)))
+
+  -- what is removed is all that is visible of its member
+  remove-may : (q : ℕ) (interface : List ℕ) → IsRemoveAt k (set.from_list (each (λ d. d.0) (dots_seen (dot_view k) (Some q) interface)))
+  remove-may q interface = record {
+    member = own;
     seen = λ dot h.
-        let dots = dots_seen (dot_view k) queue interface in
-        let x = in-any (is_dot dot) (each (λ d. d.0) dots) (sym (set.contains-from_list dots_total (each (λ d. d.0) dots) dot) ∙ h) in
-        let p = in-each (λ d. d.0) dots x.0 x.1 in
-        subst (λ d. set.contains (visible_dots k) d ≡ true) (p.2 ∙ sym (one-dot dot x.0 x.2)) (seen-visible (dot_view k) queue interface p.0 p.1);
+        let x = of-pair dot h in subst (λ d. set.contains (visible_dots k) d ≡ true) x.2 (seen-visible (dot_view k) (Some q) interface x.0 x.1);
+    only = λ dot h.
+        let x = of-pair dot h in
+        subst (λ d. member_of k d ≡ Some own) x.2
+        (seen-member (Some q) interface x.0.0 x.0.1 x.1 ∙ ap Some (paired-with own (dots_of (dot_view k) own) x.0 x.1));
+    all = λ dot visible is.
+        set.contains-from_list dots_total removed dot
+        ∙ any-in (is_dot dot) removed dot
+        (subst (λ dots. Contains dots dot) (sym (dots-paired own (dots_of (dot_view k) own))) (dot-of k own dot visible is)) (same_itself dot);
   }
+    where
+      own : Member
+      own = record { queue = q; interface = interface }
+
+      removed : List Dot
+      removed = each (λ d. d.0) (dots_seen (dot_view k) (Some q) interface)
+
+      removed_set : set.FinSet dot_cmp
+      removed_set = set.from_list removed
+
+      -- each is of a pair that is seen
+      of-pair : (dot : Dot) → set.contains removed_set dot ≡ true → (p : Dot × Member) × Contains (dots_seen (dot_view k) (Some q) interface) p × (p.0 ≡ dot)
+      of-pair dot h =
+          let x = in-any (is_dot dot) removed (sym (set.contains-from_list dots_total removed dot) ∙ h) in
+          let p = in-each (λ d. d.0) (dots_seen (dot_view k) (Some q) interface) x.0 x.1 in
+          (p.0, p.1, p.2 ∙ sym (one-dot dot x.0 x.2))
 
 -- where an operation is made though none may be seen, none is
 none-seen : (dots : List (Dot × Member)) (m : Meaning) (o : Operation) → where_absent dots m ≡ Makes o → dots ≡ []
@@ -74,6 +112,7 @@ setting-may site names k buffer setting queue interface o h =
     let m = made r (site_view site buffer) write o (where_present-made dots (within_limits r (site_view site buffer) write) o h) in
     subst (IsMadeAt site names k) m.same (record {
       seen = λ dot member here. (seen-visible (dot_view k) queue interface (dot, member) here, seen-member k queue interface dot member here);
+      all = λ dot other member here visible is. all-seen k queue interface dot other member here visible is;
       site_is = refl;
       later = omega arith;
       older_are = older-named site k (each (λ d. d.0) dots);
@@ -100,7 +139,7 @@ makes-what-it-may site names (RemoveMember queue interface) k buffer o h =
     let q = in_queue-made (number_of names queue) _ o h in
     let dots = dots_seen r.dots (Some q.0) interface in
     let m = made r (site_view site buffer) (remove_of dots) o (where_present-made dots (within_limits r (site_view site buffer) (remove_of dots)) o q.2) in
-    subst (IsMadeAt site names k) m.same (remove-may k (Some q.0) interface)
+    subst (IsMadeAt site names k) m.same (remove-may k q.0 interface)
 makes-what-it-may site names (SetField None interface setting) k buffer o h = setting-may site names k buffer setting None interface o h
 makes-what-it-may site names (SetField (Some queue) interface setting) k buffer o h =
     let q = in_queue-made (number_of names queue) _ o h in setting-may site names k buffer setting (Some q.0) interface o q.2

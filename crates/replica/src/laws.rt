@@ -59,9 +59,9 @@ pub fn a_command_makes_operations_that_leave_traces()
     ensures { MakesTraces }
 {}
 
-/// What a command makes is what its site may make of what it knows: an add of its next dot under its next time, of a member that isn't there; a write and a remove
-/// of dots that are visible to it, and a write of a time after all of its own; its next count (RR-8083: an add makes a new tag, and a remove names the observed ones;
-/// the numbers and the older dots are this project's own).
+/// What a command makes is what its site may make of what it knows: an add of its next dot under its next time, of a member that isn't there; a remove of all dots of
+/// one member that are visible to it; a write of all that are visible of each member that it writes, under a time after all of its own; its next count (RR-8083: an
+/// add makes a new tag, and a remove names the observed ones; the numbers and the older dots are this project's own).
 pub fn a_command_makes_what_its_site_may_make()
     ensures { (site : ℕ) (names : List (List ℕ)) (change : Change) (k buffer : Knowledge)
         (o : Operation)

@@ -15,14 +15,6 @@ none-some x h = (cc)
 pub one-some : {X : Type 0} (x y : X) → Some x ≡ Some y → x ≡ y
 one-some x y h = cc
 
--- what a function gives of an element is in the list that it gives
-pub map-in : {X Y : Type 0} (f : X → Y) (xs : List X) (x : X) → Contains xs x → Contains (each f xs) (f x)
-map-in f [] x h = absurd (nothing-in x h)
-map-in f (y ∷ ys) x h = elim (cases-in y ys x h) [
-  | inl e ↦ subst (Contains (each f (y ∷ ys))) (ap f e) (first-in (f y) (each f ys))
-  | inr r ↦ later-in (f y) (each f ys) (f x) (map-in f ys x r)
-]
-
 -- what isn't less is at least as great
 pub at-least : (a b : ℕ) → (a < b → ⊥) → b ≤ a
 at-least a b not_less = elim cases [ inl less ↦ absurd (not_less less) | inr past ↦ past ]

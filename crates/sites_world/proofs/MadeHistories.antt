@@ -15,7 +15,8 @@ use Rattle.replica.specs.SiteViews.{count_used, greatest, time_used}
 use Rattle.replica.specs.Steps.{SiteKnowledge}
 use Rattle.replica.specs.MadeOperations.{IsAddAt, IsMadeAt, IsWriteAt}
 use Rattle.sites_world.specs.Histories.{IsHistory, IsOf, IsSiteIn, Makes, stamp_of}
-use Rattle.sites_world.proofs.Lists.{map-in, none-some, one-some}
+use Rattle.replica.proofs.MadeLimits.{map-in}
+use Rattle.sites_world.proofs.Lists.{none-some, one-some}
 use Rattle.sites_world.proofs.Dots.{is-asserted, member-in, member-is, older-than, visible-of, visible-parts}
 use Rattle.sites_world.proofs.Parts.{asserted-part, known-asserted, known-named, known-part, named-part}
 use Rattle.sites_world.proofs.GrownHistories.{IsNewDot, IsNext, makes-pair}
