@@ -1,5 +1,5 @@
 -- One step more of the search.
-use Rattle.std.proofs.Common.{◌≡◌, ◌<◌, ◌⊎◌, inl, inr, ℕ, suc, List, [], ◌∷◌, ◌++◌, length, slice_get, slice_set, Some, None, refl, sym, ap, subst, ◌∙◌, take, drop}
+use Rattle.std.proofs.Common.{◌≡◌, ◌<◌, inl, inr, ℕ, suc, List, [], ◌∷◌, ◌++◌, length, slice_get, slice_set, Some, refl, sym, ap, subst, ◌∙◌, take, drop}
 use Rattle.std.proofs.lemmas.List.{length-set}
 use Rattle.std.proofs.lemmas.Option.{slice_get_within}
 use Rattle.std.proofs.lemmas.List.Elements.{All-append, All-from_recursion}
@@ -26,7 +26,6 @@ module _ (journals : List JournalState) (at : List ℕ) (events : List Event) (i
     (j : JournalState) (n : ℕ) (step : Step) (e : Event) (s : SiteKnowledge)
     (journal : slice_get journals (site_of e) ≡ Some j) (place : slice_get at (site_of e) ≡ Some n) (next : slice_get j.steps n ≡ Some step)
     (knows : slice_get (world_after journals events).sites (site_of e) ≡ Some s) where
-
   -- the world after it
   pub world-more : world_after journals (events ++ e ∷ [])
       ≡ after_happening (world_after journals events) (site_of e) (happens_at (names_in journals) (world_after journals events).pool s e)
@@ -81,9 +80,9 @@ module _ (journals : List JournalState) (at : List ℕ) (events : List Event) (i
       by : (site m : ℕ) (k : JournalState) → slice_get journals site ≡ Some k → slice_get (slice_set at (site_of e) (suc n)) site ≡ Some m → IsSiteAt journals (events ++ e ∷ []) site m k
       by site m k at-journals at-places = elim (same-or-not site (site_of e)) [
         | inl q ↦
-          subst (λ v. IsSiteAt journals (events ++ e ∷ []) v m k) (sym q)
-          (subst (λ v. IsSiteAt journals (events ++ e ∷ []) (site_of e) m v) (one-some j k (sym journal ∙ sym (ap (slice_get journals) q) ∙ at-journals))
+            subst (λ v. IsSiteAt journals (events ++ e ∷ []) v m k) (sym q)
+            (subst (λ v. IsSiteAt journals (events ++ e ∷ []) (site_of e) m v) (one-some j k (sym journal ∙ sym (ap (slice_get journals) q) ∙ at-journals))
             (subst (λ v. IsSiteAt journals (events ++ e ∷ []) (site_of e) v j)
-              (one-some (suc n) m (sym (get-set-same at (site_of e) (suc n) within) ∙ sym (ap (slice_get (slice_set at (site_of e) (suc n))) q) ∙ at-places)) here))
+            (one-some (suc n) m (sym (get-set-same at (site_of e) (suc n) within) ∙ sym (ap (slice_get (slice_set at (site_of e) (suc n))) q) ∙ at-places)) here))
         | inr apart ↦ there site m k apart (is.each site m k at-journals (sym (get-set-other at (site_of e) site (suc n) apart) ∙ at-places))
       ]

@@ -1,5 +1,5 @@
 -- What comes of the event of each deed.
-use Rattle.std.proofs.Common.{◌≡◌, ◌⊎◌, inl, inr, ℕ, List, [], ◌∷◌, ◌++◌, length, slice_get, Option, Some, None, Ok, Err, Result, refl, sym, ap, subst, ◌∙◌}
+use Rattle.std.proofs.Common.{◌≡◌, inl, inr, ℕ, List, [], ◌∷◌, ◌++◌, length, slice_get, Some, None, Result, refl, sym, ap, subst, ◌∙◌}
 use Rattle.delta.specs.declared.frame.Frame.{Frame}
 use Rattle.delta_codec.specs.Frames.{Spells}
 use Rattle.delta_codec.proofs.FrameLaws.{one_frame}
@@ -11,7 +11,7 @@ use Rattle.replica.specs.Deeds.{IsTakeDeed}
 use Rattle.replica.specs.Framing.{IsFramed}
 use Rattle.replica.specs.Site.{IsSameSite, SiteState, meaning_at}
 use Rattle.replica.specs.Standing.{StandsFor, result_of}
-use Rattle.replica.specs.Steps.{Do, Framed, Outcome, SiteKnowledge, after_frame, cut, step, take}
+use Rattle.replica.specs.Steps.{Do, Outcome, SiteKnowledge, after_frame, cut, step, take}
 use Rattle.replica.proofs.FramedSites.{cut-means, nothing-cut, whole-means}
 use Rattle.replica.proofs.SameSites.{same-site-stands}
 use Rattle.replica.proofs.StandingSites.{follows-means}
@@ -86,7 +86,7 @@ module _ (names : List (List ℕ)) (w : World) (s : SiteKnowledge) (site : ℕ) 
       let was = same-site-of names site from l.old s is l.before in
       let c = cut-means l.old l.old l.new d.frame s refl was.stands d.done.some d.done.left d.done.made in
       made-comes (event.Cut site) (Cut (Some bytes)) bytes d.frame (cut s s.buffer) refl refl (λ m. m) refl
-        (after l.old l.new (cut s s.buffer).0 was d.done.made.site d.done.made.names c.0 l.after) c.1 (d.done.made.heading.maker ∙ was.site) d.spelled
+      (after l.old l.new (cut s s.buffer).0 was d.done.made.site d.done.made.names c.0 l.after) c.1 (d.done.made.heading.maker ∙ was.site) d.spelled
 
   -- a frame of all
   pub whole-comes : (bytes : List ℕ) → Leads from (Whole bytes) to → Comes names w s (event.Whole site) (Whole bytes) to
@@ -95,7 +95,7 @@ module _ (names : List (List ℕ)) (w : World) (s : SiteKnowledge) (site : ℕ) 
       let was = same-site-of names site from l.old s is l.before in
       let c = whole-means l.old l.old l.new d.frame s refl was.stands d.done.left d.done.made in
       made-comes (event.Whole site) (Whole bytes) bytes d.frame (after_frame s s.known s.buffer) refl refl (λ m. m) refl
-        (after l.old l.new (after_frame s s.known s.buffer).0 was d.done.made.site d.done.made.names c.0 l.after) c.1 (d.done.made.heading.maker ∙ was.site) d.spelled
+      (after l.old l.new (after_frame s s.known s.buffer).0 was d.done.made.site d.done.made.names c.0 l.after) c.1 (d.done.made.heading.maker ∙ was.site) d.spelled
 
   -- a cut of nothing
   pub empty-comes : Leads from (Cut None) to → Comes names w s (event.Cut site) (Cut None) to
@@ -147,8 +147,7 @@ module _ (names : List (List ℕ)) (w : World) (s : SiteKnowledge) (site : ℕ) 
           → ((answer_in site names s (ask.Command command)).1 ≡ answer) × IsSiteOf names site l.new (answer_in site names s (ask.Command command)).0
       done command result told c number list =
           let at : step l.old.site l.old.names s (Do (change_of command)) ≡ step site names s (Do (change_of command)) =
-            ap (λ n. step n l.old.names s (Do (change_of command))) was.site ∙ ap (λ n. step site n s (Do (change_of command))) was.names_are in
-          (
+          ap (λ n. step n l.old.names s (Do (change_of command))) was.site ∙ ap (λ n. step site n s (Do (change_of command))) was.names_are in (
             sym (told ∙ ap answer_of c.1 ∙ ap (λ (x : SiteKnowledge × Outcome). answer_of (result_of x.1)) at),
             record { site = number ∙ was.site; names_are = list ∙ was.names_are; stands = subst (λ (x : SiteKnowledge × Outcome). StandsFor l.new x.0) at c.0 },
           )

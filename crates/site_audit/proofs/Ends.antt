@@ -1,8 +1,8 @@
 -- Where a search begins, its rounds, and what it has shown where it ends.
-use Rattle.std.proofs.Common.{◌≡◌, ◌<◌, ◌≤◌, ◌+◌, ◌⊎◌, inl, inr, ℕ, zero, suc, Bool, true, false, List, [], ◌∷◌, ◌++◌, length, replicate, slice_get, Option, Some, None, refl, sym, ap, subst, ◌∙◌, arith, take, drop, true≢false, ◌||◌}
+use Rattle.std.proofs.Common.{◌≡◌, ◌<◌, ◌≤◌, ◌+◌, inl, inr, ℕ, zero, suc, Bool, true, false, List, [], ◌∷◌, length, replicate, slice_get, Option, Some, None, refl, sym, ap, subst, ◌∙◌, arith, take, drop, true≢false, ◌||◌}
 use Rattle.std.proofs.lemmas.Option.{slice_get_within}
 use Rattle.std.proofs.lemmas.List.Elements.{All-from_recursion}
-use Rattle.replica.specs.Steps.{SiteKnowledge, new_site}
+use Rattle.replica.specs.Steps.{new_site}
 use Rattle.replica.proofs.StandingSites.{new-stands}
 use Rattle.site_journal.specs.declared.step.Step.{Step}
 use Rattle.site_journal.specs.declared.step.StepDeed.TheVariants.{Took}
@@ -11,13 +11,13 @@ use Rattle.site_journal.specs.Legal.{LeadAll}
 use Rattle.sites_world.specs.declared.event.Event.{Event}
 use Rattle.sites_world.specs.declared.event.Event.TheVariants as event
 use Rattle.sites_world.specs.Worlds.{World, new_world, site_of}
-use Rattle.sites_world.proofs.Lists.{get-replicate, none-some, one-some}
+use Rattle.sites_world.proofs.Lists.{none-some, one-some}
 use Rattle.site_audit.specs.declared.replay.Replay.{Replay}
 use Rattle.site_audit.specs.Ending.{HasAll, IsLeastLeft}
 use Rattle.site_audit.specs.Places.{IsAt, IsIndexOf, IsSiteAt}
-use Rattle.site_audit.specs.Replays.{CannotGoOn, Ended, HasPlayed, IsBegun, IsNext, IsReplay, Waits, found_in}
+use Rattle.site_audit.specs.Replays.{CannotGoOn, Ended, HasPlayed, IsBegun, IsReplay, Waits, found_in}
 use Rattle.site_audit.specs.Runs.{AreGiven, AreSites, Gives, IsFromNew, IsRun, IsStuck, names_in, world_after}
-use Rattle.site_audit.proofs.Lists.{drop-all, same-or-not, take-all, within-some}
+use Rattle.site_audit.proofs.Lists.{drop-all, same-or-not, take-all}
 use Rattle.site_audit.proofs.Deeds.{same-site-of}
 
 -- ---- the beginning
@@ -120,7 +120,7 @@ gives-none journals r is site n j step e journal place next gives (Waits bytes x
     let k : x.j ≡ j = one-some _ _ (sym x.journal ∙ journal) in
     let same : x.step ≡ step = one-some _ _ (sym x.next ∙ ap (λ y. slice_get y.steps x.n) k ∙ ap (slice_get j.steps) m ∙ next) in
     waiting-gives (names_in journals) (world_after journals r.events.items) (found_in r.pool) e bytes is.index others
-      (subst (Gives (names_in journals) (world_after journals r.events.items) e) (sym (ap (λ y. y.deed) same) ∙ x.deed_is) gives)
+    (subst (Gives (names_in journals) (world_after journals r.events.items) e) (sym (ap (λ y. y.deed) same) ∙ x.deed_is) gives)
 
 -- where no site can go on the events are stuck at the first step that is left of the least site that hasn't all
 pub ends-stuck : (journals : List JournalState) (r : Replay) (site position : ℕ) → IsReplay journals r → ((other : ℕ) → other < length journals → CannotGoOn journals r other)
@@ -143,7 +143,7 @@ pub ends-as-run : (journals : List JournalState) (r : Replay) → IsReplay journ
 ends-as-run journals r is all = record {
   sites = is.is.sites;
   given = λ site j known. let x = is.is.each site (length j.steps) j known (all site j known) in
-    subst (AreGiven (names_in journals) (new_world (length journals)) r.events.items site) (take-all j.steps) x.given.given;
+      subst (AreGiven (names_in journals) (new_world (length journals)) r.events.items site) (take-all j.steps) x.given.given;
   knows = λ site j known. let x = is.is.each site (length j.steps) j known (all site j known) in
-    record { s = x.s; is = x.knows; stands = same-site-of (names_in journals) site x.state j.replica x.s x.is (subst (λ steps. LeadAll x.state steps j.replica) (drop-all j.steps) x.leads) };
+      record { s = x.s; is = x.knows; stands = same-site-of (names_in journals) site x.state j.replica x.s x.is (subst (λ steps. LeadAll x.state steps j.replica) (drop-all j.steps) x.leads) };
 }

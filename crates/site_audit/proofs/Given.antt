@@ -1,5 +1,5 @@
 -- What one event more gives.
-use Rattle.std.proofs.Common.{◌≡◌, ◌≢◌, ◌⊎◌, inl, inr, ℕ, List, [], ◌∷◌, ◌++◌, refl, ap}
+use Rattle.std.proofs.Common.{◌≡◌, ◌≢◌, inl, inr, ℕ, List, [], ◌∷◌, ◌++◌, refl, ap}
 use Rattle.site_journal.specs.declared.step.Step.{Step}
 use Rattle.sites_world.specs.declared.event.Event.{Event}
 use Rattle.sites_world.specs.Worlds.{World, happens, run, site_of}

@@ -1,5 +1,6 @@
 -- First and last elements of lists.
-use Rattle.std.proofs.Common.{◌≡◌, ◌<◌, ◌⊎◌, inl, inr, ℕ, zero, suc, List, [], ◌∷◌, ◌++◌, length, slice_get, Some, None, refl, ap, arith, take, drop}
+use Rattle.std.proofs.Common.{◌≡◌, ◌<◌, ◌≤◌, ◌+◌, ◌⊎◌, inl, inr, ℕ, zero, suc, List, [], ◌∷◌, ◌++◌, length, slice_get, Some, refl, sym, ap, subst, ◌∙◌, arith, take, drop}
+use Rattle.std.proofs.lemmas.Option.{slice_get_within}
 use Rattle.sites_world.proofs.Lists.{none-some, one-some}
 
 -- one element more
@@ -49,3 +50,22 @@ same-or-not (suc a) (suc b) = elim (same-or-not a b) [
   | inl e ↦ inl (ap suc e)
   | inr apart ↦ inr (λ e. apart (let k = e in omega (arith, k)))
 ]
+
+-- what is below one more is below, or is it
+pub below-or-at : (n m : ℕ) → n < m + 1 → (n < m) ⊎ (n ≡ m)
+below-or-at n m lt = elim (same-or-not n m) [
+  | inl e ↦ inr e
+  | inr apart ↦ inl (omega (arith, lt, apart))
+]
+
+-- what holds of each element below a place, and of the one at it, holds of each below the next
+pub holds-more : {X : Type 0} (P : ℕ → X → Type 0) (xs : List X) (m : ℕ) (x : X) → ((n : ℕ) (y : X) → n < m → slice_get xs n ≡ Some y → P n y) → slice_get xs m ≡ Some x → P m x
+    → (n : ℕ) (y : X) → n < m + 1 → slice_get xs n ≡ Some y → P n y
+holds-more P xs m x before here is n y lt at = elim (below-or-at n m lt) [
+  | inl less ↦ before n y less at
+  | inr e ↦ subst (λ k. P k y) (sym e) (subst (P m) (one-some x y (sym here ∙ sym (ap (slice_get xs) e) ∙ at)) is)
+]
+
+-- of each element where the place is the length
+pub holds-all : {X : Type 0} (P : ℕ → X → Type 0) (xs : List X) (m : ℕ) → length xs ≤ m → ((n : ℕ) (y : X) → n < m → slice_get xs n ≡ Some y → P n y) → (n : ℕ) (y : X) → slice_get xs n ≡ Some y → P n y
+holds-all P xs m all before n y at = before n y (let a = slice_get_within xs n y at in omega (arith, a, all)) at

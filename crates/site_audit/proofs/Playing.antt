@@ -1,7 +1,7 @@
 -- An event that was put is a step of the search.
-use Rattle.std.proofs.Common.{◌≡◌, ◌<◌, ◌≤◌, ◌+◌, ◌⊎◌, inl, inr, ℕ, suc, Bool, true, false, List, [], ◌∷◌, ◌++◌, append-nil, length, option_map, slice_get, slice_set, Option, Some, None, refl, sym, ap, subst, ◌∙◌, arith, take, drop, get_or}
+use Rattle.std.proofs.Common.{◌≡◌, ◌<◌, ◌≤◌, ◌+◌, ◌⊎◌, inl, inr, ℕ, suc, Bool, true, false, List, [], ◌∷◌, ◌++◌, append-nil, length, option_map, slice_get, slice_set, Option, Some, None, refl, sym, ap, subst, ◌∙◌, arith, drop, get_or}
 use Rattle.std.proofs.lemmas.List.{length-append}
-use Rattle.std.proofs.lemmas.Option.{slice_get_read, slice_get_within}
+use Rattle.std.proofs.lemmas.Option.{slice_get_read}
 use Rattle.std.proofs.lemmas.Slice.Eq.{bytes_eq-Decides}
 use Rattle.std.specs.Map.{update}
 use Rattle.std.specs.Str.{bytes_eq}
@@ -17,7 +17,7 @@ use Rattle.site_journal.specs.Legal.{LeadAll, Leads}
 use Rattle.sites_world.specs.declared.event.Event.{Event}
 use Rattle.sites_world.specs.declared.event.Event.TheVariants as event
 use Rattle.sites_world.specs.Holding.{MayTakeEntries}
-use Rattle.sites_world.specs.Worlds.{Entry, IsReached, World, happens_at, new_world, site_of}
+use Rattle.sites_world.specs.Worlds.{Entry, IsReached, World, happens_at, site_of}
 use Rattle.sites_world.specs.WorldStates.{IsSiteOf}
 use Rattle.sites_world.proofs.Lists.{get-push, none-some, one-some}
 use Rattle.site_audit.specs.declared.pool.Pool.{Pool}
@@ -61,9 +61,9 @@ index-more find next pool entry made is spelling found = record { some = at; non
     none bytes place h there = elim (update-at find made bytes (length pool)) [
       | inl p ↦ none-some (length pool) (sym h ∙ found bytes ∙ p.1)
       | inr p ↦ elim (get-push pool entry place there.entry there.is) [
-          | inl q ↦ is.none bytes place (sym p.1 ∙ sym (found bytes) ∙ h) (record { entry = there.entry; is = q.0; spelling = there.spelling })
-          | inr q ↦ p.0 (one-spelled bytes made entry (subst (IsSpelling bytes) q.1 there.spelling) spelling)
-        ]
+        | inl q ↦ is.none bytes place (sym p.1 ∙ sym (found bytes) ∙ h) (record { entry = there.entry; is = q.0; spelling = there.spelling })
+        | inr q ↦ p.0 (one-spelled bytes made entry (subst (IsSpelling bytes) q.1 there.spelling) spelling)
+      ]
     ]
 
 -- an index that finds the same
@@ -80,16 +80,14 @@ pub pool-more : (old new : Pool) (entries added : List Entry) (made : Option (Li
     → IsPoolOf new (entries ++ added) × (new.entries ≤ old.entries + 1)
 pool-more old new entries added None is found made =
     let same : entries ++ added ≡ entries = ap (λ a. entries ++ a) made ∙ append-nil entries in
-    let count = found.1 in
-    (
+    let count = found.1 in (
       subst (IsPoolOf new) (sym same) (record { index = index-same (found_in old) (found_in new) entries is.index found.0; count = found.1 ∙ is.count }),
       omega (arith, count),
     )
 pool-more old new entries added (Some bytes) is found made =
     let count = found.1 in
     let more = length-append entries (made.0 ∷ []) in
-    let was = is.count in
-    (
+    let was = is.count in (
       subst (λ a. IsPoolOf new (entries ++ a)) (sym made.1) (record {
         index = index-more (found_in old) (found_in new) entries made.0 bytes is.index made.2
             (λ b. found.0 b ∙ ap (λ n. update bytes_eq (found_in old) bytes (Some n) b) is.count);
@@ -149,7 +147,7 @@ put-plays may journals old new site e deed r x event_is put = (
     now : IsAt journals (slice_set old.at.items site (suc x.n)) (old.events.items ++ e ∷ [])
     now = subst (λ n. IsAt journals (slice_set old.at.items n (suc x.n)) (old.events.items ++ e ∷ [])) c.0
         (advance journals old.at.items old.events.items r.is x.j x.n x.step e was.s (ap (slice_get journals) c.0 ∙ x.journal) (ap (slice_get old.at.items) c.0 ∙ x.at) x.next at-site
-          l.0 (subst (λ d. Gives (names_in journals) w e d) (sym x.deed_is) c.1.gives) c.1.is l.2)
+        l.0 (subst (λ d. Gives (names_in journals) w e d) (sym x.deed_is) c.1.gives) c.1.is l.2)
 
     pool_is : (world_after journals (old.events.items ++ e ∷ [])).pool ≡ w.pool ++ (happens_at (names_in journals) w.pool was.s e).added
     pool_is = ap (λ v. v.pool) (world-more journals old.at.items old.events.items r.is x.j x.n x.step e was.s (ap (slice_get journals) c.0 ∙ x.journal)
@@ -200,3 +198,8 @@ waits-of journals r site (Whole made) x h = absurd (none-some (event.Whole site)
 -- the site of the journal at a place
 pub site-at : (journals : List JournalState) (place : ℕ) (j : JournalState) → AreSites journals → place < length journals → j ≡ get_or journals place j → j.base.site ≡ place
 site-at journals place j sites low j-is = sites.numbers place j (slice_get_read journals (length journals) place j refl low j-is)
+
+-- the names of the first journal
+pub names-of-first : (journals : List JournalState) (j : JournalState) → slice_get journals 0 ≡ Some j → names_in journals ≡ j.base.names
+names-of-first [] j h = absurd (none-some j h)
+names-of-first (k ∷ ks) j h = ap (λ x. x.base.names) (one-some k j h)

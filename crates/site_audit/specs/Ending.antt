@@ -1,5 +1,5 @@
 -- What a search that can't go on has shown.
-use Rattle.std.specs.Prelude.{ℕ, ◌≡◌, ◌<◌, ◌≤◌, List, Some, length, slice_get}
+use Rattle.std.specs.Prelude.{ℕ, ◌≡◌, ◌<◌, List, Some, length, slice_get}
 use Rattle.site_journal.specs.Journals.{JournalState}
 
 -- a site has been given all its steps

@@ -1,14 +1,14 @@
 -- How far a search for one run has come.
-use Rattle.std.specs.Prelude.{ℕ, suc, ◌≡◌, ◌<◌, ◌≤◌, List, [], ◌∷◌, Option, Some, None, length, take, drop, slice_get}
+use Rattle.std.specs.Prelude.{ℕ, ◌≡◌, ◌<◌, List, [], ◌∷◌, Option, Some, None, length, drop, slice_get}
 use Rattle.std.specs.List.{All}
 use Rattle.replica.specs.Site.{SiteState}
 use Rattle.replica.specs.Steps.{SiteKnowledge}
 use Rattle.site_journal.specs.Journals.{JournalState}
 use Rattle.site_journal.specs.Legal.{LeadAll}
 use Rattle.sites_world.specs.declared.event.Event.{Event}
-use Rattle.sites_world.specs.Worlds.{Entry, World, new_world, site_of}
+use Rattle.sites_world.specs.Worlds.{Entry, site_of}
 use Rattle.sites_world.specs.WorldStates.{IsSiteOf}
-use Rattle.site_audit.specs.Runs.{AreGiven, IsGivenFirst, IsSpelledAt, IsSpelling, names_in, world_after}
+use Rattle.site_audit.specs.Runs.{IsGivenFirst, IsSpelledAt, IsSpelling, names_in, world_after}
 
 -- A site has been given its first steps: a state that stands for what it knows then leads over the steps that are left to its replica.
 pub record IsSiteAt (journals : List JournalState) (events : List Event) (site n : ℕ) (j : JournalState) : Type 0 where

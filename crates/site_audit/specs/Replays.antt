@@ -1,5 +1,5 @@
 -- A search for one run, as the code keeps it.
-use Rattle.std.specs.Prelude.{ℕ, suc, ◌≡◌, ◌+◌, ◌<◌, ◌≤◌, Bool, true, false, List, [], ◌∷◌, ◌++◌, Option, Some, None, length, option_map, slice_get, slice_set}
+use Rattle.std.specs.Prelude.{ℕ, suc, ◌≡◌, ◌+◌, ◌≤◌, Bool, true, false, List, [], ◌∷◌, ◌++◌, Option, Some, None, length, option_map, slice_get, slice_set}
 use Rattle.std.specs.BTreeMap as tree
 use Rattle.std.specs.Cmp.Lexicographic.{slice_cmp}
 use Rattle.std.specs.Map.{update}
@@ -14,7 +14,7 @@ use Rattle.sites_world.specs.declared.event.Event.TheVariants as event
 use Rattle.site_audit.specs.declared.pool.Pool.{Pool}
 use Rattle.site_audit.specs.declared.replay.Replay.{Replay}
 use Rattle.site_audit.specs.Places.{IsAt, IsIndexOf}
-use Rattle.site_audit.specs.Runs.{IsFromNew, names_in, world_after}
+use Rattle.site_audit.specs.Runs.{world_after}
 
 -- where bytes are found
 abbrev pub found_in : Pool → List ℕ → Option ℕ
