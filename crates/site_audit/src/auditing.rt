@@ -90,13 +90,15 @@ fn least_left(journals: &[Journaled], at: &[usize]) -> Option<usize>
     None
 }
 
-/// One list of events that gives each site exactly its journal, after which each site of the world of operations knows what its
-/// replica stands for: the journals of the sites 0, 1, .. from their first steps on, in the sites' order. No journals give no events.
-/// The list has one event for each step, in an order of its own in which each take is behind the frame's making. A journal with reports has copies of their
-/// asks alone. Faults, in order: 1 `WrongSites`, exactly where the journals aren't those of the sites 0, 1, .. in order, or have two
-/// lists of queues; 2 `NotFresh`, exactly where a journal hasn't all that its site did, with the first such site; 3 `NoRun`, and then
-/// some list of events is stuck: it gives the site its steps before the position, each lesser site all of its own, each other some
-/// first ones, and no further event gives any site its next; 4 `Memory` (this project's own).
+/// One list of events that gives each site exactly its journal: of the journals of the sites 0, 1, .. in their order, each from a new
+/// replica on. In the world of operations each ask is answered as the journal has it, and each frame that is made or taken is the one
+/// that the bytes there spell; behind the last event each site knows what its replica stands for. No journals give no events. The list
+/// has one event for each step, in an order of the audit's own. No frame is decoded: one that is taken is found by its bytes among
+/// those that were made. Faults, in order: 1 `WrongSites`, exactly where the journals aren't those of the sites 0, 1, .. in order, or
+/// have two lists of queues; 2 `NotFresh`, exactly where a journal hasn't all that its site did, with the first such site; 3 `NoRun`,
+/// with a site and a position, where some list of events is stuck: it gives that site its steps before the position and not all, each
+/// lesser site all of its own, each other its first ones, and no further event gives any site its next; 4 `Memory` (this project's
+/// own).
 pub fn audit(alloc: Global, journals: &[Journaled]) -> Result<Vec<Event>, AuditFault>
     ensures run { IfOk result (λ events. IsRun journals.now events.items) }
     ensures none { journals.now ≡ [] → IsOkAnd result (λ events. events.items ≡ []) }
