@@ -1,0 +1,14 @@
+use Rattle.std.proofs.Common.{◌-◌, ◌≡◌, ◌<◌, ℕ, length, slice_get, Some}
+use Rattle.site_journal.specs.Journals.{IsJournal, JournalState}
+use Rattle.site_audit.specs.Runs.{IsFromNew}
+use Rattle.site_audit.proofs.auditing.first_stale.Given as goal
+
+-- so it is of the journals so far
+abbrev pub invariant-loop-place : goal.invariant-loop-place
+invariant-loop-place l = record {
+  fresh : (site : ℕ) (j : JournalState) → site < l.place → slice_get l.journals site ≡ Some j → IsFromNew j;
+  legal : (site : ℕ) (j : JournalState) → site < l.place → slice_get l.journals site ≡ Some j → IsJournal j;
+}
+
+abbrev pub decreases-loop-place : goal.decreases-loop-place
+decreases-loop-place l = length l.journals - l.place

@@ -1,0 +1,16 @@
+-- What a search that can't go on has shown.
+use Rattle.std.specs.Prelude.{ℕ, ◌≡◌, ◌<◌, List, Some, length, slice_get}
+use Rattle.site_journal.specs.Journals.{JournalState}
+
+-- a site has been given all its steps
+abbrev pub HasAll : List JournalState → List ℕ → ℕ → Type 0
+HasAll journals at site = (j : JournalState) → slice_get journals site ≡ Some j → slice_get at site ≡ Some (length j.steps)
+
+-- a site is the least that has steps left
+pub record IsLeastLeft (journals : List JournalState) (at : List ℕ) (site : ℕ) : Type 0 where
+  pub j : JournalState
+  pub n : ℕ
+  pub journal : slice_get journals site ≡ Some j
+  pub here : slice_get at site ≡ Some n
+  pub left : n < length j.steps
+  pub before : (earlier : ℕ) → earlier < site → HasAll journals at earlier

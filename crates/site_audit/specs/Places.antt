@@ -1,0 +1,36 @@
+-- How far a search for one run has come.
+use Rattle.std.specs.Prelude.{ℕ, ◌≡◌, ◌<◌, List, [], ◌∷◌, Option, Some, None, length, drop, slice_get}
+use Rattle.std.specs.List.{All}
+use Rattle.replica.specs.Site.{SiteState}
+use Rattle.replica.specs.Steps.{SiteKnowledge}
+use Rattle.site_journal.specs.Journals.{JournalState}
+use Rattle.site_journal.specs.Legal.{LeadAll}
+use Rattle.sites_world.specs.declared.event.Event.{Event}
+use Rattle.sites_world.specs.Worlds.{Entry, site_of}
+use Rattle.sites_world.specs.WorldStates.{IsSiteOf}
+use Rattle.site_audit.specs.Runs.{IsGivenFirst, IsSpelledAt, IsSpelling, names_in, world_after}
+
+-- A site has been given its first steps: a state that stands for what it knows then leads over the steps that are left to its replica.
+pub record IsSiteAt (journals : List JournalState) (events : List Event) (site n : ℕ) (j : JournalState) : Type 0 where
+  pub given : IsGivenFirst journals events site n j
+  pub s : SiteKnowledge
+  pub knows : slice_get (world_after journals events).sites site ≡ Some s
+  pub state : SiteState
+  pub is : IsSiteOf (names_in journals) site state s
+  pub leads : LeadAll state (drop n j.steps) j.replica
+
+-- these events have given each site so many steps
+pub record IsAt (journals : List JournalState) (at : List ℕ) (events : List Event) : Type 0 where
+  pub places : length at ≡ length journals
+  pub sites : All (λ e. site_of e < length journals) events
+  pub each : (site n : ℕ) (j : JournalState) → slice_get journals site ≡ Some j → slice_get at site ≡ Some n → IsSiteAt journals events site n j
+
+-- bytes are found at the place of an entry that they spell, and no entry is spelled by those that aren't found
+pub record IsIndexOf (find : List ℕ → Option ℕ) (pool : List Entry) : Type 0 where
+  pub some : (bytes : List ℕ) (place : ℕ) → find bytes ≡ Some place → IsSpelledAt pool place bytes
+  pub none : (bytes : List ℕ) (place : ℕ) → find bytes ≡ None → IsSpelledAt pool place bytes → ⊥
+
+-- entries are those that bytes spell: one, or none
+abbrev pub AreSpelled : Option (List ℕ) → List Entry → Type 0
+AreSpelled None added = added ≡ []
+AreSpelled (Some bytes) added = (entry : Entry) × (added ≡ entry ∷ []) × IsSpelling bytes entry

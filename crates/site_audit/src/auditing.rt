@@ -1,0 +1,126 @@
+//! An audit of the journals of all sites.
+ghost use Rattle.std.specs.Prelude.{◌≡◌, ◌↔◌, ◌<◌, ◌≤◌, ◌^◌, ℕ, [], List, Err, IfNone, IfOk, IfSome, IsOkAnd};
+ghost use Rattle.std.specs.Prelude.{IsTrue, None, Some, length, slice_get};
+ghost use Rattle.site_journal.specs.Journals.{IsJournal, JournalState};
+ghost use Rattle.replica.specs.Deeds.{IsNew};
+ghost use Rattle.sites_world.specs.declared.event.Event.{Event};
+ghost use Rattle.site_audit.specs.Ending.{HasAll, IsLeastLeft};
+ghost use Rattle.site_audit.specs.Runs.{AreSites, IsFirstStale, IsFromNew, IsRun, IsStuck};
+
+use crate::AuditFault;
+use crate::replay::{Replay, search};
+use replica::Replica;
+use site_journal::Journaled;
+use sites_world::Event;
+use std::alloc::Global;
+
+// Whether journals are those of the sites 0, 1, .. in their order, of one list of queues.
+fn are_sites(journals: &[Journaled]) -> bool
+    ensures sites { IsTrue result ↔ AreSites journals.now }
+    ensures few { IsTrue result → length journals.now ≤ 64 }
+{
+    let mut place = 0;
+    while place < journals.len() {
+        let base = journals[place].base();
+        if usize::from(base.site().number()) != place {
+            return false;
+        }
+        if !base.list().same(journals[0].base().list()) {
+            return false;
+        }
+        place += 1;
+    }
+    true
+}
+
+// Whether a replica knows nothing, and has used no number.
+fn is_new(replica: &Replica) -> bool
+    ensures { IsTrue result ↔ IsNew replica.now }
+{
+    let (count, time, frames) = replica.last();
+    replica.state().is_empty()
+        && replica.pending().is_empty()
+        && count == 0
+        && time == 0
+        && frames == 0
+}
+
+// Whether a journal has all that its site did.
+fn is_from_new(journal: &Journaled) -> bool
+    ensures whole { IsTrue result ↔ IsFromNew journal.now }
+    ensures journal { IsJournal journal.now }
+{
+    let _ = journal.replica(); // so that it is known that its steps are legal
+    journal.start() == 0 && is_new(journal.base())
+}
+
+// The first site whose journal hasn't all that it did.
+fn first_stale(journals: &[Journaled]) -> Option<usize>
+    ensures stale { IfSome result (λ site. IsFirstStale journals.now site) }
+    ensures fresh { IfNone result ((site : ℕ) (j : JournalState)
+        → slice_get journals.now site ≡ Some j → IsFromNew j) }
+    ensures legal { IfNone result ((site : ℕ) (j : JournalState)
+        → slice_get journals.now site ≡ Some j → IsJournal j) }
+{
+    let mut place = 0;
+    while place < journals.len() {
+        if !is_from_new(&journals[place]) {
+            return Some(place);
+        }
+        place += 1;
+    }
+    None
+}
+
+// The least site that has steps left, of sites that were given so many.
+fn least_left(journals: &[Journaled], at: &[usize]) -> Option<usize>
+    requires count { length at.now ≡ length journals.now }
+    requires within { (site n : ℕ) (j : JournalState) → slice_get journals.now site ≡ Some j
+        → slice_get at.now site ≡ Some n → n ≤ length j.steps }
+    ensures left { IfSome result (λ site. IsLeastLeft journals.now at.now site) }
+    ensures none { IfNone result ((site : ℕ) → HasAll journals.now at.now site) }
+{
+    let mut place = 0;
+    while place < journals.len() {
+        if at[place] < journals[place].steps().len() {
+            return Some(place);
+        }
+        place += 1;
+    }
+    None
+}
+
+/// One list of events that gives each site exactly its journal: of the journals of the sites 0, 1, .. in their order, each from a new
+/// replica on. In the world of operations each ask is answered as the journal has it, and each frame that is made or taken is the one
+/// that the bytes there spell; behind the last event each site knows what its replica stands for. No journals give no events. The list
+/// has one event for each step, in an order of the audit's own. No frame is decoded: one that is taken is found by its bytes among
+/// those that were made. Faults, in order: 1 `WrongSites`, exactly where the journals aren't those of the sites 0, 1, .. in order, or
+/// have two lists of queues; 2 `NotFresh`, exactly where a journal hasn't all that its site did, with the first such site; 3 `NoRun`,
+/// with a site and a position, where some list of events is stuck: it gives that site its steps before the position and not all, each
+/// lesser site all of its own, each other its first ones, and no further event gives any site its next; 4 `Memory` (this project's
+/// own).
+pub fn audit(alloc: Global, journals: &[Journaled]) -> Result<Vec<Event>, AuditFault>
+    ensures run { IfOk result (λ events. IsRun journals.now events.items) }
+    ensures none { journals.now ≡ [] → IsOkAnd result (λ events. events.items ≡ []) }
+    ensures wrong_sites { (result ≡ Err AuditFault.WrongSites) ↔ (AreSites journals.now → ⊥) }
+    ensures not_fresh { (site : ℕ) → (result ≡ Err (AuditFault.NotFresh site))
+        ↔ (AreSites journals.now × IsFirstStale journals.now site) }
+    ensures no_run { (site position : ℕ) → result ≡ Err (AuditFault.NoRun site position)
+        → (events : List Event) × IsStuck journals.now site position events }
+{
+    if journals.is_empty() {
+        return Ok(Vec::new(alloc));
+    }
+    if !are_sites(journals) {
+        return Err(AuditFault::WrongSites);
+    }
+    if let Some(site) = first_stale(journals) {
+        return Err(AuditFault::NotFresh(site as u16));
+    }
+    let mut replay = Replay::begin(alloc, journals.len())?;
+    search(journals, &mut replay)?;
+    match least_left(journals, replay.at.as_slice()) {
+        Some(site) => Err(AuditFault::NoRun(site as u16, replay.at[site] as u64)),
+        None => Ok(replay.events),
+    }
+}

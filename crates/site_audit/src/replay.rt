@@ -1,0 +1,135 @@
+//! The search for one list of events: each site in turn gets its next step, until none can go on.
+ghost use Rattle.std.specs.Prelude.{◌≡◌, ◌+◌, ◌<◌, ◌≤◌, ◌^◌, ◌||◌, ℕ, IfOk, OnOk, true, false};
+ghost use Rattle.std.specs.Prelude.{length, slice_index};
+ghost use Rattle.site_audit.specs.Replays.{CannotGoOn, HasPlayed, HasPut, IsBegun, IsReplay};
+ghost use Rattle.site_audit.specs.Replays.{event_for, found_in};
+ghost use Rattle.site_audit.specs.Runs.{AreSites};
+
+use crate::pool::Pool;
+use dots::{Memory, SiteId};
+use site_journal::{Journaled, StepDeed};
+use sites_world::Event;
+use sites_world::laws::a_site_may_take_every_entry;
+use std::alloc::Global;
+
+// How far a search has come.
+#[derive(Drop)]
+pub(crate) struct Replay<'a> {
+    // How many steps each site was given, by the sites' numbers.
+    pub(crate) at: Vec<usize>,
+    // The events that gave them.
+    pub(crate) events: Vec<Event>,
+    // The entries that these made.
+    pub(crate) pool: Pool<'a>,
+}
+
+impl<'a> Replay<'a> {
+    // Nothing is played yet of so many journals.
+    pub(crate) fn begin(alloc: Global, sites: usize) -> Result<Replay<'a>, Memory>
+        ensures { IfOk result (λ replay. IsBegun replay sites) }
+    {
+        let mut at = Vec::new(alloc);
+        for _ in 0..sites {
+            at.push(0)?;
+        }
+        Ok(Replay {
+            at,
+            events: Vec::new(alloc),
+            pool: Pool::new(alloc),
+        })
+    }
+
+    // Puts an event at the end that gives a site its next step, which is this deed.
+    fn put(&mut self, site: SiteId, event: Event, deed: &'a StepDeed) -> Result<(), Memory>
+        requires within { site < length self.old.at.items }
+        requires fits { slice_index self.old.at.items site + 1 < 2 ^ 64 }
+        requires few { self.old.pool.entries ≤ length self.old.events.items }
+        ensures { OnOk result (HasPut self.old self.new site event deed.now) }
+    {
+        self.pool.add(deed)?;
+        self.events.push(event)?;
+        self.at[usize::from(site.number())] += 1;
+        Ok(())
+    }
+}
+
+// The event that gives a site a deed, if there is one: a frame is taken once its maker has made it.
+fn event_for<'a>(pool: &Pool<'a>, site: SiteId, deed: &'a StepDeed) -> Result<Option<Event>, Memory>
+    ensures { IfOk result (λ event. event ≡ event_for (found_in pool.now) site deed.now) }
+{
+    match deed {
+        StepDeed::Asked(asked, _) => {
+            let asked = asked.copy()?;
+            Ok(Some(Event::Ask(site, asked)))
+        }
+        StepDeed::Took(bytes) => match pool.find(bytes.as_slice()) {
+            Some(place) => Ok(Some(Event::Take(site, place))),
+            None => Ok(None),
+        },
+        StepDeed::Cut(_) => Ok(Some(Event::Cut(site))),
+        StepDeed::Whole(_) => Ok(Some(Event::Whole(site))),
+    }
+}
+
+// Gives a site its next step, if that can be.
+fn play<'a>(
+    journals: &'a [Journaled],
+    replay: &mut Replay<'a>,
+    place: usize,
+) -> Result<bool, Memory>
+    requires sites { AreSites journals.now }
+    requires kept { IsReplay journals.now replay.old }
+    requires there { place < length journals.now }
+    ensures { IfOk result (λ more. HasPlayed journals.now replay.old replay.new place more) }
+{
+    a_site_may_take_every_entry();
+    let journal = &journals[place];
+    let at = replay.at[place];
+    let steps = journal.steps();
+    if at >= steps.len() {
+        return Ok(false);
+    }
+    let site = journal.base().site();
+    let deed = &steps[at].deed;
+    match event_for(&replay.pool, site, deed)? {
+        Some(event) => {
+            replay.put(site, event, deed)?;
+            Ok(true)
+        }
+        None => Ok(false),
+    }
+}
+
+// Gives each site in turn its next step, if that can be; tells whether some could.
+fn round<'a>(journals: &'a [Journaled], replay: &mut Replay<'a>) -> Result<bool, Memory>
+    requires sites { AreSites journals.now }
+    requires kept { IsReplay journals.now replay.old }
+    ensures kept { OnOk result (IsReplay journals.now replay.new) }
+    ensures more { IfOk result (λ more. more ≡ true
+        → length replay.old.events.items < length replay.new.events.items) }
+    ensures none { IfOk result (λ more. more ≡ false → (site : ℕ) → site < length journals.now
+        → CannotGoOn journals.now replay.new site) }
+{
+    let mut more = false;
+    for place in 0..journals.len() {
+        let played = play(journals, replay, place)?;
+        more |= played;
+    }
+    Ok(more)
+}
+
+// Gives the sites their steps until none can go on.
+pub(crate) fn search<'a>(journals: &'a [Journaled], replay: &mut Replay<'a>) -> Result<(), Memory>
+    requires sites { AreSites journals.now }
+    requires kept { IsReplay journals.now replay.old }
+    ensures kept { OnOk result (IsReplay journals.now replay.new) }
+    ensures none { OnOk result ((site : ℕ) → site < length journals.now
+        → CannotGoOn journals.now replay.new site) }
+{
+    for _ in 0..u64::MAX {
+        if !round(journals, replay)? {
+            return Ok(());
+        }
+    }
+    unreachable!()
+}
