@@ -1,6 +1,8 @@
-//! Tests of journals, links and pumps by their public calls, upon one thread. It has no code of its own.
+//! Tests of journals, desks, links and pumps by their public calls. It has no code of its own.
 #![tactic(auto)]
 
+#[cfg(test)]
+mod desks;
 #[cfg(test)]
 mod journals;
 #[cfg(test)]
