@@ -1,8 +1,10 @@
-//! Tests of journals, audits, links and pumps by their public calls, upon one thread. It has no code of its own.
+//! Tests of journals, audits, desks, links and pumps by their public calls. It has no code of its own.
 #![tactic(auto)]
 
 #[cfg(test)]
 mod audits;
+#[cfg(test)]
+mod desks;
 #[cfg(test)]
 mod journals;
 #[cfg(test)]

@@ -1,0 +1,2 @@
+pub mod DoneDeeds
+pub mod FreshPasses

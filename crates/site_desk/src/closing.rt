@@ -1,0 +1,71 @@
+ghost use Rattle.std.specs.List.{Any};
+ghost use Rattle.std.specs.Prelude.{◌≡◌, ◌<◌, ◌↔◌, IfErr, IfOk, IsTrue, OnErr, OnOk, vec_len};
+ghost use Rattle.site_desk.specs.Passes.{AreAll, shares_of};
+
+use crate::kept::Kept;
+use crate::{CloseFault, Pass, SiteDesk};
+use site_journal::Journaled;
+use std::sync::ledger::{Book, Ledger};
+
+// Whether one of these passes has this number.
+fn has_ordinal<L: Ledger>(passes: &[Pass<L>], ordinal: u32) -> bool
+    ensures { IsTrue result ↔ Any (λ pass. pass.ordinal ≡ ordinal) passes.now }
+{
+    passes.iter().any(|pass| pass.ordinal() == ordinal)
+}
+
+// Whether these are the passes of a desk with so many.
+fn are_all<L: Ledger>(passes: &[Pass<L>], number: u32) -> bool
+    ensures { IsTrue result ↔ AreAll number passes.now }
+{
+    if passes.len() != number as usize {
+        return false;
+    }
+    for ordinal in 0..number {
+        if !has_ordinal(passes, ordinal) {
+            return false;
+        }
+    }
+    true
+}
+
+// Joins the shares of all passes of a ledger, which are what its book has counted.
+fn join_shares<L: Ledger>(book: Book<L>, passes: Vec<Pass<L>>)
+    requires all { vec_len passes ≡ L.parts }
+    requires some { 0 < vec_len passes }
+    ensures { shares_of passes.items ≡ book.total }
+{
+    let mut book = book;
+    let mut passes = passes;
+    let Some(first) = passes.pop() else {
+        unreachable!();
+    };
+    let mut share = first.into_share();
+    while let Some(pass) = passes.pop() {
+        share.merge(pass.into_share());
+    }
+    book.audit(&mut share);
+}
+
+/// Gives up a desk with its passes, and answers the journal, in which as many steps were done as the passes have counted together. It
+/// takes no memory. `WrongPasses`, with all handed back, exactly where the number of one of the desk's passes is missing or doubled
+/// (this project's own).
+pub fn close<L: Ledger>(
+    desk: SiteDesk<L>,
+    passes: Vec<Pass<L>>,
+) -> Result<Journaled, (CloseFault, SiteDesk<L>, Vec<Pass<L>>)>
+    ensures count { IfOk result (λ journal. journal.count ≡ shares_of passes.items) }
+    ensures all { OnOk result (AreAll desk.passes passes.items) }
+    ensures wrong { OnErr result (AreAll desk.passes passes.items → ⊥) }
+    ensures fault { IfErr result (λ refused. refused.0 ≡ CloseFault.WrongPasses) }
+    ensures desk { IfErr result (λ refused. refused.1 ≡ desk) }
+    ensures passes { IfErr result (λ refused. refused.2.items ≡ passes.items) }
+{
+    if !are_all(passes.as_slice(), desk.passes) {
+        return Err((CloseFault::WrongPasses, desk, passes));
+    }
+    let SiteDesk { lock, .. } = desk;
+    let Kept { journal, book } = lock.into_inner();
+    join_shares(book, passes);
+    Ok(journal)
+}

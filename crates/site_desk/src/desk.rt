@@ -1,0 +1,161 @@
+ghost use Rattle.std.specs.Prelude.{◌≡◌, ◌≤◌, ◌⊎◌, IfErr, IfOk, OnErr};
+ghost use Rattle.site_journal.specs.Journals.{HasFaultAlone, IsRefusedFor, RefusesTake};
+ghost use Rattle.site_journal.specs.Receipts.{IsOfCut, IsOfTake, IsOfWhole};
+ghost use Rattle.site_desk.specs.Passes.{AreFresh, HasDone, IsOfAsk, IsRewound};
+
+use crate::Pass;
+use crate::kept::Kept;
+use dots::Memory;
+use site_journal::{DecodeFault, DeskFault, Gate, Journaled, Receipt};
+use status_report::Ask;
+use std::alloc::Global;
+use std::marker::Model;
+use std::sync::ledger::{Blank, Ledger};
+use std::sync::{Mutex, Wait};
+
+/// How many passes a desk may have.
+pub const MOST_PASSES: u32 = 256;
+
+/// A site that several threads call, one at a time, each by a pass of its own. Its journal lies under a lock, and is legal whenever the
+/// lock is free. Which ledger counts its steps is told by `L`, so that a pass of another desk can't be handed in (this project's own).
+#[derive(Drop)]
+pub struct SiteDesk<L: Ledger> {
+    pub(crate) lock: Mutex<Kept<L>>,
+    pub(crate) passes: u32,
+}
+
+impl<L: Ledger> Model for SiteDesk<L> {
+    ghost use Rattle.std.specs.Prelude.{◌≡◌, ◌<◌};
+    ghost use Rattle.site_desk.specs.Passes.{DeskState};
+
+    ghost Value = { DeskState };
+
+    ghost view = { λ d. record { passes = d.passes } };
+
+    ghost invariant = { λ d. (d.passes ≡ L.parts) × (0 < d.passes) };
+}
+
+impl<L: Ledger> SiteDesk<L> {
+    /// A desk over a journal without a step, and its passes, 1 to 256, with the numbers 0, 1 and so on. The ledger is a new one, of as
+    /// many parts. Where memory is wanting the journal comes back.
+    pub fn new(
+        alloc: Global,
+        blank: Blank,
+        journal: Journaled,
+        passes: u32,
+    ) -> Result<(SiteDesk<L>, Vec<Pass<L>>), (Memory, Journaled)>
+        requires name { blank.name ≡ L.name }
+        requires ledger { blank.parts ≡ L.parts }
+        requires parts { blank.parts ≡ passes }
+        requires some { 1 ≤ passes }
+        requires most { passes ≤ MOST_PASSES }
+        requires begun { journal.count ≡ 0 }
+        ensures desk { IfOk result (λ made. made.0.passes ≡ passes) }
+        ensures passes { IfOk result (λ made. AreFresh passes made.1.items) }
+        ensures back { IfErr result (λ refused. refused.1 ≡ journal) }
+    {
+        let mut all = Vec::new(alloc);
+        if all.reserve(passes as usize).is_err() {
+            return Err((Memory, journal));
+        }
+        let (book, mut rest) = blank.open::<L>();
+        for ordinal in 0..passes {
+            let share = rest.split_off(1, 0);
+            all.push_reserved(Pass::new(ordinal, share));
+        }
+        let desk = SiteDesk {
+            lock: Mutex::new(Kept { journal, book }),
+            passes,
+        };
+        Ok((desk, all))
+    }
+
+    /// Asks the site, and answers the receipt of the step. Faults, in order: 1 `Rewound`, where the journal is shorter than the pass has
+    /// seen; 2 `JournalFull`, where no step may be added; 3 `Memory`. A fault leaves the pass as it was.
+    pub fn call<R: Wait>(
+        &self,
+        rt: &R,
+        pass: &mut Pass<L>,
+        asked: &Ask,
+    ) -> Result<Receipt, DeskFault>
+        ensures done { IfOk result (λ receipt. HasDone pass.old receipt pass.new) }
+        ensures ask { IfOk result (λ receipt. IsOfAsk asked.now receipt) }
+        ensures only { IfErr result (λ fault. IsRewound pass.old fault
+            ⊎ ((fault ≡ DeskFault.JournalFull) ⊎ (fault ≡ DeskFault.Memory))) }
+        ensures unchanged { OnErr result (pass.new ≡ pass.old) }
+    {
+        self.lock.lock(rt).call(pass, asked)
+    }
+
+    /// Asks the site as `call` does, and calls the gate once, with this number, while it holds the lock.
+    pub fn call_gated<R: Wait, G: Gate>(
+        &self,
+        rt: &R,
+        pass: &mut Pass<L>,
+        asked: &Ask,
+        gate: &mut G,
+        turn: u64,
+    ) -> Result<Receipt, DeskFault>
+        ensures done { IfOk result (λ receipt. HasDone pass.old receipt pass.new) }
+        ensures ask { IfOk result (λ receipt. IsOfAsk asked.now receipt) }
+        ensures only { IfErr result (λ fault. IsRewound pass.old fault
+            ⊎ ((fault ≡ DeskFault.JournalFull) ⊎ (fault ≡ DeskFault.Memory))) }
+        ensures unchanged { OnErr result (pass.new ≡ pass.old) }
+    {
+        let mut kept = self.lock.lock(rt);
+        let answered = kept.call(pass, asked);
+        gate.inside(turn);
+        answered
+    }
+
+    /// Puts the site's buffer into its next frame, if there is something in it. Faults, in order: 1 `Rewound`, 2 `JournalFull`, as of a
+    /// call; 3 `Exhausted`, where the site has made 2^40 frames; 4 `Memory`. A fault leaves the pass as it was.
+    pub fn cut<R: Wait>(&self, rt: &R, pass: &mut Pass<L>) -> Result<Receipt, DeskFault>
+        ensures done { IfOk result (λ receipt. HasDone pass.old receipt pass.new) }
+        ensures cut { IfOk result (λ receipt. IsOfCut receipt) }
+        ensures only { IfErr result (λ fault. IsRewound pass.old fault
+            ⊎ ((fault ≡ DeskFault.JournalFull)
+            ⊎ ((fault ≡ DeskFault.Exhausted) ⊎ (fault ≡ DeskFault.Memory)))) }
+        ensures unchanged { OnErr result (pass.new ≡ pass.old) }
+    {
+        self.lock.lock(rt).cut(pass)
+    }
+
+    /// Puts all that the site knows into its next frame. Faults as of a cut.
+    pub fn whole<R: Wait>(&self, rt: &R, pass: &mut Pass<L>) -> Result<Receipt, DeskFault>
+        ensures done { IfOk result (λ receipt. HasDone pass.old receipt pass.new) }
+        ensures whole { IfOk result (λ receipt. IsOfWhole receipt) }
+        ensures only { IfErr result (λ fault. IsRewound pass.old fault
+            ⊎ ((fault ≡ DeskFault.JournalFull)
+            ⊎ ((fault ≡ DeskFault.Exhausted) ⊎ (fault ≡ DeskFault.Memory)))) }
+        ensures unchanged { OnErr result (pass.new ≡ pass.old) }
+    {
+        self.lock.lock(rt).whole(pass)
+    }
+
+    /// Lets the site take the frame that bytes spell; they come back where it doesn't. Faults, in order: 1 `Rewound`, 2 `JournalFull`, as
+    /// of a call; 3 `Decode`, with the fault of the bytes, or `BadRange` where more follows their frame; 4 `Take`, with the fault for
+    /// which the site refuses the frame; 5 `Memory`. A fault leaves the pass as it was.
+    pub fn take<R: Wait>(
+        &self,
+        rt: &R,
+        pass: &mut Pass<L>,
+        bytes: Vec<u8>,
+    ) -> Result<Receipt, (DeskFault, Vec<u8>)>
+        ensures done { IfOk result (λ receipt. HasDone pass.old receipt pass.new) }
+        ensures took { IfOk result (λ receipt. IsOfTake bytes.items receipt) }
+        ensures decode { (fault : DecodeFault) → IsRefusedFor result (DeskFault.Decode fault)
+            → HasFaultAlone bytes.items fault }
+        ensures only { IfErr result (λ refused.
+            IsRewound pass.old refused.0 ⊎ RefusesTake refused.0) }
+        ensures back { IfErr result (λ refused. refused.1.items ≡ bytes.items) }
+        ensures unchanged { OnErr result (pass.new ≡ pass.old) }
+    {
+        self.lock.lock(rt).take(pass, bytes)
+    }
+
+    /// Drops the steps of the journal: its base then says what the site says, and positions go on. The one fault is want of memory.
+    pub fn checkpoint<R: Wait>(&self, rt: &R) -> Result<(), Memory> {
+        self.lock.lock(rt).checkpoint()
+    }
+}

@@ -1,0 +1,19 @@
+//! A site under its lock, and the passes by which threads call it.
+//!
+//! Under the lock lies the site's journal, so its steps are legal whenever the lock is free. A call does one step, counts it for its pass
+//! and answers a receipt. When a desk is closed, its journal has as many steps as its passes have counted together.
+#![tactic(auto)]
+
+mod close_fault;
+mod closing;
+mod desk;
+mod desk_port;
+mod kept;
+mod pass;
+
+pub use close_fault::CloseFault;
+pub use closing::close;
+pub use desk::{MOST_PASSES, SiteDesk};
+pub use desk_port::DeskPort;
+pub use dots::Memory;
+pub use pass::Pass;
