@@ -50,7 +50,6 @@ fn is_from_new(journal: &Journaled) -> bool
     ensures whole { IsTrue result ↔ IsFromNew journal.now }
     ensures journal { IsJournal journal.now }
 {
-    let _ = journal.replica(); // so that it is known that its steps are legal
     journal.start() == 0 && is_new(journal.base())
 }
 

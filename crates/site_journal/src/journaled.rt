@@ -215,7 +215,8 @@ impl Journaled {
 
     /// How many steps were before the base.
     pub fn start(&self) -> u64
-        ensures { result ≡ self.now.start }
+        ensures value { result ≡ self.now.start }
+        ensures journal { IsJournal self.now }
     {
         self.start
     }
