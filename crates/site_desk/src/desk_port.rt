@@ -8,16 +8,18 @@ use std::sync::ledger::Ledger;
 /// A desk's port for one pass: it answers as the desk does (this project's own).
 #[derive(Drop)]
 pub struct DeskPort<'a, L: Ledger> {
-    desk: &'a SiteDesk<L>,
-    pass: &'a mut Pass<L>,
-    // The fault of the last call, if it had one.
-    fault: Option<DeskFault>,
+    /// The desk that is called.
+    pub desk: &'a SiteDesk<L>,
+    /// The pass by which it is called.
+    pub pass: &'a mut Pass<L>,
+    /// The fault of the last call, if it had one.
+    pub fault: Option<DeskFault>,
 }
 
 impl<'a, L: Ledger> DeskPort<'a, L> {
     /// The port of a desk for this pass. It takes no memory.
     pub fn new(desk: &'a SiteDesk<L>, pass: &'a mut Pass<L>) -> DeskPort<'a, L>
-        ensures pass { result.pass.now ≡ pass.entry.now }
+        ensures pass { result.pass ≡ pass.entry }
         ensures fault { result.fault ≡ None }
     {
         DeskPort {
