@@ -90,6 +90,7 @@ fn a_frame_whose_number_was_changed_is_in_no_run(rt: HostRuntime) {
     let mut first = journal(&rt, alloc, 0, b"sales");
     let mut second = journal(&rt, alloc, 1, b"sales");
     let mut bytes = added(&rt, &mut first, b"SIP/0").into_vec();
+    assert!(rt; bytes.len() == 98);
     assert!(rt; bytes[15] == 1);
     bytes[15] = 9;
     assert!(rt; second.take(0, bytes).is_ok());
