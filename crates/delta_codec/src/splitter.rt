@@ -1,4 +1,4 @@
-ghost use Rattle.std.specs.Prelude.{◌≡◌, ◌≤◌, ◌++◌, [], drop, vec_len, IfOk, IfSome, OnErr, OnOk};
+ghost use Rattle.std.specs.Prelude.{◌≡◌, ◌≤◌, ◌+◌, ◌++◌, [], drop, vec_len, IfOk, IfSome, OnErr, OnOk};
 ghost use Rattle.delta_codec.specs.Decoding.{IsNextFault, IsNextFrame};
 
 use crate::{DecodeFault, Frame, Memory, decode};
@@ -35,13 +35,14 @@ fn drop_front(bytes: &mut Vec<u8>, count: usize)
 }
 
 // Adds a piece to the bytes that aren't taken yet. Where at least half of the bytes are taken, these are dropped first, so that
-// each byte is moved a bounded number of times.
+// each byte is moved a bounded number of times, and what is taken is at most half of what is kept.
 fn append(bytes: &mut Vec<u8>, taken: &mut usize, piece: &[u8]) -> Result<(), Memory>
     requires { taken.old ≤ vec_len bytes.old }
     ensures ok { OnOk result (drop taken.new bytes.new.items
         ≡ drop taken.old bytes.old.items ++ piece.now) }
     ensures err { OnErr result (drop taken.new bytes.new.items ≡ drop taken.old bytes.old.items) }
     ensures taken { taken.new ≤ vec_len bytes.new }
+    ensures few { taken.new + taken.new ≤ vec_len bytes.new }
 {
     if bytes.len() - *taken <= *taken {
         drop_front(bytes, *taken);

@@ -1,6 +1,8 @@
 //! Events, one by one: what each does at its site, and what comes of it.
-ghost use Rattle.std.specs.Prelude.{◌≡◌, ◌≤◌, ◌+◌, ◌++◌, ℕ, List, [], ◌∷◌, Ok, Some, IfOk, true};
+ghost use Rattle.std.specs.Prelude.{◌≡◌, ◌<◌, ◌≤◌, ◌+◌, ◌++◌, ℕ, List, [], ◌∷◌, Err, Ok, Some};
+ghost use Rattle.std.specs.Prelude.{IfOk, true};
 ghost use Rattle.std.specs.Prelude.{length, option_map, slice_get, vec_len, vec_capacity};
+ghost use Rattle.dots.specs.declared.limits.TheConstants.{MOST_COUNT};
 ghost use Rattle.dots.specs.Knowledge.{Knowledge};
 ghost use Rattle.delta.specs.Standing.{IsDeltaOf};
 ghost use Rattle.replica.specs.Site.{IsUnchanged};
@@ -56,6 +58,7 @@ fn cut_site(replica: &mut Replica, pool: &mut Vec<Frame>) -> Outcome
     ensures conditions { GrowsBy
         (ComesOfCut (length pool.old.items) replica.old result replica.new)
         pool.old.items pool.new.items }
+    ensures room { result ≡ Outcome.NoMemory → vec_capacity pool.old < vec_len pool.old + 1 }
 {
     if pool.reserve(1).is_err() {
         return Outcome::NoMemory;
@@ -89,6 +92,9 @@ fn whole_site(replica: &mut Replica, pool: &mut Vec<Frame>) -> Outcome
     ensures conditions { GrowsBy
         (ComesOfWhole (length pool.old.items) replica.old result replica.new)
         pool.old.items pool.new.items }
+    ensures exhausted { replica.old.frames ≡ MOST_COUNT
+        → vec_len pool.old + 1 ≤ vec_capacity pool.old
+        → result ≡ Outcome.Cut (Err CutFault.Exhausted) }
 {
     if pool.reserve(1).is_err() {
         return Outcome::NoMemory;
