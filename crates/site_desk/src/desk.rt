@@ -101,6 +101,7 @@ impl<L: Ledger> SiteDesk<L> {
         ensures only { IfErr result (λ fault. IsRewound pass.old fault
             ⊎ ((fault ≡ DeskFault.JournalFull) ⊎ (fault ≡ DeskFault.Memory))) }
         ensures unchanged { OnErr result (pass.new ≡ pass.old) }
+        ensures gate { G.called gate.old turn gate.new }
     {
         let mut kept = self.lock.lock(rt);
         let answered = kept.call(pass, asked);

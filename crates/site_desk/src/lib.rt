@@ -9,6 +9,7 @@ mod closing;
 mod desk;
 mod desk_port;
 mod kept;
+pub mod laws;
 mod pass;
 
 pub use close_fault::CloseFault;
