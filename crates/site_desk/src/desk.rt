@@ -1,4 +1,5 @@
 ghost use Rattle.std.specs.Prelude.{◌≡◌, ◌≤◌, ◌⊎◌, IfErr, IfOk, OnErr};
+ghost use Rattle.delta_codec.specs.Decoding.{HasOpening};
 ghost use Rattle.site_journal.specs.Journals.{HasFaultAlone, IsRefusedFor, RefusesTake};
 ghost use Rattle.site_journal.specs.Receipts.{IsOfCut, IsOfTake, IsOfWhole};
 ghost use Rattle.site_desk.specs.Passes.{AreFresh, HasDone, IsOfAsk, IsRewound};
@@ -136,7 +137,8 @@ impl<L: Ledger> SiteDesk<L> {
 
     /// Lets the site take the frame that bytes spell; they come back where it doesn't. Faults, in order: 1 `Rewound`, 2 `JournalFull`, as
     /// of a call; 3 `Decode`, with the fault of the bytes, or `BadRange` where more follows their frame; 4 `Take`, with the fault for
-    /// which the site refuses the frame; 5 `Memory`. A fault leaves the pass as it was.
+    /// which the site refuses the frame; 5 `Memory`, but never in place of a `Decode` that comes up to the heading's end. A fault leaves
+    /// the pass as it was.
     pub fn take<R: Wait>(
         &self,
         rt: &R,
@@ -147,6 +149,7 @@ impl<L: Ledger> SiteDesk<L> {
         ensures took { IfOk result (λ receipt. IsOfTake bytes.items receipt) }
         ensures decode { (fault : DecodeFault) → IsRefusedFor result (DeskFault.Decode fault)
             → HasFaultAlone bytes.items fault }
+        ensures memory { IsRefusedFor result DeskFault.Memory → HasOpening bytes.items }
         ensures only { IfErr result (λ refused.
             IsRewound pass.old refused.0 ⊎ RefusesTake refused.0) }
         ensures back { IfErr result (λ refused. refused.1.items ≡ bytes.items) }

@@ -1,5 +1,6 @@
 ghost use Rattle.std.specs.Prelude.{◌≡◌, ◌≤◌, ◌<◌, ◌↔◌, ◌⊎◌, ◌+◌, Err, IfErr, IfOk, OnErr, OnOk};
 ghost use Rattle.dots.specs.declared.limits.TheConstants.{MOST_COUNT};
+ghost use Rattle.delta_codec.specs.Decoding.{HasOpening};
 ghost use Rattle.site_journal.specs.Journals.{HasAdded, HasDropped, HasFaultAlone, IsAnswerTo};
 ghost use Rattle.site_journal.specs.Journals.{IsFull, IsRefusedFor, IsRefusedFrame, IsUnchanged};
 ghost use Rattle.site_journal.specs.Journals.{RefusesTake};
@@ -148,6 +149,7 @@ impl<L: Ledger> Kept<L> {
             → HasFaultAlone bytes.items fault }
         ensures refused { (fault : TakeFault) → IsRefusedFor result (DeskFault.Take fault)
             → IsRefusedFrame self.old.journal.replica bytes.items fault }
+        ensures memory { IsRefusedFor result DeskFault.Memory → HasOpening bytes.items }
         ensures only { IfErr result (λ refused.
             IsRewound pass.old refused.0 ⊎ RefusesTake refused.0) }
         ensures back { IfErr result (λ refused. refused.1.items ≡ bytes.items) }

@@ -3,6 +3,7 @@ ghost use Rattle.std.specs.Prelude.{OnErr, OnOk, length, min};
 ghost use Rattle.dots.specs.declared.limits.TheConstants.{MOST_COUNT};
 ghost use Rattle.delta.specs.DeltaStates.{IsEmpty};
 ghost use Rattle.delta.specs.Frames.{IsInRanges, frame_of};
+ghost use Rattle.delta_codec.specs.Decoding.{HasOpening};
 ghost use Rattle.delta_codec.specs.Frames.{Spells};
 ghost use Rattle.replica.specs.Site as sites;
 ghost use Rattle.site_journal.specs.Keeping.{kept_by_steps};
@@ -104,6 +105,7 @@ fn frame_in(alloc: Global, bytes: &[u8]) -> Result<Frame, DecodeFault>
     ensures value { IfOk result (λ frame. Spells frame bytes.now) }
     ensures fault { IfErr result (λ fault. (fault ≡ DecodeFault.Memory)
         ⊎ HasFaultAlone bytes.now fault) }
+    ensures memory { result ≡ Err DecodeFault.Memory → HasOpening bytes.now }
 {
     let (frame, len) = decode(alloc, bytes)?;
     if len < bytes.len() {
@@ -116,6 +118,7 @@ fn frame_in(alloc: Global, bytes: &[u8]) -> Result<Frame, DecodeFault>
 fn decode_fault(fault: DecodeFault) -> DeskFault
     ensures decode { (told : DecodeFault) → result ≡ DeskFault.Decode told
         → (fault ≡ told) × (fault ≢ DecodeFault.Memory) }
+    ensures memory { result ≡ DeskFault.Memory → fault ≡ DecodeFault.Memory }
     ensures no_take { (told : TakeFault) → result ≢ DeskFault.Take told }
     ensures only { RefusesTake result }
     ensures no_full { result ≢ DeskFault.JournalFull }
@@ -372,7 +375,7 @@ impl Journaled {
     /// Lets the site take the frame that bytes spell, by the pass of this number, and answers a copy of the step. The bytes come back
     /// where it doesn't. Faults, in order: 1 `JournalFull`, as of a call; 2 `Decode`, with the fault of the bytes, or `BadRange` where
     /// more follows their frame; 3 `Take`, with the fault for which the site refuses the frame; 4 `Memory`, which may also stand in
-    /// place of `Take`, and where `decode` allows it of `Decode`.
+    /// place of `Take`, and of a `Decode` that stands behind a whole heading, but never of one that comes up to there.
     pub fn take(&mut self, pass: u32, bytes: Vec<u8>) -> Result<Step, (DeskFault, Vec<u8>)>
         ensures added { IfOk result (λ step. HasAdded self.old step self.new) }
         ensures pass { IfOk result (λ step. step.pass ≡ pass) }
@@ -382,6 +385,7 @@ impl Journaled {
             → HasFaultAlone bytes.items fault }
         ensures refused { (fault : TakeFault) → IsRefusedFor result (DeskFault.Take fault)
             → IsRefusedFrame self.old.replica bytes.items fault }
+        ensures memory { IsRefusedFor result DeskFault.Memory → HasOpening bytes.items }
         ensures only { IfErr result (λ refused. RefusesTake refused.0) }
         ensures back { IfErr result (λ refused. refused.1.items ≡ bytes.items) }
         ensures unchanged { OnErr result (IsUnchanged self.old self.new) }

@@ -5,6 +5,7 @@ use Rattle.replica.proofs.SameSites.{unchanged-site}
 use Rattle.replica.specs.Taking.{IsRefusedTake}
 use Rattle.site_journal.specs.declared.step.StepDeed.TheVariants.{Took}
 use Rattle.site_journal.proofs.Leading.{does, lead_same, one_more, unmoved}
+use Rattle.site_journal.proofs.Openings.{opened}
 use Rattle.site_journal.proofs.journaled.Journaled.take.Goals as goal
 
 pub returns-then-is_err-clause-unchanged : goal.returns-then-is_err-clause-unchanged
@@ -12,6 +13,16 @@ returns-then-is_err-clause-unchanged c = rw (← c.self.view_is, c.reserve.ensur
 
 pub returns-in_default-clause-unchanged : goal.returns-in_default-clause-unchanged
 returns-in_default-clause-unchanged c = rw (← c.self.view_is, c.reserve.ensures.items) (unmoved _)
+
+-- bytes that spell a frame have its opening
+pub returns-then-is_err-clause-memory : goal.returns-then-is_err-clause-memory
+returns-then-is_err-clause-memory c = λ _. opened c.in-Ok.frame _ (subst (Spells c.in-Ok.frame) c.as_slice.ensures.value c.in-Ok.ensures.value)
+
+pub returns-in_default-clause-memory : goal.returns-in_default-clause-memory
+returns-in_default-clause-memory c = λ _. opened c.in-Ok.frame _ (subst (Spells c.in-Ok.frame) c.as_slice.ensures.value c.in-Ok.ensures.value)
+
+pub returns-in-Err-take-clause-memory : goal.returns-in-Err-take-clause-memory
+returns-in-Err-take-clause-memory c = λ _. opened c.in-Ok.frame _ (subst (Spells c.in-Ok.frame) c.as_slice.ensures.value c.in-Ok.ensures.value)
 
 -- nothing but room has changed
 pub invariant_of-self-in-Err-take : goal.invariant_of-self-in-Err-take
