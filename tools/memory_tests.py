@@ -22,15 +22,15 @@ class MemoryTest(NamedTuple):
 
 TESTS = [
     MemoryTest(
-        crate="tests_of_sites",
+        crate="tests_of_streams",
         name="streams::memory_of_a_feed",
         what="a feed",
         whole="at once",
         refused={"again": "only delayed its messages"},
     ),
     MemoryTest(
-        crate="tests_of_parts",
-        name="frames::memory_of_a_frame",
+        crate="tests_of_replicas",
+        name="frame_memory::memory_of_a_frame",
         what="a frame that is read and spelled",
         whole="spelled",
         refused={"refused": "refused one of the two with Memory"},

@@ -1,4 +1,4 @@
--- The limits of what operations have. What operations show doesn't ask for them; every operation that a site makes is within them.
+-- The limits of what operations have. What operations show doesn't ask for them.
 use Rattle.std.specs.Prelude.{ℕ, ◌≡◌, ◌<◌, ◌≤◌, true, false, [], List, Contains}
 use Rattle.std.specs.FinSet as set
 use Rattle.dots.specs.declared.label.Label.{Label}

@@ -81,8 +81,8 @@ impl<T, const LAST: u32> Arena<T, LAST> {
         (self.slots.capacity() - (self.held + self.retired)) as u32
     }
 
-    /// How many cells are retired: the number of spent ids of generation `LAST`. Each of them has spent an id in each of its
-    /// generations. It takes no memory.
+    /// How many cells are retired: the number of spent ids of generation `LAST`. At least `LAST` + 1 times as many ids are spent.
+    /// It takes no memory.
     pub fn retired(&self) -> u32
         ensures value { result ≡ cells_retired LAST self.now }
         ensures limit { result ≤ 2 ^ 20 }

@@ -1,5 +1,5 @@
-//! Tests of what a site's state is made of, by their public calls: values, arenas, contexts, registers, totals, sets of members, deltas
-//! and frames. This crate has no code of its own.
+//! Tests of what a site's state is made of, by their public calls: values, arenas, contexts, totals, sets of members and deltas.
+//! This crate has no code of its own.
 #![tactic(auto)]
 
 #[cfg(test)]
@@ -11,13 +11,9 @@ mod contexts;
 #[cfg(test)]
 mod deltas;
 #[cfg(test)]
-mod frames;
-#[cfg(test)]
 mod joins;
 #[cfg(test)]
 mod member_sets;
-#[cfg(test)]
-mod registers;
 #[cfg(test)]
 mod totals;
 #[cfg(test)]

@@ -28,7 +28,7 @@ pub(crate) fn setting(rt: &impl Abort, kind: &str, words: &mut Words<'_>) -> Set
 }
 
 // A stamp: its time and its site, as `1.0`.
-fn stamp(rt: &impl Abort, word: &str) -> Stamp {
+pub(crate) fn stamp(rt: &impl Abort, word: &str) -> Stamp {
     let (time, of) = parts(rt, word, '.');
     Stamp::new(number(rt, time), site(rt, of)).expect(rt, word)
 }
@@ -141,12 +141,8 @@ fn operation(rt: &impl Abort, alloc: Global, told: &str) -> Operation {
 
 // What is told under this name.
 fn told_as<'a>(rt: &impl Abort, told: &[(&str, &'a str)], name: &str) -> &'a str {
-    for (other, told) in told {
-        if *other == name {
-            return told;
-        }
-    }
-    rt.panic("no such name")
+    let found = told.iter().find(|row| row.0 == name);
+    found.expect(rt, name).1
 }
 
 // The operations of these names among those that are told.

@@ -1,5 +1,5 @@
-//! Tests of streams of messages, lists of queues, reports, replies, copies of asks and answers, sessions that are served, worlds of sites
-//! and scripts by their public calls. This crate has no code of its own.
+//! Tests of lists of queues, reports, replies, copies of asks and answers, sessions that are served, worlds of sites and scripts by their
+//! public calls. This crate has no code of its own.
 #![tactic(auto)]
 
 #[cfg(test)]
@@ -18,7 +18,5 @@ mod served;
 mod sessions;
 #[cfg(test)]
 mod shared;
-#[cfg(test)]
-mod streams;
 #[cfg(test)]
 mod worlds;

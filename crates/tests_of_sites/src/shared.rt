@@ -96,6 +96,7 @@ fn message(rt: &impl Abort, alloc: Global, lines: &str) -> Message {
     feed.feed(lines.as_bytes()).expect(rt, "memory");
     feed.feed(b"\r\n").expect(rt, "memory");
     let found = feed.next_message().expect(rt, "no fault");
+    drop(feed);
     found.expect(rt, "a message")
 }
 

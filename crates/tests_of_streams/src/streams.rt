@@ -117,25 +117,29 @@ fn asks_again(rt: &impl Abort, feed: &mut Feed, name: &[u8], value: &[u8]) -> bo
     is_refused
 }
 
+// A stream of three messages in pieces.
+const PIECES: &[&[u8]] = &[
+    b"\r\nAction: Queue",
+    b"Status\r\nQueue: a\r",
+    b"\n\r",
+    b"\nx\n\ny: z\n\n",
+];
+
+// What each has under a name; nothing where the value is empty.
+const VALUES: &[(&str, &str)] = &[("action", "QueueStatus"), ("x", ""), ("y", "z")];
+
 // The messages are the same, whether they come at once or memory is refused and they are asked for again. tools/memory_tests.py
 // runs this test with each allocation refused in turn.
 #[test]
 fn memory_of_a_feed(rt: HostRuntime) {
-    let pieces: [&[u8]; 4] = [
-        b"\r\nAction: Queue",
-        b"Status\r\nQueue: a\r",
-        b"\n\r",
-        b"\nx\n\ny: z\n\n",
-    ];
     assert!(rt; println!(rt; "ready").is_ok());
     let mut feed = Feed::new(rt.alloc());
     let mut is_refused = false;
-    for piece in pieces {
+    for piece in PIECES {
         is_refused = feed_again(&rt, &mut feed, piece) || is_refused;
     }
-    for (name, value) in [("action", "QueueStatus"), ("x", ""), ("y", "z")] {
-        let (name, value) = (name.as_bytes(), value.as_bytes());
-        is_refused = asks_again(&rt, &mut feed, name, value) || is_refused;
+    for (name, value) in VALUES {
+        is_refused = asks_again(&rt, &mut feed, name.as_bytes(), value.as_bytes()) || is_refused;
     }
     assert!(rt; has_none(&mut feed));
     let end = if is_refused { "again" } else { "at once" };

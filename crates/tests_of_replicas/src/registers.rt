@@ -1,11 +1,14 @@
-use crate::values::{assert_same, stamp};
-use dots::{Label, Pause, Penalty, Text80};
+//! Registers and fields: what their joins keep.
+use crate::operations::stamp;
+use crate::told::label;
+use dots::{Pause, Penalty, Text80};
 use lww_registers::{Fields, Register};
 use std::process::Abort;
 
-fn penalty(rt: &impl Abort, time: u64, site: u16, number: u32) -> Register<Penalty> {
+// A penalty that was set at a stamp, told as its time and its site.
+fn penalty(rt: &impl Abort, told: &str, number: u32) -> Register<Penalty> {
     let penalty = Penalty::new(number).expect(rt, "a penalty");
-    Register::of(stamp(rt, time, site), penalty)
+    Register::of(stamp(rt, told), penalty)
 }
 
 // Checks the value of a register.
@@ -28,50 +31,46 @@ fn joined(
 
 #[test]
 fn the_greatest_stamp_is_kept_both_ways(rt: HostRuntime) {
-    // Time and site of two stamps with penalties 3 and 4, and the penalty that is left.
+    // Two stamps with penalties 3 and 4, and the penalty that is left.
     for (first, second, want) in [
-        ((2, 0), (2, 1), 4),
-        ((2, 1), (2, 0), 3),
-        ((1, 5), (2, 0), 4),
-        ((3, 0), (2, 9), 3),
+        ("2.0", "2.1", 4),
+        ("2.1", "2.0", 3),
+        ("1.5", "2.0", 4),
+        ("3.0", "2.9", 3),
     ] {
-        let left = penalty(&rt, first.0, first.1, 3);
-        let right = penalty(&rt, second.0, second.1, 4);
+        let left = penalty(&rt, first, 3);
+        let right = penalty(&rt, second, 4);
         let one = joined(&rt, &left, &right);
         let other = joined(&rt, &right, &left);
         assert_penalty(&rt, &one, want);
         assert_penalty(&rt, &other, want);
-        assert_same(&rt, &one.stamp(), &other.stamp());
+        assert!(rt; one.stamp() == other.stamp());
     }
 }
 
 #[test]
 fn one_stamp_with_two_values_does_not_agree(rt: HostRuntime) {
-    let three = penalty(&rt, 2, 1, 3);
-    assert!(rt; !three.agrees(&penalty(&rt, 2, 1, 4)));
-    assert!(rt; three.agrees(&penalty(&rt, 2, 1, 3)));
+    let three = penalty(&rt, "2.1", 3);
+    assert!(rt; !three.agrees(&penalty(&rt, "2.1", 4)));
+    assert!(rt; three.agrees(&penalty(&rt, "2.1", 3)));
     assert!(rt; three.agrees(&Register::none()));
     assert!(rt; Register::<Penalty>::none().is_none() && !three.is_none());
 }
 
 // The fields of a penalty and a label.
 fn labelled(rt: &impl Abort, number: u32) -> Fields {
-    let label = Label {
-        name: Text80::empty(),
-        state: Text80::empty(),
-    };
     Fields {
-        penalty: penalty(rt, 5, 0, number),
+        penalty: penalty(rt, "5.0", number),
         pause: Register::none(),
-        label: Register::of(stamp(rt, 1, 0), label),
+        label: Register::of(stamp(rt, "1.0"), label(rt, "-", "-")),
     }
 }
 
 // The fields of a penalty and a pause.
 fn paused(rt: &impl Abort, number: u32) -> Fields {
     Fields {
-        penalty: penalty(rt, 4, 1, number),
-        pause: Register::of(stamp(rt, 4, 1), Pause::new(true, Text80::empty())),
+        penalty: penalty(rt, "4.1", number),
+        pause: Register::of(stamp(rt, "4.1"), Pause::new(true, Text80::empty())),
         label: Register::none(),
     }
 }

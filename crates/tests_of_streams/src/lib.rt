@@ -1,0 +1,5 @@
+//! Tests of feeds of messages, and of sources and sinks of bytes, by their public calls. This crate has no code of its own.
+#![tactic(auto)]
+
+#[cfg(test)]
+mod streams;
