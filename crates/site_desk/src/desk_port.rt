@@ -1,13 +1,12 @@
 ghost use Rattle.std.specs.Prelude.{◌≡◌, None, Some};
 
-use crate::{Pass, SiteDesk};
+use crate::{Pass, SiteDesk, SiteLedger};
 use site_journal::{DeskFault, Port, Receipt};
 use std::sync::Wait;
-use std::sync::ledger::Ledger;
 
 /// A desk's port for one pass: it answers as the desk does (this project's own).
 #[derive(Drop)]
-pub struct DeskPort<'a, L: Ledger> {
+pub struct DeskPort<'a, L: SiteLedger> {
     /// The desk that is called.
     pub desk: &'a SiteDesk<L>,
     /// The pass by which it is called.
@@ -16,7 +15,7 @@ pub struct DeskPort<'a, L: Ledger> {
     pub fault: Option<DeskFault>,
 }
 
-impl<'a, L: Ledger> DeskPort<'a, L> {
+impl<'a, L: SiteLedger> DeskPort<'a, L> {
     /// The port of a desk for this pass. It takes no memory.
     pub fn new(desk: &'a SiteDesk<L>, pass: &'a mut Pass<L>) -> DeskPort<'a, L>
         ensures pass { result.pass ≡ pass.entry }
@@ -30,7 +29,7 @@ impl<'a, L: Ledger> DeskPort<'a, L> {
     }
 }
 
-impl<'a, L: Ledger, R: Wait> Port<R> for DeskPort<'a, L> {
+impl<'a, L: SiteLedger, R: Wait> Port<R> for DeskPort<'a, L> {
     ghost ordinal = { λ p. p.pass.now.ordinal };
 
     ghost share = { λ p. p.pass.now.share };

@@ -10,6 +10,7 @@ mod desk;
 mod desk_port;
 mod kept;
 mod pass;
+mod site_ledger;
 
 pub use close_fault::CloseFault;
 pub use closing::close;
@@ -17,3 +18,4 @@ pub use desk::{MOST_PASSES, SiteDesk};
 pub use desk_port::DeskPort;
 pub use dots::Memory;
 pub use pass::Pass;
+pub use site_ledger::SiteLedger;
