@@ -10,6 +10,13 @@ use crate::{DeskFault, Receipt};
 pub trait Port<R> {
     ghost use Rattle.std.specs.Prelude.{ℕ, Option};
     ghost use Rattle.site_journal.specs.declared.desk_fault.DeskFault.{DeskFault};
+    ghost use Rattle.site_journal.specs.declared.receipt.Receipt.{Receipt};
+
+    /// What a call does that answers a receipt: it leads from the port's state before, with this receipt, to the state after.
+    ghost makes: { Self → Receipt → Self → Type 0 };
+
+    /// What a call does that has a fault: it leads from the state before, with this fault, to the state after.
+    ghost refuses: { Self → DeskFault → Self → Type 0 };
 
     /// The number of the pass, which stays.
     ghost ordinal: { Self → ℕ };
@@ -22,6 +29,8 @@ pub trait Port<R> {
 
     /// Puts the site's buffer into its next frame, if there is something in it.
     fn cut(&mut self, rt: &R) -> Result<Receipt, DeskFault>
+        ensures made { IfOk result (λ receipt. makes self.old receipt self.new) }
+        ensures refused { IfErr result (λ cause. refuses self.old cause self.new) }
         ensures ordinal { ordinal self.new ≡ ordinal self.old }
         ensures deed { IfOk result (λ receipt. IsOfCut receipt) }
         ensures pass { IfOk result (λ receipt. receipt.pass ≡ ordinal self.old) }
@@ -32,6 +41,8 @@ pub trait Port<R> {
 
     /// Puts all that the site knows into its next frame.
     fn whole(&mut self, rt: &R) -> Result<Receipt, DeskFault>
+        ensures made { IfOk result (λ receipt. makes self.old receipt self.new) }
+        ensures refused { IfErr result (λ cause. refuses self.old cause self.new) }
         ensures ordinal { ordinal self.new ≡ ordinal self.old }
         ensures deed { IfOk result (λ receipt. IsOfWhole receipt) }
         ensures pass { IfOk result (λ receipt. receipt.pass ≡ ordinal self.old) }
@@ -42,6 +53,8 @@ pub trait Port<R> {
 
     /// Lets the site take the frame that bytes spell; they come back where it doesn't.
     fn take(&mut self, rt: &R, bytes: Vec<u8>) -> Result<Receipt, (DeskFault, Vec<u8>)>
+        ensures made { IfOk result (λ receipt. makes self.old receipt self.new) }
+        ensures refused { IfErr result (λ refused. refuses self.old refused.0 self.new) }
         ensures ordinal { ordinal self.new ≡ ordinal self.old }
         ensures deed { IfOk result (λ receipt. IsOfTake bytes.items receipt) }
         ensures pass { IfOk result (λ receipt. receipt.pass ≡ ordinal self.old) }
@@ -73,6 +86,12 @@ pub trait Bell<R> {
 
 /// What a call of a desk does while it holds the site's lock (this project's own): tests see by it that sites go on at once.
 pub trait Gate {
+    ghost use Rattle.std.specs.Prelude.{ℕ};
+
+    /// What its call does: it leads from the state before, with this number, to the state after.
+    ghost called: { Self → ℕ → Self → Type 0 };
+
     /// Is called once, with the number that the caller gave.
-    fn inside(&mut self, turn: u64);
+    fn inside(&mut self, turn: u64)
+        ensures { called self.old turn self.new };
 }

@@ -1,6 +1,7 @@
 ghost use Rattle.std.specs.Prelude.{◌≡◌, ◌⊎◌, ◌+◌, ◌++◌, ◌∷◌, [], ⊤, ℕ, List, None, Some, true};
 ghost use Rattle.std.specs.Prelude.{MatchOption, vec_len};
 ghost use Rattle.std.specs.Option.{option_map_or};
+ghost use Rattle.site_journal.specs.Ports.{PortWork};
 ghost use Rattle.site_pumps.specs.Deeds.{AreTakes};
 
 use site_journal::{DeskFault, Port, Receipt};
@@ -43,6 +44,9 @@ pub fn pump_in<R: Wait, P: Port<R>>(
         ++ (items ++ option_map_or (λ bytes. bytes.items ∷ []) result.refused [])) }
     ensures ended { result.fault ≡ None → link.new.ended ≡ true }
     ensures link { link.new.link ≡ link.old.link }
+    // The port has made the steps of the receipts, and no other; it may then have refused a call.
+    ensures work { PortWork P.makes P.refuses port.old result.receipts.items result.fault
+        port.new }
     // Bytes come back only of a take that the port has refused.
     ensures refused { MatchOption result.refused ⊤ (λ bytes. (cause : DeskFault)
         × (result.fault ≡ Some cause) × (P.fault port.new ≡ Some cause)) }

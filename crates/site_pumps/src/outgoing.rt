@@ -1,6 +1,7 @@
 //! How far a pump has come that sends.
 ghost use Rattle.std.specs.Prelude.{◌≡◌, ◌⊎◌, ◌+◌, ◌∷◌, ◌++◌, [], ◌≤◌, vec_len, List, IfErr, IfOk};
 ghost use Rattle.std.specs.Prelude.{OnErr, OnOk, MatchOption, None, Some};
+ghost use Rattle.site_journal.specs.Ports.{PortRun, PortWork};
 ghost use Rattle.site_journal.specs.Receipts.{IsOfCut, IsOfWhole};
 ghost use Rattle.site_links.specs.Links.{Sending};
 ghost use Rattle.site_pumps.specs.Carried.{Begins, Carries, EachLink};
@@ -161,6 +162,12 @@ impl Outgoing {
         ensures receipt { OnOk result ((r : _) × IsOfCut r
             × (self.new.receipts.items ≡ self.old.receipts.items ++ r ∷ [])) }
         ensures few { self.new.used ≤ vec_len self.new.receipts }
+        ensures run { OnOk result ((start : P)
+            → PortRun P.makes start self.old.receipts.items port.old
+            → PortRun P.makes start self.new.receipts.items port.new) }
+        ensures work { IfErr result (λ cause. (start : P)
+            → PortRun P.makes start self.old.receipts.items port.old
+            → PortWork P.makes P.refuses start self.new.receipts.items (Some cause) port.new) }
         ensures fault { IfErr result (λ e. (P.fault port.new ≡ Some e) ⊎ (e ≡ DeskFault.Memory)) }
         ensures ordinal { P.ordinal port.new ≡ P.ordinal port.old }
         ensures share { P.share port.new + vec_len self.old.receipts
@@ -193,6 +200,12 @@ impl Outgoing {
             → IsFrontOf plan self.new.receipts.items start links.new) }
         ensures receipt { OnOk result ((r : _) × IsOfWhole r
             × (self.new.receipts.items ≡ self.old.receipts.items ++ r ∷ [])) }
+        ensures run { OnOk result ((start : P)
+            → PortRun P.makes start self.old.receipts.items port.old
+            → PortRun P.makes start self.new.receipts.items port.new) }
+        ensures work { IfErr result (λ cause. (start : P)
+            → PortRun P.makes start self.old.receipts.items port.old
+            → PortWork P.makes P.refuses start self.new.receipts.items (Some cause) port.new) }
         ensures fault { IfErr result (λ e. (P.fault port.new ≡ Some e) ⊎ (e ≡ DeskFault.Memory)) }
         ensures ordinal { P.ordinal port.new ≡ P.ordinal port.old }
         ensures share { P.share port.new + vec_len self.old.receipts

@@ -1,5 +1,6 @@
 ghost use Rattle.std.specs.Prelude.{◌≡◌, ◌⊎◌, ◌+◌, ⊤, [], ℕ, None, Some, true, MatchOption, IfErr, OnErr};
 ghost use Rattle.std.specs.Prelude.{OnOk, vec_len};
+ghost use Rattle.site_journal.specs.Ports.{PortRun, PortWork};
 ghost use Rattle.site_pumps.specs.Carried.{Carries, EachLink};
 ghost use Rattle.site_pumps.specs.Deeds.{AreCutsAndWhole, cut_frames, whole_frames};
 ghost use Rattle.site_pumps.specs.Outgoing.{IsFrontOf};
@@ -41,6 +42,10 @@ fn drive<R: Wait, P: Port<R>, B: Bell<R>>(
     ensures receipts { OnOk result ((rung : ℕ) × (B.rings bell.new ≡ B.rings bell.old + rung)
         × AreCutsAndWhole (rung + 1) outgoing.new.receipts.items) }
     ensures ended { OnOk result (B.ended bell.new ≡ true) }
+    ensures run { OnOk result
+        (PortRun P.makes port.old outgoing.new.receipts.items port.new) }
+    ensures work { IfErr result (λ cause. PortWork P.makes P.refuses port.old
+        outgoing.new.receipts.items (Some cause) port.new) }
     ensures fault { IfErr result (λ e. (P.fault port.new ≡ Some e) ⊎ (e ≡ DeskFault.Memory)) }
     ensures ordinal { P.ordinal port.new ≡ P.ordinal port.old }
     ensures share { P.share port.new ≡ P.share port.old + vec_len outgoing.new.receipts }
@@ -75,6 +80,9 @@ pub fn pump_out<R: Wait, P: Port<R>, B: Bell<R>>(
         × (B.rings bell.new ≡ B.rings bell.old + rung)
         × AreCutsAndWhole (rung + 1) result.receipts.items }
     ensures ended { result.fault ≡ None → B.ended bell.new ≡ true }
+    // The port has made the steps of the receipts, and no other; it may then have refused a call.
+    ensures work { PortWork P.makes P.refuses port.old result.receipts.items result.fault
+        port.new }
     ensures fault { MatchOption result.fault ⊤
         (λ cause. (P.fault port.new ≡ Some cause) ⊎ (cause ≡ DeskFault.Memory)) }
     ensures ordinal { P.ordinal port.new ≡ P.ordinal port.old }

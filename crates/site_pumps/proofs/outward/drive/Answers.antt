@@ -1,7 +1,8 @@
 use Rattle.std.proofs.Common.{rules, arith, ◌≡◌, ◌+◌, ◌∙◌, [], ap, map, refl}
-use Rattle.std.proofs.lemmas.Result.{on_ok_weaker, on_err_weaker}
+use Rattle.std.proofs.lemmas.Result.{err_from_is_err_and, on_ok_weaker, on_err_weaker}
 use Rattle.site_journal.specs.declared.receipt.Receipt.{Receipt}
 use Rattle.site_pumps.proofs.Carrying.{on_err}
+use Rattle.site_pumps.proofs.PortRuns.{if_fault, run_none}
 use Rattle.site_pumps.proofs.Receipts.{cuts_more, cuts_whole}
 use Rattle.site_pumps.proofs.UnderWay.{at_start_of}
 use Rattle.site_pumps.proofs.outward.drive.Goals as goal
@@ -12,6 +13,7 @@ loop-init g c = let fresh = c.requires.fresh in record {
   cuts = (0, omega arith, ([], refl, ap (map (λ (r : Receipt). r.deed)) fresh.0));
   under_way = at_start_of _ _ _ _ _ fresh.0 fresh.2 fresh.1;
   few = omega (arith, fresh.2);
+  run = run_none g.P.Port.makes _ _ fresh.0;
   ordinal = refl;
   share = omega (arith, fresh.3);
 }
@@ -21,6 +23,7 @@ loop-preserved g c = let was = c.loop.invariant in let cut = c.in_ok-cut.ensures
   cuts = (was.cuts.0 + 1, omega (arith, c.if-not-wait.ensures.rings, was.cuts.1), cuts_more _ _ _ cut.receipt.0 cut.receipt.2 cut.receipt.1 was.cuts.2);
   under_way = cut.ok _ was.under_way;
   few = search rules;
+  run = cut.run _ was.run;
   ordinal = search rules;
   share = search rules;
 }
@@ -41,3 +44,15 @@ pub returns-clause-receipts : goal.returns-clause-receipts
 returns-clause-receipts g c = let was = c.loop.invariant in let cut = c.in_ok-cut-2.ensures in
     let same : g.B.Bell.rings c.match-next.bell ≡ g.B.Bell.rings c.loop.bell = elim c.match-next.branch [ in-None w ↦ ap g.B.Bell.rings w.bell-is | in-Some+then-not-wait w ↦ ap g.B.Bell.rings w.bell-is ∙ w.if-not-wait.ensures.rings ] in
     on_ok_weaker c.finish.result (λ r. (was.cuts.0, same ∙ was.cuts.1, cuts_whole _ _ _ r.0 r.2 r.1 (cuts_more _ _ _ cut.receipt.0 cut.receipt.2 cut.receipt.1 was.cuts.2))) c.finish.ensures.receipt
+
+pub returns-in_err-cut-clause-work : goal.returns-in_err-cut-clause-work
+returns-in_err-cut-clause-work g c = let p = err_from_is_err_and c.from_residual.result c.from_residual.ensures.1 in rw (p.1, p.2) (c.in_err-cut.ensures.work _ c.loop.invariant.run)
+
+pub returns-in_err-cut-2-clause-work : goal.returns-in_err-cut-2-clause-work
+returns-in_err-cut-2-clause-work g c = let p = err_from_is_err_and c.from_residual-in_err-cut-2.result c.from_residual-in_err-cut-2.ensures.1 in rw (p.1, p.2) (c.in_err-cut-2.ensures.work _ c.loop.invariant.run)
+
+pub returns-clause-run : goal.returns-clause-run
+returns-clause-run g c = on_ok_weaker c.finish.result (λ f. f _ (c.in_ok-cut-2.ensures.run _ c.loop.invariant.run)) c.finish.ensures.run
+
+pub returns-clause-work : goal.returns-clause-work
+returns-clause-work g c = if_fault c.finish.result _ _ (λ cause f. f _ (c.in_ok-cut-2.ensures.run _ c.loop.invariant.run)) c.finish.ensures.work

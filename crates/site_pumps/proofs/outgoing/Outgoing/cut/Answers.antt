@@ -1,5 +1,8 @@
-use Rattle.std.proofs.Common.{subst, sym}
+use Rattle.std.proofs.Common.{◌∙◌, Global, Vec, ap, refl, subst, sym}
+use Rattle.std.proofs.lemmas.Result.{err_from_is_err_and}
+use Rattle.site_journal.specs.declared.receipt.Receipt.{Receipt}
 use Rattle.site_pumps.proofs.Carrying.{on_err}
+use Rattle.site_pumps.proofs.PortRuns.{if_memory, run_more, run_same, whatever, work_refused, work_stopped}
 use Rattle.site_pumps.proofs.UnderWay.{stopped}
 use Rattle.site_pumps.specs.Outgoing.{IsFrontOf}
 use Rattle.site_pumps.proofs.outgoing.Outgoing.cut.Goals as goal
@@ -9,3 +12,16 @@ returns-then-is_err-clause-err g c = λ start w. subst (λ l. IsFrontOf c.args.p
 
 pub returns-in_err-receipt-clause-err : goal.returns-in_err-receipt-clause-err
 returns-in_err-receipt-clause-err g c = on_err c.from_residual.result (λ start w. subst (λ l. IsFrontOf c.args.plan.now l start c.args.links.now) (sym c.reserve.ensures.items) (stopped _ _ _ _ _ _ w))
+
+pub returns-then-is_err-clause-work : goal.returns-then-is_err-clause-work
+returns-then-is_err-clause-work g c = λ start run. work_stopped g.P.Port.makes g.P.Port.refuses start _ _ _ refl (run_same g.P.Port.makes start _ _ _ c.reserve.ensures.items run)
+
+pub returns-in_err-receipt-clause-work : goal.returns-in_err-receipt-clause-work
+returns-in_err-receipt-clause-work g c = let p = err_from_is_err_and c.from_residual.result c.from_residual.ensures.1 in rw (p.1, p.2) (λ start run. work_refused g.P.Port.makes g.P.Port.refuses start _ _ _ _ (run_same g.P.Port.makes start _ _ _ c.reserve.ensures.items run) c.in_err-receipt.ensures.refused)
+
+pub returns-clause-run : goal.returns-clause-run
+returns-clause-run g c = whatever c.treat-treated.result (λ start run. run_more g.P.Port.makes start _ _ _ _ _ c.in_ok-receipt.receipt c.push_reserved.ensures.items (ap (λ (v : Vec Receipt Global). v.items) c.treat-treated.ensures.receipts ∙ c.reserve.ensures.items) run c.in_ok-receipt.ensures.made)
+
+pub returns-clause-work : goal.returns-clause-work
+returns-clause-work g c = if_memory c.treat-treated.result _ c.treat-treated.ensures.memory (λ cause memory start run.
+    work_stopped g.P.Port.makes g.P.Port.refuses start _ _ _ memory (run_more g.P.Port.makes start _ _ _ _ _ c.in_ok-receipt.receipt c.push_reserved.ensures.items (ap (λ (v : Vec Receipt Global). v.items) c.treat-treated.ensures.receipts ∙ c.reserve.ensures.items) run c.in_ok-receipt.ensures.made))

@@ -1,9 +1,11 @@
-use Rattle.std.proofs.Common.{subst, sym, ap, ◌∙◌, ◌++◌, ◌∷◌, []}
+use Rattle.std.proofs.Common.{refl, subst, sym, ap, ◌∙◌, ◌++◌, ◌∷◌, []}
+use Rattle.std.proofs.lemmas.Result.{err_from_is_err_and}
 use Rattle.site_pumps.specs.Carried.{Begins, Carries, EachLink}
 use Rattle.site_pumps.specs.Deeds.{cut_frames, whole_frames}
 use Rattle.site_pumps.specs.Outgoing.{IsFrontOf}
 use Rattle.site_pumps.specs.Plans.{planned}
 use Rattle.site_pumps.proofs.Carrying.{on_err, each_fewer}
+use Rattle.site_pumps.proofs.PortRuns.{run_more, run_same, work_refused, work_stopped}
 use Rattle.site_pumps.proofs.UnderWay.{stopped, broken_at_held, broken_at_end, ended}
 use Rattle.site_pumps.proofs.outgoing.Outgoing.finish.Goals as goal
 
@@ -27,3 +29,18 @@ pub returns-in-Err-clause-err : goal.returns-in-Err-clause-err
 returns-in-Err-clause-err g c = λ start plan w. subst (λ l. IsFrontOf plan l start c.send_whole-sent.new.links)
     (sym (c.push_reserved.ensures.items ∙ ap (λ l. l ++ c.in_ok-receipt.receipt ∷ []) c.reserve.ensures.items))
     (broken_at_end _ _ _ _ _ _ _ _ _ c.in_ok-receipt.ensures.deed w (subst (λ l. EachLink (Carries l) c.args.links.now c.send_each.new.links) c.as_slice.ensures.value c.in_ok-send_each.ensures.ok) c.in-Err.ensures.err)
+
+pub returns-then-is_err-clause-work : goal.returns-then-is_err-clause-work
+returns-then-is_err-clause-work g c = λ start run. work_stopped g.P.Port.makes g.P.Port.refuses start _ _ _ refl (run_same g.P.Port.makes start _ _ _ c.reserve.ensures.items run)
+
+pub returns-in_err-send_each-clause-work : goal.returns-in_err-send_each-clause-work
+returns-in_err-send_each-clause-work g c = let p = err_from_is_err_and c.from_residual.result c.from_residual.ensures.1 in rw (p.1, p.2) (λ start run. work_stopped g.P.Port.makes g.P.Port.refuses start _ _ _ refl (run_same g.P.Port.makes start _ _ _ c.reserve.ensures.items run))
+
+pub returns-in_err-receipt-clause-work : goal.returns-in_err-receipt-clause-work
+returns-in_err-receipt-clause-work g c = let p = err_from_is_err_and c.from_residual-in_err-receipt.result c.from_residual-in_err-receipt.ensures.1 in rw (p.1, p.2) (λ start run. work_refused g.P.Port.makes g.P.Port.refuses start _ _ _ _ (run_same g.P.Port.makes start _ _ _ c.reserve.ensures.items run) c.in_err-receipt.ensures.refused)
+
+pub returns-in-Ok-clause-run : goal.returns-in-Ok-clause-run
+returns-in-Ok-clause-run g c = λ start run. run_more g.P.Port.makes start _ _ _ _ _ c.in_ok-receipt.receipt c.push_reserved.ensures.items c.reserve.ensures.items run c.in_ok-receipt.ensures.made
+
+pub returns-in-Err-clause-work : goal.returns-in-Err-clause-work
+returns-in-Err-clause-work g c = λ start run. work_stopped g.P.Port.makes g.P.Port.refuses start _ _ _ refl (run_more g.P.Port.makes start _ _ _ _ _ c.in_ok-receipt.receipt c.push_reserved.ensures.items c.reserve.ensures.items run c.in_ok-receipt.ensures.made)
