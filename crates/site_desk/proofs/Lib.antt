@@ -1,2 +1,3 @@
 pub mod DoneDeeds
 pub mod FreshPasses
+pub mod PortRuns

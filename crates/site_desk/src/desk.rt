@@ -37,8 +37,8 @@ impl<L: SiteLedger> Model for SiteDesk<L> {
 }
 
 impl<L: SiteLedger> SiteDesk<L> {
-    /// A desk over a journal of the ledger's site, without a step, and its passes, 1 to 256, with the numbers 0, 1 and so on. The ledger is a new one, of as
-    /// many parts. Where memory is wanting the journal comes back.
+    /// A desk over a journal of the ledger's site, without a step, and its passes, 1 to 256, with the numbers 0, 1 and so on. The
+    /// ledger is a new one, of as many parts. Where memory is wanting the journal comes back.
     pub fn new(
         alloc: Global,
         blank: Blank,
@@ -103,6 +103,7 @@ impl<L: SiteLedger> SiteDesk<L> {
         ensures only { IfErr result (λ fault. IsRewound pass.old fault
             ⊎ ((fault ≡ DeskFault.JournalFull) ⊎ (fault ≡ DeskFault.Memory))) }
         ensures unchanged { OnErr result (pass.new ≡ pass.old) }
+        ensures gate { G.called gate.old turn gate.new }
     {
         let mut kept = self.lock.lock(rt);
         let answered = kept.call(pass, asked);

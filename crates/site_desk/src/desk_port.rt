@@ -1,4 +1,5 @@
 ghost use Rattle.std.specs.Prelude.{◌≡◌, None, Some};
+ghost use Rattle.site_desk.specs.Ports.{MakesByPass, RefusesByPass};
 
 use crate::{Pass, SiteDesk, SiteLedger};
 use site_journal::{DeskFault, Port, Receipt};
@@ -30,6 +31,10 @@ impl<'a, L: SiteLedger> DeskPort<'a, L> {
 }
 
 impl<'a, L: SiteLedger, R: Wait> Port<R> for DeskPort<'a, L> {
+    ghost makes = { λ old receipt new. MakesByPass old.pass receipt new.pass };
+
+    ghost refuses = { λ old cause new. RefusesByPass old.pass cause new.pass };
+
     ghost ordinal = { λ p. p.pass.now.ordinal };
 
     ghost share = { λ p. p.pass.now.share };

@@ -9,6 +9,7 @@ mod closing;
 mod desk;
 mod desk_port;
 mod kept;
+pub mod laws;
 mod pass;
 mod site_ledger;
 

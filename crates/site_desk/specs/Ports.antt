@@ -1,0 +1,34 @@
+-- What a desk's port does by the pass that it has borrowed (this project's own).
+use Rattle.std.specs.Borrow.{MutBor}
+use Rattle.std.specs.List.{All}
+use Rattle.std.specs.Prelude.{ℕ, ◌≡◌, ◌≤◌, ◌+◌, List, [], ◌∷◌, length}
+use Rattle.site_journal.specs.declared.desk_fault.DeskFault.{DeskFault}
+use Rattle.site_journal.specs.declared.receipt.Receipt.{Receipt}
+use Rattle.site_desk.specs.Passes.{HasDone, PassState}
+
+-- the pass has done the step of this receipt, and is the same borrow
+pub record MakesByPass (old : MutBor PassState) (receipt : Receipt) (new : MutBor PassState) : Type 0 where
+  pub done : HasDone old.now receipt new.now
+  pub same : new.ghost_name ≡ old.ghost_name
+
+-- the pass is as it was, and the same borrow, whatever the fault
+pub record RefusesByPass (old : MutBor PassState) (fault : DeskFault) (new : MutBor PassState) : Type 0 where
+  pub unchanged : new.now ≡ old.now
+  pub same : new.ghost_name ≡ old.ghost_name
+
+-- the positions of receipts ascend, from a length that the journal had to that which it had with the last of them
+abbrev pub Ascend : ℕ → List Receipt → ℕ → Type 0
+Ascend seen [] new = new ≡ seen
+Ascend seen (receipt ∷ receipts) new = (seen ≤ receipt.position) × Ascend (receipt.position + 1) receipts new
+
+-- a pass has done the steps of these receipts, one after another: all are of its number, which stays, and it has counted and seen them
+pub record HasDoneAll (old : PassState) (receipts : List Receipt) (new : PassState) : Type 0 where
+  pub ordinal : new.ordinal ≡ old.ordinal
+  pub passes : All (λ (receipt : Receipt). receipt.pass ≡ old.ordinal) receipts
+  pub share : new.share ≡ old.share + length receipts
+  pub seen : Ascend old.seen receipts new.seen
+
+-- the pass has done the steps of these receipts, and is the same borrow
+pub record WorksByPass (old : MutBor PassState) (receipts : List Receipt) (new : MutBor PassState) : Type 0 where
+  pub done : HasDoneAll old.now receipts new.now
+  pub same : new.ghost_name ≡ old.ghost_name

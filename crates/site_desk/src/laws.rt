@@ -1,0 +1,18 @@
+//! What a desk's port promises whoever lends it a pass. The function has no body: its contract is the law.
+ghost use Rattle.std.specs.Prelude.{List, Option};
+ghost use Rattle.site_journal.specs.Ports.{PortWork};
+ghost use Rattle.site_journal.specs.declared.desk_fault.DeskFault.{DeskFault};
+ghost use Rattle.site_journal.specs.declared.receipt.Receipt.{Receipt};
+ghost use Rattle.site_desk.specs.Ports.{MakesByPass, RefusesByPass, WorksByPass};
+ghost use Rattle.site_desk.specs.declared.desk_port.DeskPort.{DeskPort};
+
+use crate::SiteLedger;
+
+/// Whatever a port does, be it stopped by a fault or not: its pass has done the steps of its receipts, and no other. It is the same
+/// borrow, so that this is known of the pass once the port is given up (this project's own).
+pub fn a_port_works_by_its_pass<L: SiteLedger>()
+    ensures { (old new : DeskPort L) (receipts : List Receipt) (fault : Option DeskFault)
+        → PortWork (λ p receipt q. MakesByPass p.pass receipt q.pass)
+        (λ p cause q. RefusesByPass p.pass cause q.pass) old receipts fault new
+        → WorksByPass old.pass receipts new.pass }
+{}
