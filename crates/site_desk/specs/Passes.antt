@@ -1,6 +1,6 @@
 -- What contracts see of passes, and of what is done by them (this project's own).
 use Rattle.std.specs.List.{Any}
-use Rattle.std.specs.Prelude.{ℕ, ◌≡◌, ◌<◌, ◌≤◌, ◌+◌, List, length, sum_by, slice_index_or}
+use Rattle.std.specs.Prelude.{ℕ, ◌≡◌, ◌<◌, ◌≤◌, ◌+◌, ⊤, List, length, sum_by, slice_index_or}
 use Rattle.site_journal.specs.declared.desk_fault.DeskFault.{DeskFault}
 use Rattle.site_journal.specs.declared.desk_fault.DeskFault.TheVariants.{Rewound}
 use Rattle.site_journal.specs.declared.receipt.Receipt.{Receipt}
@@ -45,6 +45,11 @@ IsOfAsk ask receipt = (answer : Answer) × (receipt.deed ≡ Asked ask answer)
 abbrev pub IsRewound : PassState → DeskFault → Type 0
 IsRewound pass (Rewound len) = len < pass.seen
 IsRewound pass other = ⊥
+
+-- a fault tells no length of the journal, or one that is less than the pass has seen
+abbrev pub TellsTruly : PassState → DeskFault → Type 0
+TellsTruly pass (Rewound len) = len < pass.seen
+TellsTruly pass other = ⊤
 
 -- the passes of a new desk: so many, with the numbers 0, 1, .., none of which has done anything
 pub record AreFresh (number : ℕ) (passes : List PassState) : Type 0 where

@@ -1,19 +1,29 @@
 -- What a desk's port does by the pass that it has borrowed (this project's own).
 use Rattle.std.specs.Borrow.{MutBor}
 use Rattle.std.specs.List.{All}
-use Rattle.std.specs.Prelude.{ℕ, ◌≡◌, ◌≤◌, ◌+◌, List, [], ◌∷◌, length}
+use Rattle.std.specs.Prelude.{ℕ, ◌≡◌, ◌≤◌, ◌+◌, List, [], ◌∷◌, length, Option}
 use Rattle.site_journal.specs.declared.desk_fault.DeskFault.{DeskFault}
 use Rattle.site_journal.specs.declared.receipt.Receipt.{Receipt}
-use Rattle.site_desk.specs.Passes.{HasDone, PassState}
+use Rattle.site_desk.specs.Passes.{HasDone, PassState, TellsTruly}
+use Rattle.site_desk.specs.declared.desk_port.DeskPort.{DeskPort}
+
+-- the pass that a port has borrowed
+abbrev pub lent_pass : {L : Type 0} → DeskPort L → MutBor PassState
+lent_pass port = port.pass
+
+-- the fault of a port's last call, if it had one
+abbrev pub last_fault : {L : Type 0} → DeskPort L → Option DeskFault
+last_fault port = port.fault
 
 -- the pass has done the step of this receipt, and is the same borrow
 pub record MakesByPass (old : MutBor PassState) (receipt : Receipt) (new : MutBor PassState) : Type 0 where
   pub done : HasDone old.now receipt new.now
   pub same : new.ghost_name ≡ old.ghost_name
 
--- the pass is as it was, and the same borrow, whatever the fault
+-- the pass is as it was, and the same borrow; the fault tells no length that the pass hasn't seen more of
 pub record RefusesByPass (old : MutBor PassState) (fault : DeskFault) (new : MutBor PassState) : Type 0 where
   pub unchanged : new.now ≡ old.now
+  pub told : TellsTruly old.now fault
   pub same : new.ghost_name ≡ old.ghost_name
 
 -- the positions of receipts ascend, from a length that the journal had to that which it had with the last of them

@@ -4,8 +4,8 @@ ghost use Rattle.site_journal.specs.Journals.{RefusesTake};
 ghost use Rattle.site_journal.specs.Receipts.{IsOfCut, IsOfTake, IsOfWhole};
 ghost use Rattle.site_desk.specs.Passes.{AreFresh, HasDone, IsOfAsk, IsRewound};
 
-use crate::{Pass, SiteLedger};
 use crate::kept::Kept;
+use crate::{Pass, SiteLedger};
 use dots::Memory;
 use site_journal::{DecodeFault, DeskFault, Gate, Journaled, Receipt};
 use status_report::Ask;

@@ -1,5 +1,5 @@
 ghost use Rattle.std.specs.Prelude.{◌≡◌, None, Some};
-ghost use Rattle.site_desk.specs.Ports.{MakesByPass, RefusesByPass};
+ghost use Rattle.site_desk.specs.Ports.{MakesByPass, RefusesByPass, last_fault, lent_pass};
 
 use crate::{Pass, SiteDesk, SiteLedger};
 use site_journal::{DeskFault, Port, Receipt};
@@ -8,19 +8,17 @@ use std::sync::Wait;
 /// A desk's port for one pass: it answers as the desk does (this project's own).
 #[derive(Drop)]
 pub struct DeskPort<'a, L: SiteLedger> {
-    /// The desk that is called.
-    pub desk: &'a SiteDesk<L>,
-    /// The pass by which it is called.
-    pub pass: &'a mut Pass<L>,
-    /// The fault of the last call, if it had one.
-    pub fault: Option<DeskFault>,
+    desk: &'a SiteDesk<L>,
+    pass: &'a mut Pass<L>,
+    // That of the last call, if it had one.
+    fault: Option<DeskFault>,
 }
 
 impl<'a, L: SiteLedger> DeskPort<'a, L> {
     /// The port of a desk for this pass. It takes no memory.
     pub fn new(desk: &'a SiteDesk<L>, pass: &'a mut Pass<L>) -> DeskPort<'a, L>
-        ensures pass { result.pass ≡ pass.entry }
-        ensures fault { result.fault ≡ None }
+        ensures pass { lent_pass result ≡ pass.entry }
+        ensures fault { last_fault result ≡ None }
     {
         DeskPort {
             desk,
@@ -31,15 +29,15 @@ impl<'a, L: SiteLedger> DeskPort<'a, L> {
 }
 
 impl<'a, L: SiteLedger, R: Wait> Port<R> for DeskPort<'a, L> {
-    ghost makes = { λ old receipt new. MakesByPass old.pass receipt new.pass };
+    ghost makes = { λ old receipt new. MakesByPass (lent_pass old) receipt (lent_pass new) };
 
-    ghost refuses = { λ old cause new. RefusesByPass old.pass cause new.pass };
+    ghost refuses = { λ old cause new. RefusesByPass (lent_pass old) cause (lent_pass new) };
 
-    ghost ordinal = { λ p. p.pass.now.ordinal };
+    ghost ordinal = { λ port. (lent_pass port).now.ordinal };
 
-    ghost share = { λ p. p.pass.now.share };
+    ghost share = { λ port. (lent_pass port).now.share };
 
-    ghost fault = { λ p. p.fault };
+    ghost fault = { last_fault };
 
     fn cut(&mut self, rt: &R) -> Result<Receipt, DeskFault> {
         let desk = self.desk;

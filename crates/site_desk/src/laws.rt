@@ -3,7 +3,7 @@ ghost use Rattle.std.specs.Prelude.{List, Option};
 ghost use Rattle.site_journal.specs.Ports.{PortWork};
 ghost use Rattle.site_journal.specs.declared.desk_fault.DeskFault.{DeskFault};
 ghost use Rattle.site_journal.specs.declared.receipt.Receipt.{Receipt};
-ghost use Rattle.site_desk.specs.Ports.{MakesByPass, RefusesByPass, WorksByPass};
+ghost use Rattle.site_desk.specs.Ports.{MakesByPass, RefusesByPass, WorksByPass, lent_pass};
 ghost use Rattle.site_desk.specs.declared.desk_port.DeskPort.{DeskPort};
 
 use crate::SiteLedger;
@@ -12,7 +12,8 @@ use crate::SiteLedger;
 /// borrow, so that this is known of the pass once the port is given up (this project's own).
 pub fn a_port_works_by_its_pass<L: SiteLedger>()
     ensures { (old new : DeskPort L) (receipts : List Receipt) (fault : Option DeskFault)
-        → PortWork (λ p receipt q. MakesByPass p.pass receipt q.pass)
-        (λ p cause q. RefusesByPass p.pass cause q.pass) old receipts fault new
-        → WorksByPass old.pass receipts new.pass }
+        → PortWork (λ from receipt to. MakesByPass (lent_pass from) receipt (lent_pass to))
+        (λ from cause to. RefusesByPass (lent_pass from) cause (lent_pass to))
+        old receipts fault new
+        → WorksByPass (lent_pass old) receipts (lent_pass new) }
 {}
