@@ -1,14 +1,13 @@
 -- What passes have done: one step more, and one pass more.
-use Rattle.std.proofs.Common.{◌≡◌, ◌∙◌, ◌+◌, ◌<◌, ◌≤◌, ℕ, zero, suc, List, [], ◌∷◌, ◌++◌, Option, Some, None, length, length-append, map, slice_get, slice_index_or, refl, sym, ap, subst, ⊎_elim, arith}
+use Rattle.std.proofs.Common.{◌≡◌, ◌∙◌, ◌+◌, ◌<◌, ◌≤◌, ℕ, zero, suc, List, [], ◌∷◌, ◌++◌, Option, Some, None, length, length-append, map, slice_get, slice_index_or, refl, sym, ap, subst, arith}
 use Rattle.std.specs.List.{Any}
 use Rattle.std.specs.Option.{option_or}
 use Rattle.std.proofs.Math.ListN.{get_or-append}
 use Rattle.std.proofs.Math.Seq.{get_or-append_seam}
-use Rattle.std.proofs.lemmas.List.Elements.{All-nil, All-push}
-use Rattle.std.proofs.lemmas.Bool.{cases_lt}
+use Rattle.std.proofs.lemmas.List.Elements.{All-push}
 use Rattle.std.proofs.lemmas.List.Sums.{sum_by-cons}
 use Rattle.sites_world.proofs.Lists.{none-some, one-some}
-use Rattle.site_desk.specs.Passes.{AreAll, AreFresh, HasDone, IsOfAsk, PassState, fresh_pass, shares_of}
+use Rattle.site_desk.specs.Passes.{AreAll, HasDone, IsOfAsk, PassState, fresh_pass, shares_of}
 use Rattle.site_desk.specs.Ports.{Ascend, HasDoneAll}
 use Rattle.site_journal.specs.declared.receipt.Receipt.{Receipt}
 use Rattle.site_journal.specs.Settling.{list_of}
@@ -20,15 +19,6 @@ use Rattle.status_report.specs.declared.asks.Ask.{Ask}
 pub mapped_long : {A B : Type 0} (f : A → B) (xs : List A) → length (map f xs) ≡ length xs
 mapped_long f [] = refl
 mapped_long f (x ∷ xs) = ap suc (mapped_long f xs)
-
--- a pass that has done nothing
-pub done_none : (pass : PassState) (receipts : List Receipt) → receipts ≡ [] → HasDoneAll pass receipts pass
-done_none pass receipts none = subst (λ list. HasDoneAll pass list pass) (sym none) (record {
-  ordinal = refl;
-  passes = All-nil (λ (r : Receipt). r.pass ≡ pass.ordinal);
-  share = omega arith;
-  seen = refl;
-})
 
 -- a position more
 ascend_push : (receipts : List Receipt) (seen mid new : ℕ) (r : Receipt) → Ascend seen receipts mid → mid ≤ r.position → new ≡ r.position + 1 → Ascend seen (receipts ++ r ∷ []) new
@@ -104,28 +94,7 @@ worked_each n (p ∷ ps) [] was k low = absurd was
 pub worked_all : (number : ℕ) (passes : List PassState) (lists : List (List Receipt)) → HaveWorked 0 passes lists → length passes ≡ number → AreAll number passes
 worked_all number passes lists was long = record { count = long; each = λ k low. subst (λ n. Any (λ (pass : PassState). pass.ordinal ≡ n) passes) (omega arith) (worked_each 0 passes lists was k (omega (arith, low, long))) }
 
--- the last of fresh passes
-pub fresh_popped : (n : ℕ) (all front : List PassState) (pass : PassState) → all ≡ front ++ pass ∷ [] → AreFresh (n + 1) all → AreFresh n front × (pass ≡ fresh_pass n)
-fresh_popped n all front pass is were =
-    let was : AreFresh (n + 1) (front ++ pass ∷ []) = subst (AreFresh (n + 1)) is were in
-    let many : length front ≡ n = omega (arith, was.count, length-append front (pass ∷ [])) in (
-      record {
-        count = many;
-        each = λ k none low. sym (get_or-append front (pass ∷ []) none k (omega (arith, low, many))) ∙ was.each k none (omega (arith, low));
-      },
-      sym (get_or-append_seam front pass [] pass) ∙ was.each (length front) pass (omega (arith, many)) ∙ ap fresh_pass many,
-    )
-
--- a thread more: their numbers go down by one
-pub promised_push : {H : Type 0} (f : H → ℕ) (xs all : List H) (h : H) (m : ℕ) → all ≡ xs ++ h ∷ [] → ((k : ℕ) (none : H) → k < length xs → f (slice_index_or xs k none) + k ≡ m) → f h + length xs ≡ m
-    → (k : ℕ) (none : H) → k < length all → f (slice_index_or all k none) + k ≡ m
-promised_push f xs all h m is each last k none low = let long : length all ≡ length xs + 1 = ap length is ∙ length-append xs (h ∷ []) in
-    subst (λ l. f (slice_index_or l k none) + k ≡ m) (sym is)
-    (⊎_elim (λ below. ap (λ x. f x + k) (get_or-append xs (h ∷ []) none k below) ∙ each k none below)
-    (λ above. let here : k ≡ length xs = omega (arith, above, low, long) in
-    subst (λ j. f (slice_index_or (xs ++ h ∷ []) j none) + j ≡ m) (sym here) (ap (λ x. f x + length xs) (get_or-append_seam xs h [] none) ∙ last)) (cases_lt k (length xs)))
-
--- a thread less
+-- the last thread, and those before it, whose numbers go down by one
 pub promised_pop : {H : Type 0} (f : H → ℕ) (all front : List H) (h : H) (m : ℕ) → all ≡ front ++ h ∷ [] → ((k : ℕ) (none : H) → k < length all → f (slice_index_or all k none) + k ≡ m)
     → ((k : ℕ) (none : H) → k < length front → f (slice_index_or front k none) + k ≡ m) × (f h + length front ≡ m)
 promised_pop f all front h m is each = let whole : (k : ℕ) (none : _) → k < length front + 1 → f (slice_index_or (front ++ h ∷ []) k none) + k ≡ m =
