@@ -6,65 +6,71 @@ use status_report::{Answer, Ask};
 use std::alloc::Global;
 use std::process::Abort;
 
-// Commands of which no two are the same.
-fn commands(rt: &impl Abort) -> [Command; 8] {
-    [
-        add(rt, b"sales", b"SIP/1", (5, true, "Ann", "Custom:1")),
-        add(rt, b"sales", b"SIP/1", (5, true, "Ann", "")),
-        Command::Pause {
-            queue: Some(name(rt, b"sales")),
-            interface: interface(rt, b"SIP/1"),
+// A command of eight that differ, by its place.
+fn command(rt: &impl Abort, place: u32) -> Command {
+    let queue = name(rt, b"sales");
+    let interface = interface(rt, b"SIP/1");
+    match place {
+        0 => add(rt, b"sales", b"SIP/1", (5, true, "Ann", "Custom:1")),
+        1 => add(rt, b"sales", b"SIP/1", (5, true, "Ann", "")),
+        2 => Command::Pause {
+            queue: Some(queue),
+            interface,
             pause: Pause::new(true, text(rt, "lunch")),
         },
-        Command::Pause {
+        3 => Command::Pause {
             queue: None,
-            interface: interface(rt, b"SIP/1"),
+            interface,
             pause: Pause::new(true, text(rt, "lunch")),
         },
-        Command::Penalty {
+        4 => Command::Penalty {
             queue: None,
-            interface: interface(rt, b"SIP/1"),
+            interface,
             penalty: penalty(rt, 7),
         },
-        Command::Completed {
-            queue: name(rt, b"sales"),
-        },
-        Command::Abandoned {
-            queue: name(rt, b"sales"),
-        },
-        Command::Remove {
-            queue: name(rt, b"sales"),
-            interface: interface(rt, b"SIP/1"),
-        },
-    ]
+        5 => Command::Completed { queue },
+        6 => Command::Abandoned { queue },
+        _ => Command::Remove { queue, interface },
+    }
+}
+
+// Asserts that a copy of a command is the same as the command at one place alone.
+fn assert_command(rt: &impl Abort, copy: &Command, place: u32) {
+    for at in 0..8 {
+        assert!(rt; command(rt, at).same(copy) == (at == place));
+    }
 }
 
 #[test]
 fn a_command_is_the_same_as_its_copy_and_as_no_other(rt: HostRuntime) {
-    let commands = commands(&rt);
-    for (place, command) in commands.iter().enumerate() {
-        let copy = command.copy();
-        for (at, other) in commands.iter().enumerate() {
-            assert!(rt; other.same(&copy) == (at == place));
-        }
+    for place in 0..8 {
+        assert_command(&rt, &command(&rt, place).copy(), place);
+    }
+}
+
+// An ask of five that differ, by its place.
+fn asked(rt: &impl Abort, alloc: Global, place: u32) -> Ask {
+    match place {
+        0 => Ask::Command(add(rt, b"sales", b"SIP/1", (5, true, "Ann", "Custom:1"))),
+        1 => Ask::Status(request(rt, alloc, ("", ""), b"")),
+        2 => Ask::Status(request(rt, alloc, ("sales", ""), b"")),
+        3 => Ask::Status(request(rt, alloc, ("sales", "SIP/2"), b"")),
+        _ => Ask::Status(request(rt, alloc, ("sales", "SIP/2"), b"7")),
+    }
+}
+
+// Asserts that a copy of an ask is the same as the ask at one place alone.
+fn assert_ask(rt: &impl Abort, alloc: Global, copy: &Ask, place: u32) {
+    for at in 0..5 {
+        assert!(rt; asked(rt, alloc, at).same(copy) == (at == place));
     }
 }
 
 #[test]
 fn an_ask_is_the_same_as_its_copy_and_as_no_other(rt: HostRuntime) {
-    let alloc = rt.alloc();
-    let asks = [
-        Ask::Command(add(&rt, b"sales", b"SIP/1", (5, true, "Ann", "Custom:1"))),
-        Ask::Status(request(&rt, alloc, ("", ""), b"")),
-        Ask::Status(request(&rt, alloc, ("sales", ""), b"")),
-        Ask::Status(request(&rt, alloc, ("sales", "SIP/2"), b"")),
-        Ask::Status(request(&rt, alloc, ("sales", "SIP/2"), b"7")),
-    ];
-    for (place, asked) in asks.iter().enumerate() {
-        let copy = asked.copy().expect(&rt, "memory");
-        for (at, other) in asks.iter().enumerate() {
-            assert!(rt; other.same(&copy) == (at == place));
-        }
+    for place in 0..5 {
+        let copy = asked(&rt, rt.alloc(), place).copy().expect(&rt, "memory");
+        assert_ask(&rt, rt.alloc(), &copy, place);
     }
 }
 
@@ -73,21 +79,31 @@ fn report(rt: &impl Abort, alloc: Global, text: &[u8]) -> Answer {
     Answer::Report(Bytes::new(bytes))
 }
 
+// An answer of six that differ, by its place.
+fn answered(rt: &impl Abort, alloc: Global, place: u32) -> Answer {
+    match place {
+        0 => Answer::Done,
+        1 => Answer::Refused(Refusal::NotThere),
+        2 => Answer::Refused(Refusal::Memory),
+        3 => report(rt, alloc, b""),
+        4 => report(rt, alloc, b"a"),
+        _ => report(rt, alloc, b"b"),
+    }
+}
+
+// Asserts that a copy of an answer is the same as the answer at one place alone.
+fn assert_answer(rt: &impl Abort, alloc: Global, copy: &Answer, place: u32) {
+    for at in 0..6 {
+        assert!(rt; answered(rt, alloc, at).same(copy) == (at == place));
+    }
+}
+
 #[test]
 fn an_answer_is_the_same_as_its_copy_and_as_no_other(rt: HostRuntime) {
-    let alloc = rt.alloc();
-    let answers = [
-        Answer::Done,
-        Answer::Refused(Refusal::NotThere),
-        Answer::Refused(Refusal::Memory),
-        report(&rt, alloc, b""),
-        report(&rt, alloc, b"a"),
-        report(&rt, alloc, b"b"),
-    ];
-    for (place, answer) in answers.iter().enumerate() {
-        let copy = answer.copy().expect(&rt, "memory");
-        for (at, other) in answers.iter().enumerate() {
-            assert!(rt; other.same(&copy) == (at == place));
-        }
+    for place in 0..6 {
+        let copy = answered(&rt, rt.alloc(), place)
+            .copy()
+            .expect(&rt, "memory");
+        assert_answer(&rt, rt.alloc(), &copy, place);
     }
 }
