@@ -99,6 +99,25 @@ fn a_frame_whose_number_was_changed_is_in_no_run(rt: HostRuntime) {
     drop(journals);
 }
 
+#[test]
+fn a_frame_whose_penalty_was_changed_is_in_no_run(rt: HostRuntime) {
+    let alloc = rt.alloc();
+    let mut first = journal(&rt, alloc, 0, b"sales");
+    let mut second = journal(&rt, alloc, 1, b"sales");
+    let mut bytes = added(&rt, &mut first, b"SIP/0").into_vec();
+    assert!(rt; 71 < bytes.len());
+    assert!(rt; bytes[71] == 0);
+    bytes[71] = 7;
+    assert!(rt; second.cut(0).is_ok() && second.take(0, bytes).is_ok());
+    let own = report(alloc, first.replica(), &status(alloc)).expect(&rt, "memory");
+    let told = report(alloc, second.replica(), &status(alloc)).expect(&rt, "memory");
+    assert!(rt; own.as_slice() != told.as_slice());
+    assert!(rt; second.call(0, &Ask::Status(status(alloc))).is_ok());
+    let journals = [first, second];
+    assert!(rt; audit(alloc, &journals).err() == Some(AuditFault::NoRun(1, 1)));
+    drop(journals);
+}
+
 // Asserts that a list of events leads each site of a world to the report of its journal's replica.
 fn assert_explains(rt: &impl Abort, alloc: Global, journals: &[Journaled], events: &[Event]) {
     let list = list(rt, alloc, b"sales");

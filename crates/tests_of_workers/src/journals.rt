@@ -1,21 +1,11 @@
-//! Journals of a site: their steps, their limits, and what they refuse.
+//! Journals of a site: their steps, their limits and what they keep.
+use crate::frames::ADDED;
 use dots::{Interface, Label, Penalty, QueueName, SiteId, Text80};
 use replica::{Command, QueueList, Replica};
-use site_journal::{
-    DecodeFault, DeskFault, Journaled, Receipt, SettleFault, Step, StepDeed, TakeFault, settle,
-};
+use site_journal::{DeskFault, Journaled, Receipt, SettleFault, Step, StepDeed, settle};
 use status_report::{Answer, Ask, StatusRequest};
 use std::alloc::Global;
 use std::process::Abort;
-
-// The first frame of site 0, after it added SIP/1 to the first queue with defaults.
-const ADDED: &[u8] = b"\x00\x00\x00\x5e\x51\x44\x01\x00\x00\x00\x00\x00\x00\x00\x00\x01\
-\x00\x00\x00\x01\x00\x00\x00\x00\x00\x00\x00\x00\x01\x00\x00\x00\x00\x00\x00\x00\x01\
-\x00\x00\x00\x01\x00\x00\x00\x00\x00\x00\x00\x00\x01\x00\x00\x05\x53\x49\x50\x2f\x31\x07\
-\x00\x00\x00\x00\x00\x00\x00\x01\x00\x00\x00\x00\x00\
-\x00\x00\x00\x00\x00\x00\x00\x01\x00\x00\x00\
-\x00\x00\x00\x00\x00\x00\x00\x01\x00\x00\x00\
-\x00\x00\x00\x00";
 
 // The journal of a site that knows nothing, of the queue `sales`, in which so many steps may stand.
 fn journal(rt: &impl Abort, alloc: Global, site: u16, limit: u32) -> Journaled {
@@ -112,32 +102,6 @@ fn a_frame_that_is_cut_is_the_one_that_others_take(rt: HostRuntime) {
     drop(taken);
     drop(first);
     drop(second);
-}
-
-// Asserts that bytes come back for this fault, and that the journal has no step.
-fn assert_refused(rt: &impl Abort, journal: &mut Journaled, bytes: Vec<u8>, fault: DeskFault) {
-    let len = bytes.len();
-    let (told, back) = journal.take(7, bytes).err().expect(rt, "a fault");
-    assert!(rt; told == fault && back.len() == len);
-    assert_length(rt, journal, 0, 0);
-}
-
-#[test]
-fn bytes_that_are_not_taken_come_back(rt: HostRuntime) {
-    let alloc = rt.alloc();
-    let mut own = journal(&rt, alloc, 0, 5);
-    for (front, behind, fault) in [
-        (98, 0, DeskFault::Take(TakeFault::NotMine)),
-        (97, 0, DeskFault::Decode(DecodeFault::Truncated)),
-        (98, 1, DeskFault::Decode(DecodeFault::BadRange)),
-    ] {
-        let mut bytes = Vec::from_slice(alloc, &ADDED[..front]).expect(&rt, "memory");
-        for _ in 0..behind {
-            bytes.push(255).expect(&rt, "memory");
-        }
-        assert_refused(&rt, &mut own, bytes, fault);
-    }
-    drop(own);
 }
 
 // The receipts of a cut by this pass at each of these positions, as of a site that has nothing to send.

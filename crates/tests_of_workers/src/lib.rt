@@ -6,8 +6,12 @@ mod audits;
 #[cfg(test)]
 mod desks;
 #[cfg(test)]
+mod frames;
+#[cfg(test)]
 mod journals;
 #[cfg(test)]
 mod links;
 #[cfg(test)]
 mod pumps;
+#[cfg(test)]
+mod takes;

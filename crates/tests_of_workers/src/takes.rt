@@ -1,0 +1,185 @@
+//! Bytes that a journal and a desk are given to take: which of them come back, and for which fault. The fault of each row was told by
+//! hand, by the rules of `docs/frames.md`.
+ghost use Rattle.std.specs.Prelude.{◌≡◌};
+ghost use Rattle.site_journal.specs.Journals.{IsOfSite};
+
+use crate::frames::{ADDED, GREATEST, NOTHING, REMOVED, TOUCHING};
+use dots::{QueueName, SiteId};
+use replica::{QueueList, Replica};
+use site_desk::{SiteDesk, SiteLedger, close};
+use site_journal::{DecodeFault, DeskFault, Journaled, StepDeed, TakeFault};
+use std::alloc::Global;
+use std::marker::Brand;
+use std::process::Abort;
+use std::sync::Wait;
+use std::sync::ledger::Blank;
+
+// A frame, a place in it, the bytes that stand from there on in place of its own, what is added behind it, and the fault then.
+type Spoiled = (
+    &'static [u8],
+    usize,
+    &'static [u8],
+    &'static [u8],
+    DecodeFault,
+);
+
+const SPOILED: &[Spoiled] = &[
+    // The length: too small for a frame, too great for one, and one less and one more than the frame's.
+    (ADDED, 0, b"\x00\x00\x00\x17", b"", DecodeFault::BadRange),
+    (ADDED, 0, b"\x00\x80\x00\x01", b"", DecodeFault::TooLarge),
+    (ADDED, 0, b"\x00\x00\x00\x5d", b"", DecodeFault::BadRange),
+    (
+        ADDED,
+        0,
+        b"\x00\x00\x00\x5f",
+        b"\x00",
+        DecodeFault::BadRange,
+    ),
+    // More behind the frame.
+    (ADDED, 0, b"", b"\xff", DecodeFault::BadRange),
+    // The magic, the version, the maker and the number.
+    (ADDED, 5, b"\x45", b"", DecodeFault::BadMagic),
+    (ADDED, 6, b"\x02", b"", DecodeFault::BadVersion),
+    (NOTHING, 7, b"\x40", b"", DecodeFault::BadRange),
+    (NOTHING, 15, b"\x00", b"", DecodeFault::BadRange),
+    // How many runs, and the first count of one.
+    (ADDED, 16, b"\x00\x01\x00\x01", b"", DecodeFault::TooLarge),
+    (ADDED, 28, b"\x00", b"", DecodeFault::BadRange),
+    (TOUCHING, 0, b"", b"", DecodeFault::BadOrder),
+    // How many cells, and of one the count, the interface and the flags.
+    (ADDED, 37, b"\x00\x00\x40\x01", b"", DecodeFault::TooLarge),
+    (ADDED, 49, b"\x02", b"", DecodeFault::BadRange),
+    (ADDED, 52, b"\x00", b"", DecodeFault::BadText),
+    (ADDED, 52, b"\x51", b"", DecodeFault::BadText),
+    (ADDED, 53, b"\x0a", b"", DecodeFault::BadText),
+    (ADDED, 58, b"\x08", b"", DecodeFault::BadRange),
+    // The time of the penalty, and whether there is a pause.
+    (ADDED, 66, b"\x00", b"", DecodeFault::BadRange),
+    (ADDED, 81, b"\x02", b"", DecodeFault::BadRange),
+];
+
+// The bytes of a row.
+fn spoiled(rt: &impl Abort, alloc: Global, row: &Spoiled) -> Vec<u8> {
+    let (frame, place, others, behind, _) = *row;
+    let front = frame.get(..place).expect(rt, "a place");
+    let rest = frame.get(place.saturating_add(others.len())..);
+    let mut bytes = Vec::from_slice(alloc, front).expect(rt, "memory");
+    for part in [others, rest.expect(rt, "a place"), behind] {
+        bytes.extend_from_slice(part).expect(rt, "memory");
+    }
+    bytes
+}
+
+// The journal of a site that knows nothing, of the queue `sales`.
+fn journal(rt: &impl Abort, alloc: Global, site: u16) -> Journaled
+    ensures begun { result.count ≡ 0 }
+    ensures site { IsOfSite result.base.site result.base.names result }
+{
+    let name = QueueName::new(b"sales").expect(rt, "a name");
+    let list = QueueList::new(alloc, &[name]).expect(rt, "a list");
+    let site = SiteId::new(site).expect(rt, "a site");
+    match Journaled::new(alloc, Replica::new(alloc, site, list), 5) {
+        Ok(journal) => journal,
+        Err(_) => rt.panic("memory"),
+    }
+}
+
+// Asserts that bytes come back as they are for this fault, and that the journal has the one step that it had.
+fn assert_refused(
+    rt: &impl Abort,
+    alloc: Global,
+    journal: &mut Journaled,
+    bytes: &[u8],
+    fault: DeskFault,
+) {
+    let given = Vec::from_slice(alloc, bytes).expect(rt, "memory");
+    let (told, back) = journal.take(7, given).err().expect(rt, "a fault");
+    assert!(rt; told == fault);
+    assert!(rt; back.as_slice() == bytes);
+    assert!(rt; journal.len() == 1);
+    assert!(rt; journal.steps().len() == 1);
+}
+
+#[test]
+fn bytes_that_are_no_frame_are_no_step(rt: HostRuntime) {
+    let alloc = rt.alloc();
+    let mut own = journal(&rt, alloc, 0);
+    assert!(rt; own.cut(7).is_ok());
+    for row in SPOILED {
+        let bytes = spoiled(&rt, alloc, row);
+        assert_refused(&rt, alloc, &mut own, &bytes, DeskFault::Decode(row.4));
+    }
+    drop(own);
+}
+
+#[test]
+fn a_front_of_a_frame_is_no_step(rt: HostRuntime) {
+    let alloc = rt.alloc();
+    let truncated = DeskFault::Decode(DecodeFault::Truncated);
+    let mut own = journal(&rt, alloc, 0);
+    assert!(rt; own.cut(7).is_ok());
+    for frame in [ADDED, REMOVED, NOTHING, TOUCHING, GREATEST] {
+        for len in 0..frame.len() {
+            assert_refused(&rt, alloc, &mut own, &frame[..len], truncated);
+        }
+    }
+    drop(own);
+}
+
+#[test]
+fn a_site_takes_a_frame_of_another_alone(rt: HostRuntime) {
+    let alloc = rt.alloc();
+    let mut own = journal(&rt, alloc, 0);
+    assert!(rt; own.cut(7).is_ok());
+    let refused = DeskFault::Take(TakeFault::NotMine);
+    assert_refused(&rt, alloc, &mut own, ADDED, refused);
+    drop(own);
+    let mut other = journal(&rt, alloc, 1);
+    let bytes = Vec::from_slice(alloc, ADDED).expect(&rt, "memory");
+    let step = other.take(7, bytes).ok().expect(&rt, "a step");
+    assert!(rt; matches!(step.deed, StepDeed::Took(_)));
+    assert!(rt; other.len() == 1 && other.replica().rows(0).next().is_some());
+    drop(step);
+    drop(other);
+}
+
+// Asserts that a desk gives bytes that are no frame back, and does no step.
+fn assert_desk_refuses<L: SiteLedger, R: Abort + Wait>(
+    rt: &R,
+    alloc: Global,
+    blank: Blank,
+    journal: Journaled,
+)
+    requires name { blank.name ≡ L.name }
+    requires ledger { blank.parts ≡ L.parts }
+    requires one { blank.parts ≡ 1 }
+    requires begun { journal.count ≡ 0 }
+    requires site { IsOfSite L.site L.names journal }
+{
+    let Ok((desk, mut passes)) = SiteDesk::<L>::new(alloc, blank, journal, 1) else {
+        rt.panic("memory");
+    };
+    let mut pass = passes.pop().expect(rt, "a pass");
+    for row in SPOILED {
+        let bytes = spoiled(rt, alloc, row);
+        let given = Vec::from_slice(alloc, &bytes).expect(rt, "memory");
+        let (told, back) = desk.take(rt, &mut pass, given).err().expect(rt, "a fault");
+        assert!(rt; told == DeskFault::Decode(row.4));
+        assert!(rt; back.as_slice() == bytes.as_slice());
+    }
+    let given = Vec::from_slice(alloc, ADDED).expect(rt, "memory");
+    let (told, back) = desk.take(rt, &mut pass, given).err().expect(rt, "a fault");
+    assert!(rt; told == DeskFault::Take(TakeFault::NotMine) && back.as_slice() == ADDED);
+    assert!(rt; pass.seen() == 0);
+    passes.push(pass).expect(rt, "memory");
+    let own = close(desk, passes).ok().expect(rt, "a journal");
+    assert!(rt; own.len() == 0);
+    drop(own);
+}
+
+#[test]
+fn a_desk_takes_no_bytes_that_are_no_frame(rt: HostRuntime) {
+    let alloc = rt.alloc();
+    let own = journal(&rt, alloc, 0);
+    assert_desk_refuses::<Brand, HostRuntime>(&rt, alloc, Blank::new(1), own);
+}
