@@ -1,17 +1,9 @@
-//! Tests of journals, audits, desks, links and pumps by their public calls. It has no code of its own.
+//! Tests of desks, links and pumps by their public calls. This crate has no code of its own.
 #![tactic(auto)]
 
 #[cfg(test)]
-mod audits;
-#[cfg(test)]
 mod desks;
-#[cfg(test)]
-mod frames;
-#[cfg(test)]
-mod journals;
 #[cfg(test)]
 mod links;
 #[cfg(test)]
 mod pumps;
-#[cfg(test)]
-mod takes;

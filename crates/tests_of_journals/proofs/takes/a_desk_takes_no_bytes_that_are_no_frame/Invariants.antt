@@ -1,4 +1,4 @@
-use Rattle.tests_of_workers.proofs.takes.a_desk_takes_no_bytes_that_are_no_frame.Given as goal
+use Rattle.tests_of_journals.proofs.takes.a_desk_takes_no_bytes_that_are_no_frame.Given as goal
 
 abbrev pub ghosts-assert_desk_refuses-L-Ledger : goal.ghosts-assert_desk_refuses-L-Ledger
 ghosts-assert_desk_refuses-L-Ledger g a = record { name = a.blank.name; parts = a.blank.parts }
