@@ -1,10 +1,13 @@
 //! Desks: their passes, their receipts, and the calls of two threads.
-ghost use Rattle.std.specs.Prelude.{◌≡◌};
+ghost use Rattle.std.specs.Prelude.{◌≡◌, ◌+◌, true, vec_len};
+ghost use Rattle.site_desk.specs.Ports.{HasDoneAll};
 
 use dots::{Interface, Label, Penalty, QueueName, SiteId, Text80};
 use replica::{Command, QueueList, Replica};
 use site_desk::{CloseFault, DeskPort, Pass, SiteDesk, close};
-use site_journal::{DeskFault, Gate, Journaled, Port, Receipt, StepDeed, settle};
+use site_journal::{DecodeFault, DeskFault, Gate, Journaled, Port, Receipt, StepDeed, settle};
+use site_links::{LinkReceiver, pair};
+use site_pumps::{PumpedIn, pump_in};
 use status_report::{Answer, Ask, StatusRequest};
 use std::alloc::Global;
 use std::marker::Brand;
@@ -224,6 +227,8 @@ struct LookingGate<'a> {
 }
 
 impl<'a> Gate for LookingGate<'a> {
+    ghost called = { λ old turn new. (new.turns ≡ old.turns) × (old.saw ≡ true → new.saw ≡ true) };
+
     fn inside(&mut self, _turn: u64) {
         self.called.store(true, Ordering::SeqCst);
         for _ in 0..self.turns {
@@ -329,4 +334,50 @@ fn assert_ports<L: Ledger, R: Abort + Wait>(rt: &R, alloc: Global, blank: Blank)
 #[test]
 fn a_port_answers_as_its_desk(rt: HostRuntime) {
     assert_ports::<Brand, HostRuntime>(&rt, rt.alloc(), Blank::new(2));
+}
+
+// What a pump takes by a pass, which then has done just these steps more.
+fn taken_by<L: Ledger, R: Wait>(
+    rt: &R,
+    alloc: Global,
+    desk: &SiteDesk<L>,
+    pass: &mut Pass<L>,
+    link: &mut LinkReceiver,
+) -> PumpedIn
+    ensures ordinal { pass.new.ordinal ≡ pass.old.ordinal }
+    ensures share { pass.new.share ≡ pass.old.share + vec_len result.receipts }
+    ensures done { HasDoneAll pass.old result.receipts.items pass.new }
+{
+    let mut port = DeskPort::new(desk, pass);
+    pump_in(rt, alloc, &mut port, link)
+}
+
+// A pump takes a frame of the site's own, and is stopped by bytes that are none.
+fn assert_pumps<L: Ledger, R: Abort + Wait>(rt: &R, alloc: Global, blank: Blank)
+    requires name { blank.name ≡ L.name }
+    requires ledger { blank.parts ≡ L.parts }
+    requires two { blank.parts ≡ 2 }
+{
+    let (desk, mut first, mut second) = desk_of_two::<L>(rt, alloc, blank, 5);
+    let (mut sender, mut receiver) = pair(alloc, 2).expect(rt, "memory");
+    let whole = desk.whole(rt, &mut first).ok().expect(rt, "a receipt");
+    let StepDeed::Whole(frame) = whole.deed else {
+        rt.panic("a frame");
+    };
+    assert!(rt; sender.send(rt, frame.into_vec()).is_ok());
+    let bytes = Vec::from_slice(alloc, &[9]).expect(rt, "memory");
+    assert!(rt; sender.send(rt, bytes).is_ok());
+    let taken = taken_by(rt, alloc, &desk, &mut second, &mut receiver);
+    assert!(rt; taken.receipts.len() == 1 && taken.receipts[0].position == 1);
+    assert!(rt; taken.fault == Some(DeskFault::Decode(DecodeFault::Truncated)));
+    assert!(rt; second.seen() == 2);
+    drop(taken);
+    drop(sender);
+    drop(receiver);
+    drop(closed(rt, alloc, desk, first, second));
+}
+
+#[test]
+fn a_pump_works_by_its_pass(rt: HostRuntime) {
+    assert_pumps::<Brand, HostRuntime>(&rt, rt.alloc(), Blank::new(2));
 }
