@@ -4,7 +4,8 @@ timed, since a run that does all but the work is taken off.
 
 The workloads of frames are done by `bench` (docs/frames.md has their bytes): frames of live dots, each of a member of its own with a
 penalty, of dead dots, and of totals. Those of commands and of frames at sites are scripts of `queue_sites` (docs/script.md), and one
-is a session of `session_cases`; the checksum of these is how many bytes are written.
+is a session of `session_cases`; the checksum of these is how many bytes are written. One has sites of `site_runs`, whose journals are
+audited; its checksum is how many events that tells.
 """
 import sys
 from typing import Callable, NamedTuple
@@ -197,6 +198,13 @@ def statuses(times, count):
     return Workload(times, Run(command, start + asked), Run(command, start), len)
 
 
+def audit(sites, steps):
+    """So many sites do so many steps each, their journals are settled and audited, and the events are run in a world."""
+    program = f"{folder('site_runs')}/out/site_runs"
+    runs = (Run([program, "audit", str(sites), str(it)], b"") for it in (steps, 1))
+    return Workload(1, *runs, lambda answer: answer.split()[0].decode())
+
+
 # What makes each workload.
 WORKLOADS = {
     "join_32768_runs": lambda: of_frames("join", runs(1, 32_768) + runs(2, 32_768)),
@@ -224,6 +232,7 @@ WORKLOADS = {
     "frames_at_15000": lambda: taken(15_000),
     "serve_10000_statuses_of_100": lambda: statuses(10_000, 100),
     "script_of_20000_lines": lines_of_64_sites,
+    "audit_of_800000_steps": lambda: audit(8, 100_000),
 }
 
 

@@ -1,9 +1,10 @@
 ghost use Rattle.std.specs.List.{Any};
 ghost use Rattle.std.specs.Prelude.{◌≡◌, ◌<◌, ◌↔◌, IfErr, IfOk, IsTrue, OnErr, OnOk, vec_len};
+ghost use Rattle.site_journal.specs.Journals.{IsOfSite};
 ghost use Rattle.site_desk.specs.Passes.{AreAll, shares_of};
 
 use crate::kept::Kept;
-use crate::{CloseFault, Pass, SiteDesk};
+use crate::{CloseFault, Pass, SiteDesk, SiteLedger};
 use site_journal::Journaled;
 use std::sync::ledger::{Book, Ledger};
 
@@ -47,14 +48,15 @@ fn join_shares<L: Ledger>(book: Book<L>, passes: Vec<Pass<L>>)
     book.audit(&mut share);
 }
 
-/// Gives up a desk with its passes, and answers the journal, in which as many steps were done as the passes have counted together. It
+/// Gives up a desk with its passes, and answers the journal of its site, in which as many steps were done as the passes have counted together. It
 /// takes no memory. `WrongPasses`, with all handed back, exactly where the number of one of the desk's passes is missing or doubled
 /// (this project's own).
-pub fn close<L: Ledger>(
+pub fn close<L: SiteLedger>(
     desk: SiteDesk<L>,
     passes: Vec<Pass<L>>,
 ) -> Result<Journaled, (CloseFault, SiteDesk<L>, Vec<Pass<L>>)>
     ensures count { IfOk result (λ journal. journal.count ≡ shares_of passes.items) }
+    ensures site { IfOk result (λ journal. IsOfSite L.site L.names journal) }
     ensures all { OnOk result (AreAll desk.passes passes.items) }
     ensures wrong { OnErr result (AreAll desk.passes passes.items → ⊥) }
     ensures fault { IfErr result (λ refused. refused.0 ≡ CloseFault.WrongPasses) }

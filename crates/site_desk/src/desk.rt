@@ -1,17 +1,18 @@
 ghost use Rattle.std.specs.Prelude.{◌≡◌, ◌≤◌, ◌⊎◌, IfErr, IfOk, OnErr};
 ghost use Rattle.delta_codec.specs.Decoding.{HasOpening};
-ghost use Rattle.site_journal.specs.Journals.{HasFaultAlone, IsRefusedFor, RefusesTake};
+ghost use Rattle.site_journal.specs.Journals.{HasFaultAlone, IsOfSite, IsRefusedFor};
+ghost use Rattle.site_journal.specs.Journals.{RefusesTake};
 ghost use Rattle.site_journal.specs.Receipts.{IsOfCut, IsOfTake, IsOfWhole};
 ghost use Rattle.site_desk.specs.Passes.{AreFresh, HasDone, IsOfAsk, IsRewound};
 
-use crate::Pass;
 use crate::kept::Kept;
+use crate::{Pass, SiteLedger};
 use dots::Memory;
 use site_journal::{DecodeFault, DeskFault, Gate, Journaled, Receipt};
 use status_report::Ask;
 use std::alloc::Global;
 use std::marker::Model;
-use std::sync::ledger::{Blank, Ledger};
+use std::sync::ledger::Blank;
 use std::sync::{Mutex, Wait};
 
 /// How many passes a desk may have.
@@ -20,12 +21,12 @@ pub const MOST_PASSES: u32 = 256;
 /// A site that several threads call, one at a time, each by a pass of its own. Its journal lies under a lock, and is legal whenever the
 /// lock is free. Which ledger counts its steps is told by `L`, so that a pass of another desk can't be handed in (this project's own).
 #[derive(Drop)]
-pub struct SiteDesk<L: Ledger> {
+pub struct SiteDesk<L: SiteLedger> {
     pub(crate) lock: Mutex<Kept<L>>,
     pub(crate) passes: u32,
 }
 
-impl<L: Ledger> Model for SiteDesk<L> {
+impl<L: SiteLedger> Model for SiteDesk<L> {
     ghost use Rattle.std.specs.Prelude.{◌≡◌, ◌<◌};
     ghost use Rattle.site_desk.specs.Passes.{DeskState};
 
@@ -36,9 +37,9 @@ impl<L: Ledger> Model for SiteDesk<L> {
     ghost invariant = { λ d. (d.passes ≡ L.parts) × (0 < d.passes) };
 }
 
-impl<L: Ledger> SiteDesk<L> {
-    /// A desk over a journal without a step, and its passes, 1 to 256, with the numbers 0, 1 and so on. The ledger is a new one, of as
-    /// many parts. Where memory is wanting the journal comes back.
+impl<L: SiteLedger> SiteDesk<L> {
+    /// A desk over a journal of the ledger's site, without a step, and its passes, 1 to 256, with the numbers 0, 1 and so on. The
+    /// ledger is a new one, of as many parts. Where memory is wanting the journal comes back.
     pub fn new(
         alloc: Global,
         blank: Blank,
@@ -51,6 +52,7 @@ impl<L: Ledger> SiteDesk<L> {
         requires some { 1 ≤ passes }
         requires most { passes ≤ MOST_PASSES }
         requires begun { journal.count ≡ 0 }
+        requires site { IsOfSite L.site L.names journal }
         ensures desk { IfOk result (λ made. made.0.passes ≡ passes) }
         ensures passes { IfOk result (λ made. AreFresh passes made.1.items) }
         ensures back { IfErr result (λ refused. refused.1 ≡ journal) }

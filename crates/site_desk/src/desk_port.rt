@@ -1,21 +1,20 @@
 ghost use Rattle.std.specs.Prelude.{◌≡◌, None, Some};
 ghost use Rattle.site_desk.specs.Ports.{MakesByPass, RefusesByPass, last_fault, lent_pass};
 
-use crate::{Pass, SiteDesk};
+use crate::{Pass, SiteDesk, SiteLedger};
 use site_journal::{DeskFault, Port, Receipt};
 use std::sync::Wait;
-use std::sync::ledger::Ledger;
 
 /// A desk's port for one pass: it answers as the desk does (this project's own).
 #[derive(Drop)]
-pub struct DeskPort<'a, L: Ledger> {
+pub struct DeskPort<'a, L: SiteLedger> {
     desk: &'a SiteDesk<L>,
     pass: &'a mut Pass<L>,
     // That of the last call, if it had one.
     fault: Option<DeskFault>,
 }
 
-impl<'a, L: Ledger> DeskPort<'a, L> {
+impl<'a, L: SiteLedger> DeskPort<'a, L> {
     /// The port of a desk for this pass. It takes no memory.
     pub fn new(desk: &'a SiteDesk<L>, pass: &'a mut Pass<L>) -> DeskPort<'a, L>
         ensures pass { lent_pass result ≡ pass.entry }
@@ -29,7 +28,7 @@ impl<'a, L: Ledger> DeskPort<'a, L> {
     }
 }
 
-impl<'a, L: Ledger, R: Wait> Port<R> for DeskPort<'a, L> {
+impl<'a, L: SiteLedger, R: Wait> Port<R> for DeskPort<'a, L> {
     ghost makes = { λ old receipt new. MakesByPass (lent_pass old) receipt (lent_pass new) };
 
     ghost refuses = { λ old cause new. RefusesByPass (lent_pass old) cause (lent_pass new) };

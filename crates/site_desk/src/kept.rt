@@ -2,12 +2,12 @@ ghost use Rattle.std.specs.Prelude.{◌≡◌, ◌≤◌, ◌<◌, ◌↔◌, �
 ghost use Rattle.dots.specs.declared.limits.TheConstants.{MOST_COUNT};
 ghost use Rattle.delta_codec.specs.Decoding.{HasOpening};
 ghost use Rattle.site_journal.specs.Journals.{HasAdded, HasDropped, HasFaultAlone, IsAnswerTo};
-ghost use Rattle.site_journal.specs.Journals.{IsFull, IsRefusedFor, IsRefusedFrame, IsUnchanged};
-ghost use Rattle.site_journal.specs.Journals.{RefusesTake};
+ghost use Rattle.site_journal.specs.Journals.{IsFull, IsOfSite, IsRefusedFor, IsRefusedFrame};
+ghost use Rattle.site_journal.specs.Journals.{IsUnchanged, RefusesTake};
 ghost use Rattle.site_journal.specs.Receipts.{IsOfCut, IsOfTake, IsOfWhole};
 ghost use Rattle.site_desk.specs.Passes.{HasDone, IsOfAsk, IsRewound, one_more, step_of};
 
-use crate::Pass;
+use crate::{Pass, SiteLedger};
 use dots::Memory;
 use site_journal::{DecodeFault, DeskFault, Journaled, Receipt, Step, TakeFault};
 use status_report::Ask;
@@ -15,10 +15,11 @@ use std::sync::ledger::{Book, Ledger};
 
 // What lies under the lock of a desk: the site's journal, and the book in which its steps are counted.
 #[derive(Drop)]
-pub(crate) struct Kept<L: Ledger> {
+pub(crate) struct Kept<L: SiteLedger> {
     pub journal: Journaled,
     pub book: Book<L>,
     ghost counted: { journal.count ≡ book.total },
+    ghost of_site: { IsOfSite L.site L.names journal },
 }
 
 // The receipt of a step that a pass has done at this position, which is counted.
@@ -43,7 +44,7 @@ fn receipt_of<L: Ledger>(
     }
 }
 
-impl<L: Ledger> Kept<L> {
+impl<L: SiteLedger> Kept<L> {
     // How long the journal is, unless the pass has seen a longer one.
     fn len_for(&self, pass: &Pass<L>) -> Result<u64, DeskFault>
         ensures len { IfOk result (λ len. len ≡ self.now.journal.count) }

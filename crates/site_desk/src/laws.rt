@@ -6,11 +6,11 @@ ghost use Rattle.site_journal.specs.declared.receipt.Receipt.{Receipt};
 ghost use Rattle.site_desk.specs.Ports.{MakesByPass, RefusesByPass, WorksByPass, lent_pass};
 ghost use Rattle.site_desk.specs.declared.desk_port.DeskPort.{DeskPort};
 
-use std::sync::ledger::Ledger;
+use crate::SiteLedger;
 
 /// Whatever a port does, be it stopped by a fault or not: its pass has done the steps of its receipts, and no other. It is the same
 /// borrow, so that this is known of the pass once the port is given up (this project's own).
-pub fn a_port_works_by_its_pass<L: Ledger>()
+pub fn a_port_works_by_its_pass<L: SiteLedger>()
     ensures { (old new : DeskPort L) (receipts : List Receipt) (fault : Option DeskFault)
         → PortWork (λ from receipt to. MakesByPass (lent_pass from) receipt (lent_pass to))
         (λ from cause to. RefusesByPass (lent_pass from) cause (lent_pass to))

@@ -11,6 +11,7 @@ mod desk_port;
 mod kept;
 pub mod laws;
 mod pass;
+mod site_ledger;
 
 pub use close_fault::CloseFault;
 pub use closing::close;
@@ -18,3 +19,4 @@ pub use desk::{MOST_PASSES, SiteDesk};
 pub use desk_port::DeskPort;
 pub use dots::Memory;
 pub use pass::Pass;
+pub use site_ledger::SiteLedger;

@@ -57,6 +57,13 @@ pub record IsBegun (replica : SiteState) (limit : ℕ) (j : JournalState) : Type
   pub limit_is : j.limit ≡ limit
   pub replica_is : j.replica ≡ replica
 
+-- a journal is of the site of this number and of these queues, and was from its base on
+pub record IsOfSite (site : ℕ) (names : List (List ℕ)) (j : JournalState) : Type 0 where
+  pub base_site : j.base.site ≡ site
+  pub base_names : j.base.names ≡ names
+  pub site_is : j.replica.site ≡ site
+  pub names_are : j.replica.names ≡ names
+
 -- no step may be added
 abbrev pub IsFull : JournalState → Type 0
 IsFull j = (j.limit ≤ length j.steps) ⊎ (j.count ≡ MOST_COUNT)

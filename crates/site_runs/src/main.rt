@@ -1,0 +1,111 @@
+//! Lets sites work on what is drawn by lot, the same on each run, and tries whether all that they told fits together: for tests, and to
+//! be timed. `site_runs audit SITES STEPS`: so many sites, 1 to 8, which do so many steps each, 1 to 1,000,000, in one thread.
+//!
+//! A site is asked something, cuts, makes a whole or takes one of the latest frames of all sites, its own too. The receipts of its steps
+//! settle its journal, an audit explains all journals by one list of events, and in a new world that has run the list each site reports
+//! what it does by its journal. Standard output tells how many events there are.
+//!
+//! The status is 1 where something doesn't fit or memory is wanting, and 2 where the words are wrong, as a line on standard error says.
+#![tactic(auto)]
+
+ghost use Rattle.std.specs.Prelude.{◌≤◌, IfSome};
+ghost use Rattle.site_journal.specs.declared.journaled.TheConstants.{MOST_STEPS};
+
+mod asks;
+mod explaining;
+mod numbers;
+mod runs_fault;
+mod site;
+mod turns;
+
+use crate::explaining::explain;
+use crate::runs_fault::RunsFault;
+use crate::turns::work_in_turn;
+use site_journal::MOST_STEPS;
+use std::io;
+use std::process::ExitCode;
+use std::rt::Env;
+
+const USAGE: &str = "usage: site_runs audit SITES STEPS";
+
+const MOST_SITES: u32 = 8;
+
+// So many sites that do so many steps each.
+#[derive(Clone, Copy)]
+struct Work {
+    sites: u16,
+    steps: u32,
+    ghost some_steps: { 1 ≤ steps },
+    ghost few_steps: { steps ≤ MOST_STEPS },
+}
+
+fn main(rt: HostRuntime) -> ExitCode {
+    ExitCode::from(run(&rt).unwrap_or(1))
+}
+
+// Runs the program, and answers its status. `Err`: a text could not be printed.
+fn run<R: Env + AllocGlobal + Print + Eprint>(rt: &R) -> io::Result<u8> {
+    let words = match words(rt) {
+        Ok(words) => words,
+        Err(error) if error.kind() == io::ErrorKind::OutOfMemory => {
+            return fail(rt, RunsFault::Memory);
+        }
+        Err(error) => return Err(error),
+    };
+    match do_words(rt, &words) {
+        Some(Ok(())) => Ok(0),
+        Some(Err(fault)) => fail(rt, fault),
+        None => {
+            eprintln!(rt; "{USAGE}")?;
+            Ok(2)
+        }
+    }
+}
+
+// Says on standard error why sites failed, and answers the status.
+fn fail<R: Eprint>(rt: &R, fault: RunsFault) -> io::Result<u8> {
+    eprintln!(rt; "site_runs: {fault}")?;
+    Ok(1)
+}
+
+fn words<R: Env + AllocGlobal>(rt: &R) -> io::Result<Vec<String>> {
+    let mut words = Vec::new(rt.alloc());
+    for word in std::env::args(rt)? {
+        words.push(word)?;
+    }
+    Ok(words)
+}
+
+// A number from 1 to the most that is told.
+fn number(word: &str, most: u32) -> Option<u32>
+    ensures some { IfSome result (λ number. 1 ≤ number) }
+    ensures most { IfSome result (λ number. number ≤ most) }
+{
+    match word.parse() {
+        Ok(number) if 1 <= number && number <= most => Some(number),
+        _ => None,
+    }
+}
+
+fn read_work(sites: &str, steps: &str) -> Option<Work> {
+    let sites = number(sites, MOST_SITES)? as u16;
+    let steps = number(steps, MOST_STEPS)?;
+    Some(Work { sites, steps })
+}
+
+// Does what these words tell, of which the first is the program's own name. None where they are wrong.
+fn do_words<R: AllocGlobal + Print>(rt: &R, words: &[String]) -> Option<Result<(), RunsFault>> {
+    let [_, kind, numbers @ ..] = words else {
+        return None;
+    };
+    match (kind.as_str(), numbers) {
+        ("audit", [sites, steps]) => Some(do_audit(rt, read_work(sites, steps)?)),
+        _ => None,
+    }
+}
+
+fn do_audit<R: AllocGlobal + Print>(rt: &R, work: Work) -> Result<(), RunsFault> {
+    let journals = work_in_turn(rt.alloc(), work.sites, work.steps)?;
+    let events = explain(rt.alloc(), work.sites, &journals)?;
+    println!(rt; "{events} events").map_err(|_| RunsFault::Write)
+}

@@ -1,0 +1,139 @@
+//! A site at work.
+ghost use Rattle.std.specs.Prelude.{◌≤◌};
+ghost use Rattle.site_journal.specs.declared.journaled.TheConstants.{MOST_STEPS};
+
+use crate::RunsFault;
+use crate::asks::{queue_list, some_ask};
+use crate::numbers::Numbers;
+use dots::{Bytes, SiteId};
+use replica::Replica;
+use site_journal::{Journaled, Receipt, Step, StepDeed, settle};
+use std::alloc::Global;
+
+// The passes by which the steps of a site are done.
+const ASKS: u32 = 0;
+
+const FRAMES: u32 = 1;
+
+const TAKES: u32 = 2;
+
+// A frame is taken while it is one of the last so many; so it is late, repeated or lost, as it happens.
+const LATEST: usize = 64;
+
+// A site with its journal, and the receipts of each of its passes.
+#[derive(Drop)]
+pub(crate) struct Site {
+    journal: Journaled,
+    asked: Vec<Receipt>,
+    sent: Vec<Receipt>,
+    taken: Vec<Receipt>,
+}
+
+fn receipt(position: u64, step: Step) -> Receipt {
+    Receipt {
+        pass: step.pass,
+        position,
+        deed: step.deed,
+    }
+}
+
+// One of the latest frames, if there is one.
+fn some_frame<'a>(numbers: &mut Numbers, frames: &'a [Bytes]) -> Option<&'a Bytes> {
+    if frames.is_empty() {
+        return None;
+    }
+    let latest = frames.len().min(LATEST);
+    let back = numbers.below(latest as u64) as usize;
+    frames.get(frames.len() - 1 - back)
+}
+
+impl Site {
+    // A site that knows nothing, which is to do so many steps.
+    pub(crate) fn new(alloc: Global, number: u16, steps: u32) -> Result<Site, RunsFault>
+        requires some { 1 ≤ steps }
+        requires most { steps ≤ MOST_STEPS }
+    {
+        let site = SiteId::new(number).ok_or(RunsFault::OutOfRange)?;
+        let replica = Replica::new(alloc, site, queue_list(alloc)?);
+        match Journaled::new(alloc, replica, steps) {
+            Ok(journal) => Ok(Site {
+                journal,
+                asked: Vec::new(alloc),
+                sent: Vec::new(alloc),
+                taken: Vec::new(alloc),
+            }),
+            Err(_) => Err(RunsFault::Memory),
+        }
+    }
+
+    // Does its next step, whose frame, if it makes one, goes behind those of all sites.
+    pub(crate) fn work(
+        &mut self,
+        alloc: Global,
+        numbers: &mut Numbers,
+        frames: &mut Vec<Bytes>,
+    ) -> Result<(), RunsFault> {
+        match numbers.below(256) {
+            0 => self.whole(frames),
+            1..=20 => self.cut(frames),
+            21..=84 => match some_frame(numbers, frames.as_slice()) {
+                Some(frame) => self.take(frame),
+                None => self.cut(frames),
+            },
+            _ => self.ask(alloc, numbers),
+        }
+    }
+
+    fn ask(&mut self, alloc: Global, numbers: &mut Numbers) -> Result<(), RunsFault> {
+        let asked = some_ask(alloc, numbers)?;
+        let position = self.journal.len();
+        let step = self.journal.call(ASKS, &asked)?;
+        self.asked.push(receipt(position, step))?;
+        Ok(())
+    }
+
+    fn cut(&mut self, frames: &mut Vec<Bytes>) -> Result<(), RunsFault> {
+        let position = self.journal.len();
+        let step = self.journal.cut(FRAMES)?;
+        if let StepDeed::Cut(Some(bytes)) = &step.deed {
+            frames.push(bytes.copy()?)?;
+        }
+        self.sent.push(receipt(position, step))?;
+        Ok(())
+    }
+
+    fn whole(&mut self, frames: &mut Vec<Bytes>) -> Result<(), RunsFault> {
+        let position = self.journal.len();
+        let step = self.journal.whole(FRAMES)?;
+        if let StepDeed::Whole(bytes) = &step.deed {
+            frames.push(bytes.copy()?)?;
+        }
+        self.sent.push(receipt(position, step))?;
+        Ok(())
+    }
+
+    fn take(&mut self, frame: &Bytes) -> Result<(), RunsFault> {
+        let bytes = frame.copy()?.into_vec();
+        let position = self.journal.len();
+        match self.journal.take(TAKES, bytes) {
+            Ok(step) => {
+                self.taken.push(receipt(position, step))?;
+                Ok(())
+            }
+            Err((fault, _)) => Err(fault.into()),
+        }
+    }
+
+    // Its journal, which the receipts of all its passes have settled.
+    pub(crate) fn settled(self) -> Result<Journaled, RunsFault> {
+        let Site {
+            journal,
+            asked,
+            sent,
+            taken,
+        } = self;
+        let lists = [asked, sent, taken];
+        settle(&journal, &lists)?;
+        Ok(journal)
+    }
+}

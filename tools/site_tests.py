@@ -1,0 +1,47 @@
+"""Runs site_runs, whose sites work on what is drawn by lot: what it tells of a few sites, of wrong words, and where one of its
+allocations is refused."""
+import sys
+import tempfile
+
+from crates import folder
+from program_tests import NO_COMPILER, Failed, check, expect, refusing
+
+PROGRAM = f"{folder('site_runs')}/out/site_runs"
+AUDIT = ["audit", "3", "40"]
+EVENTS = b"120 events\n"
+
+
+def wrong_words():
+    """What is told of wrong words."""
+    for words in ([], ["audit"], ["audit", "3"], ["audit", "0", "40"], ["audit", "9", "40"], ["audit", "3", "0"], ["audit", "3", "many"],
+                  ["audit", "3", "1000001"], ["audit", "3", "40", "1"], ["dance", "3", "40"]):
+        check(PROGRAM, words, 2, told=b"usage: site_runs audit SITES STEPS")
+
+
+def refused_allocations(room):
+    """Refuses each allocation of a run in turn. Answers what was done."""
+    run_refusing = refusing(room)
+    if not run_refusing:
+        return NO_COMPILER
+    whole, allocations = run_refusing(0, PROGRAM, AUDIT)
+    expect(whole.stdout == EVENTS, f"it did not write {EVENTS!r}", whole)
+    for number in range(1, allocations + 1):
+        ran, _ = run_refusing(number, PROGRAM, AUDIT)
+        expect(ran.returncode == 1, f"the status is not 1 where allocation {number} is refused", ran)
+        expect(ran.stderr == b"site_runs: out of memory\n", f"it told another text where allocation {number} is refused", ran)
+        expect(not ran.stdout, f"it wrote something where allocation {number} is refused", ran)
+    return f"each of the {allocations} allocations of an audit of three sites refused in turn"
+
+
+def run_all():
+    """Runs all of it. Answers lines that tell what was run."""
+    with tempfile.TemporaryDirectory() as room:
+        wrong_words()
+        return ["its words and texts", refused_allocations(room)]
+
+
+if __name__ == "__main__":
+    try:
+        print("\n".join(run_all()))
+    except Failed as why:
+        sys.exit(f"test: {why}")
