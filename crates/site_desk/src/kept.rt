@@ -1,5 +1,6 @@
-ghost use Rattle.std.specs.Prelude.{◌≡◌, ◌≤◌, ◌<◌, ◌↔◌, ◌⊎◌, ◌+◌, Err, IfErr, IfOk, OnErr, OnOk};
+ghost use Rattle.std.specs.Prelude.{ℕ, ◌≡◌, ◌≤◌, ◌<◌, ◌↔◌, ◌⊎◌, ◌+◌, Err, IfErr, IfOk, OnErr, OnOk};
 ghost use Rattle.dots.specs.declared.limits.TheConstants.{MOST_COUNT};
+ghost use Rattle.delta.specs.DeltaStates.{IsEmpty};
 ghost use Rattle.delta_codec.specs.Decoding.{HasOpening};
 ghost use Rattle.site_journal.specs.Journals.{HasAdded, HasDropped, HasFaultAlone, IsAnswerTo};
 ghost use Rattle.site_journal.specs.Journals.{IsFull, IsOfSite, IsRefusedFor, IsRefusedFrame};
@@ -70,8 +71,8 @@ impl<L: SiteLedger> Kept<L> {
         ensures ask { IfOk result (λ receipt. IsOfAsk asked.now receipt) }
         ensures answer { IfOk result (λ receipt. IsAnswerTo self.old.journal.replica asked.now
             self.new.journal.replica receipt.deed) }
-        ensures rewound { (result ≡ Err (DeskFault.Rewound self.old.journal.count))
-            ↔ (self.old.journal.count < pass.old.seen) }
+        ensures rewound { (len : ℕ) → (result ≡ Err (DeskFault.Rewound len))
+            ↔ ((len ≡ self.old.journal.count) × (len < pass.old.seen)) }
         ensures full { (result ≡ Err DeskFault.JournalFull)
             ↔ ((pass.old.seen ≤ self.old.journal.count) × IsFull self.old.journal) }
         ensures only { IfErr result (λ fault. IsRewound pass.old fault
@@ -92,10 +93,14 @@ impl<L: SiteLedger> Kept<L> {
         ensures added { IfOk result (λ receipt.
             HasAdded self.old.journal (step_of receipt) self.new.journal) }
         ensures cut { IfOk result (λ receipt. IsOfCut receipt) }
-        ensures rewound { (result ≡ Err (DeskFault.Rewound self.old.journal.count))
-            ↔ (self.old.journal.count < pass.old.seen) }
+        ensures rewound { (len : ℕ) → (result ≡ Err (DeskFault.Rewound len))
+            ↔ ((len ≡ self.old.journal.count) × (len < pass.old.seen)) }
         ensures full { (result ≡ Err DeskFault.JournalFull)
             ↔ ((pass.old.seen ≤ self.old.journal.count) × IsFull self.old.journal) }
+        ensures exhausted { (result ≡ Err DeskFault.Exhausted)
+            ↔ ((pass.old.seen ≤ self.old.journal.count) × ((IsFull self.old.journal → ⊥)
+            × ((IsEmpty self.old.journal.replica.pending → ⊥)
+            × (self.old.journal.replica.frames ≡ MOST_COUNT)))) }
         ensures only { IfErr result (λ fault. IsRewound pass.old fault
             ⊎ ((fault ≡ DeskFault.JournalFull)
             ⊎ ((fault ≡ DeskFault.Exhausted) ⊎ (fault ≡ DeskFault.Memory)))) }
@@ -115,10 +120,13 @@ impl<L: SiteLedger> Kept<L> {
         ensures added { IfOk result (λ receipt.
             HasAdded self.old.journal (step_of receipt) self.new.journal) }
         ensures whole { IfOk result (λ receipt. IsOfWhole receipt) }
-        ensures rewound { (result ≡ Err (DeskFault.Rewound self.old.journal.count))
-            ↔ (self.old.journal.count < pass.old.seen) }
+        ensures rewound { (len : ℕ) → (result ≡ Err (DeskFault.Rewound len))
+            ↔ ((len ≡ self.old.journal.count) × (len < pass.old.seen)) }
         ensures full { (result ≡ Err DeskFault.JournalFull)
             ↔ ((pass.old.seen ≤ self.old.journal.count) × IsFull self.old.journal) }
+        ensures exhausted { (result ≡ Err DeskFault.Exhausted)
+            ↔ ((pass.old.seen ≤ self.old.journal.count) × ((IsFull self.old.journal → ⊥)
+            × (self.old.journal.replica.frames ≡ MOST_COUNT))) }
         ensures only { IfErr result (λ fault. IsRewound pass.old fault
             ⊎ ((fault ≡ DeskFault.JournalFull)
             ⊎ ((fault ≡ DeskFault.Exhausted) ⊎ (fault ≡ DeskFault.Memory)))) }
@@ -142,8 +150,8 @@ impl<L: SiteLedger> Kept<L> {
         ensures added { IfOk result (λ receipt.
             HasAdded self.old.journal (step_of receipt) self.new.journal) }
         ensures took { IfOk result (λ receipt. IsOfTake bytes.items receipt) }
-        ensures rewound { IsRefusedFor result (DeskFault.Rewound self.old.journal.count)
-            ↔ (self.old.journal.count < pass.old.seen) }
+        ensures rewound { (len : ℕ) → IsRefusedFor result (DeskFault.Rewound len)
+            ↔ ((len ≡ self.old.journal.count) × (len < pass.old.seen)) }
         ensures full { IsRefusedFor result DeskFault.JournalFull
             ↔ ((pass.old.seen ≤ self.old.journal.count) × IsFull self.old.journal) }
         ensures decode { (fault : DecodeFault) → IsRefusedFor result (DeskFault.Decode fault)
