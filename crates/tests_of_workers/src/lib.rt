@@ -1,4 +1,4 @@
-//! Tests of journals, audits, desks, links and pumps by their public calls. It has no code of its own.
+//! Tests of journals, audits, desks, links, pumps and whole sites by their public calls. It has no code of its own.
 #![tactic(auto)]
 
 #[cfg(test)]
@@ -11,3 +11,5 @@ mod journals;
 mod links;
 #[cfg(test)]
 mod pumps;
+#[cfg(test)]
+mod runs;

@@ -22,6 +22,7 @@ struct NumberedPort {
 impl NumberedPort {
     // One step more. The one fault is that no number is left.
     fn step(&mut self, deed: StepDeed) -> Result<Receipt, DeskFault>
+        ensures position { IfOk result (λ receipt. receipt.position ≡ self.old.steps) }
         ensures deed { IfOk result (λ receipt. receipt.deed ≡ deed) }
         ensures pass { IfOk result (λ receipt. receipt.pass ≡ 0) }
         ensures steps { IfOk result (λ receipt. self.new.steps ≡ self.old.steps + 1) }
@@ -55,6 +56,13 @@ impl NumberedPort {
 }
 
 impl<R> Port<R> for NumberedPort {
+    ghost use Rattle.std.specs.Prelude.{◌≡◌, ◌+◌};
+
+    ghost makes = { λ old receipt new.
+        (receipt.position ≡ old.steps) × (new.steps ≡ old.steps + 1) };
+
+    ghost refuses = { λ old cause new. new.steps ≡ old.steps };
+
     ghost ordinal = { λ port. 0 };
 
     ghost share = { λ port. port.steps };
