@@ -1,10 +1,11 @@
 //! Desks: their passes, their receipts, and the calls of two threads.
 ghost use Rattle.std.specs.Prelude.{◌≡◌, ◌+◌, true, vec_len};
+ghost use Rattle.site_journal.specs.Journals.{IsOfSite};
 ghost use Rattle.site_desk.specs.Ports.{HasDoneAll};
 
 use dots::{Interface, Label, Penalty, QueueName, SiteId, Text80};
 use replica::{Command, QueueList, Replica};
-use site_desk::{CloseFault, DeskPort, Pass, SiteDesk, close};
+use site_desk::{CloseFault, DeskPort, Pass, SiteDesk, SiteLedger, close};
 use site_journal::{DecodeFault, DeskFault, Gate, Journaled, Port, Receipt, StepDeed, settle};
 use site_links::{LinkReceiver, pair};
 use site_pumps::{PumpedIn, pump_in};
@@ -14,13 +15,14 @@ use std::marker::Brand;
 use std::process::Abort;
 use std::sync::Wait;
 use std::sync::atomic::{AtomicBool, Ordering};
-use std::sync::ledger::{Blank, Ledger};
+use std::sync::ledger::Blank;
 use std::thread::Threads;
 use std::{hint, thread};
 
 // The journal of site 0 that knows nothing, of the queue `sales`, in which so many steps may stand.
 fn journal(rt: &impl Abort, alloc: Global, limit: u32) -> Journaled
-    ensures { result.count ≡ 0 }
+    ensures begun { result.count ≡ 0 }
+    ensures site { IsOfSite result.base.site result.base.names result }
 {
     let name = QueueName::new(b"sales").expect(rt, "a name");
     let list = QueueList::new(alloc, &[name]).expect(rt, "a list");
@@ -40,18 +42,19 @@ fn status(alloc: Global) -> Ask {
     })
 }
 
-// A desk and its two passes.
-fn desk_of_two<L: Ledger>(
+// A desk over a journal, and its two passes.
+fn desk_of_two<L: SiteLedger>(
     rt: &impl Abort,
     alloc: Global,
     blank: Blank,
-    limit: u32,
+    journal: Journaled,
 ) -> (SiteDesk<L>, Pass<L>, Pass<L>)
     requires name { blank.name ≡ L.name }
     requires ledger { blank.parts ≡ L.parts }
     requires two { blank.parts ≡ 2 }
+    requires begun { journal.count ≡ 0 }
+    requires site { IsOfSite L.site L.names journal }
 {
-    let journal = journal(rt, alloc, limit);
     let Ok((desk, mut passes)) = SiteDesk::new(alloc, blank, journal, 2) else {
         rt.panic("memory");
     };
@@ -61,7 +64,7 @@ fn desk_of_two<L: Ledger>(
 }
 
 // What close answers, given these passes.
-fn closed<L: Ledger>(
+fn closed<L: SiteLedger>(
     rt: &impl Abort,
     alloc: Global,
     desk: SiteDesk<L>,
@@ -75,12 +78,14 @@ fn closed<L: Ledger>(
 }
 
 // A desk is closed with all of its passes, and not with one of them.
-fn assert_closes<L: Ledger>(rt: &impl Abort, alloc: Global, blank: Blank)
+fn assert_closes<L: SiteLedger>(rt: &impl Abort, alloc: Global, blank: Blank, journal: Journaled)
     requires name { blank.name ≡ L.name }
     requires ledger { blank.parts ≡ L.parts }
     requires two { blank.parts ≡ 2 }
+    requires begun { journal.count ≡ 0 }
+    requires site { IsOfSite L.site L.names journal }
 {
-    let (desk, first, second) = desk_of_two::<L>(rt, alloc, blank, 5);
+    let (desk, first, second) = desk_of_two::<L>(rt, alloc, blank, journal);
     assert!(rt; first.ordinal() == 0 && second.ordinal() == 1 && second.seen() == 0);
     let mut passes = Vec::new(alloc);
     passes.push(first).expect(rt, "memory");
@@ -95,11 +100,12 @@ fn assert_closes<L: Ledger>(rt: &impl Abort, alloc: Global, blank: Blank)
 
 #[test]
 fn a_desk_is_closed_with_all_of_its_passes(rt: HostRuntime) {
-    assert_closes::<Brand>(&rt, rt.alloc(), Blank::new(2));
+    let journal = journal(&rt, rt.alloc(), 5);
+    assert_closes::<Brand>(&rt, rt.alloc(), Blank::new(2), journal);
 }
 
 // The receipt of a status that a pass asks.
-fn asked<L: Ledger, R: Abort + Wait>(
+fn asked<L: SiteLedger, R: Abort + Wait>(
     rt: &R,
     alloc: Global,
     desk: &SiteDesk<L>,
@@ -110,12 +116,19 @@ fn asked<L: Ledger, R: Abort + Wait>(
 }
 
 // Two passes ask in turn until no step may be added.
-fn assert_fills<L: Ledger, R: Abort + Wait>(rt: &R, alloc: Global, blank: Blank)
+fn assert_fills<L: SiteLedger, R: Abort + Wait>(
+    rt: &R,
+    alloc: Global,
+    blank: Blank,
+    journal: Journaled,
+)
     requires name { blank.name ≡ L.name }
     requires ledger { blank.parts ≡ L.parts }
     requires two { blank.parts ≡ 2 }
+    requires begun { journal.count ≡ 0 }
+    requires site { IsOfSite L.site L.names journal }
 {
-    let (desk, mut first, mut second) = desk_of_two::<L>(rt, alloc, blank, 20_000);
+    let (desk, mut first, mut second) = desk_of_two::<L>(rt, alloc, blank, journal);
     let mut one = Vec::new(alloc);
     let mut other = Vec::new(alloc);
     for _ in 0..10_000 {
@@ -138,7 +151,8 @@ fn assert_fills<L: Ledger, R: Abort + Wait>(rt: &R, alloc: Global, blank: Blank)
 
 #[test]
 fn two_passes_fill_a_journal(rt: HostRuntime) {
-    assert_fills::<Brand, HostRuntime>(&rt, rt.alloc(), Blank::new(2));
+    let journal = journal(&rt, rt.alloc(), 20_000);
+    assert_fills::<Brand, HostRuntime>(&rt, rt.alloc(), Blank::new(2), journal);
 }
 
 fn add(rt: &impl Abort, interface: &[u8]) -> Ask {
@@ -169,7 +183,7 @@ fn reports(receipt: &Receipt, part: &[u8]) -> bool {
 }
 
 // Adds an interface, which the next report shows. The receipts of both.
-fn added<L: Ledger, R: Abort + Wait>(
+fn added<L: SiteLedger, R: Abort + Wait>(
     rt: &R,
     alloc: Global,
     desk: &SiteDesk<L>,
@@ -188,16 +202,19 @@ fn added<L: Ledger, R: Abort + Wait>(
 }
 
 // Two threads, each of which finds the interface that it has added.
-fn assert_adds<L: Ledger + Send + Sync, R: Abort + Threads + Wait + Sync>(
+fn assert_adds<L: SiteLedger + Send + Sync, R: Abort + Threads + Wait + Sync>(
     rt: &R,
     alloc: Global,
     blank: Blank,
+    journal: Journaled,
 )
     requires name { blank.name ≡ L.name }
     requires ledger { blank.parts ≡ L.parts }
     requires two { blank.parts ≡ 2 }
+    requires begun { journal.count ≡ 0 }
+    requires site { IsOfSite L.site L.names journal }
 {
-    let (desk, mut first, mut second) = desk_of_two::<L>(rt, alloc, blank, 20);
+    let (desk, mut first, mut second) = desk_of_two::<L>(rt, alloc, blank, journal);
     let (lent, one, other) = (&desk, &mut first, &mut second);
     let (one, other) = thread::join(
         rt,
@@ -214,7 +231,8 @@ fn assert_adds<L: Ledger + Send + Sync, R: Abort + Threads + Wait + Sync>(
 
 #[test]
 fn two_threads_find_what_they_have_added(rt: HostRuntime) {
-    assert_adds::<Brand, HostRuntime>(&rt, rt.alloc(), Blank::new(2));
+    let journal = journal(&rt, rt.alloc(), 20);
+    assert_adds::<Brand, HostRuntime>(&rt, rt.alloc(), Blank::new(2), journal);
 }
 
 // Says that it is called, and then looks so often whether the other thread has done its call.
@@ -242,7 +260,7 @@ impl<'a> Gate for LookingGate<'a> {
 }
 
 // A call whose gate looks for the other thread's. Whether it saw that.
-fn looked<L: Ledger, R: Abort + Wait>(
+fn looked<L: SiteLedger, R: Abort + Wait>(
     rt: &R,
     alloc: Global,
     desk: &SiteDesk<L>,
@@ -263,7 +281,7 @@ fn looked<L: Ledger, R: Abort + Wait>(
 }
 
 // Calls once the other thread's gate was called.
-fn call_behind<L: Ledger, R: Abort + Wait>(
+fn call_behind<L: SiteLedger, R: Abort + Wait>(
     rt: &R,
     alloc: Global,
     desk: &SiteDesk<L>,
@@ -282,16 +300,19 @@ fn call_behind<L: Ledger, R: Abort + Wait>(
 }
 
 // No call of another thread is done while a gate is called.
-fn assert_excludes<L: Ledger + Send + Sync, R: Abort + Threads + Wait + Sync>(
+fn assert_excludes<L: SiteLedger + Send + Sync, R: Abort + Threads + Wait + Sync>(
     rt: &R,
     alloc: Global,
     blank: Blank,
+    journal: Journaled,
 )
     requires name { blank.name ≡ L.name }
     requires ledger { blank.parts ≡ L.parts }
     requires two { blank.parts ≡ 2 }
+    requires begun { journal.count ≡ 0 }
+    requires site { IsOfSite L.site L.names journal }
 {
-    let (desk, mut first, mut second) = desk_of_two::<L>(rt, alloc, blank, 20);
+    let (desk, mut first, mut second) = desk_of_two::<L>(rt, alloc, blank, journal);
     let (called, done) = (AtomicBool::new(false), AtomicBool::new(false));
     let (lent, one, other) = (&desk, &mut first, &mut second);
     let (called, done) = (&called, &done);
@@ -306,16 +327,24 @@ fn assert_excludes<L: Ledger + Send + Sync, R: Abort + Threads + Wait + Sync>(
 
 #[test]
 fn a_gate_is_called_under_the_lock(rt: HostRuntime) {
-    assert_excludes::<Brand, HostRuntime>(&rt, rt.alloc(), Blank::new(2));
+    let journal = journal(&rt, rt.alloc(), 20);
+    assert_excludes::<Brand, HostRuntime>(&rt, rt.alloc(), Blank::new(2), journal);
 }
 
 // A port answers as its desk: a cut with nothing to cut, and a frame of all.
-fn assert_ports<L: Ledger, R: Abort + Wait>(rt: &R, alloc: Global, blank: Blank)
+fn assert_ports<L: SiteLedger, R: Abort + Wait>(
+    rt: &R,
+    alloc: Global,
+    blank: Blank,
+    journal: Journaled,
+)
     requires name { blank.name ≡ L.name }
     requires ledger { blank.parts ≡ L.parts }
     requires two { blank.parts ≡ 2 }
+    requires begun { journal.count ≡ 0 }
+    requires site { IsOfSite L.site L.names journal }
 {
-    let (desk, mut first, second) = desk_of_two::<L>(rt, alloc, blank, 2);
+    let (desk, mut first, second) = desk_of_two::<L>(rt, alloc, blank, journal);
     let mut port = DeskPort::new(&desk, &mut first);
     let cut = port.cut(rt).ok().expect(rt, "a receipt");
     assert!(rt; cut.pass == 0 && cut.position == 0 && matches!(cut.deed, StepDeed::Cut(None)));
@@ -333,11 +362,12 @@ fn assert_ports<L: Ledger, R: Abort + Wait>(rt: &R, alloc: Global, blank: Blank)
 
 #[test]
 fn a_port_answers_as_its_desk(rt: HostRuntime) {
-    assert_ports::<Brand, HostRuntime>(&rt, rt.alloc(), Blank::new(2));
+    let journal = journal(&rt, rt.alloc(), 2);
+    assert_ports::<Brand, HostRuntime>(&rt, rt.alloc(), Blank::new(2), journal);
 }
 
 // What a pump takes by a pass, which then has done just these steps more.
-fn taken_by<L: Ledger, R: Wait>(
+fn taken_by<L: SiteLedger, R: Wait>(
     rt: &R,
     alloc: Global,
     desk: &SiteDesk<L>,
@@ -353,12 +383,19 @@ fn taken_by<L: Ledger, R: Wait>(
 }
 
 // A pump takes a frame of the site's own, and is stopped by bytes that are none.
-fn assert_pumps<L: Ledger, R: Abort + Wait>(rt: &R, alloc: Global, blank: Blank)
+fn assert_pumps<L: SiteLedger, R: Abort + Wait>(
+    rt: &R,
+    alloc: Global,
+    blank: Blank,
+    journal: Journaled,
+)
     requires name { blank.name ≡ L.name }
     requires ledger { blank.parts ≡ L.parts }
     requires two { blank.parts ≡ 2 }
+    requires begun { journal.count ≡ 0 }
+    requires site { IsOfSite L.site L.names journal }
 {
-    let (desk, mut first, mut second) = desk_of_two::<L>(rt, alloc, blank, 5);
+    let (desk, mut first, mut second) = desk_of_two::<L>(rt, alloc, blank, journal);
     let (mut sender, mut receiver) = pair(alloc, 2).expect(rt, "memory");
     let whole = desk.whole(rt, &mut first).ok().expect(rt, "a receipt");
     let StepDeed::Whole(frame) = whole.deed else {
@@ -379,5 +416,6 @@ fn assert_pumps<L: Ledger, R: Abort + Wait>(rt: &R, alloc: Global, blank: Blank)
 
 #[test]
 fn a_pump_works_by_its_pass(rt: HostRuntime) {
-    assert_pumps::<Brand, HostRuntime>(&rt, rt.alloc(), Blank::new(2));
+    let journal = journal(&rt, rt.alloc(), 5);
+    assert_pumps::<Brand, HostRuntime>(&rt, rt.alloc(), Blank::new(2), journal);
 }

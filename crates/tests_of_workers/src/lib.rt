@@ -1,4 +1,4 @@
-//! Tests of desks, links and pumps by their public calls. This crate has no code of its own.
+//! Tests of desks, links, pumps and whole sites by their public calls. This crate has no code of its own.
 #![tactic(auto)]
 
 #[cfg(test)]
@@ -7,3 +7,5 @@ mod desks;
 mod links;
 #[cfg(test)]
 mod pumps;
+#[cfg(test)]
+mod runs;
