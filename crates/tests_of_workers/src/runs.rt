@@ -38,20 +38,24 @@ struct MeetingGate<'a> {
     saw: bool,
 }
 
+// Whether a word comes within so many turns.
+fn comes(word: &AtomicBool, turns: u32) -> bool {
+    for _ in 0..turns {
+        if word.load(Ordering::SeqCst) {
+            return true;
+        }
+        thread::yield_now();
+    }
+    false
+}
+
 impl<'a> Gate for MeetingGate<'a> {
     ghost called = { λ old turn new. new.turns ≡ old.turns };
 
     fn inside(&mut self, turn: u64) {
-        if turn != 0 {
-            return;
-        }
-        self.mine.store(true, Ordering::SeqCst);
-        for _ in 0..self.turns {
-            if self.theirs.load(Ordering::SeqCst) {
-                self.saw = true;
-                return;
-            }
-            thread::yield_now();
+        if turn == 0 {
+            self.mine.store(true, Ordering::SeqCst);
+            self.saw = comes(self.theirs, self.turns);
         }
     }
 }
