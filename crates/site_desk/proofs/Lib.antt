@@ -1,3 +1,4 @@
 pub mod DoneDeeds
 pub mod FreshPasses
+pub mod LegalDeeds
 pub mod PortRuns

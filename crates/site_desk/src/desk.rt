@@ -3,12 +3,13 @@ ghost use Rattle.delta_codec.specs.Decoding.{HasOpening};
 ghost use Rattle.site_journal.specs.Journals.{HasFaultAlone, IsOfSite, IsRefusedFor};
 ghost use Rattle.site_journal.specs.Journals.{RefusesTake};
 ghost use Rattle.site_journal.specs.Receipts.{IsOfCut, IsOfTake, IsOfWhole};
+ghost use Rattle.site_desk.specs.Deeds.{IsLegalAnswer, IsLegalDeed, IsLegalRefusal};
 ghost use Rattle.site_desk.specs.Passes.{AreFresh, HasDone, IsOfAsk, IsRewound};
 
 use crate::kept::Kept;
 use crate::{Pass, SiteLedger};
 use dots::Memory;
-use site_journal::{DecodeFault, DeskFault, Gate, Journaled, Receipt};
+use site_journal::{DecodeFault, DeskFault, Gate, Journaled, Receipt, TakeFault};
 use status_report::Ask;
 use std::alloc::Global;
 use std::marker::Model;
@@ -83,6 +84,8 @@ impl<L: SiteLedger> SiteDesk<L> {
     ) -> Result<Receipt, DeskFault>
         ensures done { IfOk result (λ receipt. HasDone pass.old receipt pass.new) }
         ensures ask { IfOk result (λ receipt. IsOfAsk asked.now receipt) }
+        ensures legal { IfOk result (λ receipt.
+            IsLegalAnswer L.site L.names asked.now receipt.deed) }
         ensures only { IfErr result (λ fault. IsRewound pass.old fault
             ⊎ ((fault ≡ DeskFault.JournalFull) ⊎ (fault ≡ DeskFault.Memory))) }
         ensures unchanged { OnErr result (pass.new ≡ pass.old) }
@@ -101,6 +104,8 @@ impl<L: SiteLedger> SiteDesk<L> {
     ) -> Result<Receipt, DeskFault>
         ensures done { IfOk result (λ receipt. HasDone pass.old receipt pass.new) }
         ensures ask { IfOk result (λ receipt. IsOfAsk asked.now receipt) }
+        ensures legal { IfOk result (λ receipt.
+            IsLegalAnswer L.site L.names asked.now receipt.deed) }
         ensures only { IfErr result (λ fault. IsRewound pass.old fault
             ⊎ ((fault ≡ DeskFault.JournalFull) ⊎ (fault ≡ DeskFault.Memory))) }
         ensures unchanged { OnErr result (pass.new ≡ pass.old) }
@@ -117,6 +122,7 @@ impl<L: SiteLedger> SiteDesk<L> {
     pub fn cut<R: Wait>(&self, rt: &R, pass: &mut Pass<L>) -> Result<Receipt, DeskFault>
         ensures done { IfOk result (λ receipt. HasDone pass.old receipt pass.new) }
         ensures cut { IfOk result (λ receipt. IsOfCut receipt) }
+        ensures legal { IfOk result (λ receipt. IsLegalDeed L.site L.names receipt.deed) }
         ensures only { IfErr result (λ fault. IsRewound pass.old fault
             ⊎ ((fault ≡ DeskFault.JournalFull)
             ⊎ ((fault ≡ DeskFault.Exhausted) ⊎ (fault ≡ DeskFault.Memory)))) }
@@ -129,6 +135,7 @@ impl<L: SiteLedger> SiteDesk<L> {
     pub fn whole<R: Wait>(&self, rt: &R, pass: &mut Pass<L>) -> Result<Receipt, DeskFault>
         ensures done { IfOk result (λ receipt. HasDone pass.old receipt pass.new) }
         ensures whole { IfOk result (λ receipt. IsOfWhole receipt) }
+        ensures legal { IfOk result (λ receipt. IsLegalDeed L.site L.names receipt.deed) }
         ensures only { IfErr result (λ fault. IsRewound pass.old fault
             ⊎ ((fault ≡ DeskFault.JournalFull)
             ⊎ ((fault ≡ DeskFault.Exhausted) ⊎ (fault ≡ DeskFault.Memory)))) }
@@ -149,8 +156,11 @@ impl<L: SiteLedger> SiteDesk<L> {
     ) -> Result<Receipt, (DeskFault, Vec<u8>)>
         ensures done { IfOk result (λ receipt. HasDone pass.old receipt pass.new) }
         ensures took { IfOk result (λ receipt. IsOfTake bytes.items receipt) }
+        ensures legal { IfOk result (λ receipt. IsLegalDeed L.site L.names receipt.deed) }
         ensures decode { (fault : DecodeFault) → IsRefusedFor result (DeskFault.Decode fault)
             → HasFaultAlone bytes.items fault }
+        ensures refused { (fault : TakeFault) → IsRefusedFor result (DeskFault.Take fault)
+            → IsLegalRefusal L.site L.names bytes.items fault }
         ensures memory { IsRefusedFor result DeskFault.Memory → HasOpening bytes.items }
         ensures only { IfErr result (λ refused.
             IsRewound pass.old refused.0 ⊎ RefusesTake refused.0) }
