@@ -22,7 +22,7 @@ pub use rope::{Rope, RopeBell};
 pub use run_fault::RunFault;
 pub use running::{MOST_RUN_SITES, run_sites};
 pub use site_audit::{AuditFault, audit};
-pub use site_desk::{CloseFault, DeskPort, Pass, SiteDesk, close};
+pub use site_desk::{CloseFault, DeskPort, Pass, SiteDesk, SiteLedger, close};
 pub use site_journal::{
     Bell, DeskFault, Gate, Journaled, Port, Receipt, SettleFault, Step, StepDeed, settle,
 };
