@@ -1,5 +1,5 @@
-"""Runs site_runs, whose sites work on what is drawn by lot: what it tells of a few sites, of wrong words, and where one of its
-allocations is refused."""
+"""Runs site_runs, whose sites work on what is drawn by lot: what it tells of a few sites, in one thread and as threads, of wrong words,
+and where one of its allocations is refused."""
 import sys
 import tempfile
 
@@ -9,13 +9,15 @@ from program_tests import NO_COMPILER, Failed, check, expect, refusing
 PROGRAM = f"{folder('site_runs')}/out/site_runs"
 AUDIT = ["audit", "3", "40"]
 EVENTS = b"120 events\n"
+THREADS = ["threads", "3", "3", "20"]
+USAGE = b"usage: site_runs audit SITES STEPS, or site_runs threads RUNS SITES ASKS\n"
 
 
 def wrong_words():
     """What is told of wrong words."""
-    for words in ([], ["audit"], ["audit", "3"], ["audit", "0", "40"], ["audit", "9", "40"], ["audit", "3", "0"], ["audit", "3", "many"],
-                  ["audit", "3", "1000001"], ["audit", "3", "40", "1"], ["dance", "3", "40"]):
-        check(PROGRAM, words, 2, told=b"usage: site_runs audit SITES STEPS")
+    for words in ("", "audit", "audit 3", "audit 0 40", "audit 9 40", "audit 3 0", "audit 3 many", "audit 3 1000001", "audit 3 40 1",
+                  "dance 3 40", "threads 3 3", "threads 0 3 20", "threads 3 9 20", "threads 3 3 0", "threads 3 3 20 1"):
+        check(PROGRAM, words.split(), 2, told=USAGE)
 
 
 def refused_allocations(room):
@@ -37,7 +39,8 @@ def run_all():
     """Runs all of it. Answers lines that tell what was run."""
     with tempfile.TemporaryDirectory() as room:
         wrong_words()
-        return ["its words and texts", refused_allocations(room)]
+        check(PROGRAM, THREADS, 0, printed=b"3 runs\n")
+        return ["its words and texts", "three runs of three sites as threads", refused_allocations(room)]
 
 
 if __name__ == "__main__":

@@ -5,7 +5,7 @@ use thiserror::Error;
 #[derive(Clone, Copy, Debug, PartialEq, Eq, Error)]
 pub enum AuditFault {
     /// The journals aren't those of the sites 0, 1, .. in their order, or have two lists of queues.
-    #[error("not the journals of all sites")]
+    #[error("not the journals of sites 0, 1 and so on, with one list of queues")]
     WrongSites,
     /// The first site whose journal hasn't all that the site did: steps were dropped, or it began from a replica that wasn't new.
     #[error("the journal of site {0} isn't whole")]

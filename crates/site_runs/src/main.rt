@@ -1,9 +1,14 @@
 //! Lets sites work on what is drawn by lot, the same on each run, and tries whether all that they told fits together: for tests, and to
-//! be timed. `site_runs audit SITES STEPS`: so many sites, 1 to 8, which do so many steps each, 1 to 1,000,000, in one thread.
+//! be timed.
 //!
-//! A site is asked something, cuts, makes a whole or takes one of the latest frames of all sites, its own too. The receipts of its steps
-//! settle its journal, an audit explains all journals by one list of events, and in a new world that has run the list each site reports
-//! what it does by its journal. Standard output tells how many events there are.
+//! `site_runs audit SITES STEPS`: so many sites, 1 to 8, do so many steps each, 1 to 1,000,000, in one thread. A site is asked something,
+//! cuts, makes a whole or takes one of the latest frames of all sites, its own too. The receipts of its steps settle its journal, an
+//! audit explains all journals by one list of events, and in a new world that has run the list each site reports what it does by its
+//! journal. Standard output tells how many events there are.
+//!
+//! `site_runs threads RUNS SITES ASKS`: so often so many sites run as threads and are asked so much each, while their frames are lost,
+//! doubled and held back. No site has a fault, all fits together as above, and all sites report the same at their end. Standard output
+//! tells how often they have run, since nothing else is the same each time.
 //!
 //! The status is 1 where something doesn't fit or memory is wanting, and 2 where the words are wrong, as a line on standard error says.
 #![tactic(auto)]
@@ -16,19 +21,25 @@ mod explaining;
 mod numbers;
 mod runs_fault;
 mod site;
+mod threads;
 mod turns;
 
 use crate::explaining::explain;
 use crate::runs_fault::RunsFault;
+use crate::threads::run_often;
 use crate::turns::work_in_turn;
 use site_journal::MOST_STEPS;
 use std::io;
 use std::process::ExitCode;
 use std::rt::Env;
+use std::sync::Wait;
+use std::thread::Threads;
 
-const USAGE: &str = "usage: site_runs audit SITES STEPS";
+const USAGE: &str = "usage: site_runs audit SITES STEPS, or site_runs threads RUNS SITES ASKS";
 
 const MOST_SITES: u32 = 8;
+
+const MOST_RUNS: u32 = 1_000_000;
 
 // So many sites that do so many steps each.
 #[derive(Clone, Copy)]
@@ -44,7 +55,7 @@ fn main(rt: HostRuntime) -> ExitCode {
 }
 
 // Runs the program, and answers its status. `Err`: a text could not be printed.
-fn run<R: Env + AllocGlobal + Print + Eprint>(rt: &R) -> io::Result<u8> {
+fn run<R: Env + AllocGlobal + Print + Eprint + Threads + Wait + Sync>(rt: &R) -> io::Result<u8> {
     let words = match words(rt) {
         Ok(words) => words,
         Err(error) if error.kind() == io::ErrorKind::OutOfMemory => {
@@ -94,12 +105,19 @@ fn read_work(sites: &str, steps: &str) -> Option<Work> {
 }
 
 // Does what these words tell, of which the first is the program's own name. None where they are wrong.
-fn do_words<R: AllocGlobal + Print>(rt: &R, words: &[String]) -> Option<Result<(), RunsFault>> {
+fn do_words<R: AllocGlobal + Print + Threads + Wait + Sync>(
+    rt: &R,
+    words: &[String],
+) -> Option<Result<(), RunsFault>> {
     let [_, kind, numbers @ ..] = words else {
         return None;
     };
     match (kind.as_str(), numbers) {
         ("audit", [sites, steps]) => Some(do_audit(rt, read_work(sites, steps)?)),
+        ("threads", [runs, sites, asks]) => {
+            let runs = number(runs, MOST_RUNS)?;
+            Some(do_threads(rt, runs, read_work(sites, asks)?))
+        }
         _ => None,
     }
 }
@@ -108,4 +126,13 @@ fn do_audit<R: AllocGlobal + Print>(rt: &R, work: Work) -> Result<(), RunsFault>
     let journals = work_in_turn(rt.alloc(), work.sites, work.steps)?;
     let events = explain(rt.alloc(), work.sites, &journals)?;
     println!(rt; "{events} events").map_err(|_| RunsFault::Write)
+}
+
+fn do_threads<R: AllocGlobal + Print + Threads + Wait + Sync>(
+    rt: &R,
+    runs: u32,
+    work: Work,
+) -> Result<(), RunsFault> {
+    run_often(rt, runs, work.sites, work.steps)?;
+    println!(rt; "{runs} runs").map_err(|_| RunsFault::Write)
 }

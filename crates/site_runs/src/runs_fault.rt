@@ -2,6 +2,7 @@ use dots::{Memory, TextFault};
 use replica::ListFault;
 use site_audit::AuditFault;
 use site_journal::{DeskFault, SettleFault};
+use site_worker::RunFault;
 use sites_world::WorldFault;
 use std::alloc::AllocFailed;
 use thiserror::Error;
@@ -12,6 +13,9 @@ pub enum RunsFault {
     /// A value of the program's own is out of its range.
     #[error("a value is out of its range")]
     OutOfRange,
+    /// A thread couldn't be started.
+    #[error("no thread")]
+    NoThread,
     /// A step wasn't done.
     #[error("a step wasn't done: {0}")]
     Step(DeskFault),
@@ -27,6 +31,9 @@ pub enum RunsFault {
     /// The site of this number reports otherwise in the world that the events were run in.
     #[error("site {0} reports otherwise in the world")]
     World(u16),
+    /// The site of this number reports otherwise than the first, though each has taken all that the other knew.
+    #[error("site {0} reports otherwise than the first")]
+    Sites(u16),
     /// Standard output failed.
     #[error("write failed")]
     Write,
@@ -67,6 +74,16 @@ impl From<WorldFault> for RunsFault {
         match fault {
             WorldFault::Memory => RunsFault::Memory,
             WorldFault::BadSites => RunsFault::OutOfRange,
+        }
+    }
+}
+
+impl From<RunFault> for RunsFault {
+    fn from(fault: RunFault) -> Self {
+        match fault {
+            RunFault::BadSites => RunsFault::OutOfRange,
+            RunFault::NoThread => RunsFault::NoThread,
+            RunFault::Memory => RunsFault::Memory,
         }
     }
 }

@@ -1,0 +1,2 @@
+pub mod Workings
+pub mod Sites

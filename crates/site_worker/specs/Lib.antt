@@ -1,0 +1,4 @@
+pub mod Bells
+pub mod Working
+pub mod Runs
+pub mod Promises

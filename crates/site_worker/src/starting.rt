@@ -1,0 +1,222 @@
+//! The threads of a site: they are started, and joined again.
+ghost use Rattle.std.specs.Prelude.{◌≡◌, ◌≢◌, ℕ, ◌+◌, ◌<◌, ◌≤◌, [], None, IfErr, IfOk, OnOk, length};
+ghost use Rattle.std.specs.Prelude.{map, slice_index_or, vec_capacity, vec_len};
+ghost use Rattle.site_desk.specs.Passes.{AreFresh, fresh_pass};
+ghost use Rattle.site_desk.specs.Ports.{HasDoneAll};
+ghost use Rattle.site_journal.specs.Settling.{list_of};
+ghost use Rattle.site_worker.specs.Working.{AnswerFront, HaveWorked};
+
+use crate::asking::{Worked, ask_all};
+use crate::gathering::Gathered;
+use crate::pumping::{send_all, take_all};
+use crate::{LinkPlan, Rope, RunFault};
+use site_desk::{Pass, SiteDesk, SiteLedger};
+use site_journal::Gate;
+use site_links::{LinkReceiver, LinkSender};
+use status_report::Ask;
+use std::alloc::Global;
+use std::sync::Wait;
+use std::thread::{Promise, PromisedHandle, Scope, Threads};
+
+// The pass of this number comes back with the receipts of its steps.
+#[derive(Drop)]
+pub(crate) struct PassOf {
+    ordinal: u32,
+}
+
+impl<L: SiteLedger> Promise<Worked<L>> for PassOf {
+    ghost use Rattle.site_desk.specs.Passes.{fresh_pass};
+    ghost use Rattle.site_desk.specs.Ports.{HasDoneAll};
+
+    ghost kept_by = { λ promise worked.
+        HasDoneAll (fresh_pass promise.ordinal) worked.receipts.items worked.pass };
+}
+
+// What the thread that asks gives back.
+#[derive(Drop)]
+pub(crate) struct Asked<L: SiteLedger, G: Drop> {
+    pub worked: Worked<L>,
+    pub gate: G,
+}
+
+// The first pass comes back with the receipts of these asks, of all of them unless there was a fault.
+#[derive(Clone, Copy)]
+struct AsksOf<'a>(&'a [Ask]);
+
+impl<'a, L: SiteLedger, G: Drop> Promise<Asked<L, G>> for AsksOf<'a> {
+    ghost use Rattle.std.specs.Prelude.{◌≡◌, None, length};
+    ghost use Rattle.site_desk.specs.Passes.{fresh_pass};
+    ghost use Rattle.site_desk.specs.Ports.{HasDoneAll};
+    ghost use Rattle.site_worker.specs.Working.{AnswerFront};
+
+    ghost kept_by = { λ promise asked.
+        HasDoneAll (fresh_pass 0) asked.worked.receipts.items asked.worked.pass
+        × AnswerFront promise.0.now asked.worked.receipts.items
+        × (asked.worked.fault ≡ None
+        → length asked.worked.receipts.items ≡ length promise.0.now) };
+}
+
+// The threads that take, the last of which has the first link.
+pub(crate) type Takers<L> = Vec<PromisedHandle<Worked<L>, PassOf>>;
+
+// Starts a thread for each link that takes what comes on it, by the last passes, until one can't be started.
+pub(crate) fn start_takers<'s, 'e: 's, L: SiteLedger + Send + Sync, R: Wait + Sync>(
+    scope: &'s Scope<'s, &'e ()>,
+    rt: &'s R,
+    alloc: Global,
+    desk: &'s SiteDesk<L>,
+    passes: &mut Vec<Pass<L>>,
+    links: Vec<LinkReceiver>,
+    takers: &mut Takers<L>,
+) -> Result<(), RunFault>
+    requires fresh { AreFresh (vec_len links + 2) passes.old.items }
+    requires none { vec_len takers.old ≡ 0 }
+    requires room { vec_len links ≤ vec_capacity takers.old }
+    ensures passes { OnOk result (AreFresh 2 passes.new.items) }
+    ensures number { OnOk result (vec_len takers.new ≡ vec_len links) }
+    ensures ordinals { OnOk result ((k : ℕ) (none : _) → k < vec_len takers.new
+        → (slice_index_or takers.new.items k none).promise.ordinal + k ≡ vec_len links + 1) }
+    ensures fault { IfErr result (λ fault. fault ≡ RunFault.NoThread) }
+{
+    let mut links = links;
+    while let Some(link) = links.pop() {
+        let Some(pass) = passes.pop() else {
+            unreachable!();
+        };
+        let promise = PassOf {
+            ordinal: pass.ordinal(),
+        };
+        let take = move || -> Worked<L>
+            requires { pass ≡ fresh_pass pass.ordinal }
+            ensures { HasDoneAll (fresh_pass pass.ordinal) result.receipts.items result.pass }
+        { take_all(rt, alloc, desk, pass, link) };
+        match scope.spawn_with(promise, take) {
+            Ok(taker) => takers.push_reserved(taker),
+            Err(_) => return Err(RunFault::NoThread),
+        }
+    }
+    Ok(())
+}
+
+// Lets threads that take end, and gives up what they give back.
+pub(crate) fn join_each<L: SiteLedger, R: Threads>(rt: &R, takers: Takers<L>) {
+    for taker in takers {
+        drop(taker.join(rt));
+    }
+}
+
+// Joins the threads that take, in the order of their passes.
+pub(crate) fn join_takers<L: SiteLedger, R: Threads>(
+    rt: &R,
+    takers: Takers<L>,
+    gathered: &mut Gathered<L>,
+)
+    requires ordinals { (k : ℕ) (none : _) → k < vec_len takers
+        → (slice_index_or takers.items k none).promise.ordinal + k ≡ vec_len takers + 1 }
+    requires gathered { HaveWorked 0 gathered.old.passes.items
+        (map (λ list. list.items) gathered.old.receipts.items) }
+    requires two { vec_len gathered.old.passes ≡ 2 }
+    requires room { (vec_len takers + 2 ≤ vec_capacity gathered.old.passes)
+        × (vec_len takers + 2 ≤ vec_capacity gathered.old.receipts) }
+    ensures gathered { HaveWorked 0 gathered.new.passes.items
+        (map (λ list. list.items) gathered.new.receipts.items) }
+    ensures number { vec_len gathered.new.passes ≡ vec_len takers + 2 }
+    ensures first { list_of (map (λ list. list.items) gathered.new.receipts.items) 0
+        ≡ list_of (map (λ list. list.items) gathered.old.receipts.items) 0 }
+    ensures fault { gathered.new.fault ≡ None → gathered.old.fault ≡ None }
+{
+    let mut takers = takers;
+    while let Some(taker) = takers.pop() {
+        gathered.add(taker.join(rt));
+    }
+}
+
+// Asks, and gives the gate back.
+fn ask_with<L: SiteLedger, R: Wait, G: Gate + Drop>(
+    rt: &R,
+    alloc: Global,
+    desk: &SiteDesk<L>,
+    pass: Pass<L>,
+    asks: &[Ask],
+    gate: G,
+    rope: &Rope,
+) -> Asked<L, G>
+    requires { pass ≡ fresh_pass 0 }
+    ensures worked { HasDoneAll (fresh_pass 0) result.worked.receipts.items result.worked.pass }
+    ensures answers { AnswerFront asks.now result.worked.receipts.items }
+    ensures all { result.worked.fault ≡ None
+        → length result.worked.receipts.items ≡ length asks.now }
+{
+    let mut gate = gate;
+    let worked = ask_all(rt, alloc, desk, pass, asks, &mut gate, rope);
+    Asked { worked, gate }
+}
+
+// What the threads of a site do that ask and that send, and the rope between them.
+#[derive(Clone, Copy)]
+pub(crate) struct Tasks<'s> {
+    pub asks: &'s [Ask],
+    pub plan: &'s LinkPlan,
+    pub rope: &'s Rope,
+}
+
+// Starts the thread that sends and the one that asks, by the first two passes, and joins them. Where one can't be started, the other is
+// ended first.
+pub(crate) fn ask_and_send<
+    's,
+    'e: 's,
+    L: SiteLedger + Send + Sync,
+    R: Threads + Wait + Sync,
+    G: Gate + Send + Drop + 's,
+>(
+    scope: &'s Scope<'s, &'e ()>,
+    rt: &'s R,
+    alloc: Global,
+    desk: &'s SiteDesk<L>,
+    passes: Vec<Pass<L>>,
+    tasks: Tasks<'s>,
+    gate: G,
+    links: Vec<LinkSender>,
+) -> Result<(Asked<L, G>, Worked<L>), RunFault>
+    requires { AreFresh 2 passes.items }
+    ensures asked { IfOk result (λ both.
+        HasDoneAll (fresh_pass 0) both.0.worked.receipts.items both.0.worked.pass) }
+    ensures answers { IfOk result (λ both.
+        AnswerFront tasks.entry.asks.now both.0.worked.receipts.items) }
+    ensures all { IfOk result (λ both. both.0.worked.fault ≡ None
+        → length both.0.worked.receipts.items ≡ length tasks.entry.asks.now) }
+    ensures sent { IfOk result (λ both. HasDoneAll (fresh_pass 1) both.1.receipts.items both.1.pass) }
+    ensures fault { IfErr result (λ fault. fault ≡ RunFault.NoThread) }
+{
+    let Tasks { asks, plan, rope } = tasks;
+    let mut passes = passes;
+    let (Some(second), Some(first)) = (passes.pop(), passes.pop()) else {
+        unreachable!();
+    };
+    let send = move || -> Worked<L>
+        requires { second ≡ fresh_pass 1 }
+        ensures { HasDoneAll (fresh_pass 1) result.receipts.items result.pass }
+    { send_all(rt, alloc, desk, second, links, plan, rope) };
+    let Ok(sender) = scope.spawn_with(PassOf { ordinal: 1 }, send) else {
+        return Err(RunFault::NoThread);
+    };
+    let ask = move || -> Asked<L, G>
+        requires { first ≡ fresh_pass 0 }
+        ensures worked { HasDoneAll (fresh_pass 0) result.worked.receipts.items result.worked.pass }
+        ensures answers { AnswerFront asks.entry.now result.worked.receipts.items }
+        ensures all { result.worked.fault ≡ None
+            → length result.worked.receipts.items ≡ length asks.entry.now }
+    { ask_with(rt, alloc, desk, first, asks, gate, rope) };
+    match scope.spawn_with(AsksOf(asks), ask) {
+        Ok(asker) => {
+            let asked = asker.join(rt);
+            let sent = sender.join(rt);
+            Ok((asked, sent))
+        }
+        Err(_) => {
+            rope.let_go(rt);
+            drop(sender.join(rt));
+            Err(RunFault::NoThread)
+        }
+    }
+}
