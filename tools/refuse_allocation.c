@@ -30,6 +30,14 @@ __attribute__((destructor)) static void end(void) {
     }
 }
 
+/* A program with threads ends by this, and without what is to be done at its end. */
+__attribute__((noreturn)) void _exit(int status) {
+    void (*next_exit)(int) = (void (*)(int))dlsym(RTLD_NEXT, "_exit");
+    end();
+    next_exit(status);
+    __builtin_unreachable();
+}
+
 static int is_refused(void) {
     count += 1;
     if (refused == 0 || count != refused) return 0;
