@@ -1,8 +1,13 @@
-ghost use Rattle.std.specs.Prelude.{◌≡◌, None, Some};
+ghost use Rattle.std.specs.Prelude.{◌≡◌, ◌⊎◌, ◌+◌, IfErr, IfOk, None, Some};
+ghost use Rattle.delta_codec.specs.Decoding.{HasOpening};
+ghost use Rattle.site_journal.specs.Journals.{HasFaultAlone, IsRefusedFor, RefusesTake};
+ghost use Rattle.site_journal.specs.Receipts.{IsOfCut, IsOfTake, IsOfWhole};
+ghost use Rattle.site_desk.specs.Deeds.{IsLegalDeed, IsLegalRefusal};
+ghost use Rattle.site_desk.specs.Passes.{IsRewound};
 ghost use Rattle.site_desk.specs.Ports.{MakesByPass, RefusesByPass, last_fault, lent_pass};
 
 use crate::{Pass, SiteDesk, SiteLedger};
-use site_journal::{DeskFault, Port, Receipt};
+use site_journal::{DecodeFault, DeskFault, Port, Receipt, TakeFault};
 use std::sync::Wait;
 
 /// A desk's port for one pass: it answers as the desk does (this project's own).
@@ -39,7 +44,26 @@ impl<'a, L: SiteLedger, R: Wait> Port<R> for DeskPort<'a, L> {
 
     ghost fault = { last_fault };
 
-    fn cut(&mut self, rt: &R) -> Result<Receipt, DeskFault> {
+    fn cut(&mut self, rt: &R) -> Result<Receipt, DeskFault>
+        ensures made { IfOk result (λ receipt.
+            MakesByPass (lent_pass self.old) receipt (lent_pass self.new)) }
+        ensures refused { IfErr result (λ cause.
+            RefusesByPass (lent_pass self.old) cause (lent_pass self.new)) }
+        ensures ordinal { (lent_pass self.new).now.ordinal ≡ (lent_pass self.old).now.ordinal }
+        ensures deed { IfOk result (λ receipt. IsOfCut receipt) }
+        ensures pass { IfOk result (λ receipt.
+            receipt.pass ≡ (lent_pass self.old).now.ordinal) }
+        ensures counted { IfOk result (λ receipt.
+            (lent_pass self.new).now.share ≡ (lent_pass self.old).now.share + 1) }
+        ensures well { IfOk result (λ receipt. last_fault self.new ≡ None) }
+        ensures kept { IfErr result (λ cause.
+            (lent_pass self.new).now.share ≡ (lent_pass self.old).now.share) }
+        ensures told { IfErr result (λ cause. last_fault self.new ≡ Some cause) }
+        ensures legal { IfOk result (λ receipt. IsLegalDeed L.site L.names receipt.deed) }
+        ensures only { IfErr result (λ cause. IsRewound (lent_pass self.old).now cause
+            ⊎ ((cause ≡ DeskFault.JournalFull)
+            ⊎ ((cause ≡ DeskFault.Exhausted) ⊎ (cause ≡ DeskFault.Memory)))) }
+    {
         let desk = self.desk;
         let pass = &mut *self.pass;
         match desk.cut(rt, pass) {
@@ -54,7 +78,26 @@ impl<'a, L: SiteLedger, R: Wait> Port<R> for DeskPort<'a, L> {
         }
     }
 
-    fn whole(&mut self, rt: &R) -> Result<Receipt, DeskFault> {
+    fn whole(&mut self, rt: &R) -> Result<Receipt, DeskFault>
+        ensures made { IfOk result (λ receipt.
+            MakesByPass (lent_pass self.old) receipt (lent_pass self.new)) }
+        ensures refused { IfErr result (λ cause.
+            RefusesByPass (lent_pass self.old) cause (lent_pass self.new)) }
+        ensures ordinal { (lent_pass self.new).now.ordinal ≡ (lent_pass self.old).now.ordinal }
+        ensures deed { IfOk result (λ receipt. IsOfWhole receipt) }
+        ensures pass { IfOk result (λ receipt.
+            receipt.pass ≡ (lent_pass self.old).now.ordinal) }
+        ensures counted { IfOk result (λ receipt.
+            (lent_pass self.new).now.share ≡ (lent_pass self.old).now.share + 1) }
+        ensures well { IfOk result (λ receipt. last_fault self.new ≡ None) }
+        ensures kept { IfErr result (λ cause.
+            (lent_pass self.new).now.share ≡ (lent_pass self.old).now.share) }
+        ensures told { IfErr result (λ cause. last_fault self.new ≡ Some cause) }
+        ensures legal { IfOk result (λ receipt. IsLegalDeed L.site L.names receipt.deed) }
+        ensures only { IfErr result (λ cause. IsRewound (lent_pass self.old).now cause
+            ⊎ ((cause ≡ DeskFault.JournalFull)
+            ⊎ ((cause ≡ DeskFault.Exhausted) ⊎ (cause ≡ DeskFault.Memory)))) }
+    {
         let desk = self.desk;
         let pass = &mut *self.pass;
         match desk.whole(rt, pass) {
@@ -69,7 +112,31 @@ impl<'a, L: SiteLedger, R: Wait> Port<R> for DeskPort<'a, L> {
         }
     }
 
-    fn take(&mut self, rt: &R, bytes: Vec<u8>) -> Result<Receipt, (DeskFault, Vec<u8>)> {
+    fn take(&mut self, rt: &R, bytes: Vec<u8>) -> Result<Receipt, (DeskFault, Vec<u8>)>
+        ensures made { IfOk result (λ receipt.
+            MakesByPass (lent_pass self.old) receipt (lent_pass self.new)) }
+        ensures refused { IfErr result (λ refused.
+            RefusesByPass (lent_pass self.old) refused.0 (lent_pass self.new)) }
+        ensures ordinal { (lent_pass self.new).now.ordinal ≡ (lent_pass self.old).now.ordinal }
+        ensures deed { IfOk result (λ receipt. IsOfTake bytes.items receipt) }
+        ensures pass { IfOk result (λ receipt.
+            receipt.pass ≡ (lent_pass self.old).now.ordinal) }
+        ensures counted { IfOk result (λ receipt.
+            (lent_pass self.new).now.share ≡ (lent_pass self.old).now.share + 1) }
+        ensures well { IfOk result (λ receipt. last_fault self.new ≡ None) }
+        ensures back { IfErr result (λ refused. refused.1.items ≡ bytes.items) }
+        ensures kept { IfErr result (λ refused.
+            (lent_pass self.new).now.share ≡ (lent_pass self.old).now.share) }
+        ensures told { IfErr result (λ refused. last_fault self.new ≡ Some refused.0) }
+        ensures legal { IfOk result (λ receipt. IsLegalDeed L.site L.names receipt.deed) }
+        ensures decode { (fault : DecodeFault) → IsRefusedFor result (DeskFault.Decode fault)
+            → HasFaultAlone bytes.items fault }
+        ensures cause { (fault : TakeFault) → IsRefusedFor result (DeskFault.Take fault)
+            → IsLegalRefusal L.site L.names bytes.items fault }
+        ensures memory { IsRefusedFor result DeskFault.Memory → HasOpening bytes.items }
+        ensures only { IfErr result (λ refused.
+            IsRewound (lent_pass self.old).now refused.0 ⊎ RefusesTake refused.0) }
+    {
         let desk = self.desk;
         let pass = &mut *self.pass;
         match desk.take(rt, pass, bytes) {
