@@ -14,7 +14,8 @@ import time
 from crates import TOP, all_crates, below, folder, stored_words
 
 MEMORY_OF_A_JOB = 3_000_000_000
-NICENESS = 10
+NICENESS = 6  # for each run that goes before
+MOST_NICENESS = 19
 LOG = f"{TOP}/out/build.log"
 
 
@@ -71,14 +72,14 @@ class Progress:
 
 
 class Run:
-    """A command that works for a crate with so many jobs. What it prints stands in a file of its own until it has ended. One that is
-    patient takes of the processors what others leave."""
+    """A command that works for a crate with so many jobs. What it prints stands in a file of its own until it has ended. The more others
+    go before it, the less it takes of the processors."""
 
-    def __init__(self, crate, jobs, words, is_patient=False):
+    def __init__(self, crate, jobs, words, behind=0):
         self.crate, self.jobs, self.started, self.said = crate, jobs, time.monotonic(), tempfile.TemporaryFile()
-        self.is_patient, self.status, self.used = is_patient, None, None
+        self.behind, self.status, self.used = behind, None, None
         pipe = {"stdin": subprocess.DEVNULL, "stdout": self.said, "stderr": subprocess.STDOUT}
-        begin = lambda: (os.setpgid(0, 0), os.nice(NICENESS if is_patient else 0))
+        begin = lambda: (os.setpgid(0, 0), os.nice(min(NICENESS * behind, MOST_NICENESS)))
         self.process = subprocess.Popen(words, cwd=folder(crate), preexec_fn=begin, **pipe)
 
     def has_ended(self):
@@ -114,12 +115,13 @@ class Build:
 
     def start(self):
         """Starts crates of which all below are proved. That with the longest way to the top of all that are left has a job for each
-        processor, unless another has that already; the others have half as many, and are patient."""
+        processor, unless another has that already; the others have half as many. Each goes behind those with longer ways."""
         ready = [it for it in self.left if self.below[it] <= self.proved]
         for crate in ready[:self.jobs - len(self.running)]:
-            is_patient = crate != self.left[0] or not all(it.is_patient for it in self.running)
-            jobs = max(self.jobs // 2, 1) if is_patient else self.jobs
-            self.begin(Run(crate, jobs, [sys.executable, "-B", f"{TOP}/tools/prove.py", crate, str(jobs)], is_patient))
+            is_first = crate == self.left[0] and all(it.behind for it in self.running)
+            jobs = self.jobs if is_first else max(self.jobs // 2, 1)
+            behind = 0 if is_first else max(sum(self.longest[it.crate] > self.longest[crate] for it in self.running), 1)
+            self.begin(Run(crate, jobs, [sys.executable, "-B", f"{TOP}/tools/prove.py", crate, str(jobs)], behind))
             self.left.remove(crate)
 
     def begin(self, run):

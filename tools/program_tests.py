@@ -106,15 +106,23 @@ def first_example():
     expect(ran.stdout.decode().splitlines() == lines, "it did not write what README shows", ran)
 
 
-def refusing(room):
-    """What runs a program with its allocation of a number refused, none where that is 0, and answers the run and how many
-    allocations it made. Nothing where there is no C compiler."""
+def compiled_refusal(room):
+    """The library that refuses an allocation of a program that it is loaded before. Nothing where there is no C compiler."""
     compiler = next(filter(None, map(shutil.which, ["cc", "gcc", "clang"])), None)
     if not compiler:
         return None
-    library, counted = f"{room}/refuse_allocation.so", f"{room}/allocations"
+    library = f"{room}/refuse_allocation.so"
     source = f"{TOP}/tools/refuse_allocation.c"
     subprocess.run([compiler, "-shared", "-fPIC", "-O1", "-o", library, source, "-ldl"], check=True)
+    return library
+
+
+def refusing(room):
+    """What runs a program with its allocation of a number refused, none where that is 0, and answers the run and how many
+    allocations it made. Nothing where there is no C compiler."""
+    library, counted = compiled_refusal(room), f"{room}/allocations"
+    if not library:
+        return None
 
     def run_refusing(number, program, words, given=b""):
         more = {"LD_PRELOAD": library, "REFUSED_ALLOCATION": str(number), "ALLOCATIONS_FILE": counted}

@@ -1,33 +1,46 @@
 /* Refuses one allocation of a program that it is loaded before (LD_PRELOAD).
 
    REFUSED_ALLOCATION is the number of the allocation that is refused, counted from 1; 0 refuses none. Where
-   ALLOCATIONS_FILE names a file, the number of allocations is written to it when the program ends. */
+   ALLOCATIONS_FILE names a file, the number of allocations is written to it when the program ends, also by SIGTERM. */
 #define _GNU_SOURCE
 #include <dlfcn.h>
 #include <errno.h>
+#include <fcntl.h>
+#include <signal.h>
 #include <stdio.h>
 #include <stdlib.h>
+#include <unistd.h>
 
 static void *(*next_malloc)(size_t);
 static void *(*next_realloc)(void *, size_t);
 static unsigned long count, refused;
+static int counted = -1;
+
+/* Writes how many allocations there were. */
+static void end(void) {
+    char line[32];
+    int length = snprintf(line, sizeof line, "%lu\n", count);
+    if (counted >= 0 && pwrite(counted, line, length, 0) != length) abort();
+}
+
+static void end_by(int number) {
+    end();
+    signal(number, SIG_DFL);
+    raise(number);
+}
 
 __attribute__((constructor)) static void begin(void) {
-    const char *number = getenv("REFUSED_ALLOCATION");
+    const char *number = getenv("REFUSED_ALLOCATION"), *name = getenv("ALLOCATIONS_FILE");
     next_malloc = (void *(*)(size_t))dlsym(RTLD_NEXT, "malloc");
     next_realloc = (void *(*)(void *, size_t))dlsym(RTLD_NEXT, "realloc");
+    if (name) counted = open(name, O_WRONLY | O_CREAT | O_TRUNC | O_CLOEXEC, 0600);
+    if (counted >= 0) signal(SIGTERM, end_by);
     count = 0;
     refused = number ? strtoul(number, 0, 10) : 0;
 }
 
-__attribute__((destructor)) static void end(void) {
-    const char *name = getenv("ALLOCATIONS_FILE");
-    unsigned long counted = count;
-    FILE *file = name ? fopen(name, "w") : 0;
-    if (file) {
-        fprintf(file, "%lu\n", counted);
-        fclose(file);
-    }
+__attribute__((destructor)) static void at_end(void) {
+    end();
 }
 
 /* A program with threads ends by this, and without what is to be done at its end. */
@@ -39,8 +52,8 @@ __attribute__((noreturn)) void _exit(int status) {
 }
 
 static int is_refused(void) {
-    count += 1;
-    if (refused == 0 || count != refused) return 0;
+    unsigned long number = __atomic_add_fetch(&count, 1, __ATOMIC_SEQ_CST);
+    if (refused == 0 || number != refused) return 0;
     errno = ENOMEM;
     return 1;
 }

@@ -1,0 +1,480 @@
+"""Runs the server of queue_sites: its words and texts, the sessions of the cases over loopback, many clients at once, clients that idle, flood,
+lie and break off, and each allocation of a short run refused."""
+import concurrent.futures
+import contextlib
+import os
+import random
+import re
+import select
+import signal
+import socket
+import struct
+import subprocess
+import sys
+import tempfile
+import time
+
+import cases
+from crates import folder
+from program_tests import NO_COMPILER, Failed, check, compiled_refusal, first_difference
+
+BUILT = f"{folder('queue_sites')}/out/queue_sites"
+USER, SECRET = "admin", "s3"
+GREETING = "Queue Sites Call Manager/1.0.0"
+# How long anything may take that isn't a matter of time limits, in seconds.
+PATIENCE = 20
+# How long the server waits for a first message, and for a client that doesn't read.
+SLOT_SECONDS = 30
+SLOTS = 4
+SETTLED = re.compile(rb"^Queue Sites Call Manager/1\.0\.0\r\n")
+
+
+def need(is_so, what):
+    if not is_so:
+        raise Failed(what)
+
+
+def is_free(port):
+    """Whether nobody listens on a port."""
+    with socket.socket() as it:
+        it.setsockopt(socket.SOL_SOCKET, socket.SO_REUSEADDR, 1)
+        try:
+            it.bind(("127.0.0.1", port))
+        except OSError:
+            return False
+    return True
+
+
+def free_ports(sites):
+    """The first of so many ports in a row that nobody listens on. They lie below those that the system hands to clients."""
+    for _ in range(100):
+        first = random.randrange(20_000, 32_000)
+        if all(is_free(first + site) for site in range(sites)):
+            return first
+    raise Failed("there are no free ports")
+
+
+class Server:
+    """A running server of so many sites. It is ended when it is left."""
+
+    def __init__(self, sites, queues=("sales",), user=USER, secret=SECRET, options=(), more=None, out=None):
+        self.sites, self.port, self.user, self.secret = sites, free_ports(sites), user, secret
+        words = [BUILT, "serve", *options, str(sites), str(self.port), user, secret, *queues]
+        how = {"stdin": subprocess.DEVNULL, "stdout": out or subprocess.PIPE, "stderr": subprocess.PIPE}
+        self.process = subprocess.Popen(words, env={**os.environ, **(more or {})}, **how)
+        self.printed = b""
+
+    def __enter__(self):
+        self.wait_until_it_listens()
+        return self
+
+    def __exit__(self, *_):
+        self.stop()
+
+    def lines(self):
+        """What it prints once all sites listen."""
+        return b"".join(b"listening 127.0.0.1:%d\n" % (self.port + site) for site in range(self.sites))
+
+    def wait_until_it_listens(self):
+        """Waits until it has told that all sites listen. Answers whether it has, which isn't so where it has ended."""
+        ends = time.monotonic() + PATIENCE
+        while self.printed != self.lines():
+            need(time.monotonic() < ends and self.lines().startswith(self.printed), f"the server printed {self.printed!r}")
+            if select.select([self.process.stdout], [], [], 0.1)[0]:
+                piece = os.read(self.process.stdout.fileno(), 65_536)
+                if not piece:
+                    return False
+                self.printed += piece
+        return True
+
+    def stop(self):
+        """Ends it by SIGTERM, at once, and tells what it said on standard error."""
+        self.process.terminate()
+        try:
+            _, told = self.process.communicate(timeout=PATIENCE)
+        except subprocess.TimeoutExpired:
+            self.process.kill()
+            self.process.communicate()
+            raise Failed("SIGTERM doesn't end the server") from None
+        return told
+
+    def memory(self):
+        """How many bytes of memory it has."""
+        with open(f"/proc/{self.process.pid}/status", encoding="ascii") as file:
+            return next(int(line.split()[1]) * 1024 for line in file if line.startswith("VmRSS"))
+
+    def client(self, site=0, patience=PATIENCE):
+        """A client of a site that is greeted."""
+        it = Client(self.port + site, patience)
+        it.greeting = it.line()
+        return it
+
+    def logged_in(self, site=0):
+        it = self.client(site)
+        it.succeed("Login", Username=self.user, Secret=self.secret)
+        return it
+
+
+class Client:
+    """A connection of a client, with what came on it and wasn't read yet."""
+
+    def __init__(self, port, patience=PATIENCE):
+        self.socket, self.held, self.greeting = socket.create_connection(("127.0.0.1", port), patience), b"", b""
+        self.socket.setsockopt(socket.IPPROTO_TCP, socket.TCP_NODELAY, 1)
+
+    def __enter__(self):
+        return self
+
+    def __exit__(self, *_):
+        self.socket.close()
+
+    def more(self):
+        """Reads once. Answers whether anything came, which isn't so at the end."""
+        piece = self.socket.recv(65_536)
+        self.held += piece
+        return piece != b""
+
+    def until(self, end):
+        """What comes up to an end, and with it."""
+        while end not in self.held:
+            need(self.more(), f"the server closed a connection behind {self.held!r}")
+        taken, _, self.held = self.held.partition(end)
+        return taken + end
+
+    def line(self):
+        return self.until(b"\r\n")
+
+    def rest(self):
+        """All that comes up to the end, or to a reset."""
+        with contextlib.suppress(ConnectionResetError):
+            while self.more():
+                pass
+        return self.held
+
+    def send(self, given):
+        self.socket.sendall(given)
+
+    def ask(self, action, **fields):
+        """Asks, and answers the reply; of a status all its blocks."""
+        lines = [f"Action: {action}", *(f"{name}: {value}" for name, value in fields.items())]
+        self.send("".join(f"{it}\r\n" for it in lines).encode() + b"\r\n")
+        return self.until(b"Event: QueueStatusComplete\r\n") + self.until(b"\r\n\r\n") if action == "QueueStatus" else self.until(b"\r\n\r\n")
+
+    def succeed(self, action, **fields):
+        reply = self.ask(action, **fields)
+        need(reply.startswith(b"Response: Success\r\n"), f"{action} is answered {reply!r}")
+        return reply
+
+    def leave(self):
+        reply = self.ask("Logoff")
+        need(reply == b"Response: Goodbye\r\nMessage: Thanks for all the fish.\r\n\r\n", f"a Logoff is answered {reply!r}")
+        need(self.rest() == b"", "something comes behind the last reply")
+        self.socket.close()
+
+    def reset(self):
+        """Breaks the connection off."""
+        self.socket.setsockopt(socket.SOL_SOCKET, socket.SO_LINGER, struct.pack("ii", 1, 0))
+        self.socket.close()
+
+
+def shown(server, site=0):
+    """The status that a site shows to a new client."""
+    with server.logged_in(site) as it:
+        report = it.ask("QueueStatus")
+        it.leave()
+    return report
+
+
+def wrong_words():
+    """What is told of wrong words, in their order, and of a port that is taken."""
+    right = ["1", "24000", USER, SECRET, "sales"]
+    changed = lambda at, word: ["serve", *right[:at], word, *right[at + 1:]]
+    check(BUILT, ["serve", "--help"], 0, printed=b"queue_sites serve")
+    for sites in ("0", "9", "two"):
+        check(BUILT, changed(0, sites), 2, told=b"invalid value '%b' for '<SITES>'" % sites.encode())
+    for port in ("0", "65529", "http"):
+        check(BUILT, changed(1, port), 2, told=b"invalid value '%b' for '<PORT>'" % port.encode())
+    check(BUILT, ["serve", *right[:-1]], 2, told=b"required arguments were not provided")
+    check(BUILT, ["serve", "--idle", "soon", *right], 2, told=b"invalid value 'soon'")
+    check(BUILT, ["serve", "--bind", "nowhere", *right], 2, told=b"invalid value 'nowhere'")
+    check(BUILT, ["serve", *right, "sales"], 2, told=b"queue_sites: bad queue list\n")
+    check(BUILT, ["serve", "1", "24000", "", "", "a", "a"], 2, told=b"queue_sites: bad queue list\n")
+    for word in ("", "a" * 81, "a\nb", " a", "a\t"):
+        for at in (2, 3):
+            check(BUILT, changed(at, word), 2, told=b"queue_sites: bad text\n")
+    with socket.socket() as taken:
+        taken.bind(("127.0.0.1", 0))
+        taken.listen()
+        port = taken.getsockname()[1]
+        if port <= 65_528:
+            check(BUILT, changed(1, str(port)), 1, told=b"queue_sites: cannot listen on %d\n" % port)
+    with open("/dev/full", "wb") as full:
+        check(BUILT, changed(1, str(free_ports(1))), 1, told=b"queue_sites: write failed\n", out=full)
+    return "its words and texts"
+
+
+def greets_as_it_is_told():
+    """The greeting is the server's own, or that of its command line; another address is listened on where that is asked for."""
+    with Server(1) as server:
+        with server.client() as it:
+            need(it.greeting == f"{GREETING}\r\n".encode(), f"the greeting is {it.greeting!r}")
+    with Server(1, options=["--greeting", "Asterisk Call Manager/5.0.1", "--bind", "127.0.0.1"]) as server:
+        with server.client() as it:
+            need(it.greeting == b"Asterisk Call Manager/5.0.1\r\n", f"the greeting is {it.greeting!r}")
+    return "its greetings"
+
+
+def sessions():
+    """The cases of sessions that a server can be asked: what the client sends, with a Login before it where the session needed none, and what
+    must be written. Each with user and secret, greeting and queues."""
+    found = {}
+    for it in cases.all_cases():
+        if it.kind != "session":
+            continue
+        words = it.words()
+        greeting = words.pop(0).removeprefix("--greeting=") if words[0].startswith("--greeting=") else None
+        _, user, secret, *queues = words
+        given, wanted = it.part("session"), it.part("expected")
+        if not user:
+            if b"login" in given.lower():
+                continue
+            line, _, rest = wanted.partition(b"\r\n")
+            given = f"Action: Login\r\nUsername: {USER}\r\nSecret: {SECRET}\r\n\r\n".encode() + given
+            wanted = line + b"\r\nResponse: Success\r\nMessage: Authentication accepted\r\n\r\n" + rest
+        key = given, user or USER, secret or SECRET, greeting, tuple(queues)
+        found.setdefault(key, (it.name, wanted))
+    return [(name, key, wanted) for key, (name, wanted) in found.items()]
+
+
+def sessions_of_files():
+    """Sessions of the cases are written over a connection byte for byte, where the client's bytes come at once and where they come one by one."""
+    them = sessions()
+    for name, (given, user, secret, greeting, queues), wanted in them:
+        options = [] if greeting is None else [f"--greeting={greeting}"]
+        for size in (len(given) or 1, 1):
+            with Server(1, queues, user, secret, options) as server, Client(server.port) as client:
+                with contextlib.suppress(ConnectionError):
+                    for at in range(0, len(given), size):
+                        client.send(given[at:at + size])
+                    client.socket.shutdown(socket.SHUT_WR)
+                written = client.rest()
+            need(written == wanted, f"{name}: in pieces of {size} bytes {first_difference(wanted, written) if written != wanted else ''}")
+    return f"{len(them)} sessions of the cases, at once and byte by byte"
+
+
+QUEUES = ("sales", "support")
+REFUSALS = (b"Unable to add interface: Already there", b"Unable to remove interface: Not there", b"Interface not found")
+
+
+def ask_by_lot(client, lot, asks):
+    """Asks so often what is drawn by lot. Each reply has the ID of its ask."""
+    for number in range(asks):
+        queue, interface, fields = lot.choice(QUEUES), f"SIP/{lot.randrange(20)}", {"ActionID": number}
+        action = lot.choice(["QueueAdd", "QueueAdd", "QueueRemove", "QueuePause", "QueuePenalty", "QueueStatus"])
+        if action != "QueueStatus":
+            fields |= {"Interface": interface, "Queue": queue}
+        if action == "QueuePause":
+            fields |= {"Paused": lot.choice(["yes", "no"]), "Reason": "lunch"}
+        if action == "QueuePenalty":
+            fields |= {"Penalty": lot.randrange(100)}
+        reply = client.ask(action, **fields)
+        head, _, rest = reply.partition(b"\r\n")
+        need(rest.startswith(b"ActionID: %d\r\n" % number), f"ask {number}, {action}, is answered {reply!r}")
+        is_refused = any(rest.endswith(b"Message: %b\r\n\r\n" % it) for it in REFUSALS)
+        need(head == b"Response: Success" or (head == b"Response: Error" and is_refused), f"{action} is answered {reply!r}")
+
+
+def work(server, site, seed, asks):
+    """A client of a site that asks by lot."""
+    with server.logged_in(site) as client:
+        ask_by_lot(client, random.Random(seed), asks)
+        client.leave()
+
+
+def clients_at_once(sites=8, asks=1_000):
+    """Four clients of each of eight sites ask by lot, all at once; within a second after the last, all sites show the same."""
+    with Server(sites, QUEUES) as server, concurrent.futures.ThreadPoolExecutor(SLOTS * sites) as threads:
+        jobs = [threads.submit(work, server, it % sites, it, asks) for it in range(SLOTS * sites)]
+        for it in jobs:
+            it.result()
+        ends = time.monotonic() + 1
+        reports = set()
+        while len(reports) != 1:
+            need(time.monotonic() < ends, f"a second after the last ask there are {len(reports)} different reports")
+            reports = {shown(server, site) for site in range(sites)}
+        need(server.stop() == b"", "the server told something on standard error")
+    return f"{SLOTS * sites} clients of {sites} sites, with {asks:,} asks each"
+
+
+def fifth_client():
+    """A fifth client of a site waits, and is served when one leaves."""
+    with Server(1) as server:
+        first = [server.logged_in() for _ in range(SLOTS)]
+        fifth = Client(server.port)
+        need(not select.select([fifth.socket], [], [], 0.3)[0], "a fifth client is greeted")
+        first.pop().leave()
+        need(fifth.line() == f"{GREETING}\r\n".encode(), "a fifth client isn't greeted")
+        fifth.succeed("Login", Username=USER, Secret=SECRET)
+        fifth.leave()
+        for it in first:
+            it.leave()
+    return "a fifth client"
+
+
+def replies_before_the_end():
+    """A client gets the reply to its Logoff also where it has sent more behind it, and one that ends its own half gets all replies."""
+    status = b"Action: QueueStatus\r\n\r\n"
+    with Server(1) as server:
+        for _ in range(20):
+            with Client(server.port) as it:
+                it.send(b"Action: Logoff\r\n\r\n" + 100 * status)
+                need(it.rest().endswith(b"Thanks for all the fish.\r\n\r\n"), "the reply to a Logoff is lost")
+        with server.logged_in() as it:
+            it.send(200 * status)
+            it.socket.shutdown(socket.SHUT_WR)
+            need(it.rest().count(b"Event: QueueStatusComplete\r\n") == 200, "replies are lost where the client ends its half")
+    return "replies before the end of a connection"
+
+
+def hostile_clients():
+    """Clients of one site send garbage, break off at each moment, and come by the hundreds; a client of the other site is served meanwhile, and
+    then one of the first too. The server needs no more memory afterwards."""
+    lot = random.Random(7)
+    with Server(2) as server:
+        shown(server), shown(server, 1)
+        before = server.memory()
+        login = f"Action: Login\r\nUsername: {USER}\r\nSecret: {SECRET}\r\n\r\n".encode()
+        asked = login + b"Action: QueueAdd\r\nQueue: sales\r\nInterface: SIP/1\r\n\r\n" + 50 * b"Action: QueueStatus\r\n\r\n"
+        for turn in range(100):
+            with Client(server.port) as it, contextlib.suppress(ConnectionError):
+                it.send(lot.randbytes(lot.randrange(5_000)))
+                if turn % 2:
+                    it.socket.shutdown(socket.SHUT_WR)
+                    it.rest()
+        for length in [*range(0, len(login) + 60, 3), len(asked)]:
+            with Client(server.port) as it, contextlib.suppress(ConnectionError):
+                if length % 2:
+                    it.line()
+                it.send(asked[:length])
+                it.reset()
+        many = []
+        for _ in range(200):
+            it = socket.socket()
+            it.setblocking(False)
+            it.connect_ex(("127.0.0.1", server.port))
+            many.append(it)
+        need(b"ListItems: " in shown(server, 1), "a client of the other site isn't served")
+        for it in many:
+            it.close()
+        need(b"ListItems: " in shown(server), "no client is served behind many")
+        need(server.memory() - before < 64 << 20, f"the server had {before:,} bytes of memory and has {server.memory():,}")
+        need(server.process.poll() is None, "the server has ended")
+    return "garbage, resets, and 200 connections"
+
+
+def clients_that_hold_on():
+    """Four clients that send nothing lose their places after half a minute, and four that never read what they ask for do so too; others
+    are served then, and no earlier."""
+    members = 200
+    with Server(2) as server:
+        with server.logged_in(1) as it:
+            for number in range(members):
+                it.succeed("QueueAdd", Queue="sales", Interface=f"SIP/{number}")
+            it.leave()
+        started = time.monotonic()
+        silent = [server.client(0) for _ in range(SLOTS)]
+        deaf = [server.logged_in(1) for _ in range(SLOTS)]
+        for it in deaf:
+            it.socket.setblocking(False)
+            for _ in range(1_000):
+                with contextlib.suppress(BlockingIOError):
+                    it.socket.send(b"Action: QueueStatus\r\n\r\n")
+        for site in (0, 1):
+            with server.client(site, 3 * SLOT_SECONDS) as it:
+                waited = time.monotonic() - started
+                need(SLOT_SECONDS - 1 < waited < 2 * SLOT_SECONDS, f"a client of site {site} is greeted after {waited:.0f} seconds")
+                it.leave()
+        for it in [*silent, *deaf]:
+            it.socket.close()
+    return "four silent clients, and four that never read"
+
+
+def idle_clients():
+    """A client that has logged in and is silent for the idle time loses its place; one that asks in time doesn't."""
+    with Server(1, options=["--idle", "1"]) as server:
+        quiet, busy = server.logged_in(), server.logged_in()
+        started = time.monotonic()
+        while time.monotonic() < started + 2.5:
+            time.sleep(0.4)
+            busy.ask("QueueStatus")
+        need(quiet.rest() == b"", "a silent client is told something")
+        busy.leave()
+        need(time.monotonic() - started < PATIENCE, "a silent client keeps its place")
+    return "clients that are silent for the idle time"
+
+
+def signals():
+    """SIGTERM ends the server, and its ports are free again at once."""
+    with Server(2) as server:
+        it = server.logged_in()
+        server.stop()
+        need(server.process.returncode == -signal.SIGTERM, f"SIGTERM ends the server with status {server.process.returncode}")
+        need(it.rest() == b"", "a connection of a server that has ended isn't closed")
+        need(is_free(server.port), "the port of a server that has ended isn't free")
+    return "SIGTERM"
+
+
+def run_refused(more):
+    """A run of a server of two sites with one session, with this environment. Answers its status, none where it served on, and what it told."""
+    with contextlib.suppress(OSError, Failed):
+        server = Server(2, more=more)
+    try:
+        if server.wait_until_it_listens():
+            with contextlib.suppress(OSError, Failed):
+                with server.logged_in() as it:
+                    it.ask("QueueAdd", Queue="sales", Interface="SIP/1")
+                    it.ask("QueueStatus")
+                    it.leave()
+        with contextlib.suppress(subprocess.TimeoutExpired):
+            server.process.wait(0.05)
+        status = server.process.poll()
+    finally:
+        told = server.stop()
+    return status, told, server
+
+
+def refused_allocations(room):
+    """Refuses each allocation of a short run of a server in turn."""
+    library = compiled_refusal(room)
+    if not library:
+        return NO_COMPILER
+    counted = f"{room}/allocations"
+    environment = lambda number: {"LD_PRELOAD": library, "REFUSED_ALLOCATION": str(number), "ALLOCATIONS_FILE": counted}
+    run_refused(environment(0))
+    with open(counted, encoding="ascii") as file:
+        allocations = int(file.read())
+    ended = 0
+    for number in range(1, allocations + 1):
+        status, told, server = run_refused(environment(number))
+        if status is None:
+            continue
+        ended += 1
+        texts = (b"queue_sites: out of memory\n", b"queue_sites: no thread\n")
+        need(status == 1 and told in texts, f"where allocation {number} is refused the status is {status}, and {told!r} is told")
+        need(server.lines().startswith(server.printed), f"where allocation {number} is refused {server.printed!r} is printed")
+    return f"each of the {allocations} allocations of a short run refused in turn: {ended} ended it, the others let it serve on"
+
+
+def run_all():
+    """Runs all of it. Answers lines that tell what was run."""
+    tests = [wrong_words, greets_as_it_is_told, sessions_of_files, clients_at_once, fifth_client, replies_before_the_end, hostile_clients,
+             idle_clients, clients_that_hold_on, signals]
+    with tempfile.TemporaryDirectory() as room:
+        return [*(test() for test in tests), refused_allocations(room)]
+
+
+if __name__ == "__main__":
+    try:
+        print("\n".join(run_all()))
+    except Failed as why:
+        sys.exit(f"test: {why}")
