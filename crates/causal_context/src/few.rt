@@ -1,4 +1,5 @@
-//! Few runs united with many: each of the few is searched for, and the many aren't walked.
+//! Few runs united with many: each of the few is searched for, and the many aren't walked. Which way is taken is a matter
+//! of cost alone: both come to the same.
 ghost use Rattle.std.specs.Prelude.{◌≡◌, ◌+◌, ◌≤◌, length, vec_len};
 ghost use Rattle.std.specs.FinSet as set;
 ghost use Rattle.std.specs.Vec.{vec_capacity};
@@ -6,11 +7,48 @@ ghost use Rattle.dots.specs.DotSets.{AreApart, run_count, set_of};
 ghost use Rattle.causal_context.specs.Contexts.{IsContext};
 
 use crate::Run;
+use crate::search::run_with;
 use crate::splice::{count_with, put_run};
 use dots::MOST_RUNS;
 
 // So many runs are few: to shift the runs behind each of them costs less than to walk all.
 pub(crate) const FEW_RUNS: usize = 16;
+
+// Whether others are few, by themselves or beside the runs, so that to search for each costs less than to walk all.
+pub(crate) fn are_few(runs: &[Run], other: &[Run]) -> bool {
+    other.len() <= FEW_RUNS || other.len() <= runs.len() / FEW_RUNS
+}
+
+// Whether a run is whole within one of the runs.
+fn is_within(runs: &[Run], run: Run) -> bool
+    requires { AreApart runs.now }
+{
+    match run_with(runs, run.site, run.first) {
+        Some(found) => run.last <= found.last,
+        None => false,
+    }
+}
+
+// How many of the others aren't whole within one of the runs.
+fn count_outside(runs: &[Run], other: &[Run]) -> usize
+    requires { AreApart runs.now }
+{
+    let mut outside = 0;
+    for run in other {
+        if !is_within(runs, *run) {
+            outside += 1;
+        }
+    }
+    outside
+}
+
+// Whether others are few enough to be put in one by one: so few by themselves, or few beside the runs while all but so
+// few lie within these. One that lies within shifts nothing.
+pub(crate) fn are_searched(runs: &[Run], other: &[Run]) -> bool
+    requires { AreApart runs.now }
+{
+    other.len() <= FEW_RUNS || are_few(runs, other) && count_outside(runs, other) <= FEW_RUNS
+}
 
 // How many runs the union of two lists of runs has. Others that don't touch each other add what each adds alone.
 pub(crate) fn searched_count(runs: &[Run], other: &[Run]) -> usize

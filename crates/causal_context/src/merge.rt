@@ -7,7 +7,7 @@ ghost use Rattle.causal_context.specs.Contexts.{IsContext, IsRun};
 ghost use Rattle.causal_context.specs.RunLists.{IsNext, is_first_ours};
 
 use crate::Run;
-use crate::few::{FEW_RUNS, absorb_searched, searched_count};
+use crate::few::{absorb_searched, are_few, are_searched, searched_count};
 use dots::MOST_RUNS;
 
 // Takes the first run that is left of two lists, by site and first.
@@ -62,7 +62,7 @@ pub(crate) fn united_count(runs: &[Run], other: &[Run]) -> usize
     ensures value { result ≡ run_count (set.union (set_of runs.now) (set_of other.now)) }
     ensures few { result ≤ length runs.now + length other.now }
 {
-    if other.len() <= FEW_RUNS {
+    if are_few(runs, other) {
         return searched_count(runs, other);
     }
     walked_count(runs, other)
@@ -126,8 +126,8 @@ pub(crate) fn merge(runs: &mut [Run], other: &[Run]) -> usize
     written + 1
 }
 
-// Unites runs with others in place, in room that is there. It takes no memory. Few others are searched for, and for
-// more both are walked once.
+// Unites runs with others in place, in room that is there. It takes no memory. Few others that aren't within these are
+// searched for, and for more both are walked once.
 pub(crate) fn absorb_runs(runs: &mut Vec<Run>, other: &[Run])
     requires ours { IsContext runs.old.items }
     requires others { AreApart other.now }
@@ -137,7 +137,7 @@ pub(crate) fn absorb_runs(runs: &mut Vec<Run>, other: &[Run])
     ensures united { set_of runs.new.items ≡ set.union (set_of runs.old.items) (set_of other.now) }
     ensures room { vec_capacity runs.old ≤ vec_capacity runs.new }
 {
-    if other.len() <= FEW_RUNS {
+    if are_searched(runs, other) {
         absorb_searched(runs, other);
         return;
     }

@@ -1,17 +1,21 @@
 -- Where the entries of one member stand in an index that rises.
 use Rattle.std.proofs.Common.{◌≡◌, inl, inr, ℕ, suc, zero, ◌+◌, ◌-◌, ◌<◌, ◌≤◌, Bool, true, false, cond, List, [], ◌∷◌, length, get_or, take, drop, filter, refl, sym, ap, ◌∙◌, arith}
 use Rattle.std.specs.Prelude.{nat_lt}
-use Rattle.std.specs.List.{AllWithin}
+use Rattle.std.specs.List.{AllWithin, list_any}
 use Rattle.std.specs.List.Sorted.{IsPartitionedBy, IsPartitionPoint}
 use Rattle.std.specs.Ordering.{is_le, is_lt}
 use Rattle.std.specs.declared.cmp.Ordering.{Ordering}
 use Rattle.std.specs.declared.cmp.Ordering.TheVariants.{Less, Equal, Greater}
-use Rattle.std.proofs.lemmas.Bool.{cases_Bool}
+use Rattle.std.proofs.lemmas.Bool.{cases_Bool, cases_lt, false_from_ne_true}
 use Rattle.std.proofs.lemmas.Bool.Decides.{nat_tests}
 use Rattle.std.proofs.lemmas.Cmp.{tied_itself}
+use Rattle.std.proofs.lemmas.List.{get_or_default}
+use Rattle.std.proofs.lemmas.List.Elements.{Contains-get_or}
+use Rattle.std.proofs.lemmas.List.Folds.{list_any_none}
 use Rattle.dots.specs.declared.member.Member.{Member}
 use Rattle.dots.specs.Orders.{member_cmp}
 use Rattle.dots.proofs.MemberOrder.{members_total}
+use Rattle.dots.proofs.Membership.{any-in}
 use Rattle.dots.proofs.TruthTables.{less_of}
 use Rattle.member_orset.specs.Index.{Listed}
 use Rattle.member_orset.specs.Index.{Rises}
@@ -84,3 +88,31 @@ group_between m ls i j w v a b =
     let rise = places_rise m ls i j w a b in
     sym (kept_between (is_own m) ls i (j - i) (λ k d l h. own_before m (get_or ls k d) (a.0 k d l h))
     (λ k d l h. own_between m (get_or ls k d) (a.1 k d l (omega arith)) (b.0 k d (omega arith) (omega arith))) (λ k d l h. own_past m (get_or ls k d) (b.1 k d (omega arith) h)) (omega arith))
+
+-- the entries up to a place are those of members that aren't greater, where those before a member's first ones are lesser
+pub upto_from : (m : Member) (ls : List Listed) (i j : ℕ) → Lesser m ls i → AllWithin (λ l. is_le (member_cmp l.member m) ≡ true) ls i j → AllWithin (λ l. is_le (member_cmp l.member m) ≡ true) ls 0 j
+upto_from m ls i j a b k d lo hi = elim (cases_lt k i) [
+  | inl l ↦ ap is_le (less_of (member_cmp (get_or ls k d).member m) (a.0 k d lo l))
+  | inr h ↦ b k d h hi
+]
+
+-- from an entry of a greater member on none is the member's
+pub past_from : (m : Member) (ls : List Listed) (i : ℕ) (e : Listed) → Rises ls → i < length ls → is_le (member_cmp (get_or ls i e).member m) ≡ false → AllWithin (λ l. is_le (member_cmp l.member m) ≡ false) ls i (length ls)
+past_from m ls i e r w h k d lo hi =
+    false_from_ne_true (is_le (member_cmp (get_or ls k d).member m)) (λ t.
+    let early = upto_first m ls r i k d lo hi t in
+    let same = ap (λ l. is_le (member_cmp l.member m)) (get_or_default ls i d e w) in
+    absurd (cc))
+
+-- some entry is the member's exactly where the first that isn't lesser is
+pub none_own : (m : Member) (ls : List Listed) (i : ℕ) → Lesser m ls i → i ≡ length ls → false ≡ list_any (is_own m) ls
+none_own m ls i a e = sym (list_any_none (is_own m) ls (λ k d h. own_before m (get_or ls k d) (a.0 k d (omega arith) (omega arith))))
+
+pub first_own : (m : Member) (ls : List Listed) (i : ℕ) (e : Listed) → Rises ls → Lesser m ls i → i < length ls → is_le (member_cmp (get_or ls i e).member m) ≡ list_any (is_own m) ls
+first_own m ls i e r a w = elim (cases_Bool (is_le (member_cmp (get_or ls i e).member m))) [
+  | inl t ↦ t ∙ sym (any-in (is_own m) ls (get_or ls i e) (Contains-get_or ls i e w) (own_between m (get_or ls i e) (a.1 i e (omega arith) w) t))
+  | inr f ↦ f ∙ sym (list_any_none (is_own m) ls (λ k d h. elim (cases_lt k i) [
+    | inl l ↦ own_before m (get_or ls k d) (a.0 k d (omega arith) l)
+    | inr l ↦ own_past m (get_or ls k d) (past_from m ls i e r w f k d l h)
+  ]))
+]

@@ -31,6 +31,7 @@ pub mod LiveMaps
 pub mod SeenDots
 pub mod Pieces
 pub mod NextDots
+pub mod LiveRuns
 pub mod SiteWalk
 pub mod MemberOrder
 pub mod Indexes

@@ -17,7 +17,7 @@ use Rattle.member_orset.specs.declared.placed.Placed.{Placed}
 use Rattle.member_orset.specs.PlacedLists.{is_placed}
 use Rattle.member_orset.specs.Gathering.{is_given}
 use Rattle.member_orset.proofs.DotTests.{same_itself}
-use Rattle.member_orset.proofs.PlacedOrder.{Ahead, Rise, found_at, lies_after, missed_at, placed_found, same_place}
+use Rattle.member_orset.proofs.PlacedOrder.{Ahead, Rise, lies_after, missed_at, placed_found, same_place}
 
 abbrev at : ℕ → ℕ → Dot
 at site count = record { site = site; count = count }
@@ -73,7 +73,7 @@ other_site s t c m n h l = grind (arith, nat_tests)
 one_site : (s t c n : ℕ) → t ≡ s → n < c → (nat_lt s t || (nat_eq s t && nat_lt n c)) ≡ true
 one_site s t c n h l = grind (arith, nat_tests)
 
-more_on : (s t c m : ℕ) → t ≡ s → (nat_lt s t || (nat_eq s t && nat_lt m c)) ≡ true → m < c
+pub more_on : (s t c m : ℕ) → t ≡ s → (nat_lt s t || (nat_eq s t && nat_lt m c)) ≡ true → m < c
 more_on s t c m h l = grind (arith, nat_tests)
 
 no_less : (d : Dot) (n : ℕ) → d.count ≤ n → (x : Dot) → is_lt (dot_cmp x d) ≡ true → is_lt (dot_cmp x (at d.site n)) ≡ true
@@ -92,10 +92,6 @@ pub beyond : (dots : List Placed) (d : Dot) (i : ℕ) (x : Placed) → i < lengt
 beyond dots d i x l at_x after other = ap (λ y. is_lt (dot_cmp d y.dot)) at_x ∙ lies_after d dots i x l at_x other after x l
 
 module _ (dots : List Placed) (d : Dot) (i : ℕ) (x : Placed) (s : Rise dots) (l : i < length dots) (before : Ahead d dots i) (at_x : x ≡ get_or dots i x) where
-  -- the dot itself
-  pub dot_here : x.dot ≡ d → is_placed dots (at d.site d.count) ≡ true
-  dot_here same = placed_found dots d ∙ ap is_some (found_at d dots i x s l (sym same ∙ ap (λ y. y.dot) at_x))
-
   module _ (after : is_lt (dot_cmp d x.dot) ≡ true) where
     pub dots_elsewhere : (x.dot.site ≡ d.site → ⊥) → (n : ℕ) → d.count ≤ n → is_placed dots (at d.site n) ≡ false
     dots_elsewhere other n h = no_dot dots d i n s (omega arith) before h (λ e m.

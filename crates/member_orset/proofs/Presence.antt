@@ -1,5 +1,5 @@
 -- Whether some dot is live with a member, as the index of the live dots tells it.
-use Rattle.std.proofs.Common.{◌≡◌, ◌↔◌, ℕ, suc, Bool, true, false, not, cond, ◌||◌, nat_eq, List, [], ◌∷◌, length, Option, Some, None, refl, sym, ap, ◌∙◌, arith}
+use Rattle.std.proofs.Common.{◌≡◌, ◌↔◌, true, false, List, Option, Some, None, sym, ap, ◌∙◌}
 use Rattle.std.specs.Prelude.{IsTrue}
 use Rattle.std.specs.List.{list_any}
 use Rattle.std.specs.Option.{option_map, option_map_or}
@@ -7,7 +7,6 @@ use Rattle.std.specs.FinMap as maps
 use Rattle.std.specs.Ordering.{eq_by_cmp}
 use Rattle.std.specs.Cmp.{tied_then}
 use Rattle.std.proofs.lemmas.Bool.{and_from, and_parts}
-use Rattle.std.proofs.lemmas.Bool.Decides.{nat_tests}
 use Rattle.dots.specs.declared.member.Member.{Member}
 use Rattle.dots.specs.Conditions.{DotFields}
 use Rattle.dots.specs.Orders.{dot_cmp, member_cmp}
@@ -15,7 +14,7 @@ use Rattle.dots.proofs.Membership.{any-in, in-any}
 use Rattle.member_orset.specs.Index.{Listed}
 use Rattle.member_orset.specs.Members.{Members, Holding, IsPresent}
 use Rattle.member_orset.specs.Index.{IsIndex, listed_cmp}
-use Rattle.member_orset.specs.ShownRows.{group, is_own}
+use Rattle.member_orset.specs.ShownRows.{is_own}
 use Rattle.member_orset.proofs.DotTests.{same_itself}
 use Rattle.member_orset.proofs.MemberOrder.{member_itself, one_member}
 
@@ -38,18 +37,3 @@ presence s index m is = (
       any-in (is_own m) index listed.0 listed.1
       (and_parts (is_own m listed.0) (eq_by_cmp dot_cmp p.dot listed.0.dot) (tied_then (member_cmp m listed.0.member) (dot_cmp p.dot listed.0.dot) ∙ listed.2)).0,
 )
-
--- a member's entries are some where a test finds one
-pub some_own : (m : Member) (index own : List Listed) (b : Bool) → b ≡ nat_eq (length own) 0 → own ≡ group m index → not b ≡ list_any (is_own m) index
-some_own m index own b e is = ap not (e ∙ ap (λ ls. nat_eq (length ls) 0) is) ∙ some index
-  where
-    positive : (n : ℕ) → nat_eq (suc n) 0 ≡ false
-    positive n = grind (arith, nat_tests)
-
-    split : (p : Bool) (l : Listed) (ls : List Listed) → not (nat_eq (length (group m ls)) 0) ≡ list_any (is_own m) ls → not (nat_eq (length (cond p (l ∷ group m ls) (group m ls))) 0) ≡ (p || list_any (is_own m) ls)
-    split true l ls h = ap not (positive (length (group m ls)))
-    split false l ls h = h
-
-    some : (ls : List Listed) → not (nat_eq (length (group m ls)) 0) ≡ list_any (is_own m) ls
-    some [] = refl
-    some (l ∷ ls) = split (is_own m l) l ls (some ls)

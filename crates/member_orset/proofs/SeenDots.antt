@@ -175,6 +175,10 @@ from_one dots site none = sets.same_set dots_total dots_exact _ _ (λ q.
     ]))
     ∙ sym (contains-part dots site 0 q))
 
+-- a site of which nothing is to be named adds nothing
+pub none_of_site : (known : Dots) (live : Dot → Bool) (given : List Dot) (site : ℕ) (dots : Dots) → AreToName known live given site 0 dots → part_before dots site 0 ≡ part_before dots (site + 1) 0
+none_of_site known live given site dots name = sym (from_one dots site name.not_zero) ∙ next_site dots site 0 name.none_past
+
 nothing_first : (t c : ℕ) → (nat_lt t 0 || (nat_eq t 0 && nat_lt c 0)) ≡ false
 nothing_first t c = grind (arith, nat_tests)
 

@@ -8,6 +8,7 @@ pub mod CellIds
 pub mod Members
 pub mod LiveStates
 pub mod PlacedLists
+pub mod LiveRuns
 pub mod Reads
 pub mod Refusals
 pub mod LiveDots

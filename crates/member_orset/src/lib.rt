@@ -16,6 +16,7 @@ mod latest;
 pub mod laws;
 mod live_cells;
 mod live_dot;
+mod live_runs;
 mod member_groups;
 mod member_ids;
 mod member_rows;

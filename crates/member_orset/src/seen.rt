@@ -54,6 +54,9 @@ pub(crate) fn gather(
             return gathered.finish();
         };
         let last = greatest_of(given, site);
+        if last == 0 {
+            continue; // none of its dots is given, so that nothing was seen of it
+        }
         gather_site(&mut gathered, runs, dots, given, site, last);
     }
     gathered.finish()

@@ -1,4 +1,5 @@
-//! The walk over the dots of a site: which of them are given or dead. It goes over the site's runs and live dots once.
+//! The walk over the dots of a site: which of them are given or dead. It goes over the site's runs and its runs of live
+//! dots once.
 ghost use Rattle.std.specs.Prelude.{ℕ, ◌≡◌, ◌+◌, ◌-◌, ◌*◌, ◌<◌, ◌≤◌, ◌^◌, IsTrue, length, true};
 ghost use Rattle.std.specs.Prelude.{false};
 ghost use Rattle.std.specs.List.{All, AllWithin};
@@ -14,6 +15,7 @@ ghost use Rattle.member_orset.specs.Gathering.{AreToName, IsGathered, IsPiece, i
 ghost use Rattle.member_orset.specs.Gathering.{is_to_name, part_before};
 
 use crate::gathered::Gathered;
+use crate::live_runs::live_run_end;
 use crate::piece::Piece;
 use crate::placed::Placed;
 use crate::placed_lists::place;
@@ -85,7 +87,24 @@ fn runs_passed(runs: &[Run], known: usize, dot: Dot) -> usize
     passed
 }
 
-// How many live dots lie before a dot, of which some are known to.
+// Whether the live dot at a place lies before another dot. Where it doesn't, none does from there on.
+fn is_dot_passed(dots: &[Placed], place: usize, dot: Dot) -> bool
+    requires { AreRising dots.now }
+    ensures within { result ≡ true → place < length dots.now }
+    ensures here { result ≡ true
+        → AllWithin (λ c. is_lt (dot_cmp c.dot dot) ≡ true) dots.now place (place + 1) }
+    ensures none { result ≡ false
+        → AllWithin (λ c. is_lt (dot_cmp c.dot dot) ≡ false) dots.now place
+        (length dots.now) }
+{
+    if place >= dots.len() {
+        return false;
+    }
+    dots[place].dot < dot
+}
+
+// How many live dots lie before a dot, of which some are known to. Mostly it is one more at most; where it is a whole
+// run more, they are found by halving.
 fn dots_passed(dots: &[Placed], known: usize, dot: Dot) -> usize
     requires rise { AreRising dots.now }
     requires within { known ≤ length dots.now }
@@ -95,14 +114,13 @@ fn dots_passed(dots: &[Placed], known: usize, dot: Dot) -> usize
     ensures after { AllWithin (λ c. is_lt (dot_cmp c.dot dot) ≡ false) dots.now result
         (length dots.now) }
 {
-    let mut passed = known;
-    while passed < dots.len() {
-        if dots[passed].dot >= dot {
-            return passed;
-        }
-        passed += 1;
+    if !is_dot_passed(dots, known, dot) {
+        return known;
     }
-    passed
+    if !is_dot_passed(dots, known + 1, dot) {
+        return known + 1;
+    }
+    place(dots, dot)
 }
 
 // Whether a dot is in runs, of which so many end before it, and how far this is so of the counts from its own on.
@@ -160,9 +178,11 @@ fn live_piece(dots: &[Placed], below: usize, from: Dot, last: u64) -> Piece
     }
     let next = dots[below].dot;
     if next == from {
+        let end = live_run_end(dots, below);
+        let count = dots[end].dot.count();
         return Piece {
             inside: true,
-            last: from.count(),
+            last: last.min(count),
         };
     }
     if next.site() != from.site() {

@@ -33,11 +33,12 @@ fn dots_by_queue(
         ≡ dots_below (dot_view_of members.now) interface.now queues) }
 {
     let mut list = Vec::new(alloc);
+    let mut member = Member {
+        queue: 0,
+        interface: interface.copy(),
+    };
     for queue in 0..queues {
-        let member = Member {
-            queue,
-            interface: interface.copy(),
-        };
+        member.queue = queue;
         push_dots(&mut list, members, &member)?;
     }
     Ok(list)

@@ -1,2 +1,3 @@
 pub mod EntryLemmas
 pub mod JoinedRows
+pub mod FewRows

@@ -1,10 +1,11 @@
-// The join of two lists of entries: both are walked once, in the order of their keys.
+// The join of two lists of entries: few others are searched for; else both are walked once, in the order of their keys.
 ghost use Rattle.std.specs.Prelude.{◌≡◌, ◌+◌, ◌-◌, ◌<◌, ◌≤◌, ◌∷◌, length, drop};
 ghost use Rattle.std.specs.Vec.{vec_capacity, vec_len};
 ghost use Rattle.dots.specs.SortedEntries.{IsRising};
 ghost use Rattle.dots.specs.Totals.{count_missing, join_of, key_cmp};
 ghost use Rattle.site_totals.specs.TotalLists.{IsKept, entries_of, joined_rows, next_order};
 
+use crate::few::{FEW_ROWS, absorb_searched, searched_count};
 use crate::rows::{Row, greater};
 use std::cmp::Ordering;
 
@@ -69,7 +70,7 @@ fn joined_count(rows: &[Row], others: &[Row]) -> usize
     count
 }
 
-// How many keys of the others these lack. Walks both once.
+// How many keys of the others these lack. Few others are searched for, and for more both are walked once.
 pub(crate) fn count_missing(rows: &[Row], others: &[Row]) -> usize
     requires rising { IsRising key_cmp rows.now }
     requires others_rising { IsRising key_cmp others.now }
@@ -77,6 +78,9 @@ pub(crate) fn count_missing(rows: &[Row], others: &[Row]) -> usize
     ensures longer { length (joined_rows rows.now others.now) ≡ length rows.now + result }
     ensures few { result ≤ length others.now }
 {
+    if others.len() <= FEW_ROWS {
+        return searched_count(rows, others);
+    }
     joined_count(rows, others) - rows.len()
 }
 
@@ -95,8 +99,26 @@ fn merge(rows: &mut [Row], spare: usize, others: &[Row])
     }
 }
 
-// Joins others into entries in place, in room that is there. It takes no memory.
+// Joins others into entries in place, in room that is there. It takes no memory. Few others are searched for, and for
+// more both are walked once.
 pub(crate) fn absorb_rows(rows: &mut Vec<Row>, others: &[Row])
+    requires kept { IsKept rows.old.items }
+    requires others_kept { IsKept others.now }
+    requires room { count_missing (entries_of rows.old.items) (entries_of others.now)
+        ≤ vec_capacity rows.old - vec_len rows.old }
+    ensures kept { IsKept rows.new.items }
+    ensures joined { entries_of rows.new.items
+        ≡ join_of (entries_of rows.old.items) (entries_of others.now) }
+{
+    if others.len() <= FEW_ROWS {
+        absorb_searched(rows, others);
+        return;
+    }
+    absorb_walked(rows, others);
+}
+
+// Joins others into entries in place, in room that is there. Walks both twice.
+fn absorb_walked(rows: &mut Vec<Row>, others: &[Row])
     requires kept { IsKept rows.old.items }
     requires others_kept { IsKept others.now }
     requires room { count_missing (entries_of rows.old.items) (entries_of others.now)

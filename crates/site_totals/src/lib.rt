@@ -2,6 +2,7 @@
 //! counter): a merge takes the greater of both, and a queue's total is the sum over the sites.
 #![tactic(auto)]
 
+mod few;
 mod iter;
 mod joining;
 pub mod laws;

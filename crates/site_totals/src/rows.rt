@@ -18,7 +18,7 @@ use dots::{MOST_CALLS, QUEUES};
 pub(crate) type Row = (TotalKey, CallTotals);
 
 // Where the key is, or where it would go.
-fn search(rows: &[Row], key: TotalKey) -> Result<usize, usize>
+pub(crate) fn search(rows: &[Row], key: TotalKey) -> Result<usize, usize>
     requires { IsRising key_cmp rows.now }
     ensures found { IfOk result (IsAt rows.now key) }
     ensures absent { IfErr result (IsGapFor key_cmp rows.now key) }

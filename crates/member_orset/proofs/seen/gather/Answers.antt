@@ -1,8 +1,8 @@
 use Rattle.std.proofs.Common.{◌≡◌, ◌+◌, ap, sym, subst, ◌∙◌, arith}
 use Rattle.member_orset.specs.PlacedLists.{is_placed}
 use Rattle.member_orset.specs.Reads.{seen_dots}
-use Rattle.member_orset.specs.Gathering.{IsGathered, part_before}
-use Rattle.member_orset.proofs.SeenDots.{known_zero, no_part, seen_sites, seen_to_name, whole_part}
+use Rattle.member_orset.specs.Gathering.{IsGathered, IsGreatest, part_before}
+use Rattle.member_orset.proofs.SeenDots.{known_zero, no_part, none_of_site, seen_sites, seen_to_name, whole_part}
 use Rattle.member_orset.proofs.seen.gather.Goals as goal
 
 pub loop-number-init : goal.loop-number-init
@@ -12,6 +12,27 @@ loop-number-init c =
       few = omega arith;
       gathered = subst (IsGathered c.none-gathered.result) (no_part (seen_dots c.args.context.now.dots (is_placed c.args.dots.now) c.args.given.now)) c.none-gathered.ensures.none;
       sites = λ h. absurd (omega arith);
+    }
+
+-- a site without a given dot adds nothing
+pub loop-number-preserved-then-last-eq0 : goal.loop-number-preserved-then-last-eq0
+loop-number-preserved-then-last-eq0 c =
+    let known = c.args.context.now.dots in
+    let live = is_placed c.args.dots.now in
+    let given = c.args.given.now in
+    let few = c.loop-number.invariant.few in
+    let site = c.in-Some.ensures.value in
+    let is = c.as_slice-runs.ensures.value in
+    let none = subst (IsGreatest given c.in-Some.site) c.if-last-eq0.true c.greatest_of-last.ensures.greatest in
+    let named = seen_to_name known live given c.in-Some.site 0 none (known_zero c.as_slice-runs.result.now known c.in-Some.site is c.as_slice-runs.ensures.limits) in
+    record {
+      few = omega arith;
+      gathered = subst (IsGathered c.loop-number.gathered)
+          (ap (λ n. part_before (seen_dots known live given) n 0) (sym site)
+          ∙ none_of_site known live given c.in-Some.site (seen_dots known live given) named
+          ∙ ap (λ n. part_before (seen_dots known live given) (n + 1) 0) site)
+          c.loop-number.invariant.gathered;
+      sites = λ h. c.greatest_of-last.ensures.sites;
     }
 
 pub loop-number-preserved : goal.loop-number-preserved

@@ -1,8 +1,10 @@
 use Rattle.std.proofs.Common.{◌≡◌, ◌≢◌, ◌<◌, length, get_or, sym, ap, ◌∙◌, arith, true≢false}
+use Rattle.std.proofs.lemmas.List.{get_or_default}
 use Rattle.dots.proofs.DotOrder.{same_dot}
 use Rattle.member_orset.specs.PlacedLists.{is_placed}
 use Rattle.member_orset.proofs.DotTests.{one_dot, same_tied}
-use Rattle.member_orset.proofs.Pieces.{agrees, beyond, differs, dot_here, dots_elsewhere, dots_later, next_dot, past_dots}
+use Rattle.member_orset.proofs.LiveRuns.{run_placed}
+use Rattle.member_orset.proofs.Pieces.{agrees, beyond, differs, dots_elsewhere, dots_later, next_dot, past_dots}
 use Rattle.member_orset.proofs.site_walk.live_piece.Goals as goal
 
 pub returns-then-below-dots : goal.returns-then-below-dots
@@ -12,20 +14,28 @@ returns-then-below-dots c = record {
   same = λ n lo hi. past_dots c.args.dots.now c.args.from c.args.below n c.requires.rise c.requires.before c.if-below-dots.true lo;
 }
 
+-- the dots of the run that begins at the dot are live
 pub returns-then-eq : goal.returns-then-eq
 returns-then-eq c =
-    let count = c.count.ensures.value in
     let dots = c.args.dots.now in
+    let below = c.args.below in
     let x = c.index-dots-below.result in
-    let inside : c.args.below < length dots = let w = c.requires.within in let n = c.if-below-dots.false in omega arith in
-    let is = one_dot c.args.from (get_or dots c.args.below x).dot (same_dot c.args.from (get_or dots c.args.below x).dot ∙ sym c.eq.ensures ∙ c.if-eq.true) in
+    let y = c.index-dots-end.result in
+    let end = c.live_run_end-end.result in
+    let run = c.live_run_end-end.ensures.run in
+    let rises = c.live_run_end-end.ensures.least in
+    let within = c.live_run_end-end.ensures.within in
+    let inside : below < length dots = let w = c.requires.within in let n = c.if-below-dots.false in omega arith in
+    let is = one_dot c.args.from (get_or dots below x).dot (same_dot c.args.from (get_or dots below x).dot ∙ sym c.eq.ensures ∙ c.if-eq.true) in
+    let from = ap (λ d. d.count) is ∙ ap (λ p. p.dot.count) (get_or_default dots below x y inside) in
+    let to = c.count-count.ensures.value in
+    let apart = run.count y in
     record {
-      some = omega arith;
-      within = let order = c.requires.order in omega arith;
+      some = let order = c.requires.order in omega arith;
+      within = omega arith;
       same = λ n lo hi.
-          let here : n ≡ c.args.from.count = omega arith in
-          ap (λ m. is_placed dots (record { site = c.args.from.site; count = m })) here
-          ∙ dot_here dots c.args.from c.args.below x c.requires.rise inside c.requires.before c.index-dots-below.is (ap (λ y. y.dot) c.index-dots-below.is ∙ sym is);
+          ap (λ s. is_placed dots (record { site = s; count = n })) (ap (λ d. d.site) is ∙ ap (λ p. p.dot.site) (get_or_default dots below x y inside))
+          ∙ run_placed dots c.requires.rise y below end n rises within run (omega arith) (omega arith);
     }
 
 pub returns-then-ne : goal.returns-then-ne
@@ -53,7 +63,7 @@ returns c =
     let after = beyond dots c.args.from c.args.below x inside c.index-dots-below.is c.requires.after other in
     let more = next_dot dots c.args.from c.args.below x c.requires.rise inside c.requires.before c.index-dots-below.is after same in
     let next = ap (λ y. y.dot.count) c.index-dots-below.is in
-    let count = c.count-2.ensures.value in
+    let count = c.count.ensures.value in
     record {
       some = let order = c.requires.order in omega arith;
       within = omega arith;

@@ -7,7 +7,7 @@ use Rattle.replica.proofs.seen_dots.dots_by_queue.Goals as goal
 
 pub loop-queue-init : goal.loop-queue-init
 unfolding dots_below
-loop-queue-init c = c.new-list.ensures.items
+loop-queue-init c = record { dots = c.new-list.ensures.items; interface = c.copy.ensures }
 
 pub loop-queue-preserved : goal.loop-queue-preserved
 unfolding dots_below
@@ -15,6 +15,9 @@ loop-queue-preserved c =
     let r = dot_view_of c.args.members.now in
     let of = λ (interface : List ℕ). let member : Member = record { queue = c.loop-queue.queue; interface = interface } in dots_of r member in
     let next : suc c.loop-queue.queue ≡ c.loop-queue.queue + 1 = omega arith in
-    c.in_ok-push_dots.ensures
-    ∙ (λ i. c.loop-queue.invariant i ++ of (c.copy.ensures i))
-    ∙ ap (dots_below r c.args.interface.now) next
+    record {
+      dots = c.in_ok-push_dots.ensures
+          ∙ (λ i. c.loop-queue.invariant.dots i ++ of (c.loop-queue.invariant.interface i))
+          ∙ ap (dots_below r c.args.interface.now) next;
+      interface = c.loop-queue.invariant.interface;
+    }

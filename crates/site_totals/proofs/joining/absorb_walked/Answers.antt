@@ -4,8 +4,8 @@ use Rattle.std.proofs.lemmas.List.{length-take-le, take_at}
 use Rattle.dots.proofs.Fronts.{turned}
 use Rattle.site_totals.specs.TotalLists.{IsKept, entries_of, joined_rows}
 use Rattle.site_totals.proofs.JoinedRows.{joined_rows_are, kept_joined}
-use Rattle.site_totals.proofs.joining.absorb_rows.Goals as goal
-use Rattle.site_totals.proofs.joining.absorb_rows.Goals.{After-merge}
+use Rattle.site_totals.proofs.joining.absorb_walked.Goals as goal
+use Rattle.site_totals.proofs.joining.absorb_walked.Goals.{After-merge}
 
 -- the spare places are first, and then all that was there
 own_rows : (c : After-merge) → drop c.count_missing-missing.result c.deref_mut.result.now ≡ c.args.rows.now.items
