@@ -196,7 +196,7 @@ def wrong_words():
         check(BUILT, changed(1, port), 2, told=b"invalid value '%b' for '<PORT>'" % port.encode())
     check(BUILT, ["serve", *right[:-1]], 2, told=b"required arguments were not provided")
     check(BUILT, ["serve", "--idle", "soon", *right], 2, told=b"invalid value 'soon'")
-    check(BUILT, ["serve", "--bind", "nowhere", *right], 2, told=b"invalid value 'nowhere'")
+    check(BUILT, ["serve", "--bind", "nowhere", *right], 2, told=b"queue_sites: bad address\n")
     check(BUILT, ["serve", *right, "sales"], 2, told=b"queue_sites: bad queue list\n")
     check(BUILT, ["serve", "1", "24000", "", "", "a", "a"], 2, told=b"queue_sites: bad queue list\n")
     for word in ("", "a" * 81, "a\nb", " a", "a\t"):
