@@ -1,4 +1,5 @@
-"""How much time of a processor runs of programs take."""
+"""How much time of a processor runs of programs take, and how much memory."""
+import os
 import resource
 import subprocess
 import tempfile
@@ -25,3 +26,13 @@ def least(times, runs):
     the bytes that it is given: the least time that a run took, in seconds, and what it wrote."""
     rounds = [[timed(command, given) for command, given in runs] for _ in range(times)]
     return [min(of_run) for of_run in zip(*rounds)]
+
+
+def most_memory(command):
+    """How many bytes of memory a run of a program had at most. Of less than Python has itself, it can't tell."""
+    process = subprocess.Popen(command, stdin=subprocess.DEVNULL, stdout=subprocess.DEVNULL)
+    _, status, usage = os.wait4(process.pid, 0)
+    process.returncode = os.waitstatus_to_exitcode(status)
+    if process.returncode:
+        raise subprocess.CalledProcessError(process.returncode, command)
+    return 1024 * usage.ru_maxrss

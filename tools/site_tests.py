@@ -7,16 +7,19 @@ from crates import folder
 from program_tests import NO_COMPILER, Failed, check, expect, refusing
 
 PROGRAM = f"{folder('site_runs')}/out/site_runs"
+JOURNALS = ["journals", "3", "40"]
 AUDIT = ["audit", "3", "40"]
+WORLD = ["world", "3", "40"]
 EVENTS = b"120 events\n"
 THREADS = ["threads", "3", "3", "20"]
-USAGE = b"usage: site_runs audit SITES STEPS, or site_runs threads RUNS SITES ASKS\n"
+USAGE = b"usage: site_runs journals|audit|world SITES STEPS, or site_runs threads RUNS SITES ASKS\n"
 
 
 def wrong_words():
     """What is told of wrong words."""
     for words in ("", "audit", "audit 3", "audit 0 40", "audit 9 40", "audit 3 0", "audit 3 many", "audit 3 1000001", "audit 3 40 1",
-                  "dance 3 40", "threads 3 3", "threads 0 3 20", "threads 3 9 20", "threads 3 3 0", "threads 3 3 20 1"):
+                  "dance 3 40", "journals 0 40", "world 3", "threads 3 3", "threads 0 3 20", "threads 3 9 20", "threads 3 3 0",
+                  "threads 3 3 20 1"):
         check(PROGRAM, words.split(), 2, told=USAGE)
 
 
@@ -25,20 +28,22 @@ def refused_allocations(room):
     run_refusing = refusing(room)
     if not run_refusing:
         return NO_COMPILER
-    whole, allocations = run_refusing(0, PROGRAM, AUDIT)
+    whole, allocations = run_refusing(0, PROGRAM, WORLD)
     expect(whole.stdout == EVENTS, f"it did not write {EVENTS!r}", whole)
     for number in range(1, allocations + 1):
-        ran, _ = run_refusing(number, PROGRAM, AUDIT)
+        ran, _ = run_refusing(number, PROGRAM, WORLD)
         expect(ran.returncode == 1, f"the status is not 1 where allocation {number} is refused", ran)
         expect(ran.stderr == b"site_runs: out of memory\n", f"it told another text where allocation {number} is refused", ran)
         expect(not ran.stdout, f"it wrote something where allocation {number} is refused", ran)
-    return f"each of the {allocations} allocations of an audit of three sites refused in turn"
+    return f"each of the {allocations} allocations of three sites, their audit and its world refused in turn"
 
 
 def run_all():
     """Runs all of it. Answers lines that tell what was run."""
     with tempfile.TemporaryDirectory() as room:
         wrong_words()
+        check(PROGRAM, JOURNALS, 0, printed=b"120 steps\n")
+        check(PROGRAM, AUDIT, 0, printed=EVENTS)
         check(PROGRAM, THREADS, 0, printed=b"3 runs\n")
         return ["its words and texts", "three runs of three sites as threads", refused_allocations(room)]
 

@@ -1,16 +1,17 @@
 """Times workloads: workloads.py RUNS NAME.. runs all that are named in turn, so often. For each it prints its name, a checksum, how
 often a run does the work, and in how many seconds of a processor, by the least time of the runs; what the work is done on is not
-timed, since a run that does all but the work is taken off.
+timed, since a run that does all but the work is taken off. workloads.py memory NAME prints how many megabytes a run of one has at most,
+with what the work is done on, where it is given no bytes.
 
 The workloads of frames are done by `bench` (docs/frames.md has their bytes): frames of live dots, each of a member of its own with a
 penalty, of dead dots, and of totals. Those of commands and of frames at sites are scripts of `queue_sites` (docs/script.md), and one
-is a session of `session_cases`; the checksum of these is how many bytes are written. One has sites of `site_runs`, whose journals are
-audited; its checksum is how many events that tells.
+is a session of `session_cases`; the checksum of these is how many bytes are written. Two have sites of `site_runs`: what the audit of
+their journals takes, and the world in which its events happen; the checksum is how many events there are.
 """
 import sys
 from typing import Callable, NamedTuple
 
-from cpu_time import least
+from cpu_time import least, most_memory
 from crates import folder
 
 # How far apart the members of two dots are, of those that go one after the other between so many others.
@@ -198,10 +199,10 @@ def statuses(times, count):
     return Workload(times, Run(command, start + asked), Run(command, start), len)
 
 
-def audit(sites, steps):
-    """So many sites do so many steps each, their journals are settled and audited, and the events are run in a world."""
+def of_sites(word, part, sites, steps):
+    """A workload of `site_runs`: a word of so many sites that do so many steps each, less another word that does a part of it."""
     program = f"{folder('site_runs')}/out/site_runs"
-    runs = (Run([program, "audit", str(sites), str(it)], b"") for it in (steps, 1))
+    runs = (Run([program, it, str(sites), str(steps)], b"") for it in (word, part))
     return Workload(1, *runs, lambda answer: answer.split()[0].decode())
 
 
@@ -232,11 +233,15 @@ WORKLOADS = {
     "frames_at_15000": lambda: taken(15_000),
     "serve_10000_statuses_of_100": lambda: statuses(10_000, 100),
     "script_of_20000_lines": lines_of_64_sites,
-    "audit_of_800000_steps": lambda: audit(8, 100_000),
+    "audit_of_800000_steps": lambda: of_sites("audit", "journals", 8, 100_000),
+    "world_of_800000_events": lambda: of_sites("world", "audit", 8, 100_000),
 }
 
 
 def main():
+    if sys.argv[1] == "memory":
+        print(most_memory(WORKLOADS[sys.argv[2]]().run.command) // 1_000_000)
+        return
     often, names = int(sys.argv[1]), sys.argv[2:]
     them = [WORKLOADS[name]() for name in names]
     answers = iter(least(often, [run for it in them for run in (it.run, it.without)]))

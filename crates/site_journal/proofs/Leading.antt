@@ -38,6 +38,8 @@ one_more j step new i l room = record {
   counted = let e = length-append j.steps (step ∷ []) in let h = i.counted in omega arith;
   within = let e = length-append j.steps (step ∷ []) in let h : (j.limit ≤ length j.steps) → ⊥ = λ p. room (inl p) in omega arith;
   most = let h : (j.count ≡ 1099511627776) → ⊥ = λ p. room (inr p) in let m = i.most in omega arith;
+  some = i.some;
+  few = i.few;
 }
 
 -- ---- asks

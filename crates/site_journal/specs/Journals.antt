@@ -17,6 +17,7 @@ use Rattle.status_report.specs.declared.asks.Ask.{Ask}
 use Rattle.site_journal.specs.contracts.step.Step as step
 use Rattle.site_journal.specs.declared.desk_fault.DeskFault.{DeskFault}
 use Rattle.site_journal.specs.declared.desk_fault.DeskFault.TheVariants as desk_fault
+use Rattle.site_journal.specs.declared.journaled.TheConstants.{MOST_STEPS}
 use Rattle.site_journal.specs.declared.step.Step.{Step}
 use Rattle.site_journal.specs.declared.step.StepDeed.{StepDeed}
 use Rattle.site_journal.specs.declared.step.StepDeed.TheVariants.{Asked, Cut, Whole}
@@ -41,12 +42,14 @@ journal_code =
     (λ p. record { base = p.0; steps = p.1.0; start = p.1.1.0; count = p.1.1.1.0; limit = p.1.1.1.1.0; replica = p.1.1.1.1.1 })
     (λ _. refl)
 
--- what holds of every journal: its steps lead from its base to its replica, and are counted
+-- what holds of every journal: its steps lead from its base to its replica, and are counted; 1 to MOST_STEPS may stand in it
 pub record IsJournal (j : JournalState) : Type 0 where
   pub legal : LeadAll j.base j.steps j.replica
   pub counted : j.count ≡ j.start + length j.steps
   pub within : length j.steps ≤ j.limit
   pub most : j.count ≤ MOST_COUNT
+  pub some : 1 ≤ j.limit
+  pub few : j.limit ≤ MOST_STEPS
 
 -- a journal of a replica, without a step
 pub record IsBegun (replica : SiteState) (limit : ℕ) (j : JournalState) : Type 0 where

@@ -69,7 +69,7 @@ pub trait Port<R> {
 pub trait Bell<R> {
     ghost use Rattle.std.specs.Prelude.{ℕ, Bool};
 
-    /// How often it rang; no wait leads past 2^40.
+    /// How often it rang: at most 2^40 times, as each wait says.
     ghost rings: { Self → ℕ };
 
     /// Whether it has ended, which stays.
@@ -80,7 +80,8 @@ pub trait Bell<R> {
         ensures rings { MatchBool result (rings self.new ≡ rings self.old + 1)
             (rings self.new ≡ rings self.old) }
         ensures first { result ≡ true → ended self.old ≡ false }
-        ensures few { rings self.old ≤ MOST_COUNT → rings self.new ≤ MOST_COUNT }
+        ensures few { rings self.new ≤ MOST_COUNT }
+        ensures goes_on { result ≡ true → ended self.new ≡ false }
         ensures ended { result ≡ false → ended self.new ≡ true };
 }
 

@@ -7,16 +7,11 @@ use sites_world::{Event, Outcome, World};
 use status_report::report;
 use std::alloc::Global;
 
-// How many events a world is given at once.
-const PIECE: usize = 1_000;
-
-// Runs events in a world, a piece at a time.
-fn run_in_pieces(world: &mut World, events: &[Event]) -> Result<(), RunsFault> {
-    for piece in events.chunks(PIECE) {
-        for outcome in world.run(piece)? {
-            if let Outcome::NoMemory = outcome {
-                return Err(RunsFault::Memory);
-            }
+// Lets events happen in a world, one after another.
+fn let_happen(world: &mut World, events: Vec<Event>) -> Result<(), RunsFault> {
+    for event in events {
+        if let Outcome::NoMemory = world.happen(event) {
+            return Err(RunsFault::Memory);
         }
     }
     Ok(())
@@ -38,7 +33,7 @@ fn compare(alloc: Global, world: &World, journals: &[Journaled]) -> Result<(), R
 }
 
 // How many steps journals have together.
-fn steps_of(journals: &[Journaled]) -> u64 {
+pub(crate) fn steps_of(journals: &[Journaled]) -> u64 {
     let mut steps = 0u64;
     for journal in journals {
         steps = steps.saturating_add(journal.len());
@@ -46,16 +41,22 @@ fn steps_of(journals: &[Journaled]) -> u64 {
     steps
 }
 
-// Audits the journals of so many sites, and runs the events that come of it in a new world, whose sites then report as the journals do.
-// Answers how many events there are.
-pub(crate) fn explain(alloc: Global, sites: u16, journals: &[Journaled]) -> Result<u64, RunsFault> {
+// The list of events that explains journals, one for each step.
+pub(crate) fn explained(alloc: Global, journals: &[Journaled]) -> Result<Vec<Event>, RunsFault> {
     let events = audit(alloc, journals)?;
-    let count = events.len() as u64;
-    if count != steps_of(journals) {
+    if events.len() as u64 != steps_of(journals) {
         return Err(RunsFault::Events);
     }
+    Ok(events)
+}
+
+// Lets the events that explain the journals of so many sites happen in a new world, whose sites then report as the journals do. Answers
+// how many events there are.
+pub(crate) fn replay(alloc: Global, sites: u16, journals: &[Journaled]) -> Result<u64, RunsFault> {
+    let events = explained(alloc, journals)?;
+    let count = events.len() as u64;
     let mut world = World::new(alloc, sites, &queue_list(alloc)?)?;
-    run_in_pieces(&mut world, &events)?;
+    let_happen(&mut world, events)?;
     compare(alloc, &world, journals)?;
     Ok(count)
 }

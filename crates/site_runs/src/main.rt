@@ -1,14 +1,19 @@
 //! Lets sites work on what is drawn by lot, the same on each run, and tries whether all that they told fits together: for tests, and to
 //! be timed.
 //!
-//! `site_runs audit SITES STEPS`: so many sites, 1 to 8, do so many steps each, 1 to 1,000,000, in one thread. A site is asked something,
-//! cuts, makes a whole or takes one of the latest frames of all sites, its own too. The receipts of its steps settle its journal, an
-//! audit explains all journals by one list of events, and in a new world that has run the list each site reports what it does by its
-//! journal. Standard output tells how many events there are.
+//! `site_runs journals SITES STEPS`: so many sites, 1 to 8, do so many steps each, 1 to 1,000,000, in one thread. A site is asked
+//! something, cuts, makes a whole or takes one of the latest frames of all sites, its own too. The receipts of its steps settle its
+//! journal. Standard output tells how many steps there are.
+//!
+//! `site_runs audit SITES STEPS`: an audit explains these journals by one list of events, of which standard output tells how many there
+//! are.
+//!
+//! `site_runs world SITES STEPS`: these events happen in a new world, in which each site then reports what it does by its journal.
+//! Standard output tells how many there are.
 //!
 //! `site_runs threads RUNS SITES ASKS`: so often so many sites run as threads and are asked so much each, while their frames are lost,
-//! doubled and held back. No site has a fault, all fits together as above, and all sites report the same at their end. Standard output
-//! tells how often they have run, since nothing else is the same each time.
+//! doubled and held back. No site has a fault, all fits together as in such a world, and all sites report the same at their end. Standard
+//! output tells how often they have run, since nothing else is the same each time.
 //!
 //! The status is 1 where something doesn't fit or memory is wanting, and 2 where the words are wrong, as a line on standard error says.
 #![tactic(auto)]
@@ -24,7 +29,7 @@ mod site;
 mod threads;
 mod turns;
 
-use crate::explaining::explain;
+use crate::explaining::{explained, replay, steps_of};
 use crate::runs_fault::RunsFault;
 use crate::threads::run_often;
 use crate::turns::work_in_turn;
@@ -35,7 +40,8 @@ use std::rt::Env;
 use std::sync::Wait;
 use std::thread::Threads;
 
-const USAGE: &str = "usage: site_runs audit SITES STEPS, or site_runs threads RUNS SITES ASKS";
+const USAGE: &str =
+    "usage: site_runs journals|audit|world SITES STEPS, or site_runs threads RUNS SITES ASKS";
 
 const MOST_SITES: u32 = 8;
 
@@ -113,7 +119,9 @@ fn do_words<R: AllocGlobal + Print + Threads + Wait + Sync>(
         return None;
     };
     match (kind.as_str(), numbers) {
+        ("journals", [sites, steps]) => Some(do_journals(rt, read_work(sites, steps)?)),
         ("audit", [sites, steps]) => Some(do_audit(rt, read_work(sites, steps)?)),
+        ("world", [sites, steps]) => Some(do_world(rt, read_work(sites, steps)?)),
         ("threads", [runs, sites, asks]) => {
             let runs = number(runs, MOST_RUNS)?;
             Some(do_threads(rt, runs, read_work(sites, asks)?))
@@ -122,9 +130,21 @@ fn do_words<R: AllocGlobal + Print + Threads + Wait + Sync>(
     }
 }
 
+fn do_journals<R: AllocGlobal + Print>(rt: &R, work: Work) -> Result<(), RunsFault> {
+    let journals = work_in_turn(rt.alloc(), work.sites, work.steps)?;
+    let steps = steps_of(&journals);
+    println!(rt; "{steps} steps").map_err(|_| RunsFault::Write)
+}
+
 fn do_audit<R: AllocGlobal + Print>(rt: &R, work: Work) -> Result<(), RunsFault> {
     let journals = work_in_turn(rt.alloc(), work.sites, work.steps)?;
-    let events = explain(rt.alloc(), work.sites, &journals)?;
+    let events = explained(rt.alloc(), &journals)?.len();
+    println!(rt; "{events} events").map_err(|_| RunsFault::Write)
+}
+
+fn do_world<R: AllocGlobal + Print>(rt: &R, work: Work) -> Result<(), RunsFault> {
+    let journals = work_in_turn(rt.alloc(), work.sites, work.steps)?;
+    let events = replay(rt.alloc(), work.sites, &journals)?;
     println!(rt; "{events} events").map_err(|_| RunsFault::Write)
 }
 

@@ -4,7 +4,7 @@ ghost use Rattle.std.specs.Prelude.{◌<◌, ◌^◌, vec_len};
 
 use crate::RunsFault;
 use crate::asks::{queue_list, some_ask, whole_status};
-use crate::explaining::explain;
+use crate::explaining::replay;
 use crate::numbers::Numbers;
 use site_worker::{Deed, Gate, Journaled, LinkPlan, SiteEnd, SiteWork, run_sites, settle};
 use status_report::report;
@@ -114,7 +114,7 @@ fn run_once<R: AllocGlobal + Threads + Wait + Sync>(
     let ends = run_sites(rt, alloc, &queue_list(alloc)?, works)?;
     let journals = all_settled(alloc, ends)?;
     compare(alloc, &journals)?;
-    explain(alloc, sites, &journals)?;
+    replay(alloc, sites, &journals)?;
     Ok(())
 }
 

@@ -1,9 +1,9 @@
 //! Journals of a site: their steps, their limits and what they keep.
 use crate::frames::ADDED;
 use dots::{Interface, Label, Penalty, QueueName, SiteId, Text80};
-use replica::{Command, QueueList, Replica};
+use replica::{Command, QueueList, Refusal, Replica};
 use site_journal::{DeskFault, Journaled, Receipt, SettleFault, Step, StepDeed, settle};
-use status_report::{Answer, Ask, StatusRequest};
+use status_report::{Answer, Ask, StatusRequest, report};
 use std::alloc::Global;
 use std::process::Abort;
 
@@ -20,12 +20,16 @@ fn journal(rt: &impl Abort, alloc: Global, site: u16, limit: u32) -> Journaled {
     made.ok().expect(rt, "memory")
 }
 
-fn status(alloc: Global) -> Ask {
-    Ask::Status(StatusRequest {
+fn request(alloc: Global) -> StatusRequest {
+    StatusRequest {
         queue: None,
         member: None,
         action_id: dots::Bytes::new(Vec::new(alloc)),
-    })
+    }
+}
+
+fn status(alloc: Global) -> Ask {
+    Ask::Status(request(alloc))
 }
 
 fn add(rt: &impl Abort) -> Ask {
@@ -102,6 +106,51 @@ fn a_frame_that_is_cut_is_the_one_that_others_take(rt: HostRuntime) {
     drop(taken);
     drop(first);
     drop(second);
+}
+
+// Asserts that a step is this ask, which was refused since there is such a member already.
+fn assert_is_there(rt: &impl Abort, step: &Step, asked: &Ask) {
+    match &step.deed {
+        StepDeed::Asked(told, Answer::Refused(Refusal::AlreadyThere)) => {
+            assert!(rt; told.same(asked));
+        }
+        _ => rt.panic("another deed"),
+    }
+}
+
+// The receipts of two steps of which no other was before.
+fn two_receipts(rt: &impl Abort, alloc: Global, first: Step, second: Step) -> Vec<Receipt> {
+    let mut receipts = Vec::new(alloc);
+    for (position, step) in [(0, first), (1, second)] {
+        let receipt = Receipt {
+            pass: step.pass,
+            position,
+            deed: step.deed,
+        };
+        receipts.push(receipt).expect(rt, "memory");
+    }
+    receipts
+}
+
+#[test]
+fn a_refused_command_is_a_step(rt: HostRuntime) {
+    let alloc = rt.alloc();
+    let mut own = journal(&rt, alloc, 0, 5);
+    let done = own.call(0, &add(&rt)).ok().expect(&rt, "a step");
+    let shown = report(alloc, own.replica(), &request(alloc)).expect(&rt, "memory");
+    let refused = own.call(0, &add(&rt)).ok().expect(&rt, "a step");
+    assert_is_there(&rt, &refused, &add(&rt));
+    assert_length(&rt, &own, 2, 0);
+    assert_is_there(&rt, own.steps().get(1).expect(&rt, "a step"), &add(&rt));
+    let told = report(alloc, own.replica(), &request(alloc)).expect(&rt, "memory");
+    assert!(rt; told.as_slice() == shown.as_slice());
+    let lists = [two_receipts(&rt, alloc, done, refused)];
+    assert!(rt; settle(&own, &lists).is_ok());
+    let cut = own.cut(0).ok().expect(&rt, "a step");
+    assert!(rt; matches!(&cut.deed, StepDeed::Cut(Some(bytes)) if bytes.as_slice() == ADDED));
+    drop(cut);
+    drop(lists);
+    drop(own);
 }
 
 // The receipts of a cut by this pass at each of these positions, as of a site that has nothing to send.

@@ -28,7 +28,7 @@ returns-in-Err-take-clause-memory c = λ _. opened c.in-Ok.frame _ (subst (Spell
 pub invariant_of-self-in-Err-take : goal.invariant_of-self-in-Err-take
 invariant_of-self-in-Err-take c =
     let i = c.self.invariant in
-    rw c.reserve.ensures.items (record { legal = lead_same _ _ _ _ i.legal (unchanged-site _ _ c.in-Err-take.ensures.unchanged); counted = i.counted; within = i.within; most = i.most })
+    rw c.reserve.ensures.items (record { legal = lead_same _ _ _ _ i.legal (unchanged-site _ _ c.in-Err-take.ensures.unchanged); counted = i.counted; within = i.within; most = i.most; some = i.some; few = i.few })
 
 -- the site refuses the frame for the cause that is told
 pub returns-in-Err-take-clause-refused : goal.returns-in-Err-take-clause-refused
