@@ -66,10 +66,11 @@ MayJoinFrames = (state : WorldState) (site place : ℕ) (s : SiteState) (frame :
 
 -- ---- later worlds
 
--- a later world has as many sites, each of which knows what it knew, and its pool begins with the same entries
+-- a later world has as many sites, each of which knows what it knew and has made no fewer frames, and its pool begins with the same entries
 pub record HasGrown (w after : World) : Type 0 where
   pub count : length after.sites ≡ length w.sites
-  pub known : (site : ℕ) (s : SiteKnowledge) → slice_get w.sites site ≡ Some s → (t : SiteKnowledge) × (slice_get after.sites site ≡ Some t) × IsPartOf s.known t.known
+  pub known : (site : ℕ) (s : SiteKnowledge) → slice_get w.sites site ≡ Some s
+      → (t : SiteKnowledge) × (slice_get after.sites site ≡ Some t) × IsPartOf s.known t.known × (s.frames ≤ t.frames)
   pub added : List Entry
   pub pool : after.pool ≡ w.pool ++ added
 

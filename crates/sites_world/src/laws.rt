@@ -120,8 +120,8 @@ pub fn a_site_may_take_every_entry()
     ensures frames { MayJoinFrames }
 {}
 
-/// A world only grows, event by event: it has as many sites, each knows what it knew, and its pool keeps its entries. So a site that has taken an entry knows each
-/// operation of it from then on (RR-7506: states only grow).
+/// A world only grows, event by event: it has as many sites, each knows what it knew and has made no fewer frames, and its pool keeps its entries. So a site that has
+/// taken an entry knows each operation of it from then on (RR-7506: states only grow).
 pub fn a_world_only_grows()
     ensures event { EventsGrow }
     ensures events { RunsGrow }
