@@ -165,7 +165,7 @@ follows-grows old new (Refused refusal) result follows = unchanged-grows old new
 
 ask-grows : (old new : SiteState) (asked : Ask) (o : Outcome) → ComesOfAsk old asked o new → SiteGrows old new
 ask-grows old new (asked_command command) (Answered answer) (result, is, follows) = follows-grows old new (meaning_at old (change_of command)) result follows
-ask-grows old new (asked_command command) NoMemory comes = unchanged-grows old new comes
+ask-grows old new (asked_command command) NoMemory comes = unchanged-grows old new comes.0
 ask-grows old new (asked_command command) (Cut r) comes = absurd comes
 ask-grows old new (asked_command command) (Took r) comes = absurd comes
 ask-grows old new (asked_command command) NoSite comes = absurd comes

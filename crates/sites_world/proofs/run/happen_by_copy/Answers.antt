@@ -1,4 +1,4 @@
-use Rattle.std.proofs.Common.{◌∙◌, arith}
+use Rattle.std.proofs.Common.{IsOk, subst, sym, ◌∙◌, arith, true≢false}
 use Rattle.sites_world.proofs.ToldByConditions.{leads-nowhere, leads-wanting}
 use Rattle.sites_world.proofs.Happenings.{no-site-happened}
 use Rattle.sites_world.proofs.run.happen_by_copy.Goals as goal
@@ -9,7 +9,8 @@ returns-in-Err-clause-conditions c = λ names is.
     let at = c.from.ensures ∙ c.number.ensures.value ∙ c.site_of.ensures in
     let less = c.if-from-len.true in
     let len = c.len.ensures in
-    leads-wanting (record { names = names; sites = c.args.sites.now.items; pool = c.args.pool.now.items }) c.args.event.now c.in-Err.ensures.asks (omega (arith, at, less, len))
+    leads-wanting (record { names = names; sites = c.args.sites.now.items; pool = c.args.pool.now.items }) c.args.event.now c.in-Err.ensures.asks
+    (λ site command told. absurd (true≢false (sym (subst IsOk c.in-Err.is (c.copy.ensures.command site command told))))) (omega (arith, at, less, len))
 
 -- there is no such site
 pub returns-in-Err-2-clause-meaning : goal.returns-in-Err-2-clause-meaning
