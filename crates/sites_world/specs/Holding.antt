@@ -8,10 +8,13 @@ use Rattle.dots.specs.Conditions.{IsConditionBelow}
 use Rattle.dots.specs.Rows.{dots_of}
 use Rattle.dots.specs.Totals.{totals_of}
 use Rattle.dots.specs.Values.{Dot}
+use Rattle.dots.specs.Knowledge.{Knowledge}
+use Rattle.dots.specs.WithinLimits.{AreWithinLimits}
 use Rattle.site_totals.specs.Raising.{number_of}
 use Rattle.member_orset.specs.Members.{condition_of, dot_view_of}
 use Rattle.delta.specs.DeltaStates.{DeltaState}
 use Rattle.delta.specs.Joining.{Agree}
+use Rattle.delta.specs.Standing.{IsDeltaOf}
 use Rattle.delta.specs.declared.frame.Frame.{Frame}
 use Rattle.replica.specs.Site.{SiteState}
 use Rattle.replica.specs.Steps.{SiteKnowledge}
@@ -51,6 +54,10 @@ HoldFewCells = (state : WorldState) (d : DeltaState) → IsWorld state → IsHel
 -- any two that are held agree
 abbrev pub HeldAgree : Type 0
 HeldAgree = (state : WorldState) (x y : DeltaState) → IsWorld state → IsHeldIn state x → IsHeldIn state y → Agree x y
+
+-- what is held stands for operations that are all within their limits
+abbrev pub HoldWithinLimits : Type 0
+HoldWithinLimits = (state : WorldState) (d : DeltaState) → IsWorld state → IsHeldIn state d → (k : Knowledge) × IsDeltaOf d k × AreWithinLimits k
 
 -- ---- takes
 

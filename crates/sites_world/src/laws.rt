@@ -5,6 +5,7 @@ ghost use Rattle.sites_world.specs.declared.event.Event.{Event};
 ghost use Rattle.sites_world.specs.declared.outcome.Outcome.{Outcome};
 ghost use Rattle.sites_world.specs.Conditions.{LeadAll};
 ghost use Rattle.sites_world.specs.Holding.{EventsGrow, HeldAgree, HoldFewCells, HoldOneDotASite};
+ghost use Rattle.sites_world.specs.Holding.{HoldWithinLimits};
 ghost use Rattle.sites_world.specs.Holding.{LeadAllGrows, LeadsGrow, MayJoinFrames, MayTakeEntries};
 ghost use Rattle.sites_world.specs.Holding.{RunsGrow, TakenStaysKnown, TakenStaysSaid};
 ghost use Rattle.sites_world.specs.Outcomes.{changes_nothing};
@@ -138,11 +139,12 @@ pub fn states_only_grow()
 {}
 
 /// Each operation that a site knows or has in its buffer, and that an entry carries, is within the limits of operations, where the queues are, there are at most 64
-/// sites, and the values of each command were within theirs. A `QueueList` and the values of an `Event` are, and a world is made of no more sites (this project's
-/// own).
+/// sites, and the values of each command were within theirs. A `QueueList` and the values of an `Event` are, and a world is made of no more sites: so whatever is
+/// held in a world stands for operations within their limits (this project's own).
 pub fn operations_of_a_world_are_within_limits()
     ensures event { EventsKeepLimits }
     ensures events { WorldsAreWithinLimits }
+    ensures held { HoldWithinLimits }
 {}
 
 /// A take that is told as taken gives its site every operation of the entry: the site knows what the
