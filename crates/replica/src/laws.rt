@@ -127,6 +127,25 @@ pub fn deeds_stand_for_steps()
         StandsFor new after.0 × (after.1 ≡ Taken) }
 {}
 
+/// What is refused at a replica is refused in the step of the site that it stands for, which changes nothing: a cut of a buffer that isn't empty, and a frame of all
+/// that is known, where no number is left; and a take where too many dots would be live, or else the known ones would have too many runs (this project's own).
+pub fn refusals_stand_for_steps()
+    ensures cut { (state : SiteState) (s : SiteKnowledge) → StandsFor state s
+        → (IsEmpty state.pending → ⊥) → state.frames ≡ MOST_COUNT
+        → step state.site state.names s Cut ≡ (s, NoNumber) }
+    ensures whole { (state : SiteState) (s : SiteKnowledge) → StandsFor state s
+        → state.frames ≡ MOST_COUNT → step state.site state.names s Whole ≡ (s, NoNumber) }
+    ensures cells_full { (state : SiteState) (d : DeltaState) (s : SiteKnowledge)
+        (k : Knowledge) → StandsFor state s → IsDeltaOf d k
+        → MOST_LIVE < cells_joined state.state.members d.members
+        → step state.site state.names s (Take k) ≡ (s, CellsFull) }
+    ensures runs_full { (state : SiteState) (d : DeltaState) (s : SiteKnowledge)
+        (k : Knowledge) → StandsFor state s → IsDeltaOf d k
+        → cells_joined state.state.members d.members ≤ MOST_LIVE
+        → MOST_RUNS < runs_joined state.state.members d.members
+        → step state.site state.names s (Take k) ≡ (s, RunsFull) }
+{}
+
 /// What a site may take it may take of each delta that says the same, and so it is of what it has taken. So it makes no difference whether a frame or a copy of it is
 /// taken (this project's own).
 pub fn what_says_the_same_is_taken_the_same()

@@ -56,6 +56,12 @@ framed-happened new s old pool entries maker after o site c (inl (e, stands, add
     grown steps.CellsFull is = same-pool is
     grown steps.RunsFull is = same-pool is
 
+-- an ask was answered
+pub asked-happened : (new : SiteState) (s : SiteKnowledge) (pool : List Frame) (entries : List Entry) (after : SiteKnowledge × Answer) (o : Outcome)
+    → Correspond IsFrameOf pool entries → IsAnsweredSo new s after o → HasHappenedAt new s pool pool entries (answered after) o
+asked-happened new s pool entries after o c (inl (e, stands)) = inl (ap is_done e, sym e, stands, nothing-added pool entries c)
+asked-happened new s pool entries after o c (inr (e, stands)) = inr (e, stands, refl)
+
 -- a frame was taken
 pub taken-happened : (new : SiteState) (s : SiteKnowledge) (pool : List Frame) (entries : List Entry) (entry : Entry) (o : Outcome)
     → Correspond IsFrameOf pool entries → IsTakenSo new s (take s entry.carried) o → HasHappenedAt new s pool pool entries (taken s (Some entry)) o

@@ -19,3 +19,4 @@ mod Held
 mod Growing
 mod WithinLimits
 mod GrowingStates
+mod OperationsByConditions
