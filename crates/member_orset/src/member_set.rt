@@ -1,5 +1,5 @@
-ghost use Rattle.std.specs.Prelude.{◌≡◌, ◌≢◌, ◌↔◌, ◌<◌, ◌≤◌, Err, None, true, IfErr, IfOk, IfSome};
-ghost use Rattle.std.specs.Prelude.{IsFalse, IsOk, IsTrue, OnOk, OnErr};
+ghost use Rattle.std.specs.Prelude.{◌≡◌, ◌≢◌, ◌↔◌, ◌<◌, ◌≤◌, ◌*◌, ◌^◌, Err, None, true, IfErr, IfOk};
+ghost use Rattle.std.specs.Prelude.{IfSome, IsFalse, IsOk, IsTrue, OnOk, OnErr};
 ghost use Rattle.std.specs.Option.{option_map};
 ghost use Rattle.std.specs.FinMap as map;
 ghost use Rattle.std.specs.FinSet as set;
@@ -7,7 +7,7 @@ ghost use Rattle.dots.specs.Values.{Dot};
 ghost use Rattle.dots.specs.DotSets.{run_count};
 ghost use Rattle.dots.specs.Rows.{dots_of, row_of, rows_of};
 ghost use Rattle.dots.specs.Conditions.{Live, Dead};
-ghost use Rattle.member_orset.specs.CellIds.{retired_of};
+ghost use Rattle.member_orset.specs.CellIds.{dead_among, retired_of};
 ghost use Rattle.member_orset.specs.Members.{CanBeJoined, Conflicts, HasField, HasId};
 ghost use Rattle.member_orset.specs.Members.{IsJoinOf, IsPrepared, IsPresent, IsSet};
 ghost use Rattle.member_orset.specs.Members.{IsRefusedFor, IsUnchanged, IsWithinLimits, KeepsIds};
@@ -185,10 +185,12 @@ impl MemberSet {
         self.cells.at(id)
     }
 
-    /// How many places of dead dots aren't used again: at most 16,384, since each had 4,294,967,296 dots.
+    /// How many places of dead dots aren't used again: at most 16,384, since each had 4,294,967,296 dots, which are dead.
     pub fn retired(&self) -> u32
         ensures value { result ≡ self.now.retired }
         ensures limit { result ≤ most_retired }
+        ensures dead { result * 2 ^ 32
+            ≤ set.len (dead_among self.now.known (map.contains_key self.now.live)) }
     {
         let _ = self.context.runs(); // so that the limits of the dots are known
         let _ = self.cells.len(); // so that it is known what holds of them

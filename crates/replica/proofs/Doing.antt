@@ -12,7 +12,7 @@ use Rattle.delta.specs.Standing.{IsDeltaOf}
 use Rattle.replica.specs.declared.refusal.Refusal.{Refusal}
 use Rattle.replica.specs.declared.refusal.Refusal.TheVariants.{NoSuchQueue, AlreadyThere, NotThere, MembersFull, Exhausted, TotalFull, Memory}
 use Rattle.replica.specs.Changes.{Meaning, Refused, Makes, is_exhausted, is_full, is_past_total, is_too_long, within_limits}
-use Rattle.replica.specs.Commands.{IsDone}
+use Rattle.replica.specs.Commands.{IsDone, MayWantMemory}
 use Rattle.replica.specs.Fitting.{HasRoomFor, IsTooFullFor}
 use Rattle.replica.specs.Making.{IsMade}
 use Rattle.replica.specs.Site.{SiteState, IsUnchanged, view_of}
@@ -62,13 +62,28 @@ pub total-means : (r buffer : SiteView) (o : Operation) → is_full r o ≡ fals
 unfolding chosen
 total-means r buffer o p q l e t = λ i. chosen (p i) (q i) (l i) (e i) (t i) o
 
+-- an operation within the limit of totals may want memory, by these tests
+wants : (f b l e t : Bool) (o : Operation) → t ≡ false → MayWantMemory (chosen f b l e t o)
+unfolding chosen
+wants true b l e t o h = tt
+wants false true l e t o h = tt
+wants false false true e t o h = tt
+wants false false false true t o h = tt
+wants false false false false true o h = absurd (true≢false h)
+wants false false false false false o h = tt
+
+-- be it made or refused
+pub limits-want : (r buffer : SiteView) (o : Operation) → is_past_total o ≡ false → MayWantMemory (within_limits r buffer o)
+unfolding chosen
+limits-want r buffer o h = wants (is_full r o) (is_full buffer o) (is_too_long o) (is_exhausted o) (is_past_total o) o h
+
 -- a refusal that is meant comes with a site that stays
 pub refused-done : (old new : SiteState) (m : Meaning) (r : Refusal) → m ≡ Refused r → IsUnchanged old new → IsDone old m new (Err r)
 refused-done old new m r e u = subst (λ m. IsDone old m new (Err r)) (sym e) (inl (refl, u))
 
--- want of memory may stand in place of all
-pub memory-done : (old new : SiteState) (m : Meaning) → IsUnchanged old new → IsDone old m new (Err Memory)
-memory-done old new m u = inr (u, refl)
+-- want of memory may stand in place of what may want some
+pub memory-done : (old new : SiteState) (m : Meaning) → MayWantMemory m → IsUnchanged old new → IsDone old m new (Err Memory)
+memory-done old new m w u = inr (u, refl, w)
 
 module _ (s : SiteState) (d x : DeltaState) (o : Operation) (limits : IsWithinLimits d.members) (stands : IsDeltaOf x (o ∷ [])) where
   -- what finds room isn't full
@@ -158,4 +173,5 @@ module _ (old new : SiteState) (x : DeltaState) (o : Operation) (count time : �
   made-done (Err MembersFull) made = full made
   made-done (Err Exhausted) made = absurd made.taken
   made-done (Err TotalFull) made = absurd made.taken
-  made-done (Err Memory) made = memory-done old new meant (stays old new x count time Memory made made.taken.0 made.taken.1)
+  made-done (Err Memory) made =
+      memory-done old new meant (limits-want (view_of old old.state) (view_of old old.pending) o past_total) (stays old new x count time Memory made made.taken.0 made.taken.1)

@@ -73,12 +73,15 @@ cut-some s [] some = absurd (some refl)
 cut-some s (o ∷ os) some = refl
 
 -- it is refused where no number is left
+pub cut-refused : (state : SiteState) (s : SiteKnowledge) → StandsFor state s → (IsEmpty state.pending → ⊥) → state.frames ≡ MOST_COUNT → cut s s.buffer ≡ (s, NoNumber)
+cut-refused state s stands some most = cut-some s s.buffer (λ none. some ((empty-buffer state s stands).1 none)) ∙ no-number s s.buffer [] (stands.frames ∙ most)
+
+-- so the site stands for what it stood for
 pub cut-exhausted : (old now : SiteState) (s : SiteKnowledge) → old ≡ now → StandsFor now s → (IsEmpty old.pending → ⊥) → old.frames ≡ MOST_COUNT
     → StandsFor now (cut s s.buffer).0 × ((cut s s.buffer).1 ≡ NoNumber)
 cut-exhausted old now s e stands some most =
     let here = subst (λ (r : SiteState). StandsFor r s) (sym e) stands in
-    let is = cut-some s s.buffer (λ none. some ((empty-buffer old s here).1 none)) ∙ no-number s s.buffer [] (here.frames ∙ most) in
-    subst (λ (a : After). StandsFor now a.0 × (a.1 ≡ NoNumber)) (sym is) (stands, refl)
+    subst (λ (a : After). StandsFor now a.0 × (a.1 ≡ NoNumber)) (sym (cut-refused old s here some most)) (stands, refl)
 
 -- else it gives a frame
 pub cut-means : (old now new : SiteState) (frame : Frame) (s : SiteKnowledge) → old ≡ now → StandsFor now s → (IsEmpty old.pending → ⊥) → old.frames < MOST_COUNT → HasCut old frame new
@@ -97,7 +100,11 @@ cut-means old now new frame s e stands some few has =
 
 -- ---- frames of all
 
--- a frame of all is made where a number is left
+-- a frame of all is refused where no number is left
+pub whole-refused : (state : SiteState) (s : SiteKnowledge) → StandsFor state s → state.frames ≡ MOST_COUNT → after_frame s s.known s.buffer ≡ (s, NoNumber)
+whole-refused state s stands most = no-number s s.known s.buffer (stands.frames ∙ most)
+
+-- and made where one is
 pub whole-means : (old now new : SiteState) (frame : Frame) (s : SiteKnowledge) → old ≡ now → StandsFor now s → old.frames < MOST_COUNT → HasCopied old frame new
     → StandsFor new (after_frame s s.known s.buffer).0 × IsFramed frame (after_frame s s.known s.buffer).1
 whole-means old now new frame s e stands few has =

@@ -18,6 +18,7 @@ pub mod NoNumbers
 pub mod PlannedAdds
 pub mod PlannedCommands
 pub mod PlannedWrites
+pub mod SameDeeds
 pub mod SameSites
 pub mod SeenDots
 pub mod SeenLists

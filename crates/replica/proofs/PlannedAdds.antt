@@ -1,5 +1,5 @@
 -- What is planned for an add is what it means.
-use Rattle.std.proofs.Common.{◌≡◌, ◌≢◌, ◌≤◌, ◌<◌, ◌⊎◌, inl, inr, ℕ, suc, max, Bool, true, false, ◌||◌, List, [], ◌∷◌, length, map as each, Contains, Some, refl, sym, ap, subst, ◌∙◌, arith, nat_lt, nat_eq, if◌then◌else◌}
+use Rattle.std.proofs.Common.{◌≡◌, ◌≢◌, ◌≤◌, ◌<◌, inl, inr, ℕ, suc, max, Bool, true, false, ◌||◌, List, [], ◌∷◌, length, map as each, Contains, Some, refl, sym, ap, subst, ◌∙◌, arith, nat_lt, nat_eq, if◌then◌else◌}
 use Rattle.std.proofs.lemmas.Bool.Decides.{nat_tests}
 use Rattle.std.specs.Option.{is_some, option_map, option_map_or}
 use Rattle.std.specs.Ordering.{eq_by_cmp, is_eq}
@@ -25,17 +25,17 @@ use Rattle.member_orset.specs.Reads.{dots_seen_below}
 use Rattle.member_orset.proofs.DotTests.{one_dot}
 use Rattle.replica.specs.declared.planned.Planned.{Planned}
 use Rattle.replica.specs.declared.refusal.Refusal.{Refusal}
-use Rattle.replica.specs.declared.refusal.Refusal.TheVariants.{AlreadyThere, MembersFull, Memory}
+use Rattle.replica.specs.declared.refusal.Refusal.TheVariants.{AlreadyThere, MembersFull}
 use Rattle.replica.specs.Changes.{AddMember, Meaning, Refused, add_at, in_queue, is_exhausted, is_used_up, where_absent, within_limits}
 use Rattle.replica.specs.Changing.{IsChangeOf}
-use Rattle.replica.specs.Commands.{IsToldOf, IsToldOfAdds}
+use Rattle.replica.specs.Commands.{IsToldOf, IsToldOfAdds, MayWantMemory}
 use Rattle.replica.specs.Keeping.{IsKept}
-use Rattle.replica.specs.Planning.{IsPlan}
+use Rattle.replica.specs.Planning.{IsPlan, IsUnplanned}
 use Rattle.replica.specs.Queues.{number_of}
 use Rattle.replica.specs.SetFields.{fields_added}
 use Rattle.replica.specs.Site.{SiteState, meaning_at, view_of}
 use Rattle.replica.specs.SiteViews.{dots_seen, older_dots}
-use Rattle.replica.proofs.Doing.{full-means}
+use Rattle.replica.proofs.Doing.{full-means, limits-want}
 use Rattle.replica.proofs.Fullness.{older-new, seen-older, visible-live}
 use Rattle.replica.proofs.MadeChanges.{add-delta, known-by}
 use Rattle.replica.proofs.SiteChanges.{add-change}
@@ -129,12 +129,16 @@ module _ (s : SiteState) (kept : IsKept s) (limits : IsWithinLimits s.state.memb
     means-next : meant ≡ within_limits (view_of s s.state) (view_of s s.pending) adding
     means-next = add-means ∙ ap (λ ds. where_absent ds (within_limits (view_of s s.state) (view_of s s.pending) adding)) (absent-dots absent)
 
+    -- for which memory may be wanting
+    pub add-wants : MayWantMemory meant
+    add-wants = subst MayWantMemory (sym means-next) (limits-want (view_of s s.state) (view_of s s.pending) adding refl)
+
     -- what is told of adds is told of it
-    pub add-told : (refusal : Refusal) → IsToldOfAdds s refusal → is_exhausted adding ≡ true → (refusal ≡ Memory) ⊎ (meant ≡ Refused refusal)
+    pub add-told : (refusal : Refusal) → IsToldOfAdds s refusal → is_exhausted adding ≡ true → IsUnplanned meant refusal
     add-told refusal told exhausted = by (told member penalty paused label exhausted)
       where
-        by : IsToldOf s adding refusal → (refusal ≡ Memory) ⊎ (meant ≡ Refused refusal)
-        by (inl e) = inl e
+        by : IsToldOf s adding refusal → IsUnplanned meant refusal
+        by (inl e) = inl (e, add-wants)
         by (inr e) = inr (means-next ∙ e)
 
     -- a context of too many runs is told of

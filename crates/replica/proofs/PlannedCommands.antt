@@ -1,5 +1,5 @@
 -- What is planned for each command is what it means.
-use Rattle.std.proofs.Common.{◌≡◌, ◌≤◌, ◌<◌, ◌⊎◌, inl, inr, ℕ, suc, ◌+◌, true, false, List, length, Some, Result, Err, refl, sym, ap, subst, ◌∙◌, arith, nat_lt}
+use Rattle.std.proofs.Common.{◌≡◌, ◌≤◌, ◌<◌, inl, inr, ℕ, suc, ◌+◌, true, false, List, length, Some, Result, Err, refl, sym, ap, subst, ◌∙◌, arith, nat_lt}
 use Rattle.std.proofs.lemmas.Bool.Decides.{nat_tests}
 use Rattle.std.specs.FinMap as map
 use Rattle.std.specs.FinSet as set
@@ -12,19 +12,19 @@ use Rattle.member_orset.specs.Members.{IsWithinLimits}
 use Rattle.delta.specs.DeltaStates as deltas
 use Rattle.delta.specs.DeltaStates.{DeltaState}
 use Rattle.replica.specs.declared.refusal.Refusal.{Refusal}
-use Rattle.replica.specs.declared.refusal.Refusal.TheVariants.{TotalFull, Memory}
+use Rattle.replica.specs.declared.refusal.Refusal.TheVariants.{TotalFull}
 use Rattle.replica.specs.Changes.{CountCall, Meaning, Refused, count_at, in_queue, within_limits}
 use Rattle.replica.specs.Changing.{IsChangeOf}
-use Rattle.replica.specs.Commands.{IsDone}
+use Rattle.replica.specs.Commands.{IsDone, MayWantMemory}
 use Rattle.replica.specs.Keeping.{IsKept}
 use Rattle.replica.specs.Making.{IsMade}
 use Rattle.replica.specs.declared.planned.Planned.{Planned}
-use Rattle.replica.specs.Planning.{IsPlan}
+use Rattle.replica.specs.Planning.{IsPlan, IsUnplanned}
 use Rattle.replica.proofs.SiteChanges.{count-change}
 use Rattle.replica.specs.Queues.{number_of}
 use Rattle.replica.specs.Site.{SiteState, IsUnchanged, meaning_at, view_of}
 use Rattle.replica.proofs.Below.{below-agrees, new-agrees}
-use Rattle.replica.proofs.Doing.{made-done, memory-done, refused-done, total-means}
+use Rattle.replica.proofs.Doing.{limits-want, made-done, memory-done, refused-done, total-means}
 use Rattle.replica.proofs.Fullness.{full-count, too_long-count}
 use Rattle.replica.proofs.MadeChanges.{count-delta, nothing-held}
 
@@ -50,7 +50,15 @@ module _ (s : SiteState) (kept : IsKept s) (limits : IsWithinLimits s.state.memb
         test : (n : ℕ) → MOST_CALLS ≤ n → nat_lt MOST_CALLS (suc n) ≡ true
         test n h = grind (arith, nat_tests)
 
-    -- and one below it is raised
+    -- one below it isn't past the greatest with one call more
+    below-most : (n : ℕ) → n < MOST_CALLS → nat_lt MOST_CALLS (suc n) ≡ false
+    below-most n h = grind (arith, nat_tests)
+
+    -- so that memory may be wanting for it
+    pub count-wants : so_far < MOST_CALLS → MayWantMemory (meaning_at s (CountCall queue calls))
+    count-wants less = subst MayWantMemory (sym count-means) (limits-want (view_of s s.state) (view_of s s.pending) counting (below-most so_far less))
+
+    -- and it is raised
     pub count-plan : (planned : Planned) (total : ℕ) → so_far < MOST_CALLS → total ≡ so_far + 1 → number < length s.names
         → planned.count ≡ s.last_count → planned.time ≡ s.last_time
         → planned.change.members.known ≡ set.empty → planned.change.members.live ≡ map.empty
@@ -61,7 +69,7 @@ module _ (s : SiteState) (kept : IsKept s) (limits : IsWithinLimits s.state.memb
       means = count-means;
       stands = count-delta planned.change s.site number calls (suc so_far) (omega arith) known (nothing-held planned.change.members.live live) totals;
       not_exhausted = refl;
-      not_past_total = test so_far less;
+      not_past_total = below-most so_far less;
       counted = count ∙ omega arith;
       timed = time ∙ omega arith;
       change = subst (λ n. IsChangeOf s n planned.time planned.change) (sym count) (subst (λ t. IsChangeOf s s.last_count t planned.change) (sym time)
@@ -74,9 +82,6 @@ module _ (s : SiteState) (kept : IsKept s) (limits : IsWithinLimits s.state.memb
 
         totals : planned.change.totals.entries ≡ join_of map.empty (single (record { site = s.site; queue = number }) (alone calls (suc so_far)))
         totals = entries ∙ ap (λ n. join_of map.empty (single (record { site = s.site; queue = number }) (alone calls n))) (is ∙ one so_far)
-
-        test : (n : ℕ) → n < MOST_CALLS → nat_lt MOST_CALLS (suc n) ≡ false
-        test n h = grind (arith, nat_tests)
 
 -- what comes of a planned change is what was meant
 pub plan-done : (old new : SiteState) (meant : Meaning) (planned : Planned) (result : Result (Unit {0}) Refusal) → IsKept old → IsWithinLimits old.state.members → IsWithinLimits old.pending.members
@@ -94,6 +99,6 @@ itself s = record { site = refl; names = refl; state = delta s.state; pending = 
     delta d = record { members = record { known = refl; live = refl; ids = refl; spent = refl; retired = refl }; totals = refl }
 
 -- where nothing was planned the site stays, and what was told is what was meant
-pub refusal-done : (old : SiteState) (meant : Meaning) (refusal : Refusal) → (refusal ≡ Memory) ⊎ (meant ≡ Refused refusal) → IsDone old meant old (Err refusal)
-refusal-done old meant refusal (inl e) = subst (λ r. IsDone old meant old (Err r)) (sym e) (memory-done old old meant (itself old))
+pub refusal-done : (old : SiteState) (meant : Meaning) (refusal : Refusal) → IsUnplanned meant refusal → IsDone old meant old (Err refusal)
+refusal-done old meant refusal (inl e) = subst (λ r. IsDone old meant old (Err r)) (sym e.0) (memory-done old old meant e.1 (itself old))
 refusal-done old meant refusal (inr e) = refused-done old old meant refusal e (itself old)

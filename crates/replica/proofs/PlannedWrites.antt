@@ -1,5 +1,5 @@
 -- What is planned for a remove and for a write is what they mean.
-use Rattle.std.proofs.Common.{◌≡◌, ◌≢◌, ◌≤◌, ◌<◌, ◌⊎◌, inl, inr, ℕ, suc, max, Bool, true, false, List, [], ◌∷◌, length, map as each, Contains, Option, Some, refl, sym, ap, subst, ◌∙◌, arith, nat_lt, nat_eq, ◌==◌, true≢false, if◌then◌else◌}
+use Rattle.std.proofs.Common.{◌≡◌, ◌≢◌, ◌≤◌, ◌<◌, inl, inr, ℕ, suc, max, Bool, true, false, List, [], ◌∷◌, length, map as each, Contains, Option, Some, refl, sym, ap, subst, ◌∙◌, arith, nat_lt, nat_eq, ◌==◌, true≢false, if◌then◌else◌}
 use Rattle.std.proofs.lemmas.Bool.Decides.{nat_tests}
 use Rattle.std.specs.FinMap as map
 use Rattle.std.specs.FinSet as set
@@ -13,18 +13,18 @@ use Rattle.member_orset.specs.Members.{IsWithinLimits}
 use Rattle.member_orset.specs.Reads.{dots_seen_below}
 use Rattle.replica.specs.declared.planned.Planned.{Planned}
 use Rattle.replica.specs.declared.refusal.Refusal.{Refusal}
-use Rattle.replica.specs.declared.refusal.Refusal.TheVariants.{MembersFull, Memory}
+use Rattle.replica.specs.declared.refusal.Refusal.TheVariants.{MembersFull}
 use Rattle.replica.specs.Changes.{Meaning, Refused, RemoveMember, in_queue, meaning_of_setting, remove_of, time_replaced, where_present, within_limits, write_at}
 use Rattle.replica.specs.Changing.{IsChangeOf}
-use Rattle.replica.specs.Commands.{IsToldOf, IsToldOfWrites}
+use Rattle.replica.specs.Commands.{IsToldOf, IsToldOfWrites, MayWantMemory}
 use Rattle.replica.specs.Keeping.{IsKept}
-use Rattle.replica.specs.Planning.{IsPlan}
+use Rattle.replica.specs.Planning.{IsPlan, IsUnplanned}
 use Rattle.replica.specs.Queues.{number_of}
 use Rattle.replica.specs.SetFields.{fields_written}
 use Rattle.replica.specs.Site.{SiteState, meaning_at, view_of}
 use Rattle.replica.specs.SiteViews.{dots_seen, greatest, older_dots}
 use Rattle.replica.specs.Writing.{written_to}
-use Rattle.replica.proofs.Doing.{full-means}
+use Rattle.replica.proofs.Doing.{full-means, limits-want}
 use Rattle.replica.proofs.Fullness.{older-live, seen-older}
 use Rattle.replica.proofs.MadeChanges.{held_by, known-by, nothing-held, remove-delta, write-delta}
 use Rattle.replica.proofs.PlannedAdds.{not-used-up, used-up}
@@ -73,6 +73,11 @@ module _ (s : SiteState) (kept : IsKept s) (limits : IsWithinLimits s.state.memb
       ]
 
   -- ---- a remove of them
+
+  -- memory may be wanting for it, where some are seen
+  pub remove-wants : (meant : Meaning) → meant ≡ where_present seen (within_limits (view_of s s.state) (view_of s s.pending) (remove_of seen)) → seen ≢ [] → MayWantMemory meant
+  remove-wants meant means some = subst MayWantMemory (sym (means ∙ where-some seen _ some)) (limits-want (view_of s s.state) (view_of s s.pending) (remove_of seen) refl)
+
   pub remove-plan : (meant : Meaning) (planned : Planned) → meant ≡ where_present seen (within_limits (view_of s s.state) (view_of s s.pending) (remove_of seen)) → seen ≢ []
       → planned.count ≡ s.last_count → planned.time ≡ s.last_time
       → planned.change.members.known ≡ set.from_list its_dots → planned.change.members.live ≡ map.empty → planned.change.totals.entries ≡ map.empty
@@ -109,12 +114,16 @@ module _ (s : SiteState) (kept : IsKept s) (limits : IsWithinLimits s.state.memb
       write-means : meant ≡ within_limits (view_of s s.state) (view_of s s.pending) writing
       write-means = where-some seen _ some
 
+      -- memory may be wanting for it
+      pub write-wants : MayWantMemory meant
+      write-wants = subst MayWantMemory (sym write-means) (limits-want (view_of s s.state) (view_of s s.pending) writing refl)
+
       -- what is told of writes is told of it, where its time is past the greatest
-      pub write-told : (dots : List Dot) (refusal : Refusal) → dots ≡ its_dots → IsToldOfWrites s dots refusal → (IsCount next_time → ⊥) → (refusal ≡ Memory) ⊎ (meant ≡ Refused refusal)
+      pub write-told : (dots : List Dot) (refusal : Refusal) → dots ≡ its_dots → IsToldOfWrites s dots refusal → (IsCount next_time → ⊥) → IsUnplanned meant refusal
       write-told dots refusal are told none = by (told queue interface setting are (used-up (max s.last_time (greatest (λ d. time_replaced (view_of s s.state).dots setting d.0) seen)) none))
         where
-          by : IsToldOf s writing refusal → (refusal ≡ Memory) ⊎ (meant ≡ Refused refusal)
-          by (inl e) = inl e
+          by : IsToldOf s writing refusal → IsUnplanned meant refusal
+          by (inl e) = inl (e, write-wants)
           by (inr e) = inr (write-means ∙ e)
 
       -- a context of too many runs is told of

@@ -11,7 +11,7 @@ pub delta-turned : (d e : DeltaState) → IsSame d e → IsSame e d
 delta-turned d e same = record { conditions = λ dot. sym (same.conditions dot); known = sym same.known; totals = sym same.totals }
 
 -- and from one to the next
-delta-through : (d e f : DeltaState) → IsSame d e → IsSame e f → IsSame d f
+pub delta-through : (d e f : DeltaState) → IsSame d e → IsSame e f → IsSame d f
 delta-through d e f one two = record { conditions = λ dot. one.conditions dot ∙ two.conditions dot; known = one.known ∙ two.known; totals = one.totals ∙ two.totals }
 
 -- a site says the same as itself

@@ -1,5 +1,5 @@
 -- The dots that a command goes over: they rise, each has its member, and they are found queue by queue.
-use Rattle.std.proofs.Common.{◌≡◌, ℕ, zero, suc, ◌+◌, ◌<◌, Bool, true, false, ◌&&◌, ◌||◌, cond, filter, List, [], ◌∷◌, ◌++◌, get_or, map as each, Contains, Option, Some, None, inl, inr, if◌then◌else◌, refl, sym, ap, subst, ◌∙◌, arith, true≢false}
+use Rattle.std.proofs.Common.{◌≡◌, ℕ, zero, suc, ◌+◌, ◌<◌, Bool, true, false, ◌&&◌, ◌||◌, cond, filter, List, [], ◌∷◌, ◌++◌, get_or, map as each, Contains, Option, Some, None, Result, Ok, Err, OnErr, inl, inr, if◌then◌else◌, refl, sym, ap, subst, ◌∙◌, arith, true≢false}
 use Rattle.std.specs.Prelude.{bytes_eq}
 use Rattle.std.specs.Cmp.{eq_by_cmp_equiv}
 use Rattle.std.specs.List.{All, AllByRecursion, IsDistinct, cons_option, filter_map, list_any}
@@ -28,7 +28,7 @@ use Rattle.dots.proofs.DotOrder.{dots_exact, dots_total}
 use Rattle.dots.proofs.Filters.{filter-has, passes}
 use Rattle.dots.proofs.ItemOrder.{in_order-has, in_order-list, in_order-rises, units}
 use Rattle.dots.proofs.MemberOrder.{exact_members, members_total}
-use Rattle.dots.proofs.Membership.{any-in, any-map, cases-in, in-any, in-some, nothing-in, same-tests, some-in}
+use Rattle.dots.proofs.Membership.{any-in, any-map, cases-in, first-in, in-any, in-some, nothing-in, same-tests, some-in}
 use Rattle.dots.proofs.SortedEntries.{below_first}
 use Rattle.dots.proofs.TruthTables.{equal_of, less_of, truth}
 use Rattle.member_orset.specs.Members.{Holding, Members, dot_view_of}
@@ -183,6 +183,21 @@ once-append (x ∷ xs) ys once other apart =
     both [] h = differs x ys (apart x (ap (λ b. b || list_any (is_dot x) xs) (same_itself x)))
     both (z ∷ zs) h = (h.0, both zs h.1)
 
+-- what holds holds where a result is an error
+pub of-error : {T E : Type 0} (result : Result T E) (P : Type 0) → P → OnErr result P
+of-error (Ok x) P holds = tt
+of-error (Err e) P holds = holds
+
+-- of two lists that are none together the first is none
+none-first : (xs ys : List Dot) → xs ++ ys ≡ [] → xs ≡ []
+none-first [] ys e = refl
+none-first (x ∷ xs) ys e = absurd (cc)
+
+-- and so is the second
+none-second : (xs ys : List Dot) → xs ++ ys ≡ [] → ys ≡ []
+none-second [] ys e = e
+none-second (x ∷ xs) ys e = absurd (cc)
+
 module _ (r : DotView) (interface : List ℕ) where
   -- the interface's member in a queue
   abbrev in_queue : ℕ → Member
@@ -220,6 +235,15 @@ module _ (r : DotView) (interface : List ℕ) where
       later : (a : Bool) {b : Bool} → b ≡ true → (a || b) ≡ true
       later true e = refl
       later false e = e
+
+  -- where there is none, there is none in any of these queues
+  pub none-of-them : (n queue : ℕ) → queue < n → dots_below r interface n ≡ [] → dots_of r (in_queue queue) ≡ []
+  unfolding dots_below
+  none-of-them zero queue l e = absurd (omega (arith, l))
+  none-of-them (suc n) queue l e = elim (cases_lt queue n) [
+    | inl m ↦ none-of-them n queue m (none-first (dots_below r interface n) (dots_of r (in_queue n)) e)
+    | inr m ↦ let same : queue ≡ n = omega arith in subst (λ k. dots_of r (in_queue k) ≡ []) (sym same) (none-second (dots_below r interface n) (dots_of r (in_queue n)) e)
+  ]
 
   -- none of them comes twice
   below-once : (n : ℕ) → AreOnce (dots_below r interface n)
@@ -294,6 +318,16 @@ module _ (r : DotView) (interface : List ℕ) where
       any-map (is_dot q) (λ p. p.0) (dots_seen r None interface)
       ∙ any-in (λ (p : Dot × Member). is_dot q p.0) (dots_seen r None interface) p
       (some-in f (in_order r.visible) q p (element (in_order r.visible) q (in_order-has dots_total r.visible q ∙ own.visible)) is) (same_itself q)
+
+  -- where none is seen, there is none in the queues below any number
+  pub none-below : (n : ℕ) → dots_seen r None interface ≡ [] → dots_below r interface n ≡ []
+  none-below n none = by (dots_below r interface n) refl
+    where
+      by : (dots : List Dot) → dots_below r interface n ≡ dots → dots_below r interface n ≡ []
+      by [] e = e
+      by (q ∷ qs) e =
+          let b = below-own n q (listed (dots_below r interface n) q (subst (λ dots. Contains dots q) (sym e) (first-in q qs))) in
+          absurd (true≢false (sym (own-seen q b.queue b.own) ∙ ap (λ ps. list_any (is_dot q) (each (λ p. p.0) ps)) none))
 
   -- where all queues are below a number, the dots queue by queue, sorted, are all that are seen
   pub by-queue : (n : ℕ) → ((q : Dot) (m : Member) → r.member q ≡ Some m → m.queue < n) → (sorted : List Dot) → IsPermutation (dots_below r interface n) sorted → IsSorted dot_cmp sorted

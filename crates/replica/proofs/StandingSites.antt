@@ -130,7 +130,7 @@ follows-means old new s change result stands follows =
 pub done-means : (old new : SiteState) (s : SiteKnowledge) (change : Change) (result : Result (Unit {0}) Refusal) → StandsFor old s
     → IsDone old (meaning_at old change) new result → IsMeant old new result (step old.site old.names s (Do change))
 done-means old new s change result stands (inl follows) = inl (follows-means old new s change result stands follows)
-done-means old new s change result stands (inr other) = inr other
+done-means old new s change result stands (inr other) = inr (other.0, other.1)
 
 -- ---- frames
 

@@ -246,15 +246,15 @@ module _ (old : SiteState) (d : DeltaState) (s : SiteKnowledge) (k : Knowledge) 
       within m n h = grind (arith, nat_tests)
 
   -- and else it is refused
-  many-cells : MOST_LIVE < cells_joined old.state.members d.members → (steps.take s k).1 ≡ steps.CellsFull
-  many-cells many = ap (λ b. (outcome_by b (nat_lt MOST_RUNS (run_count (known_dots (k ++ s.known))))).1) (past MOST_LIVE (set.len (visible_dots (k ++ s.known))) (subst (λ n. MOST_LIVE < n) cells-are many))
+  pub many-cells : MOST_LIVE < cells_joined old.state.members d.members → steps.take s k ≡ (s, steps.CellsFull)
+  many-cells many = ap (λ b. outcome_by b (nat_lt MOST_RUNS (run_count (known_dots (k ++ s.known))))) (past MOST_LIVE (set.len (visible_dots (k ++ s.known))) (subst (λ n. MOST_LIVE < n) cells-are many))
     where
       past : (m n : ℕ) → m < n → nat_lt m n ≡ true
       past m n h = grind (arith, nat_tests)
 
-  many-runs : cells_joined old.state.members d.members ≤ MOST_LIVE → MOST_RUNS < runs_joined old.state.members d.members → (steps.take s k).1 ≡ steps.RunsFull
+  pub many-runs : cells_joined old.state.members d.members ≤ MOST_LIVE → MOST_RUNS < runs_joined old.state.members d.members → steps.take s k ≡ (s, steps.RunsFull)
   many-runs few many =
-      λ i. (outcome_by (within MOST_LIVE (set.len (visible_dots (k ++ s.known))) (subst (λ n. n ≤ MOST_LIVE) cells-are few) i) (past MOST_RUNS (run_count (known_dots (k ++ s.known))) (subst (λ n. MOST_RUNS < n) runs-are many) i)).1
+      λ i. outcome_by (within MOST_LIVE (set.len (visible_dots (k ++ s.known))) (subst (λ n. n ≤ MOST_LIVE) cells-are few) i) (past MOST_RUNS (run_count (known_dots (k ++ s.known))) (subst (λ n. MOST_RUNS < n) runs-are many) i)
     where
       within : (m n : ℕ) → n ≤ m → nat_lt m n ≡ false
       within m n h = grind (arith, nat_tests)
@@ -266,8 +266,8 @@ module _ (old : SiteState) (d : DeltaState) (s : SiteKnowledge) (k : Knowledge) 
   pub fault-meant : (r : Result (Unit {0}) JoinFault) → IsRefusedJoin old.state d (λ f. r ≡ Err f)
       → (fault : JoinFault) → r ≡ Err fault → IsMeantFault (take_fault_of fault) (steps.take s k).1
   fault-meant r refused join.Conflict is = tt
-  fault-meant r refused join.CellsFull is = many-cells (refused.cells_full.0 is).1
-  fault-meant r refused join.RunsFull is = let full = refused.runs_full.0 is in many-runs full.1 full.2
+  fault-meant r refused join.CellsFull is = ap (λ a. a.1) (many-cells (refused.cells_full.0 is).1)
+  fault-meant r refused join.RunsFull is = let full = refused.runs_full.0 is in ap (λ a. a.1) (many-runs full.1 full.2)
   fault-meant r refused join.Memory is = tt
 
   -- and so is a take

@@ -27,7 +27,7 @@ unchanged-joined d same x e u j = record {
 }
 
 -- a copy has the same live dots
-copied-live : (x copy : DeltaState) → IsSame x copy → x.members.live ≡ copy.members.live
+pub copied-live : (x copy : DeltaState) → IsSame x copy → x.members.live ≡ copy.members.live
 copied-live x copy same = sym (says_the_same x.members copy.members same.conditions same.known).live
 
 -- and what is joined with it is joined with the first

@@ -1,5 +1,5 @@
 -- What a command does to a site, and what it is refused for.
-use Rattle.std.specs.Prelude.{ℕ, ◌≡◌, ◌⊎◌, max, Bool, true, Option, Result, Ok, Err, List, [], ◌∷◌, map as each}
+use Rattle.std.specs.Prelude.{⊤, ℕ, ◌≡◌, ◌⊎◌, max, Bool, true, Option, Result, Ok, Err, List, [], ◌∷◌, map as each}
 use Rattle.dots.specs.declared.label.Label.{Label}
 use Rattle.dots.specs.declared.member.Member.{Member}
 use Rattle.dots.specs.Values.{Dot}
@@ -9,7 +9,7 @@ use Rattle.delta.specs.DeltaStates.{DeltaState}
 use Rattle.delta.specs.Joining.{Agree, IsJoinOf}
 use Rattle.delta.specs.Standing.{IsDeltaOf}
 use Rattle.replica.specs.declared.refusal.Refusal.{Refusal}
-use Rattle.replica.specs.declared.refusal.Refusal.TheVariants.{Memory}
+use Rattle.replica.specs.declared.refusal.Refusal.TheVariants.{AlreadyThere, Memory, NoSuchQueue, NotThere, TotalFull}
 use Rattle.replica.specs.Changes.{Meaning, Refused, Makes, add_at, is_exhausted, within_limits, write_at}
 use Rattle.replica.specs.SiteViews.{count_used, dots_seen, time_used}
 use Rattle.replica.specs.Site.{SiteState, IsUnchanged, view_of}
@@ -37,9 +37,17 @@ abbrev pub Follows : SiteState → Meaning → SiteState → Result (Unit {0}) R
 Follows old (Makes o) new result = (result ≡ Ok tt) × HasMade old o new
 Follows old (Refused refusal) new result = (result ≡ Err refusal) × IsUnchanged old new
 
--- what is meant comes of a command; or memory is wanting, and nothing is changed
+-- what is meant may want memory: all but the refusals that are told without any
+abbrev pub MayWantMemory : Meaning → Type 0
+MayWantMemory (Refused NoSuchQueue) = ⊥
+MayWantMemory (Refused AlreadyThere) = ⊥
+MayWantMemory (Refused NotThere) = ⊥
+MayWantMemory (Refused TotalFull) = ⊥
+MayWantMemory meant = ⊤
+
+-- what is meant comes of a command; or memory is wanting, where what is meant may want some, and nothing is changed
 abbrev pub IsDone : SiteState → Meaning → SiteState → Result (Unit {0}) Refusal → Type 0
-IsDone old meant new result = Follows old meant new result ⊎ (IsUnchanged old new × (result ≡ Err Memory))
+IsDone old meant new result = Follows old meant new result ⊎ (IsUnchanged old new × (result ≡ Err Memory) × MayWantMemory meant)
 
 -- what is told where no number is left for an operation: the refusal that is meant, or that memory is wanting
 abbrev pub IsToldOf : SiteState → Operation → Refusal → Type 0

@@ -8,6 +8,7 @@ use Rattle.replica.specs.declared.refusal.Refusal.{Refusal}
 use Rattle.replica.specs.declared.refusal.Refusal.TheVariants.{Memory}
 use Rattle.replica.specs.Changes.{Meaning, Refused, is_exhausted, is_past_total, within_limits}
 use Rattle.replica.specs.Changing.{IsChangeOf}
+use Rattle.replica.specs.Commands.{MayWantMemory}
 use Rattle.replica.specs.Site.{SiteState, view_of}
 use Rattle.replica.specs.SiteViews.{count_used, time_used}
 
@@ -24,7 +25,11 @@ pub record IsPlan (s : SiteState) (meant : Meaning) (planned : Planned) : Type 0
   pub change : IsChangeOf s planned.count planned.time planned.change
   pub limits : IsWithinLimits planned.change.members
 
--- what is planned for a meaning, or why nothing is: the refusal that is meant, or that memory is wanting
+-- why nothing is planned for a meaning: the refusal that is meant, or that memory is wanting, where what is meant may want some
+abbrev pub IsUnplanned : Meaning → Refusal → Type 0
+IsUnplanned meant refusal = ((refusal ≡ Memory) × MayWantMemory meant) ⊎ (meant ≡ Refused refusal)
+
+-- what is planned for a meaning, or why nothing is
 abbrev pub IsPlanned : SiteState → Meaning → Result Planned Refusal → Type 0
 IsPlanned s meant (Ok planned) = IsPlan s meant planned
-IsPlanned s meant (Err refusal) = (refusal ≡ Memory) ⊎ (meant ≡ Refused refusal)
+IsPlanned s meant (Err refusal) = IsUnplanned meant refusal

@@ -1,4 +1,5 @@
 ghost use Rattle.std.specs.Prelude.{◌≡◌, ◌↔◌, IsTrue};
+ghost use Rattle.dots.specs.WithinLimits.{IsLabel, IsPause};
 
 use dots::{Interface, Label, Pause, Penalty, QueueName};
 
@@ -56,6 +57,21 @@ pub enum Command {
     },
 }
 
+// Makes known that both texts of a label are texts.
+fn see_label(label: &Label)
+    ensures { IsLabel label.now }
+{
+    let _ = label.name.as_bytes();
+    let _ = label.state.as_bytes();
+}
+
+// Makes known what holds of a pause.
+fn see_pause(pause: &Pause)
+    ensures { IsPause pause.now }
+{
+    let _ = pause.reason();
+}
+
 // The name of a queue once more, where there is one.
 fn copy_name(name: &Option<QueueName>) -> Option<QueueName>
     ensures { result ≡ name.now }
@@ -67,6 +83,9 @@ fn copy_name(name: &Option<QueueName>) -> Option<QueueName>
 }
 
 impl Command {
+    ghost use Rattle.replica.specs.Changes.{change_of};
+    ghost use Rattle.replica.specs.Promises.{IsChange};
+
     /// The same command once more. It takes no memory.
     pub fn copy(&self) -> Command
         ensures { result ≡ self.now }
@@ -113,6 +132,44 @@ impl Command {
             Command::Abandoned { queue } => Command::Abandoned {
                 queue: queue.copy(),
             },
+        }
+    }
+
+    /// Makes known that its values are within their limits, as their types have it. It does nothing.
+    pub fn see_limits(&self)
+        ensures { IsChange (change_of self.now) }
+    {
+        match self {
+            Command::Add {
+                interface,
+                penalty,
+                label,
+                ..
+            } => {
+                let _ = interface.as_bytes();
+                let _ = penalty.get();
+                see_label(label);
+            }
+            Command::Remove { interface, .. } => {
+                let _ = interface.as_bytes();
+            }
+            Command::Pause {
+                interface,
+                pause,
+                ..
+            } => {
+                let _ = interface.as_bytes();
+                see_pause(pause);
+            }
+            Command::Penalty {
+                interface,
+                penalty,
+                ..
+            } => {
+                let _ = interface.as_bytes();
+                let _ = penalty.get();
+            }
+            Command::Completed { .. } | Command::Abandoned { .. } => {}
         }
     }
 

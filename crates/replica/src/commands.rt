@@ -71,7 +71,7 @@ impl Replica {
     /// 5 `Exhausted` where an add's next count, or the next time of an add, a pause or a penalty, is past 2^40. The next time of an
     /// add is one past the site's last; that of the others is past all that they replace too;
     /// 6 `TotalFull` where the site's own total of these calls in the queue is 1,000,000,000;
-    /// 7 `Memory`, which may stand in place of each. The order is this project's own.
+    /// 7 `Memory`, which may stand in place of 4 and 5, and of what would be made, and never of the others. The order is this project's own.
     pub fn command(&mut self, command: Command) -> Result<(), Refusal>
         ensures meaning { IsDone self.old (meaning_at self.old (change_of command))
             self.new result }

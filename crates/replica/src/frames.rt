@@ -1,7 +1,9 @@
 //! Frames: what a site sends to others, and what it takes of them.
-ghost use Rattle.std.specs.Prelude.{◌≡◌, ◌↔◌, Err, IfErr, IfOk, IfSome, None, Ok, OnErr, OnOk};
+ghost use Rattle.std.specs.Prelude.{◌≡◌, ◌↔◌, Err, IfErr, IfOk, IfSome, IsOk, None, Ok, OnErr};
+ghost use Rattle.std.specs.Prelude.{OnOk};
 ghost use Rattle.dots.specs.Knowledge.{Knowledge};
 ghost use Rattle.delta.specs.DeltaStates.{IsEmpty};
+ghost use Rattle.delta.specs.Joining.{IsPrepared};
 ghost use Rattle.delta.specs.Standing.{IsDeltaOf};
 ghost use Rattle.delta.specs.Frames.{IsInRanges};
 ghost use Rattle.replica.specs.Framing.{HasCopied, HasCut, IsMeantCut, IsMeantFrame};
@@ -9,7 +11,8 @@ ghost use Rattle.replica.specs.Site.{IsUnchanged};
 ghost use Rattle.replica.specs.Standing.{StandsFor};
 ghost use Rattle.replica.specs.Steps.{Cut, SiteKnowledge, Take, Whole, step};
 ghost use Rattle.replica.specs.Taking.{HasNoneLater, HasTaken, IsMeantTake};
-ghost use Rattle.replica.specs.Taking.{IsRefusedFor, IsRefusedTake, MayTake, take_fault_of};
+ghost use Rattle.replica.specs.Taking.{IsRefusedFor, IsRefusedTake, MayHear, MayTake};
+ghost use Rattle.replica.specs.Taking.{take_fault_of};
 
 use crate::foreign::hear;
 use crate::{CutFault, Frame, Replica, TakeFault};
@@ -95,11 +98,14 @@ impl Replica {
     /// the site hasn't made: a dot past its last count, a field of a live dot past its last time, or a total past its own;
     /// 3 `Conflict`, exactly where a dot is live in both with two members, or with a field of one stamp and two values;
     /// 4 `CellsFull`, exactly where the join has more than 16,384 live dots; 5 `RunsFull`, exactly where the known dots of
-    /// both make more than 65,536 runs; 6 `Memory`. The first two are this project's own.
+    /// both make more than 65,536 runs; 6 `Memory`, which doesn't come where the state was prepared for what the frame says
+    /// (`Delta::prepared`). The first two are this project's own.
     pub fn take(&mut self, frame: Frame) -> Result<(), (TakeFault, Frame)>
         ensures joined { OnOk result (HasTaken self.old frame.delta self.new) }
         ensures may { OnOk result (MayTake self.old frame.delta) }
         ensures refusals { IsRefusedTake self.old frame.delta (λ fault. IsRefusedFor result fault) }
+        ensures prepared { MayHear self.old frame.delta → IsPrepared self.old.state frame.delta
+            → IsOk result }
         ensures back { IfErr result (λ refused. refused.1 ≡ frame) }
         ensures unchanged { OnErr result (IsUnchanged self.old self.new) }
         ensures meaning { (s : SiteKnowledge) (k : Knowledge) → StandsFor self.old s

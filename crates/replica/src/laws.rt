@@ -1,11 +1,12 @@
 //! What the definitions of commands and steps promise, and of what stands for them. The functions have no body: their contracts are the laws.
-ghost use Rattle.std.specs.Prelude.{◌≡◌, ◌<◌, ℕ, List, Result, suc};
-ghost use Rattle.dots.specs.declared.limits.TheConstants.{MOST_COUNT};
+ghost use Rattle.std.specs.Prelude.{◌≡◌, ◌<◌, ◌≤◌, ℕ, List, Result, suc};
+ghost use Rattle.dots.specs.declared.limits.TheConstants.{MOST_COUNT, MOST_LIVE, MOST_RUNS};
 ghost use Rattle.dots.specs.Operations.{Operation};
 ghost use Rattle.dots.specs.Knowledge.{Knowledge};
+ghost use Rattle.member_orset.specs.Members.{cells_joined, runs_joined};
 ghost use Rattle.delta.specs.declared.frame.Frame.{Frame};
 ghost use Rattle.delta.specs.DeltaStates.{DeltaState, IsEmpty, IsSame};
-ghost use Rattle.delta.specs.Frames.{IsInRanges, frame_of};
+ghost use Rattle.delta.specs.Frames.{IsInRanges, IsSameFrame, frame_of};
 ghost use Rattle.delta.specs.Standing.{IsDeltaOf};
 ghost use Rattle.replica.specs.declared.refusal.Refusal.{Refusal};
 ghost use Rattle.replica.specs.Promises.{ForeseesOneMore, OlderAreNamed, MakesTraces};
@@ -19,10 +20,11 @@ ghost use Rattle.replica.specs.Keeping.{IsKept};
 ghost use Rattle.replica.specs.MadeOperations.{IsMadeAt};
 ghost use Rattle.replica.specs.Queues.{AreQueues};
 ghost use Rattle.replica.specs.Site.{IsSameSite, IsUnchanged, SiteState, meaning_at};
+ghost use Rattle.replica.specs.Site.{rows_of, sums_of};
 ghost use Rattle.replica.specs.SiteViews.{SiteView, site_view};
 ghost use Rattle.replica.specs.Standing.{StandsFor, result_of};
-ghost use Rattle.replica.specs.Steps.{Cut, Do, Nothing, SiteKnowledge, Step, Take, Taken, Whole};
-ghost use Rattle.replica.specs.Steps.{new_site, step};
+ghost use Rattle.replica.specs.Steps.{CellsFull, Cut, Do, NoNumber, Nothing, RunsFull};
+ghost use Rattle.replica.specs.Steps.{SiteKnowledge, Step, Take, Taken, Whole, new_site, step};
 ghost use Rattle.replica.specs.Taking.{HasNoneLater, MayTake};
 
 /// The visible and the known dots that a site view gives with one operation more are those of the knowledge that has it: so
@@ -125,12 +127,60 @@ pub fn deeds_stand_for_steps()
         StandsFor new after.0 × (after.1 ≡ Taken) }
 {}
 
+/// What is refused at a replica is refused in the step of the site that it stands for, which changes nothing: a cut of a buffer that isn't empty, and a frame of all
+/// that is known, where no number is left; and a take where too many dots would be live, or else the known ones would have too many runs (this project's own).
+pub fn refusals_stand_for_steps()
+    ensures cut { (state : SiteState) (s : SiteKnowledge) → StandsFor state s
+        → (IsEmpty state.pending → ⊥) → state.frames ≡ MOST_COUNT
+        → step state.site state.names s Cut ≡ (s, NoNumber) }
+    ensures whole { (state : SiteState) (s : SiteKnowledge) → StandsFor state s
+        → state.frames ≡ MOST_COUNT → step state.site state.names s Whole ≡ (s, NoNumber) }
+    ensures cells_full { (state : SiteState) (d : DeltaState) (s : SiteKnowledge)
+        (k : Knowledge) → StandsFor state s → IsDeltaOf d k
+        → MOST_LIVE < cells_joined state.state.members d.members
+        → step state.site state.names s (Take k) ≡ (s, CellsFull) }
+    ensures runs_full { (state : SiteState) (d : DeltaState) (s : SiteKnowledge)
+        (k : Knowledge) → StandsFor state s → IsDeltaOf d k
+        → cells_joined state.state.members d.members ≤ MOST_LIVE
+        → MOST_RUNS < runs_joined state.state.members d.members
+        → step state.site state.names s (Take k) ≡ (s, RunsFull) }
+{}
+
 /// What a site may take it may take of each delta that says the same, and so it is of what it has taken. So it makes no difference whether a frame or a copy of it is
 /// taken (this project's own).
 pub fn what_says_the_same_is_taken_the_same()
     ensures may { (s : SiteState) (d e : DeltaState) → IsSame d e → MayTake s d → MayTake s e }
     ensures taken { (old new : SiteState) (d e : DeltaState)
         → IsSame d e → IsTakeDeed old d new → IsTakeDeed old e new }
+{}
+
+/// Sites that say the same show the same and do the same, whatever rooms and ids they have: a queue has the same rows and the same totals; a command means the same;
+/// the buffers of both are empty, or of neither; and both may take the same deltas. After the same command, a cut, a frame of all that is known, or the take of one
+/// delta, they say the same again, with the same result, and so do their frames (RR-7506: replicas in equivalent states stay so under the same updates).
+pub fn sites_that_say_the_same_do_the_same()
+    ensures rows { (s t : SiteState) (queue : ℕ) → IsSameSite s t
+        → rows_of s queue ≡ rows_of t queue }
+    ensures totals { (s t : SiteState) (queue : ℕ) → IsSameSite s t
+        → sums_of s queue ≡ sums_of t queue }
+    ensures means { (s t : SiteState) (change : Change) → IsSameSite s t
+        → meaning_at s change ≡ meaning_at t change }
+    ensures command { (s t new after : SiteState) (change : Change)
+        (result other : Result (Unit {0}) Refusal) → IsSameSite s t
+        → Follows s (meaning_at s change) new result
+        → Follows t (meaning_at t change) after other
+        → (result ≡ other) × IsSameSite new after }
+    ensures empty { (s t : SiteState) → IsSameSite s t → IsEmpty s.pending
+        → IsEmpty t.pending }
+    ensures cut { (s t new after : SiteState) (frame other : Frame) → IsSameSite s t
+        → IsCutDeed s frame new → IsCutDeed t other after
+        → IsSameFrame frame other × IsSameSite new after }
+    ensures whole { (s t new after : SiteState) (frame other : Frame) → IsSameSite s t
+        → IsWholeDeed s frame new → IsWholeDeed t other after
+        → IsSameFrame frame other × IsSameSite new after }
+    ensures may { (s t : SiteState) (d : DeltaState) → IsSameSite s t → MayTake s d
+        → MayTake t d }
+    ensures take { (s t new after : SiteState) (d : DeltaState) → IsSameSite s t
+        → IsTakeDeed s d new → IsTakeDeed t d after → IsSameSite new after }
 {}
 
 /// The next frame of a replica, be it of its buffer or of all that it knows, is within the ranges of the format while a number is left, so it can be spelled from

@@ -1,5 +1,6 @@
 //! The dots that a command goes over.
-ghost use Rattle.std.specs.Prelude.{◌≡◌, ◌<◌, ◌++◌, IfOk, OnOk, Some, None, map as each};
+ghost use Rattle.std.specs.Prelude.{◌≡◌, ◌≢◌, ◌<◌, [], ◌++◌, IfOk, OnErr, OnOk, Some, None};
+ghost use Rattle.std.specs.Prelude.{map as each};
 ghost use Rattle.std.specs.FinMap as map;
 ghost use Rattle.dots.specs.Values.{Dot};
 ghost use Rattle.dots.specs.Rows.{dots_of};
@@ -11,10 +12,11 @@ use dots::{Dot, Interface, Member, Memory};
 use member_orset::MemberSet;
 use std::alloc::Global;
 
-// Puts the live dots of a member after others.
+// Puts the live dots of a member after others. Where there is none it takes no memory, nor does all that is here.
 fn push_dots(list: &mut Vec<Dot>, members: &MemberSet, member: &Member) -> Result<(), Memory>
-    ensures { OnOk result
+    ensures list { OnOk result
         (list.new.items ≡ list.old.items ++ dots_of (dot_view_of members.now) member.now) }
+    ensures some { OnErr result (dots_of (dot_view_of members.now) member.now ≢ []) }
 {
     for dot in members.dots(member) {
         list.push(dot)?;
@@ -29,8 +31,10 @@ fn dots_by_queue(
     queues: u16,
     interface: &Interface,
 ) -> Result<Vec<Dot>, Memory>
-    ensures { IfOk result (λ list. list.items
+    ensures list { IfOk result (λ list. list.items
         ≡ dots_below (dot_view_of members.now) interface.now queues) }
+    ensures some { OnErr result
+        (dots_below (dot_view_of members.now) interface.now queues ≢ []) }
 {
     let mut list = Vec::new(alloc);
     let mut member = Member {
@@ -53,8 +57,10 @@ fn dots_of_interface(
 ) -> Result<Vec<Dot>, Memory>
     requires { (dot : Dot) (h : Holding) → map.get members.now.live dot ≡ Some h
         → h.0.queue < queues }
-    ensures { IfOk result (λ list. list.items
+    ensures list { IfOk result (λ list. list.items
         ≡ each (λ p. p.0) (dots_seen (dot_view_of members.now) None interface.now)) }
+    ensures some { OnErr result
+        (dots_seen (dot_view_of members.now) None interface.now ≢ []) }
 {
     let mut list = dots_by_queue(alloc, members, queues, interface)?;
     list.sort_unstable();
@@ -68,8 +74,10 @@ fn dots_of_member(
     queue: u16,
     interface: &Interface,
 ) -> Result<Vec<Dot>, Memory>
-    ensures { IfOk result (λ list. list.items
+    ensures list { IfOk result (λ list. list.items
         ≡ each (λ p. p.0) (dots_seen (dot_view_of members.now) (Some queue) interface.now)) }
+    ensures some { OnErr result
+        (dots_seen (dot_view_of members.now) (Some queue) interface.now ≢ []) }
 {
     let member = Member {
         queue,
@@ -91,8 +99,10 @@ pub(crate) fn seen_dots(
 ) -> Result<Vec<Dot>, Memory>
     requires { (dot : Dot) (h : Holding) → map.get members.now.live dot ≡ Some h
         → h.0.queue < queues }
-    ensures { IfOk result (λ list. list.items
+    ensures list { IfOk result (λ list. list.items
         ≡ each (λ p. p.0) (dots_seen (dot_view_of members.now) queue interface.now)) }
+    ensures some { OnErr result
+        (dots_seen (dot_view_of members.now) queue interface.now ≢ []) }
 {
     match queue {
         Some(queue) => dots_of_member(alloc, members, queue, interface),

@@ -1,5 +1,5 @@
 -- A world of operations only grows: each site knows what it knew, and the pool keeps its entries.
-use Rattle.std.proofs.Common.{◌≡◌, ◌⊎◌, inl, inr, ℕ, suc, Bool, true, false, nat_lt, List, [], ◌∷◌, ◌++◌, append-nil, append_assoc, Contains, slice_get, slice_set, Option, Some, None, refl, sym, ap, subst, ◌∙◌, arith}
+use Rattle.std.proofs.Common.{◌≡◌, ◌≤◌, ◌⊎◌, inl, inr, ℕ, suc, Bool, true, false, nat_lt, List, [], ◌∷◌, ◌++◌, append-nil, append_assoc, Contains, slice_get, slice_set, Option, Some, None, refl, sym, ap, subst, ◌∙◌, arith}
 use Rattle.std.specs.FinSet as set
 use Rattle.std.proofs.lemmas.List.{length-set}
 use Rattle.std.proofs.lemmas.Option.{slice_get_within}
@@ -24,42 +24,61 @@ use Rattle.sites_world.proofs.TakenEntries.{taken-gives}
 
 -- ---- one site
 
+-- no number is greater than itself
+level : (n : ℕ) → n ≤ n
+level n = omega arith
+
+-- or than the next one
+next-level : (n : ℕ) → n ≤ suc n
+next-level n = omega arith
+
+-- and it is so from one to the next
+level-through : (a b c : ℕ) → a ≤ b → b ≤ c → a ≤ c
+level-through a b c p q = omega (arith, p, q)
+
+-- a site knows what another knows, and has made no fewer frames
+abbrev KnowsOn : SiteKnowledge → SiteKnowledge → Type 0
+KnowsOn s t = IsPartOf s.known t.known × (s.frames ≤ t.frames)
+
+itself-on : (s : SiteKnowledge) → KnowsOn s s
+itself-on s = (λ o here. here, level s.frames)
+
 -- an answer leaves what the site knew
-ask-more : (site : ℕ) (names : List (List ℕ)) (s : SiteKnowledge) (asked : Ask) → IsPartOf s.known (answer_in site names s asked).0.known
-ask-more site names s (Status request) = λ o here. here
+ask-more : (site : ℕ) (names : List (List ℕ)) (s : SiteKnowledge) (asked : Ask) → KnowsOn s (answer_in site names s asked).0
+ask-more site names s (Status request) = itself-on s
 ask-more site names s (asked_command command) = by (meaning site names (site_view site s.known) (site_view site s.buffer) (change_of command))
   where
-    by : (m : Meaning) → IsPartOf s.known (after_meaning s m).0.known
-    by (Makes o) = second-part (o ∷ []) s.known
-    by (Refused refusal) = λ o here. here
+    by : (m : Meaning) → KnowsOn s (after_meaning s m).0
+    by (Makes o) = (second-part (o ∷ []) s.known, level s.frames)
+    by (Refused refusal) = itself-on s
 
 -- so does a frame that is made
-frame-more : (s : SiteKnowledge) (frame buffer : Knowledge) → IsPartOf s.known (after_frame s frame buffer).0.known
+frame-more : (s : SiteKnowledge) (frame buffer : Knowledge) → KnowsOn s (after_frame s frame buffer).0
 frame-more s frame buffer = by (nat_lt MOST_COUNT (suc s.frames))
   where
-    by : (b : Bool) → IsPartOf s.known (frame_by s frame buffer b).0.known
-    by true = λ o here. here
-    by false = λ o here. here
+    by : (b : Bool) → KnowsOn s (frame_by s frame buffer b).0
+    by true = itself-on s
+    by false = (λ o here. here, next-level s.frames)
 
 -- be it of a buffer
-cut-more : (s : SiteKnowledge) (buffer : Knowledge) → IsPartOf s.known (cut s buffer).0.known
-cut-more s [] = λ o here. here
+cut-more : (s : SiteKnowledge) (buffer : Knowledge) → KnowsOn s (cut s buffer).0
+cut-more s [] = itself-on s
 cut-more s (o ∷ os) = frame-more s (o ∷ os) []
 
 -- and a frame that is taken
-take-more : (s : SiteKnowledge) (frame : Knowledge) → IsPartOf s.known (take s frame).0.known
+take-more : (s : SiteKnowledge) (frame : Knowledge) → KnowsOn s (take s frame).0
 take-more s frame = by (nat_lt MOST_LIVE (set.len (visible_dots (frame ++ s.known)))) (nat_lt MOST_RUNS (run_count (known_dots (frame ++ s.known))))
   where
-    by : (cells runs : Bool) → IsPartOf s.known (take_by s frame cells runs).0.known
-    by true runs = λ o here. here
-    by false true = λ o here. here
-    by false false = second-part frame s.known
+    by : (cells runs : Bool) → KnowsOn s (take_by s frame cells runs).0
+    by true runs = itself-on s
+    by false true = itself-on s
+    by false false = (second-part frame s.known, level s.frames)
 
-taken-more : (s : SiteKnowledge) (found : Option Entry) → IsPartOf s.known (taken s found).site.known
-taken-more s None = λ o here. here
+taken-more : (s : SiteKnowledge) (found : Option Entry) → KnowsOn s (taken s found).site
+taken-more s None = itself-on s
 taken-more s (Some entry) = take-more s entry.carried
 
-at-more : (names : List (List ℕ)) (pool : List Entry) (s : SiteKnowledge) (e : Event) → IsPartOf s.known (happens_at names pool s e).site.known
+at-more : (names : List (List ℕ)) (pool : List Entry) (s : SiteKnowledge) (e : Event) → KnowsOn s (happens_at names pool s e).site
 at-more names pool s (event.Ask site asked) = ask-more site names s asked
 at-more names pool s (event.Cut site) = cut-more s s.buffer
 at-more names pool s (event.Whole site) = frame-more s s.known s.buffer
@@ -69,19 +88,20 @@ at-more names pool s (event.Take site place) = taken-more s (slice_get pool plac
 
 -- a world is a later one of itself
 grown-itself : (w : World) → HasGrown w w
-grown-itself w = record { count = refl; known = λ site s was. (s, was, λ o here. here); added = []; pool = sym (append-nil w.pool) }
+grown-itself w = record { count = refl; known = λ site s was. (s, was, λ o here. here, level s.frames); added = []; pool = sym (append-nil w.pool) }
 
 -- a later one of a later one is
 grown-through : (w mid after : World) → HasGrown w mid → HasGrown mid after → HasGrown w after
 grown-through w mid after one two = record {
   count = two.count ∙ one.count;
-  known = λ site s was. let first = one.known site s was in let last = two.known site first.0 first.1 in (last.0, last.1, λ o here. last.2 o (first.2 o here));
+  known = λ site s was. let first = one.known site s was in let last = two.known site first.0 first.1 in
+      (last.0, last.1, λ o here. last.2 o (first.2 o here), level-through s.frames first.0.frames last.0.frames first.3 last.3);
   added = one.added ++ two.added;
   pool = two.pool ∙ ap (λ pool. pool ++ two.added) one.pool ∙ append_assoc w.pool one.added two.added;
 }
 
 -- so is one in which a site knows more
-grown-at : (w : World) (at : ℕ) (s : SiteKnowledge) (h : Happening) → slice_get w.sites at ≡ Some s → IsPartOf s.known h.site.known
+grown-at : (w : World) (at : ℕ) (s : SiteKnowledge) (h : Happening) → slice_get w.sites at ≡ Some s → KnowsOn s h.site
     → HasGrown w (record { sites = slice_set w.sites at h.site; pool = w.pool ++ h.added })
 grown-at w at s h is more = record {
   count = length-set w.sites at h.site;
@@ -94,11 +114,15 @@ grown-at w at s h is more = record {
     same-place site = grind arith
 
     by : (site : ℕ) (u : SiteKnowledge) → slice_get w.sites site ≡ Some u → ((site ≡ at) ⊎ (site ≡ at → ⊥))
-        → (t : SiteKnowledge) × (slice_get (slice_set w.sites at h.site) site ≡ Some t) × IsPartOf u.known t.known
+        → (t : SiteKnowledge) × (slice_get (slice_set w.sites at h.site) site ≡ Some t) × IsPartOf u.known t.known × (u.frames ≤ t.frames)
     by site u was (inl same) =
-        let one : u ≡ s = one-some u s (sym was ∙ ap (slice_get w.sites) same ∙ is) in
-        (h.site, ap (slice_get (slice_set w.sites at h.site)) same ∙ get-set-same w.sites at h.site (slice_get_within w.sites at s is), λ o here. more o (subst (λ v. Contains v.known o) one here))
-    by site u was (inr apart) = (u, get-set-other w.sites at site h.site apart ∙ was, λ o here. here)
+        let one : u ≡ s = one-some u s (sym was ∙ ap (slice_get w.sites) same ∙ is) in (
+          h.site,
+          ap (slice_get (slice_set w.sites at h.site)) same ∙ get-set-same w.sites at h.site (slice_get_within w.sites at s is),
+          λ o here. more.0 o (subst (λ v. Contains v.known o) one here),
+          subst (λ (v : SiteKnowledge). v.frames ≤ h.site.frames) (sym one) more.1,
+        )
+    by site u was (inr apart) = (u, get-set-other w.sites at site h.site apart ∙ was, λ o here. here, level u.frames)
 
 pub event-grows : EventsGrow
 event-grows names w e = by (slice_get w.sites (site_of e)) refl

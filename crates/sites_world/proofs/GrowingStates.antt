@@ -165,7 +165,7 @@ follows-grows old new (Refused refusal) result follows = unchanged-grows old new
 
 ask-grows : (old new : SiteState) (asked : Ask) (o : Outcome) → ComesOfAsk old asked o new → SiteGrows old new
 ask-grows old new (asked_command command) (Answered answer) (result, is, follows) = follows-grows old new (meaning_at old (change_of command)) result follows
-ask-grows old new (asked_command command) NoMemory comes = unchanged-grows old new comes
+ask-grows old new (asked_command command) NoMemory comes = unchanged-grows old new comes.0
 ask-grows old new (asked_command command) (Cut r) comes = absurd comes
 ask-grows old new (asked_command command) (Took r) comes = absurd comes
 ask-grows old new (asked_command command) NoSite comes = absurd comes
@@ -218,7 +218,7 @@ entry-grows None old new o comes = equal-grows old new comes.1
 entry-grows (Some frame) old new o comes = delta-grows old new comes.0 o comes.2
 
 -- whatever comes of an event
-at-grows : (pool : List Frame) (old new : SiteState) (e : Event) (o : Outcome) (added : List Frame) → ComesAt pool old e o new added → SiteGrows old new
+pub at-grows : (pool : List Frame) (old new : SiteState) (e : Event) (o : Outcome) (added : List Frame) → ComesAt pool old e o new added → SiteGrows old new
 at-grows pool old new (event.Ask site asked) o added comes = ask-grows old new asked o comes.0
 at-grows pool old new (event.Cut site) o added comes = cut-grows (length pool) old new o added comes
 at-grows pool old new (event.Whole site) o added comes = whole-grows (length pool) old new o added comes

@@ -10,13 +10,14 @@ use Rattle.replica.specs.Site.{SiteState}
 use Rattle.replica.specs.Standing.{StandsFor}
 use Rattle.replica.specs.Steps as steps
 use Rattle.replica.specs.Steps.{Framed, SiteKnowledge, take}
+use Rattle.status_report.specs.declared.asks.Answer.{Answer}
 use Rattle.sites_world.specs.declared.event.Event.{Event}
 use Rattle.sites_world.specs.declared.event.Event.TheVariants as event
 use Rattle.sites_world.specs.declared.outcome.Outcome.{Outcome}
 use Rattle.sites_world.specs.declared.outcome.Outcome.TheVariants.{Cut, NoEntry, NoSite, NoMemory}
 use Rattle.sites_world.specs.Histories.{HasHistory}
-use Rattle.sites_world.specs.Telling.{HasAdded, HasHappenedAt, IsFramedSo, IsTakenSo, MayBeTaken, HasEntry}
-use Rattle.sites_world.specs.Worlds.{Entry, IsReached, World, done_of, entries_of, framed, frame_told, happens, happens_at, happens_where, is_done, new_world, outcomes_of, run, site_of, taken, has_entry, is_there}
+use Rattle.sites_world.specs.Telling.{HasAdded, HasHappenedAt, IsAnsweredSo, IsFramedSo, IsTakenSo, MayBeTaken, HasEntry}
+use Rattle.sites_world.specs.Worlds.{Entry, IsReached, World, answered, done_of, entries_of, framed, frame_told, happens, happens_at, happens_where, is_done, new_world, outcomes_of, run, site_of, taken, has_entry, is_there}
 use Rattle.sites_world.specs.WorldStates.{Correspond, HasHappened, HaveHappened, IsFrameOf, IsSiteOf, IsWorld, StandsForWorld, WorldState, are_there}
 use Rattle.sites_world.proofs.KnownTogether.{in-parts}
 use Rattle.sites_world.proofs.Lists.{correspond-get, correspond-none, correspond-push, correspond-set, get-replicate, none-some, place-in, set-again, some-within}
@@ -54,6 +55,12 @@ framed-happened new s old pool entries maker after o site c (inl (e, stands, add
     grown steps.Taken is = same-pool is
     grown steps.CellsFull is = same-pool is
     grown steps.RunsFull is = same-pool is
+
+-- an ask was answered
+pub asked-happened : (new : SiteState) (s : SiteKnowledge) (pool : List Frame) (entries : List Entry) (after : SiteKnowledge × Answer) (o : Outcome)
+    → Correspond IsFrameOf pool entries → IsAnsweredSo new s after o → HasHappenedAt new s pool pool entries (answered after) o
+asked-happened new s pool entries after o c (inl (e, stands)) = inl (ap is_done e, sym e, stands, nothing-added pool entries c)
+asked-happened new s pool entries after o c (inr (e, stands)) = inr (e, stands, refl)
 
 -- a frame was taken
 pub taken-happened : (new : SiteState) (s : SiteKnowledge) (pool : List Frame) (entries : List Entry) (entry : Entry) (o : Outcome)
@@ -239,43 +246,7 @@ module _ (names_of_queues : List (List ℕ)) (w : World) (es : List Event) (os :
 pub none-happened : (state : WorldState) (w : World) (outcomes : List Outcome) → outcomes ≡ [] → StandsForWorld state w → HaveHappened state w [] outcomes
 none-happened state w outcomes none stands = subst (HaveHappened state w []) (sym none) (record { one_each = refl; there = refl; outcomes_are = refl; stands = stands })
 
--- ---- the worlds that sites stand for
-
--- after an event there is still one
-pub world-after-event : (names_of_queues : List (List ℕ)) (sites new_sites : List SiteState) (pool new_pool : List Frame) (e : Event) (o : Outcome)
-    → IsWorld (record { names = names_of_queues; sites = sites; pool = pool }) → length new_sites ≡ length sites
-    → ((w : World) → IsReached names_of_queues (length sites) w → StandsForWorld (record { names = names_of_queues; sites = sites; pool = pool }) w
-    → HasHappened (record { names = names_of_queues; sites = new_sites; pool = new_pool }) w e o)
-    → IsWorld (record { names = names_of_queues; sites = new_sites; pool = new_pool })
-world-after-event names_of_queues sites new_sites pool new_pool e o is count happened = by (happened is.world is.reached is.stands)
-  where
-    after : WorldState
-    after = record { names = names_of_queues; sites = new_sites; pool = new_pool }
-
-    standing : (w : World) → IsReached names_of_queues (length sites) w → StandsForWorld after w → IsWorld after
-    standing w reached stands = record { world = w; reached = subst (λ n. IsReached names_of_queues n w) (sym count) reached; stands = stands }
-
-    by : HasHappened after is.world e o → IsWorld after
-    by (inl (done, outcome_is, stands)) = standing (happens names_of_queues is.world e).0 (reached-more names_of_queues (length sites) is.world (e ∷ []) is.reached) stands
-    by (inr (none, there, stands)) = standing is.world is.reached stands
-
--- and after events
-pub world-after : (names_of_queues : List (List ℕ)) (sites new_sites : List SiteState) (pool new_pool : List Frame) (events : List Event) (outcomes : List Outcome)
-    → IsWorld (record { names = names_of_queues; sites = sites; pool = pool }) → length new_sites ≡ length sites
-    → ((w : World) → IsReached names_of_queues (length sites) w → StandsForWorld (record { names = names_of_queues; sites = sites; pool = pool }) w
-    → HaveHappened (record { names = names_of_queues; sites = new_sites; pool = new_pool }) w events outcomes)
-    → IsWorld (record { names = names_of_queues; sites = new_sites; pool = new_pool })
-world-after names_of_queues sites new_sites pool new_pool events outcomes is count happened =
-    let so_far = (run names_of_queues is.world (done_of events outcomes)).0 in
-    record {
-      world = so_far;
-      reached = subst (λ n. IsReached names_of_queues n so_far) (sym count) (reached-more names_of_queues (length sites) is.world (done_of events outcomes) is.reached);
-      stands = (happened is.world is.reached is.stands).stands;
-    }
-
--- a new one is reached by no event
-new-reached : (names_of_queues : List (List ℕ)) (sites : ℕ) → IsReached names_of_queues sites (new_world sites)
-new-reached names_of_queues sites = record { events = []; is = refl }
+-- ---- new sites
 
 -- new sites stand for a new world
 pub new-stands : (names_of_queues : List (List ℕ)) (count : ℕ) (sites : List SiteState) (pool : List Frame) → length sites ≡ count → pool ≡ []
@@ -287,14 +258,6 @@ new-stands names_of_queues count sites pool long none each = record {
     each = λ site state s here known. subst (IsSiteOf names_of_queues site state) (sym (get-replicate count steps.new_site site s known)) (each site state here);
   };
   pool = subst (λ p. Correspond IsFrameOf p []) (sym none) (record { lengths = refl; each = λ place frame entry here found. absurd (none-some frame here) });
-}
-
-pub new-is-world : (names_of_queues : List (List ℕ)) (sites : List SiteState) (pool : List Frame) (count : ℕ) → length sites ≡ count
-    → StandsForWorld (record { names = names_of_queues; sites = sites; pool = pool }) (new_world count) → IsWorld (record { names = names_of_queues; sites = sites; pool = pool })
-new-is-world names_of_queues sites pool count long stands = record {
-  world = new_world count;
-  reached = subst (λ n. IsReached names_of_queues n (new_world count)) (sym long) (new-reached names_of_queues count);
-  stands = stands;
 }
 
 -- the frame of an entry is within the ranges of the format

@@ -23,7 +23,7 @@ use Rattle.delta.specs.Standing.{IsDeltaOf}
 use Rattle.delta.proofs.ShownDeltas.{read-as}
 use Rattle.delta.proofs.StandingDeltas.{consistent_agree, own_cells}
 use Rattle.sites_world.specs.Histories.{Buffered, Carried, IsIn, Known}
-use Rattle.sites_world.specs.Holding.{HeldAgree, HoldFewCells, HoldOneDotASite, IsHeldIn, MayJoinFrames, MayTakeEntries, Pending, Said, State}
+use Rattle.sites_world.specs.Holding.{HeldAgree, HoldFewCells, HoldOneDotASite, HoldWithinLimits, IsHeldIn, MayJoinFrames, MayTakeEntries, Pending, Said, State}
 use Rattle.sites_world.specs.Promises.{IsVisibleDotOf, members_seen, visible_members}
 use Rattle.sites_world.specs.Worlds.{IsReached, World}
 use Rattle.sites_world.specs.WorldStates.{IsFrameOf, IsSiteOf, StandsForWorld, WorldState}
@@ -94,6 +94,10 @@ few-held state d is held =
     subst (λ n. n ≤ set.len (members_seen (dot_view_of d.members)) * length state.sites) (sym (own_cells d k.0 k.2))
     (subst (λ n. set.len (visible_dots k.0) ≤ set.len (members_seen (dot_view_of d.members)) * n) (sym is.stands.sites.lengths)
     (subst (λ ms. set.len (visible_dots k.0) ≤ set.len ms * length is.world.sites) (sym members) (few-known state.names (length state.sites) is.world k.0 is.reached k.1)))
+
+-- what is held stands for operations within their limits
+pub within-held : HoldWithinLimits
+within-held state d is held = let k = held-in state is.world d is.stands held in (k.0, k.2, is.within k.0 k.1)
 
 -- ---- what may be taken
 

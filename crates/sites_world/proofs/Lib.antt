@@ -8,6 +8,7 @@ mod KnownTogether
 mod ToldAnswers
 mod MayTake
 mod Happenings
+mod KeptWorlds
 mod Unchanged
 mod ToldByConditions
 mod NothingChanged
@@ -18,3 +19,4 @@ mod Held
 mod Growing
 mod WithinLimits
 mod GrowingStates
+mod OperationsByConditions

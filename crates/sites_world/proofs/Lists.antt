@@ -1,10 +1,9 @@
 -- Elements of lists by their places, and lists that correspond.
-use Rattle.std.proofs.Common.{◌≡◌, ◌<◌, ◌≤◌, ◌+◌, ◌⊎◌, inl, inr, ℕ, Bool, true, false, nat_lt, zero, suc, List, [], ◌∷◌, ◌++◌, length, map as each, replicate, get_or, slice_get, slice_set, Contains, Option, Some, None, refl, sym, ap, subst, ◌∙◌, arith}
+use Rattle.std.proofs.Common.{◌≡◌, ◌<◌, ◌≤◌, ◌+◌, ◌⊎◌, inl, inr, ℕ, Bool, true, false, nat_lt, zero, suc, List, [], ◌∷◌, ◌++◌, length, replicate, get_or, slice_get, slice_set, Contains, Option, Some, None, refl, sym, ap, subst, ◌∙◌, arith}
 use Rattle.std.proofs.lemmas.Bool.Decides.{nat_tests}
 use Rattle.std.proofs.lemmas.List.{get_or-replicate, length-append, length-replicate, length-set, set-get_or}
 use Rattle.std.proofs.lemmas.List.Elements.{Contains-get_or}
 use Rattle.std.proofs.lemmas.Option.{get_or_from_slice_get, slice_get-get_or, slice_get_past, slice_get_within}
-use Rattle.dots.proofs.Membership.{cases-in, first-in, later-in, nothing-in}
 use Rattle.sites_world.specs.WorldStates.{Correspond}
 
 -- nothing is something

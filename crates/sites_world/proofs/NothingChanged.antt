@@ -33,7 +33,7 @@ ask-nothing old new (asked_command command) (Answered answer) (result, is, follo
     by : (result : Result (Unit {0}) Refusal) → answer ≡ answer_of result → Follows old (meaning_at old (change_of command)) new result → replica.IsUnchanged old new
     by (Ok u) is follows = absurd (true≢false (sym nothing ∙ ap (λ a. changes_nothing (Answered a)) is))
     by (Err refusal) is follows = refused-follows old new (meaning_at old (change_of command)) refusal follows
-ask-nothing old new (asked_command command) NoMemory comes nothing = comes
+ask-nothing old new (asked_command command) NoMemory comes nothing = comes.0
 ask-nothing old new (asked_command command) (Cut r) comes nothing = absurd comes
 ask-nothing old new (asked_command command) (Took r) comes nothing = absurd comes
 ask-nothing old new (asked_command command) NoSite comes nothing = absurd comes

@@ -7,11 +7,13 @@ use Rattle.delta.specs.Frames.{IsInRanges}
 use Rattle.delta.specs.Standing.{IsDeltaOf}
 use Rattle.delta.specs.declared.frame.Frame.{Frame}
 use Rattle.replica.specs.declared.cut_fault.CutFault.{CutFault}
+use Rattle.replica.specs.declared.command.Command.{Command}
 use Rattle.replica.specs.declared.refusal.Refusal.{Refusal}
+use Rattle.replica.specs.declared.refusal.Refusal.TheVariants as refusal
 use Rattle.replica.specs.declared.take_fault.TakeFault.{TakeFault}
 use Rattle.replica.specs.declared.take_fault.TakeFault.TheVariants as take_fault
 use Rattle.replica.specs.Changes.{Makes, Meaning, Refused as refused_meaning, change_of}
-use Rattle.replica.specs.Commands.{Follows, IsDone}
+use Rattle.replica.specs.Commands.{Follows, IsDone, MayWantMemory}
 use Rattle.replica.specs.Framing.{IsNextOf}
 use Rattle.replica.specs.Site.{IsUnchanged, SiteState, meaning_at}
 use Rattle.replica.specs.Taking.{IsRefusedTake}
@@ -46,6 +48,14 @@ refused-follows old new (Makes o) r follows = absurd (no-ok follows.0)
     no-ok e = (cc)
 refused-follows old new (refused_meaning x) r follows = follows.1
 
+-- one that is refused for want of memory may want some
+wanting-follows : (old new : SiteState) (m : Meaning) (r : Refusal) → Refused r ≡ Refused refusal.Memory → Follows old m new (Err r) → MayWantMemory m
+wanting-follows old new (Makes o) r is follows = tt
+wanting-follows old new (refused_meaning x) r is follows = subst (λ y. MayWantMemory (refused_meaning y)) same tt
+  where
+    same : refusal.Memory ≡ x
+    same = let told = follows.0 in cc
+
 -- an answer is told as what has come of its ask
 pub asked-comes : (old new : SiteState) (asked : Ask) (answer : Answer) → AnswersCommand old asked new answer → AnswersStatus old asked answer → KeepsAtStatus old asked new
     → ComesOfAsk old asked (answer_told answer) new
@@ -57,9 +67,12 @@ asked-comes old new (asked_command command) answer (result, is, done) status kep
     by (Ok u) (inl follows) = (Ok u, refl, follows)
     by (Err r) (inl follows) = elim (told-cases (Refused r)) [
       | inl told ↦ subst (λ o. ComesOfAsk old (asked_command command) o new) (sym told) (Err r, refl, follows)
-      | inr none ↦ subst (λ o. ComesOfAsk old (asked_command command) o new) (sym none.0) (refused-follows old new (meaning_at old (change_of command)) r follows)
+      | inr none ↦ subst (λ o. ComesOfAsk old (asked_command command) o new) (sym none.0) (
+        refused-follows old new (meaning_at old (change_of command)) r follows,
+        wanting-follows old new (meaning_at old (change_of command)) r none.1 follows,
+      )
     ]
-    by result (inr other) = subst (λ r. ComesOfAsk old (asked_command command) (answer_told (answer_of r)) new) (sym other.1) other.0
+    by result (inr other) = subst (λ r. ComesOfAsk old (asked_command command) (answer_told (answer_of r)) new) (sym other.1) (other.0, other.2)
 
 -- ---- takes
 
@@ -104,26 +117,27 @@ module _ (names : List (List ℕ)) (sites : List SiteState) (pool : List Frame) 
 pub leads-nowhere : (from : WorldState) (e : Event) → length from.sites ≤ site_of e → Leads from e NoSite from
 leads-nowhere from e past = subst (LeadsWhere from e NoSite from) (sym (slice_get_past from.sites (site_of e) past)) (refl, refl)
 
--- want of memory comes of an ask where nothing is changed
-wanting-comes : (old new : SiteState) (asked : Ask) → IsUnchanged old new → ComesOfAsk old asked NoMemory new
-wanting-comes old new (asked_command command) same = same
-wanting-comes old new (Status request) same = same
+-- want of memory comes of an ask for a status where nothing is changed
+wanting-comes : (old : SiteState) (site : ℕ) (asked : Ask) → ((command : Command) → event.Ask site asked ≡ event.Ask site (asked_command command) → ⊥) → ComesOfAsk old asked NoMemory old
+wanting-comes old site (asked_command command) status = absurd (status command refl)
+wanting-comes old site (Status request) status = itself old
 
--- so it does of one for whose copy memory was wanting
-pub leads-wanting : (from : WorldState) (e : Event) → IsAsk e → site_of e < length from.sites → Leads from e NoMemory from
-leads-wanting from (event.Ask site asked) is within = by (slice_get from.sites site) refl
+-- so it does of one for whose copy memory was wanting, which no command's is
+pub leads-wanting : (from : WorldState) (e : Event) → IsAsk e → ((site : ℕ) (command : Command) → e ≡ event.Ask site (asked_command command) → ⊥) → site_of e < length from.sites
+    → Leads from e NoMemory from
+leads-wanting from (event.Ask site asked) is status within = by (slice_get from.sites site) refl
   where
     by : (found : Option SiteState) → slice_get from.sites site ≡ found → LeadsWhere from (event.Ask site asked) NoMemory from found
     by None none = absurd (some-within from.sites site within none)
     by (Some old) here = record {
       new = old;
-      comes = record { added = []; comes = (wanting-comes old old asked (itself old), refl); is = sym (append-nil from.pool) };
+      comes = record { added = []; comes = (wanting-comes old site asked (status site), refl); is = sym (append-nil from.pool) };
       sites = sym (set-again from.sites site old here);
       names = refl;
     }
-leads-wanting from (event.Cut site) is within = absurd is
-leads-wanting from (event.Whole site) is within = absurd is
-leads-wanting from (event.Take site place) is within = absurd is
+leads-wanting from (event.Cut site) is status within = absurd is
+leads-wanting from (event.Whole site) is status within = absurd is
+leads-wanting from (event.Take site place) is status within = absurd is
 
 -- ---- events in turn
 

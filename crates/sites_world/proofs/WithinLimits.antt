@@ -23,7 +23,8 @@ use Rattle.status_report.specs.Knowing.{answer_in}
 use Rattle.sites_world.specs.declared.event.Event.{Event}
 use Rattle.sites_world.specs.declared.event.Event.TheVariants as event
 use Rattle.sites_world.specs.Histories.{Buffered, Carried, IsIn, Known}
-use Rattle.sites_world.specs.Promises.{EventsKeepLimits, HasValuesWithinLimits, KnowsWithinLimits, WorldsAreWithinLimits}
+use Rattle.sites_world.specs.Promises.{EventsKeepLimits, WorldsAreWithinLimits}
+use Rattle.sites_world.specs.WithinLimits.{HasValuesWithinLimits, KnowsWithinLimits}
 use Rattle.sites_world.specs.Worlds.{Entry, Happening, World, answered, framed, happens, happens_at, happens_where, new_world, run, site_of, taken}
 use Rattle.sites_world.proofs.Growing.{event-grows}
 use Rattle.sites_world.proofs.Lists.{get-replicate, get-set-other, get-set-same, one-some, place-in}
@@ -152,7 +153,7 @@ run-within names w (e ∷ es) queues few values all =
     (events-keep-limits names w e queues few values.0 all)
 
 -- a new world has no operation
-new-within : (sites : ℕ) → KnowsWithinLimits (new_world sites)
+pub new-within : (sites : ℕ) → KnowsWithinLimits (new_world sites)
 new-within sites k is o here = by is
   where
     nothing : (l : Knowledge) → k ≡ l → l ≡ [] → IsWithinLimits o

@@ -8,7 +8,7 @@ use Rattle.replica.specs.declared.cut_fault.CutFault.TheVariants.{Exhausted}
 use Rattle.replica.specs.declared.refusal.Refusal.{Refusal}
 use Rattle.replica.specs.declared.take_fault.TakeFault.TheVariants as take_fault
 use Rattle.replica.specs.Changes.{change_of}
-use Rattle.replica.specs.Commands.{Follows}
+use Rattle.replica.specs.Commands.{Follows, MayWantMemory}
 use Rattle.replica.specs.Deeds.{IsCutDeed, IsTakeDeed, IsWholeDeed}
 use Rattle.replica.specs.Site.{IsUnchanged, SiteState, meaning_at}
 use Rattle.replica.specs.Taking.{MayJoin}
@@ -26,12 +26,14 @@ use Rattle.sites_world.specs.WorldStates.{WorldState}
 
 -- ---- at one site
 
--- what comes of an ask at a site, and the site after it: a command does what it means, and a status is answered by its report; or memory was wanting
+-- what comes of an ask at a site, and the site after it: a command does what it means, and a status is answered by its report; or memory was wanting, of a command
+-- where what it means may want some
 abbrev pub ComesOfAsk : SiteState → Ask → Outcome → SiteState → Type 0
 ComesOfAsk old (asked_command command) (Answered answer) new =
     (result : Result (Unit {0}) Refusal) × (answer ≡ answer_of result) × Follows old (meaning_at old (change_of command)) new result
 ComesOfAsk old (Status request) (Answered answer) new = (answer ≡ Report (report_of old request)) × (new ≡ old)
-ComesOfAsk old asked NoMemory new = IsUnchanged old new
+ComesOfAsk old (asked_command command) NoMemory new = IsUnchanged old new × MayWantMemory (meaning_at old (change_of command))
+ComesOfAsk old (Status request) NoMemory new = IsUnchanged old new
 ComesOfAsk old asked other new = ⊥
 
 -- of a cut, with so many entries in the pool, and which frames this gets

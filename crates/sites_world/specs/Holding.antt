@@ -8,10 +8,13 @@ use Rattle.dots.specs.Conditions.{IsConditionBelow}
 use Rattle.dots.specs.Rows.{dots_of}
 use Rattle.dots.specs.Totals.{totals_of}
 use Rattle.dots.specs.Values.{Dot}
+use Rattle.dots.specs.Knowledge.{Knowledge}
+use Rattle.dots.specs.WithinLimits.{AreWithinLimits}
 use Rattle.site_totals.specs.Raising.{number_of}
 use Rattle.member_orset.specs.Members.{condition_of, dot_view_of}
 use Rattle.delta.specs.DeltaStates.{DeltaState}
 use Rattle.delta.specs.Joining.{Agree}
+use Rattle.delta.specs.Standing.{IsDeltaOf}
 use Rattle.delta.specs.declared.frame.Frame.{Frame}
 use Rattle.replica.specs.Site.{SiteState}
 use Rattle.replica.specs.Steps.{SiteKnowledge}
@@ -52,6 +55,10 @@ HoldFewCells = (state : WorldState) (d : DeltaState) → IsWorld state → IsHel
 abbrev pub HeldAgree : Type 0
 HeldAgree = (state : WorldState) (x y : DeltaState) → IsWorld state → IsHeldIn state x → IsHeldIn state y → Agree x y
 
+-- what is held stands for operations that are all within their limits
+abbrev pub HoldWithinLimits : Type 0
+HoldWithinLimits = (state : WorldState) (d : DeltaState) → IsWorld state → IsHeldIn state d → (k : Knowledge) × IsDeltaOf d k × AreWithinLimits k
+
 -- ---- takes
 
 -- a site of a world that events lead to may take each of its entries
@@ -66,10 +73,11 @@ MayJoinFrames = (state : WorldState) (site place : ℕ) (s : SiteState) (frame :
 
 -- ---- later worlds
 
--- a later world has as many sites, each of which knows what it knew, and its pool begins with the same entries
+-- a later world has as many sites, each of which knows what it knew and has made no fewer frames, and its pool begins with the same entries
 pub record HasGrown (w after : World) : Type 0 where
   pub count : length after.sites ≡ length w.sites
-  pub known : (site : ℕ) (s : SiteKnowledge) → slice_get w.sites site ≡ Some s → (t : SiteKnowledge) × (slice_get after.sites site ≡ Some t) × IsPartOf s.known t.known
+  pub known : (site : ℕ) (s : SiteKnowledge) → slice_get w.sites site ≡ Some s
+      → (t : SiteKnowledge) × (slice_get after.sites site ≡ Some t) × IsPartOf s.known t.known × (s.frames ≤ t.frames)
   pub added : List Entry
   pub pool : after.pool ≡ w.pool ++ added
 

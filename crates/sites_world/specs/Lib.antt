@@ -1,5 +1,6 @@
 pub mod Worlds
 pub mod Histories
+pub mod WithinLimits
 pub mod WorldStates
 pub mod Telling
 pub mod Outcomes

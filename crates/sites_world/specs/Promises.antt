@@ -2,14 +2,11 @@
 use Rattle.sites_world.specs.Outcomes.{IsOutcomeOf, changes_nothing}
 use Rattle.sites_world.specs.declared.outcome.Outcome.TheVariants.{Answered, NoEntry, NoSite, Took}
 use Rattle.status_report.specs.declared.asks.Answer.TheVariants.{Report}
-use Rattle.std.specs.Prelude.{⊤, ℕ, ◌≡◌, ◌≢◌, ◌↔◌, ◌≤◌, ◌*◌, ◌++◌, true, false, Contains, List, Some, None, Ok, length, slice_get}
+use Rattle.std.specs.Prelude.{ℕ, ◌≡◌, ◌≢◌, ◌↔◌, ◌≤◌, ◌*◌, ◌++◌, true, false, Contains, List, Some, None, Ok, length, slice_get}
 use Rattle.std.specs.FinMap as map
 use Rattle.std.specs.FinSet as set
 use Rattle.std.specs.List.{All, filter_map}
 use Rattle.dots.specs.declared.limits.TheConstants.{SITES}
-use Rattle.dots.specs.WithinLimits.{AreWithinLimits}
-use Rattle.replica.specs.Changes.{change_of}
-use Rattle.replica.specs.Promises.{IsChange}
 use Rattle.replica.specs.Queues.{AreQueues}
 use Rattle.dots.specs.declared.member.Member.{Member}
 use Rattle.dots.specs.Orders.{member_cmp}
@@ -21,12 +18,13 @@ use Rattle.delta.specs.DeltaStates.{DeltaState, IsSame}
 use Rattle.delta.specs.Joining.{Agree, IsJoinOf}
 use Rattle.delta.specs.Standing.{IsDeltaOf}
 use Rattle.replica.specs.Steps.{SiteKnowledge}
-use Rattle.status_report.specs.declared.asks.Ask.TheVariants.{Command as asked_command, Status}
+use Rattle.status_report.specs.declared.asks.Ask.TheVariants.{Status}
 use Rattle.status_report.specs.declared.request.StatusRequest.{StatusRequest}
 use Rattle.status_report.specs.Knowing.{status_in}
 use Rattle.sites_world.specs.declared.event.Event.{Event}
 use Rattle.sites_world.specs.declared.event.Event.TheVariants as event
 use Rattle.sites_world.specs.Histories.{HasHistory, IsIn, IsOf, IsPartOf, Makes}
+use Rattle.sites_world.specs.WithinLimits.{HasValuesWithinLimits, KnowsWithinLimits}
 use Rattle.sites_world.specs.Worlds.{Entry, IsReached, World, happens, has_entry, is_done, new_world, run, site_of}
 
 -- each world that events lead to has a history
@@ -151,16 +149,7 @@ pub record HaveOutcomes (names : List (List ℕ)) (w : World) (events : List Eve
 
 -- ---- limits
 
--- what an event asks has values within their limits; the types of the values of a program are so
-abbrev pub HasValuesWithinLimits : Event → Type 0
-HasValuesWithinLimits (event.Ask site (asked_command command)) = IsChange (change_of command)
-HasValuesWithinLimits other = ⊤
-
--- each operation that a site knows or has in its buffer, and that an entry carries, is within its limits
-abbrev pub KnowsWithinLimits : World → Type 0
-KnowsWithinLimits w = (k : Knowledge) → IsIn w k → AreWithinLimits k
-
--- an event of such values keeps that in a world of at most so many sites as there may be
+-- an event of values within their limits keeps what is known in a world within limits, of at most so many sites as there may be
 abbrev pub EventsKeepLimits : Type 0
 EventsKeepLimits = (names : List (List ℕ)) (w : World) (e : Event) → AreQueues names → length w.sites ≤ SITES → HasValuesWithinLimits e → KnowsWithinLimits w
     → KnowsWithinLimits (happens names w e).0

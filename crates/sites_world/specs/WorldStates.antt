@@ -1,10 +1,12 @@
 -- What contracts see of the sites of one process: their states and the frames in the pool, and which world of operations they stand for.
 use Rattle.delta.specs.Frames.{IsInRanges}
-use Rattle.std.specs.Prelude.{ℕ, ◌≡◌, ◌⊎◌, true, List, Some, length, slice_get, refl, ◌∷◌, if◌then◌else◌, Bool, ◌&&◌}
+use Rattle.std.specs.Prelude.{ℕ, ◌≡◌, ◌≤◌, ◌⊎◌, true, List, Some, length, slice_get, refl, ◌∷◌, if◌then◌else◌, Bool, ◌&&◌}
 use Rattle.std.specs.Coded.{Coded, code_by, coded×, coded_ℕ, coded_list}
+use Rattle.dots.specs.declared.limits.TheConstants.{SITES}
 use Rattle.delta.specs.DeltaStates.{DeltaState, delta_code}
 use Rattle.delta.specs.Standing.{IsDeltaOf}
 use Rattle.delta.specs.declared.frame.Frame.{Frame}
+use Rattle.replica.specs.Queues.{AreQueues}
 use Rattle.replica.specs.Site as replica
 use Rattle.replica.specs.Site.{SiteState, site_code}
 use Rattle.replica.specs.Standing.{StandsFor}
@@ -12,6 +14,7 @@ use Rattle.replica.specs.Steps.{SiteKnowledge}
 use Rattle.sites_world.specs.declared.event.Event.{Event}
 use Rattle.sites_world.specs.declared.outcome.Outcome.{Outcome}
 use Rattle.sites_world.specs.declared.outcome.Outcome.TheVariants.{NoMemory}
+use Rattle.sites_world.specs.WithinLimits.{KnowsWithinLimits}
 use Rattle.sites_world.specs.Worlds.{Entry, IsReached, World, done_of, happens, is_done, outcomes_of, run, is_there}
 
 -- The names of the queues, the sites by their numbers, and the frames in the pool.
@@ -64,10 +67,13 @@ pub record StandsForWorld (state : WorldState) (w : World) : Type 0 where
   pub sites : Correspond (IsSiteOf state.names) state.sites w.sites
   pub pool : Correspond IsFrameOf state.pool w.pool
 
--- they stand for a world that events lead to
+-- they stand for a world that events lead to, of no more sites than there may be, whose operations are all within limits
 pub record IsWorld (state : WorldState) : Type 0 where
+  pub queues : AreQueues state.names
+  pub few : length state.sites ≤ SITES
   pub world : World
   pub reached : IsReached state.names (length state.sites) world
+  pub within : KnowsWithinLimits world
   pub stands : StandsForWorld state world
 
 -- An event has happened: what comes of it is what comes of it in the world of operations, and the states stand for the world after it. Or memory was

@@ -2,6 +2,7 @@ ghost use Rattle.std.specs.Prelude.{◌≡◌, ℕ, IfOk, IsOk, OnErr};
 ghost use Rattle.replica.specs.declared.command.Command.{Command};
 ghost use Rattle.status_report.specs.declared.asks.Ask.TheVariants.{Command as asked_command};
 ghost use Rattle.sites_world.specs.Telling.{IsAsk};
+ghost use Rattle.sites_world.specs.WithinLimits.{HasValuesWithinLimits};
 
 use dots::{Memory, SiteId};
 use status_report::Ask;
@@ -20,6 +21,15 @@ pub enum Event {
 }
 
 impl Event {
+    // Makes known that the values of what it asks are within their limits, as their types have it.
+    pub(crate) fn see_limits(&self)
+        ensures { HasValuesWithinLimits self.now }
+    {
+        if let Event::Ask(_, Ask::Command(command)) = self {
+            command.see_limits();
+        }
+    }
+
     /// The same event once more. The one fault is want of memory, and an ask for a status alone takes some.
     pub fn copy(&self) -> Result<Event, Memory>
         ensures ok { IfOk result (λ copy. copy ≡ self.now) }

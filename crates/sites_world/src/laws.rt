@@ -1,10 +1,12 @@
-//! What the definition of the world of operations promises, and of what is held in a world. The functions have no body: their contracts are the laws.
-ghost use Rattle.std.specs.Prelude.{◌≡◌, ℕ, List, true};
+//! What the definition of the world of operations promises, and of what is held in a world. The functions have no body but other laws: their contracts are the laws.
+ghost use Rattle.std.specs.Prelude.{◌≡◌, ℕ, List, length, true};
 ghost use Rattle.std.specs.List.{All};
+ghost use Rattle.replica.specs.Queues.{AreQueues};
 ghost use Rattle.sites_world.specs.declared.event.Event.{Event};
 ghost use Rattle.sites_world.specs.declared.outcome.Outcome.{Outcome};
-ghost use Rattle.sites_world.specs.Conditions.{LeadAll};
+ghost use Rattle.sites_world.specs.Conditions.{LeadAll, Leads};
 ghost use Rattle.sites_world.specs.Holding.{EventsGrow, HeldAgree, HoldFewCells, HoldOneDotASite};
+ghost use Rattle.sites_world.specs.Holding.{HoldWithinLimits};
 ghost use Rattle.sites_world.specs.Holding.{LeadAllGrows, LeadsGrow, MayJoinFrames, MayTakeEntries};
 ghost use Rattle.sites_world.specs.Holding.{RunsGrow, TakenStaysKnown, TakenStaysSaid};
 ghost use Rattle.sites_world.specs.Outcomes.{changes_nothing};
@@ -16,8 +18,13 @@ ghost use Rattle.sites_world.specs.Promises.{HaveFewLiveDots, HaveFewVisibleDots
 ghost use Rattle.sites_world.specs.Promises.{HaveSameStatus, LeadsOn, ReportsAreReadings};
 ghost use Rattle.sites_world.specs.Promises.{AreOfTheirEvents, RefusalsChangeNothing, RunsInParts};
 ghost use Rattle.sites_world.specs.Promises.{TellNoEntry, TellNoSite};
-ghost use Rattle.sites_world.specs.Worlds.{World};
-ghost use Rattle.sites_world.specs.WorldStates.{IsUnchanged, WorldState};
+ghost use Rattle.sites_world.specs.WithinLimits.{HasValuesWithinLimits};
+ghost use Rattle.sites_world.specs.Worlds.{IsReached, World};
+ghost use Rattle.sites_world.specs.WorldStates.{HasHappened, HaveHappened, IsUnchanged, IsWorld};
+ghost use Rattle.sites_world.specs.WorldStates.{StandsForWorld, WorldState};
+
+use replica::laws::{deeds_stand_for_steps, refusals_stand_for_steps};
+use status_report::laws::a_report_is_the_status_text_of_what_its_site_stands_for;
 
 /// Each world that events lead to has a history: one list of all operations that any site knows. Each site knows a part of it, with every
 /// add, write and count of its own, and each frame carries a part (RR-7506: the causal history of a replica).
@@ -120,8 +127,8 @@ pub fn a_site_may_take_every_entry()
     ensures frames { MayJoinFrames }
 {}
 
-/// A world only grows, event by event: it has as many sites, each knows what it knew, and its pool keeps its entries. So a site that has taken an entry knows each
-/// operation of it from then on (RR-7506: states only grow).
+/// A world only grows, event by event: it has as many sites, each knows what it knew and has made no fewer frames, and its pool keeps its entries. So a site that has
+/// taken an entry knows each operation of it from then on (RR-7506: states only grow).
 pub fn a_world_only_grows()
     ensures event { EventsGrow }
     ensures events { RunsGrow }
@@ -137,12 +144,36 @@ pub fn states_only_grow()
     ensures taken { TakenStaysSaid }
 {}
 
+/// What comes of events by conditions is what comes of them in the world of operations. Where states stand for a world that events lead to, and an event leads from them to
+/// others by conditions, it has happened in that world with the same outcome, and the others stand for the world after it; or memory was wanting, and they stand for
+/// that world still. So it is with events in turn, and so what holds of the sites of every world is kept by each event of values within their limits (RR-7506: a
+/// replica's state stands for the updates that it has made or merged).
+pub fn what_comes_by_conditions_comes_of_operations()
+    ensures event { (from to : WorldState) (w : World) (e : Event) (o : Outcome)
+        → AreQueues from.names → IsReached from.names (length from.sites) w
+        → StandsForWorld from w → Leads from e o to → HasHappened to w e o }
+    ensures events { (from to : WorldState) (w : World) (events : List Event)
+        (outcomes : List Outcome) → AreQueues from.names
+        → IsReached from.names (length from.sites) w → StandsForWorld from w
+        → LeadAll from events outcomes to → HaveHappened to w events outcomes }
+    ensures world { (from to : WorldState) (e : Event) (o : Outcome) → IsWorld from
+        → HasValuesWithinLimits e → Leads from e o to → IsWorld to }
+    ensures worlds { (from to : WorldState) (events : List Event) (outcomes : List Outcome)
+        → IsWorld from → All HasValuesWithinLimits events → LeadAll from events outcomes to
+        → IsWorld to }
+{
+    deeds_stand_for_steps();
+    refusals_stand_for_steps();
+    a_report_is_the_status_text_of_what_its_site_stands_for();
+}
+
 /// Each operation that a site knows or has in its buffer, and that an entry carries, is within the limits of operations, where the queues are, there are at most 64
-/// sites, and the values of each command were within theirs. A `QueueList` and the values of an `Event` are, and a world is made of no more sites (this project's
-/// own).
+/// sites, and the values of each command were within theirs. A `QueueList` and the values of an `Event` are, and a world is made of no more sites: so whatever is
+/// held in a world stands for operations within their limits (this project's own).
 pub fn operations_of_a_world_are_within_limits()
     ensures event { EventsKeepLimits }
     ensures events { WorldsAreWithinLimits }
+    ensures held { HoldWithinLimits }
 {}
 
 /// A take that is told as taken gives its site every operation of the entry: the site knows what the

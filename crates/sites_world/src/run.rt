@@ -15,6 +15,7 @@ ghost use Rattle.sites_world.specs.Outcomes.{changes_nothing};
 ghost use Rattle.sites_world.specs.Telling.{HasEntry, HasHappenedAt, IsAnsweredSo, IsFramedSo};
 ghost use Rattle.sites_world.specs.Telling.{IsTakenSo, MayBeTaken};
 ghost use Rattle.sites_world.specs.Telling.{answer_told, take_fault_told};
+ghost use Rattle.sites_world.specs.WithinLimits.{HasValuesWithinLimits};
 ghost use Rattle.sites_world.specs.Worlds.{Entry, IsReached, World, happens_at, site_of};
 ghost use Rattle.sites_world.specs.WorldStates.{Correspond, HasHappened, HaveHappened, IsFrameOf};
 ghost use Rattle.sites_world.specs.WorldStates.{IsWorld, StandsForWorld};
@@ -204,11 +205,13 @@ pub(crate) fn happen(
         → Leads (record { names = names; sites = sites.old.items; pool = pool.old.items })
         event result
         (record { names = names; sites = sites.new.items; pool = pool.new.items }) }
+    ensures values { HasValuesWithinLimits event }
     ensures count { length sites.new.items ≡ length sites.old.items }
     ensures unchanged { changes_nothing result ≡ true
         → Correspond (λ site. IsUnchanged) sites.old.items sites.new.items }
     ensures pool { changes_nothing result ≡ true → pool.new.items ≡ pool.old.items }
 {
+    event.see_limits();
     match sites.get_mut(usize::from(site_of(&event).number())) {
         Some(replica) => happen_at(alloc, replica, pool, event),
         None => Outcome::NoSite,
@@ -233,6 +236,7 @@ fn happen_by_copy(
         → Leads (record { names = names; sites = sites.old.items; pool = pool.old.items })
         event.now result
         (record { names = names; sites = sites.new.items; pool = pool.new.items }) }
+    ensures values { HasValuesWithinLimits event.now }
     ensures count { length sites.new.items ≡ length sites.old.items }
 {
     match event.copy() {
@@ -263,6 +267,9 @@ pub(crate) fn run_all(
         → LeadAll (record { names = names; sites = sites.old.items; pool = pool.old.items })
         events.now outcomes.new.items
         (record { names = names; sites = sites.new.items; pool = pool.new.items }) }
+    ensures world { (names : List (List ℕ))
+        → IsWorld (record { names = names; sites = sites.old.items; pool = pool.old.items })
+        → IsWorld (record { names = names; sites = sites.new.items; pool = pool.new.items }) }
     ensures count { length sites.new.items ≡ length sites.old.items }
 {
     for event in events {

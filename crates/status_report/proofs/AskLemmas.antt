@@ -1,8 +1,12 @@
 -- The answer to an ask is what a site that knows the same answers.
-use Rattle.std.proofs.Common.{◌≡◌, ℕ, Result, Ok, Err, IfOk, ap, inl, inr}
+use Rattle.std.proofs.Common.{◌≡◌, ℕ, Result, Ok, Err, IfOk, sym, ap, inl, inr}
+use Rattle.dots.specs.Rows.{rows_of as rows_read}
+use Rattle.dots.specs.Totals.{sum_of}
+use Rattle.member_orset.specs.Members.{view_of}
+use Rattle.delta.proofs.Sameness.{says_the_same}
 use Rattle.replica.specs.declared.refusal.Refusal.{Refusal}
 use Rattle.replica.specs.Changes.{Meaning}
-use Rattle.replica.specs.Site.{SiteState, sums_of}
+use Rattle.replica.specs.Site.{IsSameSite, SiteState, sums_of}
 use Rattle.replica.specs.Standing.{StandsFor, IsMeant, result_of}
 use Rattle.replica.specs.Steps.{SiteKnowledge, after_meaning}
 use Rattle.replica.proofs.ShownSites.{rows-shown, completed-shown, abandoned-shown}
@@ -24,6 +28,12 @@ totals-are state s stands queue i = record { completed = completed-shown state s
 -- the report of a state is the text of the knowledge that it stands for
 pub report-is : (state : SiteState) (s : SiteKnowledge) → StandsFor state s → (request : StatusRequest) → report_of state request ≡ status_in s.known state.names request
 report-is state s stands request i = status_text state.names (λ queue. totals-are state s stands queue i) (λ queue. rows-shown state s stands queue i) request
+
+-- sites that say the same have the same report
+pub report-same : (s t : SiteState) → IsSameSite s t → (request : StatusRequest) → report_of s request ≡ report_of t request
+report-same s t same request =
+    let live = sym (says_the_same s.state.members t.state.members same.state.conditions same.state.known).live in
+    λ i. status_text (sym same.names i) (λ queue. sum_of (same.state.totals i) queue) (λ queue. rows_read (view_of (live i)) queue) request
 
 -- what holds of an Ok, and what follows from it
 pub of-ok : {A E : Type 0} (P Q : A → Type 0) (r : Result A E) → IfOk r P → ((x : A) → P x → Q x) → IfOk r Q

@@ -1,6 +1,6 @@
 //! What the definitions of the status text and of answers promise. The functions have no body: their contracts are the laws.
 ghost use Rattle.std.specs.Prelude.{◌≡◌};
-ghost use Rattle.replica.specs.Site.{SiteState};
+ghost use Rattle.replica.specs.Site.{IsSameSite, SiteState};
 ghost use Rattle.replica.specs.Standing.{StandsFor};
 ghost use Rattle.replica.specs.Steps.{SiteKnowledge};
 ghost use Rattle.status_report.specs.declared.asks.Answer.{Answer};
@@ -20,6 +20,12 @@ pub fn knowledges_of_the_same_operations_have_the_same_status()
 pub fn a_report_is_the_status_text_of_what_its_site_stands_for()
     ensures { (state : SiteState) (s : SiteKnowledge) (request : StatusRequest)
         → StandsFor state s → report_of state request ≡ status_in s.known state.names request }
+{}
+
+/// Sites that say the same have the same report (RR-7506: replicas in equivalent states answer alike).
+pub fn sites_that_say_the_same_have_the_same_report()
+    ensures { (s t : SiteState) (request : StatusRequest) → IsSameSite s t
+        → report_of s request ≡ report_of t request }
 {}
 
 /// Whatever is answered by the contract of `ask` is one step of the site: the new state stands for what the site knows then. That is what it knows after its own

@@ -4,7 +4,8 @@ use Rattle.sites_world.specs.Worlds.{IsReached, done_of, run}
 use Rattle.sites_world.specs.WorldStates.{HaveHappened, WorldState}
 use Rattle.sites_world.specs.Conditions.{LeadAll}
 use Rattle.sites_world.proofs.ToldByConditions.{lead-on}
-use Rattle.sites_world.proofs.Happenings.{happened-more, none-happened, reached-more, world-after}
+use Rattle.sites_world.proofs.Happenings.{happened-more, none-happened, reached-more}
+use Rattle.sites_world.proofs.KeptWorlds.{world-after-event}
 use Rattle.sites_world.proofs.run.run_all.Goals as goal
 
 -- at first nothing has happened
@@ -14,6 +15,7 @@ loop-event-init c = record {
   told = let len = c.args.outcomes.now.ok.0 in let none = ap length c.requires.none in omega (arith, len, none);
   room = let room = c.requires.room in omega (arith, room);
   happened = λ names w reached stands. none-happened (record { names = names; sites = c.args.sites.now.items; pool = c.args.pool.now.items }) w c.args.outcomes.now.items c.requires.none stands;
+  world = λ names is. is;
   led = λ names is. let old : WorldState = record { names = names; sites = c.args.sites.now.items; pool = c.args.pool.now.items } in subst (λ os. LeadAll old [] os old) (sym c.requires.none) refl;
 }
 
@@ -37,6 +39,10 @@ loop-event-preserved c = record {
       let more = happened-more names w es os e o c.happen_by_copy-outcome.new.sites.items c.happen_by_copy-outcome.new.pool.items c.loop-event.sites.items c.loop-event.pool.items before happened in
       let grown = take_more events c.loop-event.event-index e c.loop-event-test.true ∙ ap (λ x. es ++ x ∷ []) (sym c.event-item.is) in
       subst (λ xs. HaveHappened new w xs c.push_reserved.new.self.items) (sym grown) (subst (HaveHappened new w (es ++ e ∷ [])) (sym c.push_reserved.ensures.items) more);
+  world = λ names is.
+      world-after-event names c.loop-event.sites.items c.happen_by_copy-outcome.new.sites.items c.loop-event.pool.items c.happen_by_copy-outcome.new.pool.items c.event-item.result
+      c.happen_by_copy-outcome.result (c.loop-event.invariant.world names is) c.happen_by_copy-outcome.ensures.count c.happen_by_copy-outcome.ensures.values
+      (c.happen_by_copy-outcome.ensures.meaning names);
   led = λ names is.
       let events = c.args.events.now in
       let es = take c.loop-event.event-index events in
@@ -46,8 +52,7 @@ loop-event-preserved c = record {
       let old : WorldState = record { names = names; sites = c.args.sites.now.items; pool = c.args.pool.now.items } in
       let mid : WorldState = record { names = names; sites = c.loop-event.sites.items; pool = c.loop-event.pool.items } in
       let new : WorldState = record { names = names; sites = c.happen_by_copy-outcome.new.sites.items; pool = c.happen_by_copy-outcome.new.pool.items } in
-      let still = world-after names c.args.sites.now.items c.loop-event.sites.items c.args.pool.now.items c.loop-event.pool.items es os is c.loop-event.invariant.count (c.loop-event.invariant.happened names) in
-      let more = lead-on old es os mid new e o (c.loop-event.invariant.led names is) (c.happen_by_copy-outcome.ensures.conditions names still) in
+      let more = lead-on old es os mid new e o (c.loop-event.invariant.led names is) (c.happen_by_copy-outcome.ensures.conditions names (c.loop-event.invariant.world names is)) in
       let grown = take_more events c.loop-event.event-index e c.loop-event-test.true ∙ ap (λ x. es ++ x ∷ []) (sym c.event-item.is) in
       subst (λ xs. LeadAll old xs c.push_reserved.new.self.items new) (sym grown) (subst (λ xs. LeadAll old (es ++ e ∷ []) xs new) (sym c.push_reserved.ensures.items) more);
 }
@@ -58,6 +63,7 @@ returns c = record {
   meaning = λ names w reached stands.
       subst (λ xs. HaveHappened (record { names = names; sites = c.loop-event.sites.items; pool = c.loop-event.pool.items }) w xs c.loop-event.outcomes.items)
       (take_all c.loop-event.event-index c.args.events.now c.loop-event-test.false) (c.loop-event.invariant.happened names w reached stands);
+  world = c.loop-event.invariant.world;
   count = c.loop-event.invariant.count;
   conditions = λ names is.
       let old : WorldState = record { names = names; sites = c.args.sites.now.items; pool = c.args.pool.now.items } in

@@ -13,6 +13,8 @@ invariant-loop-event l = record {
   happened : (names : List (List ℕ)) (w : World) → IsReached names (length l.initial.sites.items) w
       → StandsForWorld (record { names = names; sites = l.initial.sites.items; pool = l.initial.pool.items }) w
       → HaveHappened (record { names = names; sites = l.sites.items; pool = l.pool.items }) w (take l.event-index l.events) l.outcomes.items;
+  world : (names : List (List ℕ)) → IsWorld (record { names = names; sites = l.initial.sites.items; pool = l.initial.pool.items })
+      → IsWorld (record { names = names; sites = l.sites.items; pool = l.pool.items });
   led : (names : List (List ℕ)) → IsWorld (record { names = names; sites = l.initial.sites.items; pool = l.initial.pool.items })
       → LeadAll (record { names = names; sites = l.initial.sites.items; pool = l.initial.pool.items }) (take l.event-index l.events) l.outcomes.items
       (record { names = names; sites = l.sites.items; pool = l.pool.items });

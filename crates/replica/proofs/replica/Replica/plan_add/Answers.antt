@@ -1,4 +1,4 @@
-use Rattle.std.proofs.Common.{◌≡◌, ◌<◌, ◌+◌, ◌||◌, ◌⊎◌, ℕ, suc, [], ◌∷◌, Err, arith, refl, sym, ap, subst, inl, inr, ◌∙◌, true≢false}
+use Rattle.std.proofs.Common.{◌≡◌, ◌<◌, ◌+◌, ◌||◌, ℕ, suc, [], ◌∷◌, Err, arith, refl, sym, ap, subst, inl, inr, ◌∙◌, true≢false}
 use Rattle.std.proofs.Math.Bool.{or-true}
 use Rattle.std.proofs.lemmas.Option.{slice_get_within}
 use Rattle.std.specs.FinMap as map
@@ -9,13 +9,13 @@ use Rattle.dots.specs.DotSets.{run_count}
 use Rattle.dots.specs.Values.{PauseState, IsCount}
 use Rattle.member_orset.specs.Members.{IsPresent}
 use Rattle.member_orset.specs.Reads.{dots_seen_below}
-use Rattle.replica.specs.declared.refusal.Refusal.TheVariants.{AlreadyThere, MembersFull, Memory}
+use Rattle.replica.specs.declared.refusal.Refusal.TheVariants.{AlreadyThere, MembersFull}
 use Rattle.replica.specs.Changes.{AddMember, Refused, is_used_up}
-use Rattle.replica.specs.Commands.{IsToldOfAdds}
-use Rattle.replica.specs.Planning.{IsPlan}
+use Rattle.replica.specs.Commands.{IsToldOfAdds, MayWantMemory}
+use Rattle.replica.specs.Planning.{IsPlan, IsUnplanned}
 use Rattle.replica.specs.SetFields.{fields_added}
 use Rattle.replica.specs.Site.{meaning_at}
-use Rattle.replica.proofs.PlannedAdds.{add-long, add-plan, add-there, add-told, used-up}
+use Rattle.replica.proofs.PlannedAdds.{add-long, add-plan, add-there, add-told, add-wants, used-up}
 use Rattle.replica.proofs.replica.Replica.plan_add.Goals as goal
 
 one : (n : ℕ) → n + 1 ≡ suc n
@@ -29,7 +29,7 @@ returns-then-contains c = inr
 
 pub returns-in_default-new : goal.returns-in_default-new
 returns-in_default-new c =
-    subst (λ s. (c.refuse_add.result ≡ Memory) ⊎ (meaning_at s (AddMember c.args.queue.now c.args.interface c.args.penalty c.args.paused c.args.label) ≡ Refused c.refuse_add.result)) c.self.view_is
+    subst (λ s. IsUnplanned (meaning_at s (AddMember c.args.queue.now c.args.interface c.args.penalty c.args.paused c.args.label)) c.refuse_add.result) c.self.view_is
     (add-told _ c.self.invariant c.see_limits.ensures c.args.queue.now c.args.interface c.args.penalty c.args.paused c.args.label c.in-Some.number (sym c.position.ensures.number ∙ c.in-Some.is)
     (λ present. absurd (true≢false (sym (c.contains.ensures.1 (subst (λ m. IsPresent m (record { queue = c.in-Some.number; interface = c.args.interface })) (sym c.members.ensures) present)) ∙ c.if-contains.false)))
     c.refuse_add.result (subst (λ s. IsToldOfAdds s c.refuse_add.result) (sym c.self.view_is) c.refuse_add.ensures)
@@ -37,7 +37,7 @@ returns-in_default-new c =
 
 pub returns-in_default-new-2 : goal.returns-in_default-new-2
 returns-in_default-new-2 c =
-    subst (λ s. (c.refuse_add-in_default-new-2.result ≡ Memory) ⊎ (meaning_at s (AddMember c.args.queue.now c.args.interface c.args.penalty c.args.paused c.args.label) ≡ Refused c.refuse_add-in_default-new-2.result)) c.self.view_is
+    subst (λ s. IsUnplanned (meaning_at s (AddMember c.args.queue.now c.args.interface c.args.penalty c.args.paused c.args.label)) c.refuse_add-in_default-new-2.result) c.self.view_is
     (add-told _ c.self.invariant c.see_limits.ensures c.args.queue.now c.args.interface c.args.penalty c.args.paused c.args.label c.in-Some.number (sym c.position.ensures.number ∙ c.in-Some.is)
     (λ present. absurd (true≢false (sym (c.contains.ensures.1 (subst (λ m. IsPresent m (record { queue = c.in-Some.number; interface = c.args.interface })) (sym c.members.ensures) present)) ∙ c.if-contains.false)))
     c.refuse_add-in_default-new-2.result (subst (λ s. IsToldOfAdds s c.refuse_add-in_default-new-2.result) (sym c.self.view_is) c.refuse_add-in_default-new-2.ensures)
@@ -71,9 +71,13 @@ returns-in-Err c = by c.in-Err.fault refl
     many : c.in-Err.fault ≡ RunsFull → MOST_RUNS < run_count (dots_seen_below c.self.inside.state.members (record { site = c.self.inside.site; count = suc c.self.inside.count } ∷ []))
     many is = subst (λ k. MOST_RUNS < run_count k) (λ i. dots_seen_below (c.members-2.ensures i) (dot_is i ∷ [])) (c.added.ensures.full.0 (c.in-Err.is ∙ ap Err is))
 
-    by : (fault : ContextFault) → c.in-Err.fault ≡ fault
-        → (c.refusal_of_runs.result ≡ Memory) ⊎ (meaning_at c.args.self.now (AddMember c.args.queue.now c.args.interface c.args.penalty c.args.paused c.args.label) ≡ Refused c.refusal_of_runs.result)
-    by NoMemory is = inl (c.refusal_of_runs.ensures.memory is)
+    by : (fault : ContextFault) → c.in-Err.fault ≡ fault → IsUnplanned (meaning_at c.args.self.now (AddMember c.args.queue.now c.args.interface c.args.penalty c.args.paused c.args.label)) c.refusal_of_runs.result
+    by NoMemory is = inl (
+      c.refusal_of_runs.ensures.memory is,
+      subst (λ s. MayWantMemory (meaning_at s (AddMember c.args.queue.now c.args.interface c.args.penalty c.args.paused c.args.label))) c.self.view_is
+          (add-wants _ c.self.invariant c.see_limits.ensures c.args.queue.now c.args.interface c.args.penalty c.args.paused c.args.label c.in-Some.number (sym c.position.ensures.number ∙ c.in-Some.is)
+          (λ present. absurd (true≢false (sym (c.contains.ensures.1 (subst (λ m. IsPresent m (record { queue = c.in-Some.number; interface = c.args.interface })) (sym c.members.ensures) present)) ∙ c.if-contains.false)))),
+    )
     by RunsFull is = inr
         (subst (λ s. meaning_at s (AddMember c.args.queue.now c.args.interface c.args.penalty c.args.paused c.args.label) ≡ Refused MembersFull) c.self.view_is
         (add-long _ c.self.invariant c.see_limits.ensures c.args.queue.now c.args.interface c.args.penalty c.args.paused c.args.label c.in-Some.number (sym c.position.ensures.number ∙ c.in-Some.is)

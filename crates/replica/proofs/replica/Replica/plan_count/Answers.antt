@@ -1,13 +1,14 @@
-use Rattle.std.proofs.Common.{◌≡◌, ◌≤◌, ◌<◌, ◌+◌, refl, sym, ap, subst, inr, ◌∙◌}
+use Rattle.std.proofs.Common.{◌≡◌, ◌≤◌, ◌<◌, ◌+◌, refl, sym, ap, subst, inl, inr, ◌∙◌}
 use Rattle.std.proofs.lemmas.Option.{slice_get_within}
 use Rattle.dots.specs.declared.limits.TheConstants.{MOST_CALLS}
 use Rattle.dots.specs.Totals.{totals_of}
 use Rattle.site_totals.specs.Raising.{number_of}
 use Rattle.replica.specs.Changes.{CountCall, Refused}
 use Rattle.replica.specs.declared.refusal.Refusal.TheVariants.{TotalFull}
+use Rattle.replica.specs.Commands.{MayWantMemory}
 use Rattle.replica.specs.Planning.{IsPlan}
 use Rattle.replica.specs.Site.{meaning_at}
-use Rattle.replica.proofs.PlannedCommands.{count-full, count-plan}
+use Rattle.replica.proofs.PlannedCommands.{count-full, count-plan, count-wants}
 use Rattle.replica.proofs.replica.Replica.plan_count.Goals as goal
 
 -- src/commands.rt:51:13
@@ -16,6 +17,17 @@ returns-then-total-ge-MOST_CALLS c = inr
     (subst (λ s. meaning_at s (CountCall c.args.queue.now c.args.calls) ≡ Refused TotalFull) c.self.view_is
     (count-full _ c.self.invariant c.see_limits.ensures c.see_limits-2.ensures c.args.queue.now c.args.calls c.in-Some.number (sym c.position.ensures.number ∙ c.in-Some.is)
     (subst (λ n. MOST_CALLS ≤ n) (c.number_of-total.ensures ∙ ap (number_of c.args.calls) (c.of.ensures.value ∙ ap (λ t. totals_of t.entries c.self.inside.site c.in-Some.number) c.totals.ensures)) c.if-total-ge-MOST_CALLS.true)))
+
+-- memory for the change was wanting
+pub returns-in-Err : goal.returns-in-Err
+returns-in-Err c =
+    let total = c.number_of-total.ensures ∙ ap (number_of c.args.calls) (c.of.ensures.value ∙ ap (λ t. totals_of t.entries c.self.inside.site c.in-Some.number) c.totals.ensures) in
+    inl (
+      refl,
+      subst (λ s. MayWantMemory (meaning_at s (CountCall c.args.queue.now c.args.calls))) c.self.view_is
+          (count-wants _ c.self.invariant c.see_limits.ensures c.see_limits-2.ensures c.args.queue.now c.args.calls c.in-Some.number (sym c.position.ensures.number ∙ c.in-Some.is)
+          (subst (λ n. n < MOST_CALLS) total c.if-total-ge-MOST_CALLS.false)),
+    )
 
 -- src/commands.rt:42:5
 pub returns-in-Ok : goal.returns-in-Ok

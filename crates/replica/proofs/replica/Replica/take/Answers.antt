@@ -1,5 +1,5 @@
-use Rattle.std.proofs.Common.{◌≡◌, Err, ap, subst, sym}
-use Rattle.delta.specs.Joining.{Agree, IsJoinOf, IsRefusedJoin}
+use Rattle.std.proofs.Common.{◌≡◌, Err, IsOk, ap, inl, inr, subst, sym, true≢false}
+use Rattle.delta.specs.Joining.{Agree, IsJoinOf, IsPrepared, IsRefusedJoin}
 use Rattle.member_orset.specs.Members.{IsWithinLimits, KeepsIds}
 use Rattle.replica.specs.declared.take_fault.TakeFault.{TakeFault}
 use Rattle.replica.specs.Site.{SiteState}
@@ -14,6 +14,13 @@ pub returns-in-Err-clause-refusals : goal.returns-in-Err-clause-refusals
 returns-in-Err-clause-refusals c =
     refusals-unheard c.args.self.now c.args.frame.delta c.in-Err.fault c.in-Err.ensures.only c.in-Err.ensures.no_such_queue c.in-Err.ensures.not_mine
 
+-- what may be heard isn't refused so
+pub returns-in-Err-clause-prepared : goal.returns-in-Err-clause-prepared
+returns-in-Err-clause-prepared c = λ hears ready. absurd (elim c.in-Err.ensures.only [
+  | inl strange ↦ hears.queues (c.in-Err.ensures.no_such_queue.0 strange)
+  | inr own ↦ hears.own (c.in-Err.ensures.not_mine.0 own).1
+])
+
 pub invariant_of-self : goal.invariant_of-self
 invariant_of-self c = unchanged-kept _ c.prepare.new.self c.self.inside.pending c.self.invariant c.prepare.ensures.kept (unchanged-self c.self.inside.pending)
 
@@ -24,6 +31,12 @@ returns-in-Err-prepare-clause-refusals c =
     let refused = subst (λ (r : SiteState). IsRefusedJoin r.state d (λ f. c.prepare.result ≡ Err f)) c.self.view_is c.prepare.ensures.refusals in
     subst (λ (t : TakeFault). IsRefusedTake s d (λ f. t ≡ f)) (sym c.take_fault_of.ensures)
     (refusals-joined s d c.in_default.ensures.heard c.prepare.result c.in-Err-prepare.fault c.in-Err-prepare.is refused)
+
+-- nor is what is prepared refused once more
+pub returns-in-Err-prepare-clause-prepared : goal.returns-in-Err-prepare-clause-prepared
+returns-in-Err-prepare-clause-prepared c = λ hears ready.
+    let d = c.args.frame.delta in
+    absurd (true≢false (sym (subst IsOk c.in-Err-prepare.is (c.prepare.ensures.again (subst (λ (r : SiteState). IsPrepared r.state d) (sym c.self.view_is) ready)))))
 
 pub returns-in-Err-prepare-clause-meaning : goal.returns-in-Err-prepare-clause-meaning
 returns-in-Err-prepare-clause-meaning c = λ s k stands says later.

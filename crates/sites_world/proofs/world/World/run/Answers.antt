@@ -1,15 +1,12 @@
 use Rattle.std.proofs.Common.{length, subst}
 use Rattle.sites_world.specs.Worlds.{IsReached}
 use Rattle.sites_world.specs.WorldStates.{HaveHappened, StandsForWorld, WorldState}
-use Rattle.sites_world.proofs.Happenings.{world-after}
 use Rattle.sites_world.specs.Conditions.{LeadAll}
 use Rattle.sites_world.proofs.world.World.run.Goals as goal
 
 -- the sites stand for the world after the events
 pub invariant_of-self : goal.invariant_of-self
-invariant_of-self c =
-    world-after c.self.inside.list c.self.inside.sites.items c.run_all.new.sites.items c.self.inside.pool.items c.run_all.new.pool.items c.args.events.now c.run_all.new.outcomes.items
-    c.self.invariant c.run_all.ensures.count (c.run_all.ensures.meaning c.self.inside.list)
+invariant_of-self c = c.run_all.ensures.world c.self.inside.list c.self.invariant
 
 pub returns-clause-meaning : goal.returns-clause-meaning
 returns-clause-meaning c = λ w. subst (λ (s : WorldState). IsReached s.names (length s.sites) w → StandsForWorld s w
@@ -17,9 +14,7 @@ returns-clause-meaning c = λ w. subst (λ (s : WorldState). IsReached s.names (
     c.self.view_is (c.run_all.ensures.meaning c.self.inside.list w)
 
 pub returns-clause-world : goal.returns-clause-world
-returns-clause-world c =
-    world-after c.self.inside.list c.self.inside.sites.items c.run_all.new.sites.items c.self.inside.pool.items c.run_all.new.pool.items c.args.events.now c.run_all.new.outcomes.items
-    c.self.invariant c.run_all.ensures.count (c.run_all.ensures.meaning c.self.inside.list)
+returns-clause-world c = c.run_all.ensures.world c.self.inside.list c.self.invariant
 
 -- the events lead from the old state
 pub returns-clause-conditions : goal.returns-clause-conditions
