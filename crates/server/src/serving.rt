@@ -1,12 +1,12 @@
 //! All sites, each in a thread of its own.
 ghost use Rattle.std.specs.List.{All};
 ghost use Rattle.std.specs.Prelude.{◌≡◌, ◌+◌, ◌<◌, ◌≤◌, ℕ, IfOk, IsErrOf, List, OnOk, false};
-ghost use Rattle.std.specs.Prelude.{map, true, vec_capacity, vec_len};
+ghost use Rattle.std.specs.Prelude.{true, vec_capacity, vec_len};
 ghost use Rattle.std.specs.Io.KnownBytes.{Appends};
 ghost use Rattle.site_journal.specs.Journals.{IsOfSite};
 ghost use Rattle.server.specs.Listening.{listening_lines};
 ghost use Rattle.server.specs.Places.{AtEach};
-ghost use Rattle.server.specs.Promises.{ArePromised};
+ghost use Rattle.server.specs.Promises.{IsPromisedAt};
 
 use crate::listening::{listen, tell_listening};
 use crate::site::{SiteParts, run_or_fail};
@@ -117,8 +117,8 @@ fn start_sites<'s, 'e: 's, R: Threads + Wait + Clock + Eprint + Sync>(
     requires none { vec_len sites.old ≡ 0 }
     requires room { vec_len listeners ≤ vec_capacity sites.old }
     ensures number { OnOk result (vec_len sites.new ≡ vec_len listeners) }
-    ensures promised { OnOk result (ArePromised common.now.list.now (vec_len listeners)
-        (map (λ site. site.promise) sites.new.items)) }
+    ensures promised { OnOk result (AtEach (λ k site.
+        IsPromisedAt common.now.list.now (vec_len listeners) k site.promise) sites.new.items) }
 {
     let mut listeners = listeners;
     let SiteLinks { mut to, mut from } = links;
@@ -157,7 +157,7 @@ fn join_sites<R: Threads>(
     requires room { vec_len sites ≤ vec_capacity journals }
     ensures number { IfOk result (λ journals. vec_len journals ≡ vec_len sites) }
     ensures each { IfOk result (λ journals. (names : List (List ℕ))
-        → ArePromised names (vec_len sites) (map (λ site. site.promise) sites.items)
+        → AtEach (λ k site. IsPromisedAt names (vec_len sites) k site.promise) sites.items
         → AtEach (λ site journal. IsOfSite site names journal) journals.items) }
 {
     let mut sites = sites;

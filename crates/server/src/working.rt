@@ -1,7 +1,8 @@
 //! The threads of a site: what each does, how they are started, and how they are joined again.
-ghost use Rattle.std.specs.Prelude.{◌≡◌, ◌+◌, ◌≤◌, IfOk, OnOk, map, vec_capacity, vec_len};
+ghost use Rattle.std.specs.Prelude.{◌≡◌, ◌+◌, ◌≤◌, IfOk, OnOk, vec_capacity, vec_len};
 ghost use Rattle.site_desk.specs.Passes.{AreFresh};
-ghost use Rattle.server.specs.Workers.{AreInOrder, GoDownFrom};
+ghost use Rattle.server.specs.Places.{AtEach};
+ghost use Rattle.server.specs.Workers.{AreInOrder};
 
 use crate::accepting::accept;
 use crate::client::answer_client;
@@ -122,8 +123,8 @@ pub(crate) fn start_workers<
     requires none { vec_len workers.old ≡ 0 }
     requires room { vec_len tasks ≤ vec_capacity workers.old }
     ensures number { OnOk result (vec_len workers.new ≡ vec_len tasks) }
-    ensures ordinals { OnOk result (GoDownFrom (vec_len tasks)
-        (map (λ worker. worker.promise.ordinal) workers.new.items)) }
+    ensures ordinals { OnOk result (AtEach (λ k worker.
+        worker.promise.ordinal + k + 1 ≡ vec_len tasks) workers.new.items) }
 {
     let mut passes = passes;
     let mut tasks = tasks;
@@ -155,14 +156,14 @@ pub(crate) fn join_workers<L: SiteLedger, R: Threads>(
     requires some { number ≤ vec_len workers.old }
     requires room { vec_len passes.old + number ≤ vec_capacity passes.old }
     requires order { AreInOrder passes.old.items }
-    requires ordinals { GoDownFrom (vec_len passes.old + vec_len workers.old)
-        (map (λ worker. worker.promise.ordinal) workers.old.items) }
+    requires ordinals { AtEach (λ k worker. worker.promise.ordinal + k + 1
+        ≡ vec_len passes.old + vec_len workers.old) workers.old.items }
     ensures left { vec_len workers.new + number ≡ vec_len workers.old }
     ensures joined { vec_len passes.new ≡ vec_len passes.old + number }
     ensures room { vec_capacity passes.new ≡ vec_capacity passes.old }
     ensures order { AreInOrder passes.new.items }
-    ensures ordinals { GoDownFrom (vec_len passes.new + vec_len workers.new)
-        (map (λ worker. worker.promise.ordinal) workers.new.items) }
+    ensures ordinals { AtEach (λ k worker. worker.promise.ordinal + k + 1
+        ≡ vec_len passes.new + vec_len workers.new) workers.new.items }
 {
     for _i in 0..number {
         let Some(worker) = workers.pop() else {
