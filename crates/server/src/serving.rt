@@ -212,7 +212,9 @@ fn serve_listeners<'x, R: Threads + Wait + Clock + Eprint + Sync>(
     ensures each { IfOk result (λ journals.
         AtEach (λ site journal. IsOfSite site list.now journal) journals.items) }
 {
-    let start = Arc::new(alloc, Start::new(listeners.len() as u32))?;
+    let Ok(start) = Arc::new(alloc, Start::new(listeners.len() as u32)) else {
+        return Err(SiteFault::Memory);
+    };
     let links = link_all(alloc, listeners.len())?;
     let start = &start;
     thread::scope(
