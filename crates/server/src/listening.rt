@@ -24,14 +24,12 @@ pub(crate) fn listen<R: Net<Listener = TcpListener, Stream = TcpStream>>(
         → (port ≤ own) × (own < port + sites) }
     ensures no_write { IsErrOf result ServeSitesFault.Write → ⊥ }
 {
-    let mut listeners = Vec::new(alloc);
+    let mut listeners = Vec::with_capacity(alloc, usize::from(sites))?;
     for site in 0..sites {
         let own = port + site;
-        let Ok(listener) = TcpListener::bind(rt, SocketAddr::from((address, own))) else {
-            return Err(ServeSitesFault::CannotListen(own));
-        };
-        if listeners.push(listener).is_err() {
-            return Err(ServeSitesFault::Memory);
+        match TcpListener::bind(rt, SocketAddr::from((address, own))) {
+            Ok(listener) => listeners.push_reserved(listener),
+            Err(_) => return Err(ServeSitesFault::CannotListen(own)),
         }
     }
     Ok(listeners)
@@ -61,11 +59,10 @@ pub(crate) fn tell_listening<W: Sink>(
         (fault ≡ ServeSitesFault.Write) ⊎ (fault ≡ ServeSitesFault.Memory)) }
 {
     for site in 0..sites {
-        let Ok(line) = line_of(alloc, address, port + site) else {
-            return Err(ServeSitesFault::Memory);
-        };
-        if write_all(log, line.as_bytes()).is_err() {
-            return Err(ServeSitesFault::Write);
+        let line = line_of(alloc, address, port + site)?;
+        match write_all(log, line.as_bytes()) {
+            Ok(()) => {}
+            Err(_) => return Err(ServeSitesFault::Write),
         }
     }
     Ok(())
