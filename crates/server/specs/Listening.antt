@@ -6,7 +6,7 @@ use Rattle.std.specs.declared.net.ipv4_addr.Ipv4Addr.{Ipv4Addr}
 
 -- the line of a site that listens at this address and port
 abbrev pub listening_line : Ipv4Addr → ℕ → List ℕ
-listening_line address port = codes "listening " ++ ipv4_text (ipv4_octets address) ++ codes ":" ++ decimal port ++ codes "\n"
+listening_line address port = codes "listening " ++ (ipv4_text (ipv4_octets address) ++ (codes ":" ++ (decimal port ++ codes "\n")))
 
 -- the lines of so many sites, from this port on
 abbrev pub listening_lines : Ipv4Addr → ℕ → ℕ → List ℕ

@@ -90,9 +90,8 @@ fn start_site<'s, 'e: 's, R: Threads + Wait + Clock + Eprint + Sync>(
         list: Snapshot::of(common.list),
     };
     let run = move || -> Result<Journaled, SiteFault>
-        requires few { vec_len links.from ≤ 7 }
-        requires site { parts.number ≡ site }
-        ensures { IfOk result (λ journal. IsOfSite site queues journal) }
+        requires { vec_len links.from ≤ 7 }
+        ensures { IfOk result (λ journal. IsOfSite parts.number queues journal) }
     { run_or_fail(rt, alloc, queues, parts, links, start) };
     match scope.spawn_with(promise, run) {
         Ok(handle) => Ok(handle),
