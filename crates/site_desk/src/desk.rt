@@ -174,4 +174,10 @@ impl<L: SiteLedger> SiteDesk<L> {
     pub fn checkpoint<R: Wait>(&self, rt: &R) -> Result<(), Memory> {
         self.lock.lock(rt).checkpoint()
     }
+
+    /// Drops the steps of the journal where they keep more than so many bytes beside themselves, and tells whether it did. The one fault
+    /// is want of memory.
+    pub fn checkpoint_above<R: Wait>(&self, rt: &R, bytes: u64) -> Result<bool, Memory> {
+        self.lock.lock(rt).checkpoint_above(bytes)
+    }
 }

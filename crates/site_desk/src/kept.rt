@@ -1,7 +1,9 @@
-ghost use Rattle.std.specs.Prelude.{ℕ, ◌≡◌, ◌≤◌, ◌<◌, ◌↔◌, ◌⊎◌, ◌+◌, Err, IfErr, IfOk, OnErr, OnOk};
+ghost use Rattle.std.specs.Prelude.{ℕ, ◌≡◌, ◌≤◌, ◌<◌, ◌↔◌, ◌⊎◌, ◌+◌, ◌-◌, ◌^◌, Err, IfErr, IfOk};
+ghost use Rattle.std.specs.Prelude.{IsTrue, MatchBool, OnErr, OnOk, min};
 ghost use Rattle.dots.specs.declared.limits.TheConstants.{MOST_COUNT};
 ghost use Rattle.delta.specs.DeltaStates.{IsEmpty};
 ghost use Rattle.delta_codec.specs.Decoding.{HasOpening};
+ghost use Rattle.site_journal.specs.Keeping.{kept_by_steps};
 ghost use Rattle.site_journal.specs.Journals.{HasAdded, HasDropped, HasFaultAlone, IsAnswerTo};
 ghost use Rattle.site_journal.specs.Journals.{IsFull, IsOfSite, IsRefusedFor, IsRefusedFrame};
 ghost use Rattle.site_journal.specs.Journals.{IsUnchanged, RefusesTake};
@@ -183,5 +185,21 @@ impl<L: SiteLedger> Kept<L> {
     {
         let Kept { journal, .. } = self;
         journal.checkpoint()
+    }
+
+    // Drops the journal's steps where they keep more than so many bytes, and tells whether it did. The one fault is want of memory.
+    pub fn checkpoint_above(&mut self, bytes: u64) -> Result<bool, Memory>
+        ensures above { IfOk result (λ dropped. IsTrue dropped
+            ↔ (bytes < min (kept_by_steps self.old.journal.steps) (2 ^ 64 - 1))) }
+        ensures done { IfOk result (λ dropped. MatchBool dropped
+            (HasDropped self.old.journal self.new.journal)
+            (self.new.journal ≡ self.old.journal)) }
+        ensures unchanged { OnErr result (self.new.journal ≡ self.old.journal) }
+    {
+        if self.journal.kept() <= bytes {
+            return Ok(false);
+        }
+        self.checkpoint()?;
+        Ok(true)
     }
 }

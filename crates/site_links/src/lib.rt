@@ -6,6 +6,7 @@
 
 mod comparing;
 mod limits;
+mod linking;
 mod log;
 mod pairing;
 mod receiver;
@@ -14,6 +15,7 @@ mod sender;
 pub use comparing::compare;
 pub use dots::Memory;
 pub use limits::{MOST_CAPACITY, MOST_ITEMS};
+pub use linking::{LinkEnds, SiteLinks, link_all};
 pub use pairing::pair;
 pub use receiver::LinkReceiver;
 pub use sender::LinkSender;

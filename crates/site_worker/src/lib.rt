@@ -7,7 +7,6 @@
 mod asking;
 mod gathering;
 mod link_plan;
-mod linking;
 mod pumping;
 mod rope;
 mod run_fault;

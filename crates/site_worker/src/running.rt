@@ -9,12 +9,12 @@ ghost use Rattle.site_worker.specs.Runs.{HasAnswered, HasRun};
 ghost use Rattle.site_worker.specs.Working.{AreOfPasses, receipts_in};
 ghost use Rattle.status_report.specs.declared.asks.Ask.{Ask};
 
-use crate::linking::{LinkEnds, Links, link_all};
 use crate::site::run_new_site;
 use crate::{RunFault, SiteEnd, SiteWork};
 use dots::SiteId;
 use replica::QueueList;
 use site_journal::Gate;
+use site_links::{LinkEnds, SiteLinks, link_all};
 use status_report::Ask;
 use std::alloc::Global;
 use std::snapshot::Snapshot;
@@ -96,7 +96,7 @@ fn start_sites<'s, 'e: 's, R: Threads + Wait + Sync, G: Gate + Send + Drop + 's>
     alloc: Global,
     list: &QueueList,
     works: Vec<SiteWork<G>>,
-    links: Links,
+    links: SiteLinks,
     sites: &mut Sites<G>,
 ) -> Result<(), RunFault>
     requires few { vec_len works ≤ MOST_RUN_SITES }
@@ -112,7 +112,7 @@ fn start_sites<'s, 'e: 's, R: Threads + Wait + Sync, G: Gate + Send + Drop + 's>
     ensures fault { IfErr result (λ fault. fault ≢ RunFault.BadSites) }
 {
     let mut works = works;
-    let Links { mut to, mut from } = links;
+    let SiteLinks { mut to, mut from } = links;
     while let Some(work) = works.pop() {
         let (Some(to), Some(from)) = (to.pop(), from.pop()) else {
             unreachable!();
@@ -176,7 +176,7 @@ fn run_all<'s, 'e: 's, R: Threads + Wait + Sync, G: Gate + Send + Drop + 's>(
     alloc: Global,
     list: &QueueList,
     works: Vec<SiteWork<G>>,
-    links: Links,
+    links: SiteLinks,
 ) -> Result<Vec<SiteEnd<G>>, RunFault>
     requires few { vec_len works ≤ MOST_RUN_SITES }
     requires to { vec_len links.to ≡ vec_len works }

@@ -7,13 +7,13 @@ ghost use Rattle.site_worker.specs.Working.{HaveWorked};
 ghost use Rattle.status_report.specs.declared.asks.Ask.{Ask};
 
 use crate::gathering::Gathered;
-use crate::linking::LinkEnds;
 use crate::starting::{Tasks, ask_and_send, join_each, join_takers, start_takers};
 use crate::{LinkPlan, Rope, RunFault, SiteEnd, SiteWork};
 use dots::SiteId;
 use replica::{QueueList, Replica};
 use site_desk::{Pass, SiteDesk, SiteLedger, close};
 use site_journal::{Gate, Journaled, MOST_STEPS};
+use site_links::LinkEnds;
 use status_report::Ask;
 use std::alloc::Global;
 use std::marker::Brand;

@@ -1,6 +1,6 @@
 use Rattle.std.specs.List.{All}
 use Rattle.std.specs.Prelude.{◌≡◌, ◌+◌, vec_len}
-use Rattle.site_worker.proofs.linking.link_all.Given as goal
+use Rattle.site_links.proofs.linking.link_all.Given as goal
 
 abbrev pub invariant-loop-i : goal.invariant-loop-i
 invariant-loop-i l = vec_len l.to ≡ l._i

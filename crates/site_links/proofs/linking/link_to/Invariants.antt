@@ -1,5 +1,5 @@
 use Rattle.std.specs.Prelude.{◌≡◌, ◌+◌, ◌≤◌, ◌<◌, length, vec_len}
-use Rattle.site_worker.proofs.linking.link_to.Given as goal
+use Rattle.site_links.proofs.linking.link_to.Given as goal
 
 -- one link from each other site so far
 abbrev pub invariant-loop-other : goal.invariant-loop-other

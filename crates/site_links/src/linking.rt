@@ -2,24 +2,28 @@
 ghost use Rattle.std.specs.List.{All};
 ghost use Rattle.std.specs.Prelude.{◌≡◌, ◌+◌, ◌<◌, IfOk, length, vec_len};
 
+use crate::{LinkReceiver, LinkSender, pair};
 use dots::Memory;
-use site_links::{LinkReceiver, LinkSender, pair};
 use std::alloc::Global;
 
 // How many items a link holds that were sent and not yet received.
 const LINK_CAPACITY: usize = 64;
 
-// The ends of links that one site has: those that send and those that receive, each by the numbers of the other sites.
+/// The ends of links that one site has, each by the numbers of the other sites.
 #[derive(Drop)]
-pub(crate) struct LinkEnds {
+pub struct LinkEnds {
+    /// Those that send.
     pub to: Vec<LinkSender>,
+    /// Those that receive.
     pub from: Vec<LinkReceiver>,
 }
 
-// The ends of all links, by the sites that have them.
+/// The ends of all links, by the sites that have them.
 #[derive(Drop)]
-pub(crate) struct Links {
+pub struct SiteLinks {
+    /// Those that send, each site's by the numbers of the other sites.
     pub to: Vec<Vec<LinkSender>>,
+    /// Those that receive, likewise.
     pub from: Vec<Vec<LinkReceiver>>,
 }
 
@@ -44,8 +48,8 @@ fn link_to(
     Ok(from)
 }
 
-// A link from each of so many sites to each other.
-pub(crate) fn link_all(alloc: Global, sites: usize) -> Result<Links, Memory>
+/// A link from each of so many sites to each other, which holds 64 items. The one fault is want of memory (this project's own).
+pub fn link_all(alloc: Global, sites: usize) -> Result<SiteLinks, Memory>
     ensures to { IfOk result (λ links. vec_len links.to ≡ sites) }
     ensures from { IfOk result (λ links. vec_len links.from ≡ sites) }
     ensures others { IfOk result (λ links.
@@ -59,5 +63,5 @@ pub(crate) fn link_all(alloc: Global, sites: usize) -> Result<Links, Memory>
     for site in 0..sites {
         from.push(link_to(alloc, site, to.as_mut_slice())?)?;
     }
-    Ok(Links { to, from })
+    Ok(SiteLinks { to, from })
 }

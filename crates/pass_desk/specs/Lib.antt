@@ -1,0 +1,3 @@
+pub mod Ears
+pub mod PassDesks
+pub mod RingingDesks

@@ -1,0 +1,5 @@
+pub mod PlaceLemmas
+pub mod PortRuns
+pub mod SentBytes
+pub mod SessionRuns
+pub mod Sites

@@ -1,0 +1,7 @@
+use Rattle.std.specs.Prelude.{ℕ, List, ◌++◌, take}
+use Rattle.server.specs.FirstMessages.{HasSent}
+use Rattle.server.proofs.first_message.FirstMessage.after.Given as goal
+
+-- it tells of the bytes so far
+abbrev pub invariant-loop-byte : goal.invariant-loop-byte
+invariant-loop-byte l = (sent : List ℕ) → HasSent sent l.fn.self → HasSent (sent ++ take l.byte-index l.bytes) l.message

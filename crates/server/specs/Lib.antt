@@ -1,0 +1,5 @@
+pub mod FirstMessages
+pub mod Places
+pub mod Workers
+pub mod Promises
+pub mod Listening

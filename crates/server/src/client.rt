@@ -1,0 +1,86 @@
+//! One client of a site, from its connection to the end of its session.
+ghost use Rattle.std.specs.Prelude.{◌≡◌};
+ghost use Rattle.pass_desk.specs.RingingDesks.{inner_desk};
+
+use crate::SessionSettings;
+use crate::client_source::ClientSource;
+use crate::telling::{tell_ended, tell_not_ready};
+use ami_text::StdSink;
+use dots::SiteId;
+use pass_desk::{PassDesk, RingingDesk};
+use serve::serve;
+use site_desk::SiteLedger;
+use std::alloc::Global;
+use std::io;
+use std::io::Read;
+use std::net::{Shutdown, TcpStream};
+use std::sync::Wait;
+use std::time::{Clock, Duration, Instant};
+
+// How many bytes are read at a time behind a session's end, how often, and how long each read may wait, in milliseconds.
+const LAST_PIECE: usize = 1024;
+
+const LAST_READS: u32 = 64;
+
+const LAST_MILLIS: u64 = 200;
+
+// Makes a connection ready for its session, and tells when that was.
+fn made_ready<R: Clock>(
+    rt: &R,
+    stream: &TcpStream,
+    settings: &SessionSettings,
+) -> io::Result<Instant> {
+    stream.set_nodelay(true)?;
+    stream.set_write_timeout(Some(settings.write))?;
+    Instant::now(rt)
+}
+
+// Ends a stream so that the client can read all that was written. One that is closed over bytes that nobody has read takes back what the
+// client hasn't read yet; so these are read away, but not without end.
+fn say_goodbye(stream: &TcpStream) {
+    if stream.shutdown(Shutdown::Write).is_err() {
+        return;
+    }
+    if stream
+        .set_read_timeout(Some(Duration::from_millis(LAST_MILLIS)))
+        .is_err()
+    {
+        return;
+    }
+    let mut reader = stream;
+    let mut piece = [0u8; LAST_PIECE];
+    for _ in 0..LAST_READS {
+        match reader.read(&mut piece) {
+            Ok(0) | Err(_) => return,
+            Ok(_) => {}
+        }
+    }
+}
+
+// Answers a client of a site over this desk.
+pub(crate) fn answer_client<'x, L: SiteLedger, R: Wait + Clock + Eprint>(
+    rt: &'x R,
+    alloc: Global,
+    site: SiteId,
+    settings: &SessionSettings,
+    stream: &'x TcpStream,
+    desk: &mut RingingDesk<'_, PassDesk<'_, L>>,
+)
+    ensures { (inner_desk desk.new).ordinal ≡ (inner_desk desk.old).ordinal }
+{
+    let connected = match made_ready(rt, stream, settings) {
+        Ok(connected) => connected,
+        Err(error) => {
+            tell_not_ready(rt, site, &error);
+            return;
+        }
+    };
+    let mut reader = ClientSource::new(rt, stream, connected, settings);
+    let mut writer = StdSink::new(stream);
+    let session = settings.session();
+    let served = serve(rt, alloc, &mut reader, &mut writer, session, desk);
+    if let Err(fault) = served {
+        tell_ended(rt, site, fault);
+    }
+    say_goodbye(stream);
+}

@@ -1,0 +1,69 @@
+//! The listeners of all sites, and what is told of them.
+ghost use Rattle.std.specs.Prelude.{◌≡◌, ◌⊎◌, ◌+◌, ◌<◌, ◌≤◌, ℕ, IfErr, IfOk, IsErrOf, OnOk};
+ghost use Rattle.std.specs.Prelude.{false, string_bytes, true, vec_len};
+ghost use Rattle.std.specs.Io.KnownBytes.{Appends};
+ghost use Rattle.server.specs.Listening.{listening_line, listening_lines};
+
+use crate::ServeSitesFault;
+use ami_text::{Sink, write_all};
+use dots::Memory;
+use std::alloc::Global;
+use std::net::{Ipv4Addr, Net, SocketAddr, TcpListener, TcpStream};
+
+// Listens for so many sites, at this port and those behind it. Faults: `CannotListen`, with the first port that isn't to be had; `Memory`.
+pub(crate) fn listen<R: Net<Listener = TcpListener, Stream = TcpStream>>(
+    rt: &R,
+    alloc: Global,
+    address: Ipv4Addr,
+    port: u16,
+    sites: u16,
+) -> Result<Vec<TcpListener>, ServeSitesFault>
+    requires { port + sites ≤ 65536 }
+    ensures number { IfOk result (λ listeners. vec_len listeners ≡ sites) }
+    ensures port { (own : ℕ) → IsErrOf result (ServeSitesFault.CannotListen own)
+        → (port ≤ own) × (own < port + sites) }
+    ensures no_write { IsErrOf result ServeSitesFault.Write → ⊥ }
+{
+    let mut listeners = Vec::with_capacity(alloc, usize::from(sites))?;
+    for site in 0..sites {
+        let own = port + site;
+        match TcpListener::bind(rt, SocketAddr::from((address, own))) {
+            Ok(listener) => listeners.push_reserved(listener),
+            Err(_) => return Err(ServeSitesFault::CannotListen(own)),
+        }
+    }
+    Ok(listeners)
+}
+
+// The line of a site that listens.
+fn line_of(alloc: Global, address: Ipv4Addr, port: u16) -> Result<String, Memory>
+    ensures { IfOk result (λ line. string_bytes line ≡ listening_line address port) }
+{
+    format!(in alloc; "listening {address}:{port}\n")
+}
+
+// Tells of so many sites, which all listen at this port and those behind it. Faults: `Write`, `Memory`.
+pub(crate) fn tell_listening<W: Sink>(
+    alloc: Global,
+    log: &mut W,
+    address: Ipv4Addr,
+    port: u16,
+    sites: u16,
+) -> Result<(), ServeSitesFault>
+    requires ports { port + sites ≤ 65536 }
+    requires log { W.failed log.old ≡ false }
+    ensures told { OnOk result (Appends (W.taken log.old) (W.taken log.new)
+        (listening_lines address port sites)) }
+    ensures write { IsErrOf result ServeSitesFault.Write → W.failed log.new ≡ true }
+    ensures fault { IfErr result (λ fault.
+        (fault ≡ ServeSitesFault.Write) ⊎ (fault ≡ ServeSitesFault.Memory)) }
+{
+    for site in 0..sites {
+        let line = line_of(alloc, address, port + site)?;
+        match write_all(log, line.as_bytes()) {
+            Ok(()) => {}
+            Err(_) => return Err(ServeSitesFault::Write),
+        }
+    }
+    Ok(())
+}

@@ -1,0 +1,98 @@
+ghost use Rattle.std.specs.Prelude.{◌≡◌, Some, None, false, unwrap_or};
+ghost use Rattle.ami_session.specs.Text.{own_greeting};
+
+use ami_session::Session;
+use dots::Text80;
+use std::net::Ipv4Addr;
+use std::time::Duration;
+
+// How long a client may take for its first message, in seconds.
+const FIRST_MESSAGE: u64 = 30;
+
+// How long it may be silent.
+const IDLE: u64 = 3_600;
+
+// How long a write may wait until it reads.
+const WRITE: u64 = 30;
+
+/// Who may log in, how clients are greeted, and how long they may take (this project's own).
+#[derive(Drop)]
+pub struct SessionSettings {
+    /// Who may log in.
+    pub user: Text80,
+    /// The user's secret.
+    pub secret: Text80,
+    /// The line that greets a client. `None`: the session's own.
+    pub greeting: Option<Text80>,
+    /// How long a client may take, from when it is served, until it has sent a whole message, if only of lines that are ignored.
+    pub first_message: Duration,
+    /// How long a client may be silent while the server waits for it, longer than 0. `None`: without end.
+    pub idle: Option<Duration>,
+    /// How long a write may wait for a client that reads nothing, longer than 0.
+    pub write: Duration,
+}
+
+impl SessionSettings {
+    /// Sessions for this user and secret, with the session's own greeting. A client has 30 seconds for its first message and may be
+    /// silent for an hour, and a write waits for 30 seconds.
+    pub fn new(user: Text80, secret: Text80) -> SessionSettings
+        ensures user { result.user ≡ user }
+        ensures secret { result.secret ≡ secret }
+        ensures greeting { result.greeting ≡ None }
+    {
+        SessionSettings {
+            user,
+            secret,
+            greeting: None,
+            first_message: Duration::from_secs(FIRST_MESSAGE),
+            idle: Some(Duration::from_secs(IDLE)),
+            write: Duration::from_secs(WRITE),
+        }
+    }
+
+    /// The same settings once more. It takes no memory.
+    pub fn copy(&self) -> SessionSettings
+        ensures { result ≡ self.now }
+    {
+        let greeting = match &self.greeting {
+            None => None,
+            Some(greeting) => Some(greeting.copy()),
+        };
+        SessionSettings {
+            user: self.user.copy(),
+            secret: self.secret.copy(),
+            greeting,
+            first_message: self.first_message,
+            idle: self.idle,
+            write: self.write,
+        }
+    }
+
+    // The session of a client.
+    pub(crate) fn session(&self) -> Session
+        ensures { result ≡ record {
+          greeting = unwrap_or self.now.greeting own_greeting;
+          login = Some (record { user = self.now.user; secret = self.now.secret });
+          logged_in = false;
+        } }
+    {
+        let session = Session::new(self.user.copy(), self.secret.copy());
+        match &self.greeting {
+            None => session,
+            Some(greeting) => session.with_greeting(greeting.copy()),
+        }
+    }
+}
+
+/// Which sites are served, and where (this project's own).
+#[derive(Drop)]
+pub struct ServerSettings {
+    /// How many sites there are, 1 to 8.
+    pub sites: u16,
+    /// The address at which all of them listen.
+    pub address: Ipv4Addr,
+    /// The port of site 0, 1 to 65,528. Site 1 has the next port, and so on.
+    pub port: u16,
+    /// What its sessions are.
+    pub session: SessionSettings,
+}

@@ -1,0 +1,16 @@
+use dots::Memory;
+
+// Why a site isn't served, in order.
+#[derive(Clone, Copy, Debug, PartialEq, Eq)]
+pub(crate) enum SiteFault {
+    // A thread couldn't be started.
+    NoThread,
+    // An allocation was refused.
+    Memory,
+}
+
+impl From<Memory> for SiteFault {
+    fn from(_fault: Memory) -> Self {
+        SiteFault::Memory
+    }
+}

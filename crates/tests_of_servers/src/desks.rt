@@ -1,0 +1,140 @@
+//! Desks for sessions over a site's desk.
+ghost use Rattle.std.specs.Prelude.{◌≡◌};
+ghost use Rattle.site_journal.specs.Journals.{IsOfSite};
+
+use crate::clients::list;
+use dots::{Bytes, SiteId};
+use pass_desk::PassDesk;
+use replica::Replica;
+use serve::Desk;
+use site_desk::{Pass, SiteDesk, SiteLedger, close};
+use site_journal::Journaled;
+use status_report::{Answer, Ask, StatusRequest};
+use std::alloc::Global;
+use std::marker::Brand;
+use std::process::Abort;
+use std::sync::Wait;
+use std::sync::ledger::Blank;
+
+// The journal of site 0 that knows nothing, in which so many steps may stand.
+fn journal(rt: &impl Abort, alloc: Global, limit: u32) -> Journaled
+    ensures begun { result.count ≡ 0 }
+    ensures site { IsOfSite result.base.site result.base.names result }
+{
+    let site = SiteId::new(0).expect(rt, "a site");
+    let replica = Replica::new(alloc, site, list(rt, alloc));
+    match Journaled::new(alloc, replica, limit.clamp(1, 1_000_000)) {
+        Ok(journal) => journal,
+        Err(_) => rt.panic("memory"),
+    }
+}
+
+fn status(alloc: Global) -> Ask {
+    Ask::Status(StatusRequest {
+        queue: None,
+        member: None,
+        action_id: Bytes::new(Vec::new(alloc)),
+    })
+}
+
+// A desk over a journal, and its one pass.
+fn desk_of_one<L: SiteLedger>(
+    rt: &impl Abort,
+    alloc: Global,
+    blank: Blank,
+    journal: Journaled,
+) -> (SiteDesk<L>, Pass<L>)
+    requires name { blank.name ≡ L.name }
+    requires ledger { blank.parts ≡ L.parts }
+    requires one { blank.parts ≡ 1 }
+    requires begun { journal.count ≡ 0 }
+    requires site { IsOfSite L.site L.names journal }
+{
+    let Ok((desk, mut passes)) = SiteDesk::new(alloc, blank, journal, 1) else {
+        rt.panic("memory");
+    };
+    let pass = passes.pop().expect(rt, "a pass");
+    (desk, pass)
+}
+
+// The journal of a desk that is closed with its one pass.
+fn closed<L: SiteLedger>(
+    rt: &impl Abort,
+    alloc: Global,
+    desk: SiteDesk<L>,
+    pass: Pass<L>,
+) -> Journaled {
+    let mut passes = Vec::new(alloc);
+    passes.push(pass).expect(rt, "memory");
+    close(desk, passes).ok().expect(rt, "a journal")
+}
+
+// Asks so many times, and is answered by a report each time.
+fn assert_answers<L: SiteLedger, R: Abort + Wait>(
+    rt: &R,
+    alloc: Global,
+    blank: Blank,
+    journal: Journaled,
+    times: u32,
+) -> Journaled
+    requires name { blank.name ≡ L.name }
+    requires ledger { blank.parts ≡ L.parts }
+    requires one { blank.parts ≡ 1 }
+    requires begun { journal.count ≡ 0 }
+    requires site { IsOfSite L.site L.names journal }
+{
+    let (desk, pass) = desk_of_one::<L>(rt, alloc, blank, journal);
+    let mut asked = PassDesk::new(&desk, pass);
+    for _ in 0..times {
+        let answered = asked.ask(rt, status(alloc));
+        assert!(rt; matches!(answered, Ok(Answer::Report(_))));
+        drop(answered);
+    }
+    let pass = asked.into_pass();
+    closed(rt, alloc, desk, pass)
+}
+
+#[test]
+fn a_full_journal_is_dropped_and_goes_on(rt: HostRuntime) {
+    let journal = journal(&rt, rt.alloc(), 2);
+    let journal = assert_answers::<Brand, HostRuntime>(&rt, rt.alloc(), Blank::new(1), journal, 5);
+    assert!(&rt; journal.start() == 4 && journal.len() == 5);
+    drop(journal);
+}
+
+// A status, then the steps are dropped if they keep more than so many bytes. Whether they were.
+fn dropped_above<L: SiteLedger, R: Abort + Wait>(
+    rt: &R,
+    alloc: Global,
+    blank: Blank,
+    journal: Journaled,
+    bytes: u64,
+) -> (bool, Journaled)
+    requires name { blank.name ≡ L.name }
+    requires ledger { blank.parts ≡ L.parts }
+    requires one { blank.parts ≡ 1 }
+    requires begun { journal.count ≡ 0 }
+    requires site { IsOfSite L.site L.names journal }
+{
+    let (desk, mut pass) = desk_of_one::<L>(rt, alloc, blank, journal);
+    assert!(rt; desk.call(rt, &mut pass, &status(alloc)).is_ok());
+    let dropped = desk.checkpoint_above(rt, bytes).expect(rt, "memory");
+    (dropped, closed(rt, alloc, desk, pass))
+}
+
+// The report of an empty queue has 203 bytes.
+#[test]
+fn a_journal_is_dropped_that_keeps_too_much(rt: HostRuntime) {
+    for (bytes, drops, start) in [(202, true, 1), (203, false, 0)] {
+        let journal = journal(&rt, rt.alloc(), 10);
+        let (dropped, journal) = dropped_above::<Brand, HostRuntime>(
+            &rt,
+            rt.alloc(),
+            Blank::new(1),
+            journal,
+            bytes,
+        );
+        assert!(&rt; dropped == drops && journal.start() == start && journal.len() == 1);
+        drop(journal);
+    }
+}

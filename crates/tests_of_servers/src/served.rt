@@ -1,0 +1,118 @@
+//! Sites that are served: what their clients read, what their journals show, and why they aren't served.
+ghost use Rattle.std.specs.Prelude.{◌≤◌};
+
+use crate::clients::{
+    ADD, GREETING, LOGIN, LOGOFF, REPORT, free_port, list, served, session, settings,
+};
+use ami_text::MemorySink;
+use dots::Bytes;
+use server::{LAST_PORT, ServeSitesFault, ServerSettings, serve_sites};
+use site_journal::Journaled;
+use status_report::{StatusRequest, report};
+use std::alloc::Global;
+use std::net::{Ipv4Addr, Net, SocketAddr, TcpListener, TcpStream};
+use std::process::Abort;
+use std::sync::Wait;
+use std::sync::atomic::AtomicBool;
+use std::thread::{Threads, join};
+use std::time::Clock;
+
+// Each journal's site shows this.
+fn assert_shows(rt: &impl Abort, alloc: Global, journals: &[Journaled], text: &str) {
+    let status = StatusRequest {
+        queue: None,
+        member: None,
+        action_id: Bytes::new(Vec::new(alloc)),
+    };
+    for journal in journals {
+        let shown = report(alloc, journal.replica(), &status).expect(rt, "memory");
+        assert!(rt; shown.as_slice() == text.as_bytes());
+        drop(shown);
+    }
+    drop(status);
+}
+
+#[test]
+fn what_one_site_is_told_the_other_shows(rt: HostRuntime) {
+    let alloc = rt.alloc();
+    let port = free_port(&rt, 24_300, 2);
+    assert!(&rt; port < LAST_PORT);
+    let settings = settings(&rt, 2, port);
+    let list = list(&rt, alloc);
+    let over = AtomicBool::new(false);
+    let (shared, settings, list, over) = (&rt, &settings, &list, &over);
+    let (ended, talked) = join(
+        shared,
+        || served(shared, alloc, settings, list, 1, over),
+        || {
+            session(shared, port, over, &[GREETING, LOGIN, ADD, LOGOFF])
+                && session(shared, port + 1, over, &[GREETING, LOGIN, LOGOFF])
+        },
+    );
+    assert!(&rt; talked);
+    let journals = ended.expect(&rt, "journals");
+    assert!(&rt; journals.len() == 2);
+    assert_shows(&rt, alloc, &journals, REPORT);
+    drop(journals);
+}
+
+#[test]
+fn a_port_that_is_taken(rt: HostRuntime) {
+    let alloc = rt.alloc();
+    let port = free_port(&rt, 24_340, 2);
+    assert!(&rt; 0 < port && port < LAST_PORT);
+    let taken = TcpListener::bind(&rt, SocketAddr::from((Ipv4Addr::LOCALHOST, port + 1)));
+    assert!(&rt; taken.is_ok());
+    let settings = settings(&rt, 2, port);
+    let list = list(&rt, alloc);
+    let over = AtomicBool::new(false);
+    let ended = served(&rt, alloc, &settings, &list, 0, &over);
+    assert!(&rt; ended.err() == Some(ServeSitesFault::CannotListen(port + 1)));
+    drop(taken);
+}
+
+// Serves sites that take no client, over a log that fails at the write behind so many. How that ends, and what the log has taken.
+fn served_without_clients<R>(
+    rt: &R,
+    alloc: Global,
+    settings: &ServerSettings,
+    writes: u64,
+) -> (Result<Vec<Journaled>, ServeSitesFault>, MemorySink)
+where
+    R: Net<Listener = TcpListener, Stream = TcpStream>
+        + Abort
+        + Threads
+        + Wait
+        + Clock
+        + Eprint
+        + Sync,
+    requires some { 1 ≤ settings.now.sites }
+    requires most { settings.now.sites ≤ 8 }
+    requires first { 1 ≤ settings.now.port }
+    requires last { settings.now.port ≤ 65528 }
+{
+    let mut log = MemorySink::failing(alloc, 700, writes);
+    let list = list(rt, alloc);
+    let ended = serve_sites(rt, alloc, settings, &list, Some(0), &mut log);
+    (ended, log)
+}
+
+#[test]
+fn the_log_tells_who_listens(rt: HostRuntime) {
+    let alloc = rt.alloc();
+    let port = free_port(&rt, 24_380, 2);
+    assert!(&rt; 0 < port && port < LAST_PORT);
+    let mut settings = settings(&rt, 2, port);
+    settings.address = Ipv4Addr::new(127, 0, 0, 2);
+    let (ended, log) = served_without_clients(&rt, alloc, &settings, 10);
+    assert!(&rt; ended.is_ok_and(|journals| journals.len() == 2));
+    let lines = format!(in alloc; "listening 127.0.0.2:{}\nlistening 127.0.0.2:{}\n", port, port + 1)
+        .expect(&rt, "memory");
+    assert!(&rt; log.as_slice() == lines.as_bytes());
+    // The second line fails.
+    let (ended, log) = served_without_clients(&rt, alloc, &settings, 1);
+    assert!(&rt; ended.err() == Some(ServeSitesFault::Write));
+    assert!(&rt; lines.as_bytes().starts_with(log.as_slice()) && !log.as_slice().is_empty());
+    drop(log);
+    drop(lines);
+}

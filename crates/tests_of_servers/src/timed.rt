@@ -1,0 +1,90 @@
+//! Clients that take too long, and clients that don't.
+use crate::clients::{
+    Exchange, GREETING, LOGIN, LOGOFF, connected, ends, free_port, list, served, settings, talks,
+};
+use server::LAST_PORT;
+use std::net::{Net, TcpListener, TcpStream};
+use std::process::Abort;
+use std::sync::Wait;
+use std::sync::atomic::AtomicBool;
+use std::thread;
+use std::thread::{Threads, join};
+use std::time::{Clock, Duration};
+
+// In milliseconds: what a client may take for its first message or be silent, and what one is silent that takes too long.
+const SHORT: u64 = 300;
+
+const LONG: u64 = 900;
+
+// A login that isn't a whole message yet.
+const HALF_LOGIN: Exchange = ("Action: Login\r\nUsername: admin\r\n", "");
+
+// Whether the stream of a client ends by itself that has sent this and then nothing; one that goes on logs off.
+fn ends_silent<R: Net<Listener = TcpListener, Stream = TcpStream> + Clock>(
+    rt: &R,
+    port: u16,
+    over: &AtomicBool,
+    exchanges: &[Exchange],
+    goes_on: bool,
+) -> bool {
+    let Some(stream) = connected(rt, port, over) else {
+        return false;
+    };
+    if !talks(&stream, exchanges) {
+        return false;
+    }
+    if goes_on {
+        thread::sleep(rt, Duration::from_millis(LONG));
+        return talks(&stream, &[LOGOFF]) && ends(&stream);
+    }
+    ends(&stream)
+}
+
+// Serves one client that is silent behind these exchanges; it may take a short time for its first message or be silent for one, but not
+// both. Whether its stream ends as it must.
+fn assert_times<R>(
+    rt: &R,
+    base: u16,
+    first_message: bool,
+    exchanges: &[Exchange],
+    goes_on: bool,
+)
+where
+    R: Net<Listener = TcpListener, Stream = TcpStream>
+        + Abort
+        + AllocGlobal
+        + Threads
+        + Wait
+        + Clock
+        + Eprint
+        + Sync,
+{
+    let alloc = rt.alloc();
+    let port = free_port(rt, base, 1);
+    let mut settings = settings(rt, 1, port);
+    if first_message {
+        settings.session.first_message = Duration::from_millis(SHORT);
+        settings.session.idle = None;
+    } else {
+        settings.session.idle = Some(Duration::from_millis(SHORT));
+    }
+    let list = list(rt, alloc);
+    let over = AtomicBool::new(false);
+    let (settings, list, over) = (&settings, &list, &over);
+    let (ended, talked) = join(
+        rt,
+        || served(rt, alloc, settings, list, 1, over),
+        || ends_silent(rt, port, over, exchanges, goes_on),
+    );
+    assert!(rt; talked);
+    assert!(rt; ended.is_ok());
+    drop(ended);
+}
+
+#[test]
+fn silent_clients_lose_their_slots(rt: HostRuntime) {
+    // No message within the time for the first; nothing within the time for silence; and a message in time, upon which silence is right.
+    assert_times(&rt, 24_460, true, &[GREETING, HALF_LOGIN], false);
+    assert_times(&rt, 24_480, false, &[GREETING, LOGIN], false);
+    assert_times(&rt, 24_500, true, &[GREETING, LOGIN], true);
+}
