@@ -6,7 +6,7 @@ use Rattle.std.proofs.lemmas.List.Elements.{All-nil, All-cons}
 use Rattle.site_journal.specs.Ports.{PortRun, PortStop, PortWork}
 use Rattle.site_journal.specs.declared.desk_fault.DeskFault.{DeskFault}
 use Rattle.site_journal.specs.declared.receipt.Receipt.{Receipt}
-use Rattle.site_desk.specs.Passes.{HasDone, PassState}
+use Rattle.site_desk.specs.Passes.{HasDone, PassState, TellsTruly}
 use Rattle.site_desk.specs.Ports.{Ascend, HasDoneAll, MakesByPass, RefusesByPass, WorksByPass}
 use Rattle.site_desk.specs.declared.desk_port.DeskPort.{DeskPort}
 
@@ -40,6 +40,19 @@ still : {L : Type 0} (p q : DeskPort L) (old : MutBor PassState) (receipts : Lis
 still {L = L} p q old receipts cause stop works = ⊎_elim
     (λ refused. record { done = subst (HasDoneAll old.now receipts) (sym refused.unchanged) works.done; same = refused.same ∙ works.same })
     (λ same. subst (λ (x : DeskPort L). WorksByPass old receipts x.pass) same.1 works) stop
+
+-- a fault tells the truth of the pass that it leaves
+truly : {L : Type 0} (p q : DeskPort L) (cause : DeskFault) → PortStop (λ (old : DeskPort L) cause (new : DeskPort L). RefusesByPass old.pass cause new.pass) p cause q → TellsTruly q.pass.now cause
+truly p q cause stop = ⊎_elim
+    (λ refused. subst (λ state. TellsTruly state cause) (sym refused.unchanged) refused.told)
+    (λ memory. subst (TellsTruly q.pass.now) (sym memory.0) tt) stop
+
+-- the fault by which a port was stopped
+pub port_told : {L : Type 0} (p q : DeskPort L) (receipts : List Receipt) (fault : Option DeskFault)
+    → PortWork (λ (old : DeskPort L) receipt (new : DeskPort L). MakesByPass old.pass receipt new.pass) (λ (old : DeskPort L) cause (new : DeskPort L). RefusesByPass old.pass cause new.pass) p receipts fault q
+    → (cause : DeskFault) → fault ≡ Some cause → TellsTruly q.pass.now cause
+port_told p q receipts None work cause is = absurd (cc)
+port_told p q receipts (Some told) work cause is = let same : told ≡ cause = cc is in subst (TellsTruly q.pass.now) same (truly work.0 q told work.2)
 
 -- a port that has worked
 pub port_work : {L : Type 0} (p q : DeskPort L) (receipts : List Receipt) (fault : Option DeskFault)
