@@ -376,7 +376,7 @@ fn taken_by<L: SiteLedger, R: Wait>(
 ) -> PumpedIn
     ensures ordinal { pass.new.ordinal ≡ pass.old.ordinal }
     ensures share { pass.new.share ≡ pass.old.share + vec_len result.receipts }
-    ensures done { HasDoneAll pass.old result.receipts.items pass.new }
+    ensures done { HasDoneAll L.site L.names pass.old result.receipts.items pass.new }
 {
     let mut port = DeskPort::new(desk, pass);
     pump_in(rt, alloc, &mut port, link)
