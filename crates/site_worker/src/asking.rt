@@ -29,8 +29,8 @@ fn ask_each<L: SiteLedger, R: Wait, G: Gate>(
     receipts: &mut Vec<Receipt>,
 ) -> Result<(), DeskFault>
     requires { receipts.old.items ≡ [] }
-    ensures done { HasDoneAll pass.old receipts.new.items pass.new }
-    ensures answers { AnswerFront asks.now receipts.new.items }
+    ensures done { HasDoneAll L.site L.names pass.old receipts.new.items pass.new }
+    ensures answers { AnswerFront L.site L.names asks.now receipts.new.items }
     ensures all { OnOk result (length receipts.new.items ≡ length asks.now) }
 {
     for turn in 0..asks.len() {
@@ -52,8 +52,8 @@ pub(crate) fn ask_all<L: SiteLedger, R: Wait, G: Gate>(
     gate: &mut G,
     rope: &Rope,
 ) -> Worked<L>
-    ensures done { HasDoneAll pass result.receipts.items result.pass }
-    ensures answers { AnswerFront asks.now result.receipts.items }
+    ensures done { HasDoneAll L.site L.names pass result.receipts.items result.pass }
+    ensures answers { AnswerFront L.site L.names asks.now result.receipts.items }
     ensures all { result.fault ≡ None → length result.receipts.items ≡ length asks.now }
 {
     let mut pass = pass;

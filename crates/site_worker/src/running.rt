@@ -5,8 +5,8 @@ ghost use Rattle.std.specs.Prelude.{OnOk, Some, [], length, map, slice_get, slic
 ghost use Rattle.std.specs.Prelude.{vec_capacity, vec_len};
 ghost use Rattle.site_journal.specs.Journals.{IsOfSite};
 ghost use Rattle.site_worker.specs.Promises.{ArePromised};
-ghost use Rattle.site_worker.specs.Runs.{HasAnswered, HasRun};
-ghost use Rattle.site_worker.specs.Working.{AreOfPasses, receipts_in};
+ghost use Rattle.site_worker.specs.Runs.{HasAnswered, HasRun, HavePumped};
+ghost use Rattle.site_worker.specs.Working.{AreLegal, AreOfPasses, receipts_in};
 ghost use Rattle.status_report.specs.declared.asks.Ask.{Ask};
 
 use crate::linking::{LinkEnds, Links, link_all};
@@ -220,7 +220,12 @@ pub fn run_sites<R: Threads + Wait + Sync, G: Gate + Send + Drop>(
         AreOfPasses 0 (map (λ list. list.items) end.receipts.items)) ends.items) }
     ensures answers { IfOk result (λ ends. (site : ℕ) (work : _) (end : _)
         → slice_get works.items site ≡ Some work → slice_get ends.items site ≡ Some end
-        → HasAnswered work.asks.items (map (λ list. list.items) end.receipts.items) end.fault) }
+        → HasAnswered site list.now work.asks.items
+        (map (λ list. list.items) end.receipts.items) end.fault) }
+    ensures pumped { IfOk result (λ ends. All (λ end.
+        HavePumped (map (λ list. list.items) end.receipts.items) end.fault) ends.items) }
+    ensures legal { IfOk result (λ ends. (site : ℕ) (end : _) → slice_get ends.items site ≡ Some end
+        → AreLegal site list.now (map (λ list. list.items) end.receipts.items)) }
     ensures bad_sites { (result ≡ Err RunFault.BadSites)
         ↔ ((vec_len works ≡ 0) ⊎ (MOST_RUN_SITES < vec_len works)) }
 {

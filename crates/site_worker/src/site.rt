@@ -40,8 +40,9 @@ fn run_threads<
     links: LinkEnds,
 ) -> Result<(Gathered<L>, G), RunFault>
     requires { AreFresh (vec_len links.from + 2) passes.items }
-    ensures gathered { IfOk result (λ run. IsGathered (vec_len links.from + 2) tasks.entry.asks.now
-        run.0.passes.items (map (λ list. list.items) run.0.receipts.items) run.0.fault) }
+    ensures gathered { IfOk result (λ run. IsGathered L.site L.names (vec_len links.from + 2)
+        tasks.entry.asks.now run.0.passes.items
+        (map (λ list. list.items) run.0.receipts.items) run.0.fault) }
     ensures fault { IfErr result (λ fault. fault ≢ RunFault.BadSites) }
 {
     let LinkEnds { to, from } = links;
@@ -79,8 +80,9 @@ fn run_scoped<L: SiteLedger + Send + Sync, R: Threads + Wait + Sync, G: Gate + S
     links: LinkEnds,
 ) -> Result<(Gathered<L>, G), RunFault>
     requires { AreFresh (vec_len links.from + 2) passes.items }
-    ensures gathered { IfOk result (λ run. IsGathered (vec_len links.from + 2) asks.now
-        run.0.passes.items (map (λ list. list.items) run.0.receipts.items) run.0.fault) }
+    ensures gathered { IfOk result (λ run. IsGathered L.site L.names (vec_len links.from + 2)
+        asks.now run.0.passes.items (map (λ list. list.items) run.0.receipts.items)
+        run.0.fault) }
     ensures fault { IfErr result (λ fault. fault ≢ RunFault.BadSites) }
 {
     let rope = Rope::new();
@@ -90,8 +92,8 @@ fn run_scoped<L: SiteLedger + Send + Sync, R: Threads + Wait + Sync, G: Gate + S
         rt,
         move |scope| -> Result<(Gathered<L>, G), RunFault>
             requires { AreFresh (vec_len links.from + 2) passes.items }
-            ensures gathered { IfOk result (λ run. IsGathered (vec_len links.from + 2)
-                asks.entry.now run.0.passes.items
+            ensures gathered { IfOk result (λ run. IsGathered L.site L.names
+                (vec_len links.from + 2) asks.entry.now run.0.passes.items
                 (map (λ list. list.items) run.0.receipts.items) run.0.fault) }
             ensures fault { IfErr result (λ fault. fault ≢ RunFault.BadSites) }
         {
@@ -103,10 +105,11 @@ fn run_scoped<L: SiteLedger + Send + Sync, R: Threads + Wait + Sync, G: Gate + S
 
 // Closes the desk of a site, all of whose passes have come back.
 fn ended<L: SiteLedger, G: Drop>(desk: SiteDesk<L>, gathered: Gathered<L>, gate: G) -> SiteEnd<G>
-    requires worked { HaveWorked 0 gathered.passes.items
+    requires worked { HaveWorked L.site L.names 0 gathered.passes.items
         (map (λ list. list.items) gathered.receipts.items) }
     requires all { vec_len gathered.passes ≡ desk.passes }
-    ensures { (number : ℕ) (asks : List Ask) → IsGathered number asks gathered.passes.items
+    ensures { (number : ℕ) (asks : List Ask)
+        → IsGathered L.site L.names number asks gathered.passes.items
         (map (λ list. list.items) gathered.receipts.items) gathered.fault
         → HasRun L.site L.names number asks result.journal
         (map (λ list. list.items) result.receipts.items) result.fault }

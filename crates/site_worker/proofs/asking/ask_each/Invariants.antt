@@ -5,4 +5,5 @@ use Rattle.site_worker.proofs.asking.ask_each.Given as goal
 
 -- each ask so far is answered by a step of the pass
 abbrev pub invariant-loop-turn : goal.invariant-loop-turn
-invariant-loop-turn g l = HasDoneAll l.initial.pass l.receipts.items l.pass × AnswerFront l.asks l.receipts.items × (length l.receipts.items ≡ l.turn)
+invariant-loop-turn g l = HasDoneAll g.L.SiteLedger.site g.L.SiteLedger.names l.initial.pass l.receipts.items l.pass
+    × AnswerFront g.L.SiteLedger.site g.L.SiteLedger.names l.asks l.receipts.items × (length l.receipts.items ≡ l.turn)

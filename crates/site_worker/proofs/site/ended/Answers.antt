@@ -1,16 +1,18 @@
 use Rattle.std.proofs.Common.{◌∙◌, sym}
-use Rattle.site_worker.proofs.Workings.{worked_all, worked_number, worked_own, worked_shares}
+use Rattle.site_worker.proofs.Workings.{worked_all, worked_legal, worked_number, worked_own, worked_shares}
 use Rattle.site_worker.proofs.site.ended.Goals as goal
 
 -- the passes are those of the desk
 pub unreachable-requires : goal.unreachable-requires
-unreachable-requires g c = c.in-Err.ensures.wrong (worked_all c.args.desk.passes c.args.gathered.passes.items _ c.requires.worked (sym c.args.gathered.passes.ok.0 ∙ c.requires.all))
+unreachable-requires g c = c.in-Err.ensures.wrong (worked_all g.L.SiteLedger.site g.L.SiteLedger.names c.args.desk.passes c.args.gathered.passes.items _ c.requires.worked (sym c.args.gathered.passes.ok.0 ∙ c.requires.all))
 
 pub returns : goal.returns
 returns g c = λ number asks is. record {
   own_site = c.in-Ok.ensures.site;
-  passes = worked_number 0 _ _ is.worked ∙ is.count;
-  count = c.in-Ok.ensures.count ∙ worked_shares 0 _ _ is.worked;
-  own = worked_own 0 _ _ is.worked;
+  passes = worked_number _ _ 0 _ _ is.worked ∙ is.count;
+  count = c.in-Ok.ensures.count ∙ worked_shares _ _ 0 _ _ is.worked;
+  own = worked_own _ _ 0 _ _ is.worked;
+  legal = worked_legal _ _ 0 _ _ is.worked;
   answered = is.answered;
+  pumped = is.pumped;
 }
