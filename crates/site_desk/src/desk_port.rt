@@ -10,7 +10,7 @@ use crate::{Pass, SiteDesk, SiteLedger};
 use site_journal::{DecodeFault, DeskFault, Port, Receipt, TakeFault};
 use std::sync::Wait;
 
-/// A desk's port for one pass: it answers as the desk does (this project's own).
+/// A desk's port for one pass: it waits and answers as the desk does (this project's own).
 #[derive(Drop)]
 pub struct DeskPort<'a, L: SiteLedger> {
     desk: &'a SiteDesk<L>,

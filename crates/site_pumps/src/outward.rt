@@ -67,7 +67,8 @@ fn drive<R: Wait, P: Port<R>, B: Bell<R>>(
 /// Cuts at each ring of the bell, and sends each frame on all links alike, as the plan says: its deeds are used in turn, again from
 /// its front, and where there are none each frame is delivered; a cut without a frame uses none. Once the bell has ended it cuts once
 /// more, sends what is held, and then a frame of all that the site knows, whatever the plan. A link that is down gets no more, and the
-/// others go on. A fault stops it: the port's own, or `Memory` where there is no room (this project's own).
+/// others go on. It waits where the bell, the port or a link does. A fault stops it: the port's own, or `Memory` where there is no room
+/// (this project's own).
 pub fn pump_out<R: Wait, P: Port<R>, B: Bell<R>>(
     rt: &R,
     alloc: Global,
