@@ -1,3 +1,4 @@
+pub mod Begun
 pub mod DoneDeeds
 pub mod FreshPasses
 pub mod LegalDeeds

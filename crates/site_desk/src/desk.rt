@@ -54,6 +54,8 @@ impl<L: SiteLedger> SiteDesk<L> {
         requires most { passes ≤ MOST_PASSES }
         requires begun { journal.count ≡ 0 }
         requires site { IsOfSite L.site L.names journal }
+        requires limit { journal.limit ≡ L.limit }
+        requires base { journal.base ≡ L.base }
         ensures desk { IfOk result (λ made. made.0.passes ≡ passes) }
         ensures passes { IfOk result (λ made. AreFresh passes made.1.items) }
         ensures back { IfErr result (λ refused. refused.1 ≡ journal) }

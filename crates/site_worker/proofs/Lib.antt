@@ -1,2 +1,3 @@
+pub mod NewSites
 pub mod Workings
 pub mod Sites

@@ -1,12 +1,19 @@
 -- What becomes of a site whose threads are run (this project's own).
 use Rattle.std.specs.Prelude.{ℕ, ◌≡◌, ◌≤◌, List, Option, None, length}
+use Rattle.replica.specs.Deeds.{IsNew}
 use Rattle.site_desk.specs.Passes.{PassState}
 use Rattle.site_journal.specs.declared.desk_fault.DeskFault.{DeskFault}
+use Rattle.site_journal.specs.declared.journaled.TheConstants.{MOST_STEPS}
 use Rattle.site_journal.specs.declared.receipt.Receipt.{Receipt}
 use Rattle.site_journal.specs.Journals.{IsOfSite, JournalState}
 use Rattle.site_journal.specs.Settling.{list_of}
 use Rattle.site_worker.specs.Working.{AnswerFront, AreLegal, AreOfPasses, HaveSent, HaveTaken, HaveWorked, receipts_in}
 use Rattle.status_report.specs.declared.asks.Ask.{Ask}
+
+-- as many steps may stand in a journal as in any; where none was dropped, it began from a site that knew nothing
+pub record HasBegun (journal : JournalState) : Type 0 where
+  pub limit : journal.limit ≡ MOST_STEPS
+  pub new : journal.start ≡ 0 → IsNew journal.base
 
 -- the receipts of the first pass answer asks in their order, all of them unless there was a fault
 pub record HasAnswered (site : ℕ) (names : List (List ℕ)) (asks : List Ask) (lists : List (List Receipt)) (fault : Option DeskFault) : Type 0 where
@@ -28,6 +35,7 @@ pub record IsGathered (site : ℕ) (names : List (List ℕ)) (number : ℕ) (ask
 -- a site has run with so many passes: it ends with a list of receipts for each, which are as many as its journal has steps
 pub record HasRun (site : ℕ) (names : List (List ℕ)) (number : ℕ) (asks : List Ask) (journal : JournalState) (lists : List (List Receipt)) (fault : Option DeskFault) : Type 0 where
   pub own_site : IsOfSite site names journal
+  pub begun : HasBegun journal
   pub passes : length lists ≡ number
   pub count : journal.count ≡ receipts_in lists
   pub own : AreOfPasses 0 lists

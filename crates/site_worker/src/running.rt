@@ -5,7 +5,7 @@ ghost use Rattle.std.specs.Prelude.{OnOk, Some, [], length, map, slice_get, slic
 ghost use Rattle.std.specs.Prelude.{vec_capacity, vec_len};
 ghost use Rattle.site_journal.specs.Journals.{IsOfSite};
 ghost use Rattle.site_worker.specs.Promises.{ArePromised};
-ghost use Rattle.site_worker.specs.Runs.{HasAnswered, HasRun, HavePumped};
+ghost use Rattle.site_worker.specs.Runs.{HasAnswered, HasBegun, HasRun, HavePumped};
 ghost use Rattle.site_worker.specs.Working.{AreLegal, AreOfPasses, receipts_in};
 ghost use Rattle.status_report.specs.declared.asks.Ask.{Ask};
 
@@ -213,6 +213,7 @@ pub fn run_sites<R: Threads + Wait + Sync, G: Gate + Send + Drop>(
     ensures number { IfOk result (λ ends. vec_len ends ≡ vec_len works) }
     ensures sites { IfOk result (λ ends. (site : ℕ) (end : _)
         → slice_get ends.items site ≡ Some end → IsOfSite site list.now end.journal) }
+    ensures begun { IfOk result (λ ends. All (λ end. HasBegun end.journal) ends.items) }
     ensures passes { IfOk result (λ ends.
         All (λ end. vec_len end.receipts ≡ vec_len works + 1) ends.items) }
     ensures count { IfOk result (λ ends. All (λ end. end.journal.count

@@ -1,7 +1,9 @@
 //! One site: its desk, and its threads in a scope of their own.
 ghost use Rattle.std.specs.Prelude.{◌≡◌, ◌≢◌, ◌+◌, ◌≤◌, ℕ, IfErr, IfOk, List, map, vec_len};
+ghost use Rattle.replica.specs.Deeds.{IsNew};
 ghost use Rattle.site_desk.specs.Passes.{AreFresh};
 ghost use Rattle.site_journal.specs.Journals.{IsOfSite};
+ghost use Rattle.site_journal.specs.declared.journaled.TheConstants.{MOST_STEPS};
 ghost use Rattle.site_worker.specs.Runs.{HasRun, IsGathered};
 ghost use Rattle.site_worker.specs.Working.{HaveWorked};
 ghost use Rattle.status_report.specs.declared.asks.Ask.{Ask};
@@ -108,6 +110,8 @@ fn ended<L: SiteLedger, G: Drop>(desk: SiteDesk<L>, gathered: Gathered<L>, gate:
     requires worked { HaveWorked L.site L.names 0 gathered.passes.items
         (map (λ list. list.items) gathered.receipts.items) }
     requires all { vec_len gathered.passes ≡ desk.passes }
+    requires most { L.limit ≡ MOST_STEPS }
+    requires new { IsNew L.base }
     ensures { (number : ℕ) (asks : List Ask)
         → IsGathered L.site L.names number asks gathered.passes.items
         (map (λ list. list.items) gathered.receipts.items) gathered.fault
@@ -145,6 +149,10 @@ fn run_site<L: SiteLedger + Send + Sync, R: Threads + Wait + Sync, G: Gate + Sen
     requires few { vec_len links.from ≤ 7 }
     requires begun { journal.count ≡ 0 }
     requires site { IsOfSite L.site L.names journal }
+    requires limit { journal.limit ≡ L.limit }
+    requires most { L.limit ≡ MOST_STEPS }
+    requires base { journal.base ≡ L.base }
+    requires new { IsNew L.base }
     ensures end { IfOk result (λ end. HasRun L.site L.names (vec_len links.from + 2)
         work.asks.items end.journal (map (λ list. list.items) end.receipts.items) end.fault) }
     ensures fault { IfErr result (λ fault. fault ≢ RunFault.BadSites) }

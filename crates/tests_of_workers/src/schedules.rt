@@ -196,6 +196,8 @@ fn assert_scheduled<L: SiteLedger + Send + Sync, R: Abort + Threads + Wait + Syn
     requires two { blank.parts ≡ 2 }
     requires begun { journal.count ≡ 0 }
     requires site { IsOfSite L.site L.names journal }
+    requires limit { journal.limit ≡ L.limit }
+    requires base { journal.base ≡ L.base }
 {
     let Ok((desk, mut passes)) = SiteDesk::<L>::new(alloc, blank, journal, 2) else {
         rt.panic("memory");

@@ -1,5 +1,6 @@
 use Rattle.std.proofs.Common.{◌∙◌, sym}
 use Rattle.site_worker.proofs.Workings.{worked_all, worked_legal, worked_number, worked_own, worked_shares}
+use Rattle.site_worker.proofs.NewSites.{new_same}
 use Rattle.site_worker.proofs.site.ended.Goals as goal
 
 -- the passes are those of the desk
@@ -9,6 +10,7 @@ unreachable-requires g c = c.in-Err.ensures.wrong (worked_all g.L.SiteLedger.sit
 pub returns : goal.returns
 returns g c = λ number asks is. record {
   own_site = c.in-Ok.ensures.site;
+  begun = record { limit = c.in-Ok.ensures.limit ∙ c.requires.most; new = λ fresh. new_same _ _ c.requires.new (c.in-Ok.ensures.begun fresh) };
   passes = worked_number _ _ 0 _ _ is.worked ∙ is.count;
   count = c.in-Ok.ensures.count ∙ worked_shares _ _ 0 _ _ is.worked;
   own = worked_own _ _ 0 _ _ is.worked;
