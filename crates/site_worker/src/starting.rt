@@ -4,6 +4,7 @@ ghost use Rattle.std.specs.Prelude.{map, slice_index_or, vec_capacity, vec_len};
 ghost use Rattle.site_desk.specs.Passes.{AreFresh, fresh_pass};
 ghost use Rattle.site_desk.specs.Ports.{HasDoneAll};
 ghost use Rattle.site_journal.specs.Settling.{list_of};
+ghost use Rattle.site_worker.specs.Gates.{IsGated};
 ghost use Rattle.site_worker.specs.Working.{AnswerFront, HaveSent, HaveTaken, HaveWorked};
 
 use crate::asking::{Worked, ask_all};
@@ -15,6 +16,7 @@ use site_journal::Gate;
 use site_links::{LinkReceiver, LinkSender};
 use status_report::Ask;
 use std::alloc::Global;
+use std::snapshot::Snapshot;
 use std::sync::Wait;
 use std::thread::{Promise, PromisedHandle, Scope, Threads};
 
@@ -55,21 +57,27 @@ pub(crate) struct Asked<L: SiteLedger, G: Drop> {
     pub gate: G,
 }
 
-// The first pass comes back with the receipts of these asks, of all of them unless there was a fault.
-#[derive(Clone, Copy)]
-struct AsksOf<'a>(&'a [Ask]);
+// The first pass comes back with the receipts of these asks, of all of them unless there was a fault; and this gate, called for each.
+#[derive(Drop)]
+struct AsksOf<'a, G> {
+    asks: &'a [Ask],
+    gate: Snapshot<G>,
+}
 
-impl<'a, L: SiteLedger, G: Drop> Promise<Asked<L, G>> for AsksOf<'a> {
+impl<'a, L: SiteLedger, G: Gate + Drop> Promise<Asked<L, G>> for AsksOf<'a, G> {
     ghost use Rattle.std.specs.Prelude.{◌≡◌, None, length};
     ghost use Rattle.site_desk.specs.Passes.{fresh_pass};
     ghost use Rattle.site_desk.specs.Ports.{HasDoneAll};
+    ghost use Rattle.site_worker.specs.Gates.{IsGated};
     ghost use Rattle.site_worker.specs.Working.{AnswerFront};
 
     ghost kept_by = { λ promise asked.
         HasDoneAll L.site L.names (fresh_pass 0) asked.worked.receipts.items asked.worked.pass
-        × AnswerFront L.site L.names promise.0.now asked.worked.receipts.items
+        × AnswerFront L.site L.names promise.asks.now asked.worked.receipts.items
         × (asked.worked.fault ≡ None
-        → length asked.worked.receipts.items ≡ length promise.0.now) };
+        → length asked.worked.receipts.items ≡ length promise.asks.now)
+        × IsGated G.called promise.gate.value (length asked.worked.receipts.items)
+        asked.worked.fault asked.gate };
 }
 
 // The threads that take, the last of which has the first link.
@@ -168,6 +176,8 @@ fn ask_with<L: SiteLedger, R: Wait, G: Gate + Drop>(
     ensures answers { AnswerFront L.site L.names asks.now result.worked.receipts.items }
     ensures all { result.worked.fault ≡ None
         → length result.worked.receipts.items ≡ length asks.now }
+    ensures gated { IsGated G.called gate (length result.worked.receipts.items)
+        result.worked.fault result.gate }
 {
     let mut gate = gate;
     let worked = ask_all(rt, alloc, desk, pass, asks, &mut gate, rope);
@@ -207,6 +217,8 @@ pub(crate) fn ask_and_send<
         AnswerFront L.site L.names tasks.entry.asks.now both.0.worked.receipts.items) }
     ensures all { IfOk result (λ both. both.0.worked.fault ≡ None
         → length both.0.worked.receipts.items ≡ length tasks.entry.asks.now) }
+    ensures gated { IfOk result (λ both. IsGated G.called gate
+        (length both.0.worked.receipts.items) both.0.worked.fault both.0.gate) }
     ensures cut { IfOk result (λ both.
         HasDoneAll L.site L.names (fresh_pass 1) both.1.receipts.items both.1.pass) }
     ensures sent { IfOk result (λ both. HaveSent both.1.receipts.items both.1.fault) }
@@ -225,6 +237,10 @@ pub(crate) fn ask_and_send<
     let Ok(sender) = scope.spawn_with(CutsOf, send) else {
         return Err(RunFault::NoThread);
     };
+    let promise = AsksOf {
+        asks,
+        gate: Snapshot::of(&gate),
+    };
     let ask = move || -> Asked<L, G>
         requires { first ≡ fresh_pass 0 }
         ensures worked { HasDoneAll L.site L.names (fresh_pass 0) result.worked.receipts.items
@@ -232,8 +248,10 @@ pub(crate) fn ask_and_send<
         ensures answers { AnswerFront L.site L.names asks.entry.now result.worked.receipts.items }
         ensures all { result.worked.fault ≡ None
             → length result.worked.receipts.items ≡ length asks.entry.now }
+        ensures gated { IsGated G.called gate (length result.worked.receipts.items)
+            result.worked.fault result.gate }
     { ask_with(rt, alloc, desk, first, asks, gate, rope) };
-    match scope.spawn_with(AsksOf(asks), ask) {
+    match scope.spawn_with(promise, ask) {
         Ok(asker) => {
             let asked = asker.join(rt);
             let sent = sender.join(rt);
