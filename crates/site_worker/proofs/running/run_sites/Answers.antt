@@ -40,4 +40,4 @@ pub returns-clause-legal : goal.returns-clause-legal
 returns-clause-legal g c = IfOk-weaker c.scoped.result _ _ (λ ends are site end is. (are site end is).legal) c.scoped.ensures.1.1.0
 
 pub returns-clause-gates : goal.returns-clause-gates
-returns-clause-gates g c = c.scoped.ensures.1.1.1
+returns-clause-gates g c = c.scoped.ensures.1.1.1.0
