@@ -1,4 +1,3 @@
-pub mod Begun
 pub mod DoneDeeds
 pub mod FreshPasses
 pub mod LegalDeeds

@@ -7,8 +7,8 @@ use Rattle.site_worker.proofs.site.ended.Goals as goal
 pub unreachable-requires : goal.unreachable-requires
 unreachable-requires g c = c.in-Err.ensures.wrong (worked_all g.L.SiteLedger.site g.L.SiteLedger.names c.args.desk.passes c.args.gathered.passes.items _ c.requires.worked (sym c.args.gathered.passes.ok.0 ∙ c.requires.all))
 
-pub returns-in-Ok-clause-end : goal.returns-in-Ok-clause-end
-returns-in-Ok-clause-end g c = λ number asks is. record {
+pub returns-clause-end : goal.returns-clause-end
+returns-clause-end g c = λ number asks is. record {
   own_site = c.in-Ok.ensures.site;
   begun = record { limit = c.in-Ok.ensures.limit ∙ c.requires.most; new = λ fresh. new_same _ _ c.requires.new (c.in-Ok.ensures.begun fresh) };
   passes = worked_number _ _ 0 _ _ is.worked ∙ is.count;
