@@ -41,7 +41,7 @@ step_of receipt = record { pass = receipt.pass; deed = receipt.deed }
 abbrev pub IsOfAsk : Ask → Receipt → Type 0
 IsOfAsk ask receipt = (answer : Answer) × (receipt.deed ≡ Asked ask answer)
 
--- the journal is as long as the fault tells, and shorter than the pass has seen
+-- a fault tells a length of the journal, which is less than the pass has seen
 abbrev pub IsRewound : PassState → DeskFault → Type 0
 IsRewound pass (Rewound len) = len < pass.seen
 IsRewound pass other = ⊥

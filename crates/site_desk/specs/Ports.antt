@@ -4,6 +4,7 @@ use Rattle.std.specs.List.{All}
 use Rattle.std.specs.Prelude.{ℕ, ◌≡◌, ◌≤◌, ◌+◌, List, [], ◌∷◌, length, Option}
 use Rattle.site_journal.specs.declared.desk_fault.DeskFault.{DeskFault}
 use Rattle.site_journal.specs.declared.receipt.Receipt.{Receipt}
+use Rattle.site_desk.specs.Deeds.{IsLegalDeed}
 use Rattle.site_desk.specs.Passes.{HasDone, PassState, TellsTruly}
 use Rattle.site_desk.specs.declared.desk_port.DeskPort.{DeskPort}
 
@@ -15,9 +16,10 @@ lent_pass port = port.pass
 abbrev pub last_fault : {L : Type 0} → DeskPort L → Option DeskFault
 last_fault port = port.fault
 
--- the pass has done the step of this receipt, and is the same borrow
-pub record MakesByPass (old : MutBor PassState) (receipt : Receipt) (new : MutBor PassState) : Type 0 where
+-- the pass has done the step of this receipt, and is the same borrow; the deed is so at some state of the site of this number and of these queues
+pub record MakesByPass (site : ℕ) (names : List (List ℕ)) (old : MutBor PassState) (receipt : Receipt) (new : MutBor PassState) : Type 0 where
   pub done : HasDone old.now receipt new.now
+  pub legal : IsLegalDeed site names receipt.deed
   pub same : new.ghost_name ≡ old.ghost_name
 
 -- the pass is as it was, and the same borrow; the fault tells no length that the pass hasn't seen more of
@@ -31,14 +33,16 @@ abbrev pub Ascend : ℕ → List Receipt → ℕ → Type 0
 Ascend seen [] new = new ≡ seen
 Ascend seen (receipt ∷ receipts) new = (seen ≤ receipt.position) × Ascend (receipt.position + 1) receipts new
 
--- a pass has done the steps of these receipts, one after another: all are of its number, which stays, and it has counted and seen them
-pub record HasDoneAll (old : PassState) (receipts : List Receipt) (new : PassState) : Type 0 where
+-- a pass has done the steps of these receipts, one after another: all are of its number, which stays, and it has counted and seen them; each deed is so at some
+-- state of this site
+pub record HasDoneAll (site : ℕ) (names : List (List ℕ)) (old : PassState) (receipts : List Receipt) (new : PassState) : Type 0 where
   pub ordinal : new.ordinal ≡ old.ordinal
   pub passes : All (λ (receipt : Receipt). receipt.pass ≡ old.ordinal) receipts
+  pub legal : All (λ (receipt : Receipt). IsLegalDeed site names receipt.deed) receipts
   pub share : new.share ≡ old.share + length receipts
   pub seen : Ascend old.seen receipts new.seen
 
 -- the pass has done the steps of these receipts, and is the same borrow
-pub record WorksByPass (old : MutBor PassState) (receipts : List Receipt) (new : MutBor PassState) : Type 0 where
-  pub done : HasDoneAll old.now receipts new.now
+pub record WorksByPass (site : ℕ) (names : List (List ℕ)) (old : MutBor PassState) (receipts : List Receipt) (new : MutBor PassState) : Type 0 where
+  pub done : HasDoneAll site names old.now receipts new.now
   pub same : new.ghost_name ≡ old.ghost_name

@@ -1,5 +1,6 @@
 ghost use Rattle.std.specs.List.{Any};
 ghost use Rattle.std.specs.Prelude.{◌≡◌, ◌<◌, ◌↔◌, IfErr, IfOk, IsTrue, OnErr, OnOk, vec_len};
+ghost use Rattle.replica.specs.Site.{IsSameSite};
 ghost use Rattle.site_journal.specs.Journals.{IsOfSite};
 ghost use Rattle.site_desk.specs.Passes.{AreAll, shares_of};
 
@@ -57,6 +58,10 @@ pub fn close<L: SiteLedger>(
 ) -> Result<Journaled, (CloseFault, SiteDesk<L>, Vec<Pass<L>>)>
     ensures count { IfOk result (λ journal. journal.count ≡ shares_of passes.items) }
     ensures site { IfOk result (λ journal. IsOfSite L.site L.names journal) }
+    ensures limit { IfOk result (λ journal. journal.limit ≡ L.limit) }
+    // Where no step was dropped, the journal began from what that of the desk began from.
+    ensures begun { IfOk result (λ journal.
+        journal.start ≡ 0 → IsSameSite L.base journal.base) }
     ensures all { OnOk result (AreAll desk.passes passes.items) }
     ensures wrong { OnErr result (AreAll desk.passes passes.items → ⊥) }
     ensures fault { IfErr result (λ refused. refused.0 ≡ CloseFault.WrongPasses) }

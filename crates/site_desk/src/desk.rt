@@ -54,6 +54,8 @@ impl<L: SiteLedger> SiteDesk<L> {
         requires most { passes ≤ MOST_PASSES }
         requires begun { journal.count ≡ 0 }
         requires site { IsOfSite L.site L.names journal }
+        requires limit { journal.limit ≡ L.limit }
+        requires base { journal.base ≡ L.base }
         ensures desk { IfOk result (λ made. made.0.passes ≡ passes) }
         ensures passes { IfOk result (λ made. AreFresh passes made.1.items) }
         ensures back { IfErr result (λ refused. refused.1 ≡ journal) }
@@ -74,8 +76,9 @@ impl<L: SiteLedger> SiteDesk<L> {
         Ok((desk, all))
     }
 
-    /// Asks the site, and answers the receipt of the step. Faults, in order: 1 `Rewound`, where the journal is shorter than the pass has
-    /// seen; 2 `JournalFull`, where no step may be added; 3 `Memory`. A fault leaves the pass as it was.
+    /// Asks the site, and answers the receipt of the step. It waits until the lock is free. Faults, in order: 1 `Rewound`, where the
+    /// journal is shorter than the pass has seen; 2 `JournalFull`, where no step may be added; 3 `Memory`. A fault leaves the pass as it
+    /// was.
     pub fn call<R: Wait>(
         &self,
         rt: &R,
@@ -93,7 +96,8 @@ impl<L: SiteLedger> SiteDesk<L> {
         self.lock.lock(rt).call(pass, asked)
     }
 
-    /// Asks the site as `call` does, and calls the gate once, with this number, while it holds the lock.
+    /// Asks the site as `call` does, and calls the gate once, with this number, while it holds the lock. A gate that doesn't return stops
+    /// every caller of its desk.
     pub fn call_gated<R: Wait, G: Gate>(
         &self,
         rt: &R,
@@ -117,8 +121,8 @@ impl<L: SiteLedger> SiteDesk<L> {
         answered
     }
 
-    /// Puts the site's buffer into its next frame, if there is something in it. Faults, in order: 1 `Rewound`, 2 `JournalFull`, as of a
-    /// call; 3 `Exhausted`, where the site has made 2^40 frames; 4 `Memory`. A fault leaves the pass as it was.
+    /// Puts the site's buffer into its next frame, if there is something in it. It waits as a call does. Faults, in order: 1 `Rewound`,
+    /// 2 `JournalFull`, as of a call; 3 `Exhausted`, where the site has made 2^40 frames; 4 `Memory`. A fault leaves the pass as it was.
     pub fn cut<R: Wait>(&self, rt: &R, pass: &mut Pass<L>) -> Result<Receipt, DeskFault>
         ensures done { IfOk result (λ receipt. HasDone pass.old receipt pass.new) }
         ensures cut { IfOk result (λ receipt. IsOfCut receipt) }
@@ -131,7 +135,7 @@ impl<L: SiteLedger> SiteDesk<L> {
         self.lock.lock(rt).cut(pass)
     }
 
-    /// Puts all that the site knows into its next frame. Faults as of a cut.
+    /// Puts all that the site knows into its next frame. It waits as a call does. Faults as of a cut.
     pub fn whole<R: Wait>(&self, rt: &R, pass: &mut Pass<L>) -> Result<Receipt, DeskFault>
         ensures done { IfOk result (λ receipt. HasDone pass.old receipt pass.new) }
         ensures whole { IfOk result (λ receipt. IsOfWhole receipt) }
@@ -144,10 +148,10 @@ impl<L: SiteLedger> SiteDesk<L> {
         self.lock.lock(rt).whole(pass)
     }
 
-    /// Lets the site take the frame that bytes spell; they come back where it doesn't. Faults, in order: 1 `Rewound`, 2 `JournalFull`, as
-    /// of a call; 3 `Decode`, with the fault of the bytes, or `BadRange` where more follows their frame; 4 `Take`, with the fault for
-    /// which the site refuses the frame; 5 `Memory`, but never in place of a `Decode` that comes up to the heading's end. A fault leaves
-    /// the pass as it was.
+    /// Lets the site take the frame that bytes spell; they come back where it doesn't. It waits as a call does. Faults, in order: 1
+    /// `Rewound`, 2 `JournalFull`, as of a call; 3 `Decode`, with the fault of the bytes, or `BadRange` where more follows their frame; 4
+    /// `Take`, with the fault for which the site refuses the frame; 5 `Memory`, but never in place of a `Decode` that comes up to the
+    /// heading's end. A fault leaves the pass as it was.
     pub fn take<R: Wait>(
         &self,
         rt: &R,
@@ -170,7 +174,8 @@ impl<L: SiteLedger> SiteDesk<L> {
         self.lock.lock(rt).take(pass, bytes)
     }
 
-    /// Drops the steps of the journal: its base then says what the site says, and positions go on. The one fault is want of memory.
+    /// Drops the steps of the journal: its base then says what the site says, and positions go on. It waits as a call does. The one fault
+    /// is want of memory.
     pub fn checkpoint<R: Wait>(&self, rt: &R) -> Result<(), Memory> {
         self.lock.lock(rt).checkpoint()
     }

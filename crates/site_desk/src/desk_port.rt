@@ -10,7 +10,7 @@ use crate::{Pass, SiteDesk, SiteLedger};
 use site_journal::{DecodeFault, DeskFault, Port, Receipt, TakeFault};
 use std::sync::Wait;
 
-/// A desk's port for one pass: it answers as the desk does (this project's own).
+/// A desk's port for one pass: it waits and answers as the desk does (this project's own).
 #[derive(Drop)]
 pub struct DeskPort<'a, L: SiteLedger> {
     desk: &'a SiteDesk<L>,
@@ -34,7 +34,8 @@ impl<'a, L: SiteLedger> DeskPort<'a, L> {
 }
 
 impl<'a, L: SiteLedger, R: Wait> Port<R> for DeskPort<'a, L> {
-    ghost makes = { λ old receipt new. MakesByPass (lent_pass old) receipt (lent_pass new) };
+    ghost makes = { λ old receipt new.
+        MakesByPass L.site L.names (lent_pass old) receipt (lent_pass new) };
 
     ghost refuses = { λ old cause new. RefusesByPass (lent_pass old) cause (lent_pass new) };
 
@@ -46,7 +47,7 @@ impl<'a, L: SiteLedger, R: Wait> Port<R> for DeskPort<'a, L> {
 
     fn cut(&mut self, rt: &R) -> Result<Receipt, DeskFault>
         ensures made { IfOk result (λ receipt.
-            MakesByPass (lent_pass self.old) receipt (lent_pass self.new)) }
+            MakesByPass L.site L.names (lent_pass self.old) receipt (lent_pass self.new)) }
         ensures refused { IfErr result (λ cause.
             RefusesByPass (lent_pass self.old) cause (lent_pass self.new)) }
         ensures ordinal { (lent_pass self.new).now.ordinal ≡ (lent_pass self.old).now.ordinal }
@@ -80,7 +81,7 @@ impl<'a, L: SiteLedger, R: Wait> Port<R> for DeskPort<'a, L> {
 
     fn whole(&mut self, rt: &R) -> Result<Receipt, DeskFault>
         ensures made { IfOk result (λ receipt.
-            MakesByPass (lent_pass self.old) receipt (lent_pass self.new)) }
+            MakesByPass L.site L.names (lent_pass self.old) receipt (lent_pass self.new)) }
         ensures refused { IfErr result (λ cause.
             RefusesByPass (lent_pass self.old) cause (lent_pass self.new)) }
         ensures ordinal { (lent_pass self.new).now.ordinal ≡ (lent_pass self.old).now.ordinal }
@@ -114,7 +115,7 @@ impl<'a, L: SiteLedger, R: Wait> Port<R> for DeskPort<'a, L> {
 
     fn take(&mut self, rt: &R, bytes: Vec<u8>) -> Result<Receipt, (DeskFault, Vec<u8>)>
         ensures made { IfOk result (λ receipt.
-            MakesByPass (lent_pass self.old) receipt (lent_pass self.new)) }
+            MakesByPass L.site L.names (lent_pass self.old) receipt (lent_pass self.new)) }
         ensures refused { IfErr result (λ refused.
             RefusesByPass (lent_pass self.old) refused.0 (lent_pass self.new)) }
         ensures ordinal { (lent_pass self.new).now.ordinal ≡ (lent_pass self.old).now.ordinal }

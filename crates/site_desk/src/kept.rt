@@ -3,6 +3,8 @@ ghost use Rattle.std.specs.Prelude.{IsTrue, MatchBool, OnErr, OnOk, min};
 ghost use Rattle.dots.specs.declared.limits.TheConstants.{MOST_COUNT};
 ghost use Rattle.delta.specs.DeltaStates.{IsEmpty};
 ghost use Rattle.delta_codec.specs.Decoding.{HasOpening};
+ghost use Rattle.replica.specs.Site.{IsSameSite};
+ghost use Rattle.site_desk.specs.Ledgers.{begun-prop};
 ghost use Rattle.site_journal.specs.Keeping.{kept_by_steps};
 ghost use Rattle.site_journal.specs.Journals.{HasAdded, HasDropped, HasFaultAlone, IsAnswerTo};
 ghost use Rattle.site_journal.specs.Journals.{IsFull, IsOfSite, IsRefusedFor, IsRefusedFrame};
@@ -23,6 +25,9 @@ pub(crate) struct Kept<L: SiteLedger> {
     pub book: Book<L>,
     ghost counted: { journal.count ≡ book.total },
     ghost of_site: { IsOfSite L.site L.names journal },
+    ghost limited: { journal.limit ≡ L.limit },
+    ghost begun: { journal.start ≡ 0 → IsSameSite L.base journal.base }
+        by { begun-prop journal.start L.base journal.base },
 }
 
 // The receipt of a step that a pass has done at this position, which is counted.

@@ -1,19 +1,28 @@
 //! What a desk's port promises whoever lends it a pass. The function has no body: its contract is the law.
-ghost use Rattle.std.specs.Prelude.{List, Option};
+ghost use Rattle.std.specs.Prelude.{◌≡◌, List, Option, Some};
 ghost use Rattle.site_journal.specs.Ports.{PortWork};
 ghost use Rattle.site_journal.specs.declared.desk_fault.DeskFault.{DeskFault};
 ghost use Rattle.site_journal.specs.declared.receipt.Receipt.{Receipt};
+ghost use Rattle.site_desk.specs.Passes.{TellsTruly};
 ghost use Rattle.site_desk.specs.Ports.{MakesByPass, RefusesByPass, WorksByPass, lent_pass};
 ghost use Rattle.site_desk.specs.declared.desk_port.DeskPort.{DeskPort};
 
 use crate::SiteLedger;
 
-/// Whatever a port does, be it stopped by a fault or not: its pass has done the steps of its receipts, and no other. It is the same
-/// borrow, so that this is known of the pass once the port is given up (this project's own).
+/// Whatever a port does, be it stopped by a fault or not: its pass has done the steps of its receipts, and no other, each of them at
+/// some state of its site. It is the same borrow, so that this is known of the pass once the port is given up. The fault tells no length of the journal but one below what
+/// the pass then has seen (this project's own).
 pub fn a_port_works_by_its_pass<L: SiteLedger>()
-    ensures { (old new : DeskPort L) (receipts : List Receipt) (fault : Option DeskFault)
-        → PortWork (λ from receipt to. MakesByPass (lent_pass from) receipt (lent_pass to))
+    ensures works { (old new : DeskPort L) (receipts : List Receipt) (fault : Option DeskFault)
+        → PortWork
+        (λ from receipt to. MakesByPass L.site L.names (lent_pass from) receipt (lent_pass to))
         (λ from cause to. RefusesByPass (lent_pass from) cause (lent_pass to))
         old receipts fault new
-        → WorksByPass (lent_pass old) receipts (lent_pass new) }
+        → WorksByPass L.site L.names (lent_pass old) receipts (lent_pass new) }
+    ensures told { (old new : DeskPort L) (receipts : List Receipt) (fault : Option DeskFault)
+        → PortWork
+        (λ from receipt to. MakesByPass L.site L.names (lent_pass from) receipt (lent_pass to))
+        (λ from cause to. RefusesByPass (lent_pass from) cause (lent_pass to))
+        old receipts fault new
+        → (cause : DeskFault) → fault ≡ Some cause → TellsTruly (lent_pass new).now cause }
 {}

@@ -420,6 +420,7 @@ impl Journaled {
 
     /// Drops the steps: the base says what the replica says then. The one fault is want of memory, and it changes nothing.
     pub fn checkpoint(&mut self) -> Result<(), Memory>
+        ensures journal { IsJournal self.old }
         ensures dropped { OnOk result (HasDropped self.old self.new) }
         ensures unchanged { OnErr result (self.new ≡ self.old) }
     {

@@ -3,15 +3,17 @@ use Rattle.std.specs.Prelude.{ℕ, Bool, List}
 use Rattle.atomic_table.specs.Seated.{TableId}
 use Rattle.atomic_table.specs.declared.badge.Badge.{Badge}
 use Rattle.crossbeam_channel.specs.Claims.{Pass, view}
+use Rattle.crossbeam_channel.specs.Ends.{ruled_capacity}
 use Rattle.crossbeam_channel.specs.declared.flavors.array.Key.{Key}
 use Rattle.crossbeam_channel.specs.declared.flavors.array.Rows.{Rows}
 use Rattle.site_links.specs.declared.log.Log.{Log}
 
--- which link it is
+-- which link it is, and how many items it holds at most
 pub record Link : Type 0 where
   pub table : TableId
   pub key : Badge (Key (List ℕ))
   pub messages : TableId
+  pub capacity : ℕ
 
 -- the end that sends: all that was sent, and whether a send handed its bytes back
 pub record Sending : Type 0 where
@@ -27,7 +29,7 @@ pub record Receiving : Type 0 where
 
 -- the link of a channel
 abbrev pub link_of : {D Q M L A : Type 0} → Rows (Badge (Key (List ℕ))) D Q M (Key (List ℕ)) L A → Link
-link_of c = record { table = c.stamps.shared.table_id; key = c.stamps.shared.key; messages = c.messages.shared.table_id }
+link_of c = record { table = c.stamps.shared.table_id; key = c.stamps.shared.key; messages = c.messages.shared.table_id; capacity = ruled_capacity c }
 
 -- what a pass knows
 abbrev pub known_of : Pass (List ℕ) Log → Log

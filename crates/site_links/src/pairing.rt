@@ -12,6 +12,7 @@ pub fn pair(alloc: Global, capacity: usize) -> Result<(LinkSender, LinkReceiver)
     requires some { 1 ≤ capacity }
     requires most { capacity ≤ MOST_CAPACITY }
     ensures one { IfOk result (λ both. both.1.link ≡ both.0.link) }
+    ensures holds { IfOk result (λ both. both.0.link.capacity ≡ capacity) }
     ensures sender { IfOk result (λ both. (both.0.sent ≡ []) × (both.0.down ≡ false)) }
     ensures receiver { IfOk result (λ both. (both.1.received ≡ []) × (both.1.ended ≡ false)) }
 {

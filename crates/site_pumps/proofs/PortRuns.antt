@@ -1,5 +1,5 @@
 -- How far a port has come.
-use Rattle.std.proofs.Common.{◌≡◌, inl, inr, List, [], ◌∷◌, ◌++◌, Some, Result, Ok, Err, IfErr, OnOk, refl, sym, subst}
+use Rattle.std.proofs.Common.{◌≡◌, inl, inr, List, [], ◌∷◌, ◌++◌, Some, Result, Ok, Err, IfErr, OnErr, OnOk, refl, sym, subst}
 use Rattle.site_journal.specs.Ports.{PortRun, PortWork}
 use Rattle.site_journal.specs.declared.desk_fault.DeskFault.{DeskFault}
 use Rattle.site_journal.specs.declared.desk_fault.DeskFault.TheVariants.{Memory}
@@ -38,6 +38,16 @@ if_memory (Err cause) Q memory then = then cause memory
 pub if_fault : {T : Type 0} (result : Result T DeskFault) (P Q : DeskFault → Type 0) → ((cause : DeskFault) → P cause → Q cause) → IfErr result P → IfErr result Q
 if_fault (Ok x) P Q then is = tt
 if_fault (Err cause) P Q then is = then cause is
+
+-- what stands of each fault
+pub each_fault : {T : Type 0} (result : Result T DeskFault) (Q : DeskFault → Type 0) → ((cause : DeskFault) → Q cause) → IfErr result Q
+each_fault (Ok x) Q each = tt
+each_fault (Err cause) Q each = each cause
+
+-- what stands where there is no fault, and where there is one
+pub either_way : {T E P Q S : Type 0} (result : Result T E) → OnOk result P → OnErr result Q → (P → S) → (Q → S) → S
+either_way (Ok x) done failed well ill = well done
+either_way (Err e) done failed well ill = ill failed
 
 -- what stands whatever came of it
 pub whatever : {T E Q : Type 0} (result : Result T E) → Q → OnOk result Q

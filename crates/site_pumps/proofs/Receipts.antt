@@ -1,9 +1,9 @@
 -- One receipt more.
-use Rattle.std.proofs.Common.{◌≡◌, ℕ, ◌+◌, List, [], ◌∷◌, ◌++◌, map, refl, sym, ap, ◌∙◌, length-append, arith}
+use Rattle.std.proofs.Common.{◌≡◌, ◌⊎◌, inl, inr, ℕ, ◌+◌, ◌≤◌, List, [], ◌∷◌, ◌++◌, map, refl, sym, ap, subst, ◌∙◌, length-append, arith}
 use Rattle.site_journal.specs.declared.receipt.Receipt.{Receipt}
 use Rattle.site_journal.specs.declared.step.StepDeed.TheVariants.{Took, Cut}
 use Rattle.site_journal.specs.Receipts.{IsOfCut, IsOfWhole, IsOfTake}
-use Rattle.site_pumps.specs.Deeds.{AreCuts, AreCutsAndWhole, AreTakes}
+use Rattle.site_pumps.specs.Deeds.{AreCuts, AreCutsAndWhole, AreCutsFor, AreTakes}
 
 pub map_more : {A B : Type 0} (f : A → B) (xs : List A) (x : A) → map f (xs ++ x ∷ []) ≡ map f xs ++ f x ∷ []
 map_more f [] x = refl
@@ -23,6 +23,16 @@ cuts_whole n rs all r is whole cuts = (
   cuts.1,
   ap (map (λ (x : Receipt). x.deed)) is ∙ map_more (λ (x : Receipt). x.deed) rs r ∙ ap (λ l. l ++ r.deed ∷ []) cuts.2 ∙ ap (λ d. map Cut cuts.0 ++ d ∷ []) whole.1,
 )
+
+-- a cut more, or none
+pub cuts_perhaps : (n rung : ℕ) (rs all : List Receipt) → n ≤ rung → rung ≤ n + 1 → (all ≡ rs) ⊎ ((r : Receipt) × IsOfCut r × (all ≡ rs ++ r ∷ [])) → AreCuts n rs → AreCutsFor rung all
+cuts_perhaps n rung rs all low high (inl same) cuts = (n, omega (arith, low), high, inl (subst (AreCuts n) (sym same) cuts))
+cuts_perhaps n rung rs all low high (inr more) cuts = (n + 1, omega (arith, low), omega (arith, high), inl (cuts_more n rs all more.0 more.2 more.1 cuts))
+
+-- a frame of all behind the cuts, or none
+pub whole_perhaps : (n : ℕ) (rs all : List Receipt) → (all ≡ rs) ⊎ ((r : Receipt) × IsOfWhole r × (all ≡ rs ++ r ∷ [])) → AreCuts (n + 1) rs → AreCutsFor n all
+whole_perhaps n rs all (inl same) cuts = (n + 1, omega arith, omega arith, inl (subst (AreCuts (n + 1)) (sym same) cuts))
+whole_perhaps n rs all (inr more) cuts = (n + 1, omega arith, omega arith, inr (cuts_whole (n + 1) rs all more.0 more.2 more.1 cuts))
 
 pub takes_more : (items : List (List ℕ)) (bytes : List ℕ) (rs all : List Receipt) (r : Receipt) → all ≡ rs ++ r ∷ [] → IsOfTake bytes r → AreTakes items rs → AreTakes (items ++ bytes ∷ []) all
 takes_more items bytes rs all r is took takes =

@@ -1,5 +1,5 @@
 -- One frame more, and the end.
-use Rattle.std.proofs.Common.{◌≡◌, ℕ, ◌+◌, List, [], ◌∷◌, ◌++◌, refl, sym, ap, subst, ◌∙◌, append_assoc, append-nil}
+use Rattle.std.proofs.Common.{◌≡◌, ℕ, ◌+◌, List, [], ◌∷◌, ◌++◌, length, length-append, refl, sym, ap, subst, ◌∙◌, append_assoc, append-nil, arith}
 use Rattle.site_links.specs.Links.{Sending}
 use Rattle.site_pumps.specs.declared.deed.Deed.{Deed}
 use Rattle.site_journal.specs.declared.receipt.Receipt.{Receipt}
@@ -7,7 +7,7 @@ use Rattle.site_pumps.specs.Carried.{Begins, Carries, EachLink}
 use Rattle.site_journal.specs.Receipts.{IsOfCut, IsOfWhole}
 use Rattle.site_pumps.specs.Deeds.{cut_frame, whole_frame, cut_frames, whole_frames}
 use Rattle.site_pumps.specs.Outgoing.{IsUnderWay, IsFrontOf}
-use Rattle.site_pumps.specs.Plans.{deed_at, sent_for, held_after, planned, planned_from}
+use Rattle.site_pumps.specs.Plans.{deed_at, sent_for, held_after, held_from, planned, sent_from}
 use Rattle.site_pumps.proofs.Carrying.{each_nothing, each_more, each_begun, each_longer, each_fewer}
 
 pub cut_frames-append : (xs ys : List Receipt) → cut_frames (xs ++ ys) ≡ cut_frames xs ++ cut_frames ys
@@ -18,17 +18,62 @@ pub whole_frames-append : (xs ys : List Receipt) → whole_frames (xs ++ ys) ≡
 whole_frames-append [] ys = refl
 whole_frames-append (x ∷ xs) ys = ap (λ l. whole_frame x.deed ++ l) (whole_frames-append xs ys) ∙ sym (append_assoc (whole_frame x.deed) (whole_frames xs) (whole_frames ys))
 
+-- ---- what a plan makes of one frame more
+
+sent_from-append : (plan : List Deed) (number : ℕ) (held frames : List (List ℕ)) (frame : List ℕ)
+    → sent_from plan number held (frames ++ frame ∷ []) ≡ sent_from plan number held frames ++ sent_for (deed_at plan (number + length frames)) (held_from plan number held frames) frame
+sent_from-append plan number held [] frame = let same : number ≡ number + 0 = omega arith in append-nil (sent_for (deed_at plan number) held frame) ∙ ap (λ n. sent_for (deed_at plan n) held frame) same
+sent_from-append plan number held (x ∷ xs) frame =
+    let now = sent_for (deed_at plan number) held x in
+    let after = held_after (deed_at plan number) held x in
+    let rest = sent_from plan (number + 1) after xs in
+    let last = held_from plan (number + 1) after xs in
+    let same : (number + 1) + length xs ≡ number + length (x ∷ xs) = omega arith in
+    ap (λ l. now ++ l) (sent_from-append plan (number + 1) after xs frame) ∙ sym (append_assoc now rest (sent_for (deed_at plan ((number + 1) + length xs)) last frame))
+    ∙ ap (λ n. (now ++ rest) ++ sent_for (deed_at plan n) last frame) same
+
+held_from-append : (plan : List Deed) (number : ℕ) (held frames : List (List ℕ)) (frame : List ℕ)
+    → held_from plan number held (frames ++ frame ∷ []) ≡ held_after (deed_at plan (number + length frames)) (held_from plan number held frames) frame
+held_from-append plan number held [] frame = let same : number ≡ number + 0 = omega arith in ap (λ n. held_after (deed_at plan n) held frame) same
+held_from-append plan number held (x ∷ xs) frame =
+    let after = held_after (deed_at plan number) held x in
+    let same : (number + 1) + length xs ≡ number + length (x ∷ xs) = omega arith in
+    held_from-append plan (number + 1) after xs frame ∙ ap (λ n. held_after (deed_at plan n) (held_from plan (number + 1) after xs) frame) same
+
+-- the frames of receipts and one more
+one_more : (receipts : List Receipt) (r : Receipt) (frame : List ℕ) → cut_frame r.deed ≡ frame ∷ [] → cut_frames (receipts ++ r ∷ []) ≡ cut_frames receipts ++ frame ∷ []
+one_more receipts r frame is = cut_frames-append receipts (r ∷ []) ∙ ap (λ l. cut_frames receipts ++ (l ++ [])) is
+
+-- the frames of receipts and one that has none
+no_more : (receipts : List Receipt) (r : Receipt) → cut_frame r.deed ≡ [] → cut_frames (receipts ++ r ∷ []) ≡ cut_frames receipts
+no_more receipts r none = cut_frames-append receipts (r ∷ []) ∙ ap (λ l. cut_frames receipts ++ (l ++ [])) none ∙ append-nil (cut_frames receipts)
+
+no_whole_more : (receipts : List Receipt) (r : Receipt) → whole_frame r.deed ≡ [] → whole_frames receipts ≡ [] → whole_frames (receipts ++ r ∷ []) ≡ []
+no_whole_more receipts r bare none = whole_frames-append receipts (r ∷ []) ∙ ap (λ l. l ++ (whole_frame r.deed ++ [])) none ∙ ap (λ l. l ++ []) bare
+
+-- what is sent for these receipts' frames and one more
+sent_more : (plan : List Deed) (receipts : List Receipt) (r : Receipt) (frame : List ℕ) (used : ℕ) (held : List (List ℕ)) (start links : List Sending)
+    → cut_frame r.deed ≡ frame ∷ [] → IsUnderWay plan receipts used held start links
+    → sent_from plan 0 [] (cut_frames (receipts ++ r ∷ [])) ≡ sent_from plan 0 [] (cut_frames receipts) ++ sent_for (deed_at plan used) held frame
+sent_more plan receipts r frame used held start links is w = let frames = cut_frames receipts in
+    let place : 0 + length frames ≡ used = omega (arith, w.used_is) in
+    ap (sent_from plan 0 []) (one_more receipts r frame is) ∙ sent_from-append plan 0 [] frames frame
+    ∙ ap (λ n. sent_from plan 0 [] frames ++ sent_for (deed_at plan n) (held_from plan 0 [] frames) frame) place
+    ∙ ap (λ h. sent_from plan 0 [] frames ++ sent_for (deed_at plan used) h frame) (sym w.held_is)
+
+-- ---- one receipt more
+
 pub at_start : (plan : List Deed) (start : List Sending) → IsUnderWay plan [] 0 [] start start
-at_start plan start = record { sent = []; carried = each_nothing start; later = λ frames. refl; no_whole = refl }
+at_start plan start = record { used_is = refl; held_is = refl; carried = each_nothing start; no_whole = refl }
 
 -- a receipt of a cut with nothing to cut
 pub no_frame : (plan : List Deed) (receipts : List Receipt) (r : Receipt) (used : ℕ) (held : List (List ℕ)) (start links : List Sending)
     → cut_frame r.deed ≡ [] → whole_frame r.deed ≡ [] → IsUnderWay plan receipts used held start links → IsUnderWay plan (receipts ++ r ∷ []) used held start links
-no_frame plan receipts r used held start links none bare w = record {
-  sent = w.sent;
-  carried = w.carried;
-  later = λ frames. ap (λ l. planned_from plan 0 [] (l ++ frames)) (cut_frames-append receipts (r ∷ []) ∙ ap (λ l. cut_frames receipts ++ (l ++ [])) none ∙ append-nil (cut_frames receipts)) ∙ w.later frames;
-  no_whole = whole_frames-append receipts (r ∷ []) ∙ ap (λ l. l ++ (whole_frame r.deed ++ [])) w.no_whole ∙ ap (λ l. l ++ []) bare;
+no_frame plan receipts r used held start links none bare w = let same = sym (no_more receipts r none) in record {
+  used_is = w.used_is ∙ ap length same;
+  held_is = w.held_is ∙ ap (held_from plan 0 []) same;
+  carried = subst (λ l. EachLink (Carries (sent_from plan 0 [] l)) start links) same w.carried;
+  no_whole = no_whole_more receipts r bare w.no_whole;
 }
 
 -- a receipt of a cut with a frame, which was treated
@@ -36,43 +81,48 @@ pub one_frame : (plan : List Deed) (receipts : List Receipt) (r : Receipt) (fram
     → cut_frame r.deed ≡ frame ∷ [] → whole_frame r.deed ≡ [] → IsUnderWay plan receipts used held start links
     → EachLink (Carries (sent_for (deed_at plan used) held frame)) links news
     → IsUnderWay plan (receipts ++ r ∷ []) (used + 1) (held_after (deed_at plan used) held frame) start news
-one_frame plan receipts r frame used held start links news is bare w c = let now = sent_for (deed_at plan used) held frame in record {
-  sent = w.sent ++ now;
-  carried = each_more w.sent now start links news w.carried c;
-  later = λ frames. ap (λ l. planned_from plan 0 [] (l ++ frames)) (cut_frames-append receipts (r ∷ []) ∙ ap (λ l. cut_frames receipts ++ (l ++ [])) is)
-      ∙ ap (λ l. planned_from plan 0 [] l) (append_assoc (cut_frames receipts) (frame ∷ []) frames) ∙ w.later (frame ∷ frames)
-      ∙ sym (append_assoc w.sent now (planned_from plan (used + 1) (held_after (deed_at plan used) held frame) frames));
-  no_whole = whole_frames-append receipts (r ∷ []) ∙ ap (λ l. l ++ (whole_frame r.deed ++ [])) w.no_whole ∙ ap (λ l. l ++ []) bare;
-}
+one_frame plan receipts r frame used held start links news is bare w c = let frames = cut_frames receipts in
+    let all = one_more receipts r frame is in
+    let place : 0 + length frames ≡ used = omega (arith, w.used_is) in
+    record {
+      used_is = (let long = ap length all in omega (arith, long, w.used_is, length-append frames (frame ∷ [])));
+      held_is = sym (ap (held_from plan 0 []) all ∙ held_from-append plan 0 [] frames frame
+          ∙ ap (λ n. held_after (deed_at plan n) (held_from plan 0 [] frames) frame) place ∙ ap (λ h. held_after (deed_at plan used) h frame) (sym w.held_is));
+      carried = subst (λ l. EachLink (Carries l) start news) (sym (sent_more plan receipts r frame used held start links is w))
+          (each_more (sent_from plan 0 [] frames) (sent_for (deed_at plan used) held frame) start links news w.carried c);
+      no_whole = no_whole_more receipts r bare w.no_whole;
+    }
+
+-- ---- the end, and what comes before it
+
+-- a front of a plan
+front : (plan : List Deed) (receipts : List Receipt) (start news : List Sending) → EachLink (Begins (sent_from plan 0 [] (cut_frames receipts))) start news → IsFrontOf plan receipts start news
+front plan receipts start news s = let sent = sent_from plan 0 [] (cut_frames receipts) in let held = held_from plan 0 [] (cut_frames receipts) in
+    each_longer (sent ++ held) (whole_frames receipts) start news (each_longer sent held start news s)
 
 -- a pump that stops with these receipts
 pub stopped : (plan : List Deed) (receipts : List Receipt) (used : ℕ) (held : List (List ℕ)) (start links : List Sending)
     → IsUnderWay plan receipts used held start links → IsFrontOf plan receipts start links
-stopped plan receipts used held start links w =
-    subst (λ l. EachLink (Begins l) start links) (sym (ap (λ l. planned_from plan 0 [] l ++ whole_frames receipts) (sym (append-nil (cut_frames receipts))) ∙ ap (λ l. l ++ whole_frames receipts) (w.later []) ∙ append_assoc w.sent held (whole_frames receipts)))
-    (each_longer w.sent (held ++ whole_frames receipts) start links (each_fewer w.sent start links w.carried))
+stopped plan receipts used held start links w = front plan receipts start links (each_fewer (sent_from plan 0 [] (cut_frames receipts)) start links w.carried)
 
 -- a pump that stops in the middle of a frame
 pub broken : (plan : List Deed) (receipts : List Receipt) (r : Receipt) (frame : List ℕ) (used : ℕ) (held : List (List ℕ)) (start links news : List Sending)
     → cut_frame r.deed ≡ frame ∷ [] → whole_frame r.deed ≡ [] → IsUnderWay plan receipts used held start links
     → EachLink (Begins (sent_for (deed_at plan used) held frame)) links news
     → IsFrontOf plan (receipts ++ r ∷ []) start news
-broken plan receipts r frame used held start links news is bare w c = let now = sent_for (deed_at plan used) held frame in let rest = planned_from plan (used + 1) (held_after (deed_at plan used) held frame) [] in
-    subst (λ l. EachLink (Begins l) start news)
-    (append_assoc w.sent now (rest ++ whole_frames (receipts ++ r ∷ [])) ∙ ap (λ l. w.sent ++ l) (sym (append_assoc now rest (whole_frames (receipts ++ r ∷ [])))) ∙ sym (append_assoc w.sent (now ++ rest) (whole_frames (receipts ++ r ∷ [])))
-    ∙ ap (λ l. l ++ whole_frames (receipts ++ r ∷ [])) (sym (w.later (frame ∷ [])) ∙ ap (λ l. planned_from plan 0 [] l) (sym (cut_frames-append receipts (r ∷ []) ∙ ap (λ l. cut_frames receipts ++ (l ++ [])) is))))
-    (each_longer (w.sent ++ now) (rest ++ whole_frames (receipts ++ r ∷ [])) start news (each_begun w.sent now start links news w.carried c))
+broken plan receipts r frame used held start links news is bare w c = front plan (receipts ++ r ∷ []) start news
+    (subst (λ l. EachLink (Begins l) start news) (sym (sent_more plan receipts r frame used held start links is w))
+    (each_begun (sent_from plan 0 [] (cut_frames receipts)) (sent_for (deed_at plan used) held frame) start links news w.carried c))
 
--- held frames and a whole
-pub finished : (plan : List Deed) (receipts : List Receipt) (r : Receipt) (whole : List ℕ) (used : ℕ) (held : List (List ℕ)) (start links mids news : List Sending)
-    → cut_frame r.deed ≡ [] → whole_frame r.deed ≡ whole ∷ [] → IsUnderWay plan receipts used held start links
-    → EachLink (Carries held) links mids → EachLink (Carries (whole ∷ [])) mids news
-    → EachLink (Carries (planned plan (cut_frames (receipts ++ r ∷ [])) (whole_frames (receipts ++ r ∷ [])))) start news
-finished plan receipts r whole used held start links mids news bare is w c d =
-    let cuts : cut_frames (receipts ++ r ∷ []) ≡ cut_frames receipts ++ [] = cut_frames-append receipts (r ∷ []) ∙ ap (λ l. cut_frames receipts ++ (l ++ [])) bare in
-    let wholes : whole_frames (receipts ++ r ∷ []) ≡ whole ∷ [] = whole_frames-append receipts (r ∷ []) ∙ ap (λ l. l ++ (whole_frame r.deed ++ [])) w.no_whole ∙ ap (λ l. l ++ []) is in
-    subst (λ l. EachLink (Carries l) start news) (sym (ap (λ l. planned_from plan 0 [] l ++ whole_frames (receipts ++ r ∷ [])) cuts ∙ ap (λ l. l ++ whole_frames (receipts ++ r ∷ [])) (w.later []) ∙ ap (λ l. (w.sent ++ held) ++ l) wholes))
-    (each_more (w.sent ++ held) (whole ∷ []) start mids news (each_more w.sent held start links mids w.carried c) d)
+-- the plan of these receipts' frames, and one of all
+planned_whole : (plan : List Deed) (receipts : List Receipt) (r : Receipt) (used : ℕ) (held : List (List ℕ)) (start links : List Sending)
+    → cut_frame r.deed ≡ [] → IsUnderWay plan receipts used held start links
+    → planned plan (cut_frames (receipts ++ r ∷ [])) (whole_frames (receipts ++ r ∷ [])) ≡ (sent_from plan 0 [] (cut_frames receipts) ++ held) ++ whole_frame r.deed
+planned_whole plan receipts r used held start links bare w = let wholes : whole_frames (receipts ++ r ∷ []) ≡ whole_frame r.deed =
+    whole_frames-append receipts (r ∷ []) ∙ ap (λ l. l ++ (whole_frame r.deed ++ [])) w.no_whole ∙ append-nil (whole_frame r.deed) in
+    ap (λ l. planned plan l (whole_frames (receipts ++ r ∷ []))) (no_more receipts r bare)
+    ∙ ap (λ h. (sent_from plan 0 [] (cut_frames receipts) ++ h) ++ whole_frames (receipts ++ r ∷ [])) (sym w.held_is)
+    ∙ ap (λ l. (sent_from plan 0 [] (cut_frames receipts) ++ held) ++ l) wholes
 
 pub cut_is_no_whole : (r : Receipt) → IsOfCut r → whole_frame r.deed ≡ []
 cut_is_no_whole r is = ap whole_frame is.1
@@ -84,27 +134,34 @@ whole_is_no_cut r is = ap cut_frame is.1
 pub broken_at_end : (plan : List Deed) (receipts : List Receipt) (r : Receipt) (used : ℕ) (held : List (List ℕ)) (start links mids news : List Sending)
     → IsOfWhole r → IsUnderWay plan receipts used held start links
     → EachLink (Carries held) links mids → EachLink (Begins (whole_frame r.deed)) mids news → IsFrontOf plan (receipts ++ r ∷ []) start news
-broken_at_end plan receipts r used held start links mids news is w c d =
-    let cuts : cut_frames (receipts ++ r ∷ []) ≡ cut_frames receipts ++ [] = cut_frames-append receipts (r ∷ []) ∙ ap (λ l. cut_frames receipts ++ (l ++ [])) (whole_is_no_cut r is) in
-    let wholes : whole_frames (receipts ++ r ∷ []) ≡ whole_frame r.deed = whole_frames-append receipts (r ∷ []) ∙ ap (λ l. l ++ (whole_frame r.deed ++ [])) w.no_whole ∙ append-nil (whole_frame r.deed) in
-    subst (λ l. EachLink (Begins l) start news) (sym (ap (λ l. planned_from plan 0 [] l ++ whole_frames (receipts ++ r ∷ [])) cuts ∙ ap (λ l. l ++ whole_frames (receipts ++ r ∷ [])) (w.later []) ∙ ap (λ l. (w.sent ++ held) ++ l) wholes))
-    (each_begun (w.sent ++ held) (whole_frame r.deed) start mids news (each_more w.sent held start links mids w.carried c) d)
+broken_at_end plan receipts r used held start links mids news is w c d = let sent = sent_from plan 0 [] (cut_frames receipts) in
+    subst (λ l. EachLink (Begins l) start news) (sym (planned_whole plan receipts r used held start links (whole_is_no_cut r is) w))
+    (each_begun (sent ++ held) (whole_frame r.deed) start mids news (each_more sent held start links mids w.carried c) d)
 
 -- held frames alone, or a part of them
 pub broken_at_held : (plan : List Deed) (receipts : List Receipt) (used : ℕ) (held : List (List ℕ)) (start links mids : List Sending)
     → IsUnderWay plan receipts used held start links → EachLink (Begins held) links mids → IsFrontOf plan receipts start mids
-broken_at_held plan receipts used held start links mids w c =
-    subst (λ l. EachLink (Begins l) start mids) (sym (ap (λ l. planned_from plan 0 [] l ++ whole_frames receipts) (sym (append-nil (cut_frames receipts))) ∙ ap (λ l. l ++ whole_frames receipts) (w.later [])))
-    (each_longer (w.sent ++ held) (whole_frames receipts) start mids (each_begun w.sent held start links mids w.carried c))
+broken_at_held plan receipts used held start links mids w c = let sent = sent_from plan 0 [] (cut_frames receipts) in
+    each_longer (sent ++ held_from plan 0 [] (cut_frames receipts)) (whole_frames receipts) start mids
+    (subst (λ h. EachLink (Begins (sent ++ h)) start mids) w.held_is (each_begun sent held start links mids w.carried c))
+
+-- held frames and no whole
+pub refused_at_end : (plan : List Deed) (receipts all : List Receipt) (used : ℕ) (held : List (List ℕ)) (start links mids : List Sending)
+    → all ≡ receipts → IsUnderWay plan receipts used held start links → EachLink (Carries held) links mids → EachLink (Carries (planned plan (cut_frames all) [])) start mids
+refused_at_end plan receipts all used held start links mids same w c = let sent = sent_from plan 0 [] (cut_frames receipts) in
+    subst (λ l. EachLink (Carries (planned plan (cut_frames l) [])) start mids) (sym same)
+    (subst (λ l. EachLink (Carries l) start mids) (ap (λ h. sent ++ h) w.held_is ∙ sym (append-nil (sent ++ held_from plan 0 [] (cut_frames receipts))))
+    (each_more sent held start links mids w.carried c))
 
 -- held frames and all of a whole
 pub ended : (plan : List Deed) (receipts : List Receipt) (r : Receipt) (used : ℕ) (held : List (List ℕ)) (start links mids news : List Sending)
     → IsOfWhole r → IsUnderWay plan receipts used held start links
     → EachLink (Carries held) links mids → EachLink (Carries (whole_frame r.deed)) mids news → EachLink (Carries (planned plan (cut_frames (receipts ++ r ∷ [])) (whole_frames (receipts ++ r ∷ [])))) start news
-ended plan receipts r used held start links mids news is w c d =
-    finished plan receipts r is.0 used held start links mids news (whole_is_no_cut r is) (ap whole_frame is.1) w c (subst (λ l. EachLink (Carries l) mids news) (ap whole_frame is.1) d)
+ended plan receipts r used held start links mids news is w c d = let sent = sent_from plan 0 [] (cut_frames receipts) in
+    subst (λ l. EachLink (Carries l) start news) (sym (planned_whole plan receipts r used held start links (whole_is_no_cut r is) w))
+    (each_more (sent ++ held) (whole_frame r.deed) start mids news (each_more sent held start links mids w.carried c) d)
 
--- the same, with what calls gave
+-- ---- the same, with what calls gave
 
 pub one_burst : (plan : List Deed) (receipts : List Receipt) (r : Receipt) (frame : List ℕ) (used : ℕ) (held held' items : List (List ℕ)) (deed : Deed) (start links news : List Sending)
     → IsOfCut r → cut_frame r.deed ≡ frame ∷ [] → deed ≡ deed_at plan used → items ≡ sent_for deed held frame → held' ≡ held_after deed held frame

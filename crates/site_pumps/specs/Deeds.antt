@@ -1,5 +1,5 @@
 -- Which frames receipts have, and of what they are.
-use Rattle.std.specs.Prelude.{ℕ, ◌≡◌, List, [], ◌∷◌, ◌++◌, Option, Some, None, length, map}
+use Rattle.std.specs.Prelude.{ℕ, ◌≡◌, ◌⊎◌, ◌+◌, ◌≤◌, List, [], ◌∷◌, ◌++◌, Option, Some, None, length, map}
 use Rattle.site_journal.specs.declared.receipt.Receipt.{Receipt}
 use Rattle.site_journal.specs.declared.step.StepDeed.{StepDeed}
 use Rattle.site_journal.specs.declared.step.StepDeed.TheVariants.{Asked, Took, Cut, Whole}
@@ -29,14 +29,18 @@ abbrev pub whole_frames : List Receipt → List (List ℕ)
 whole_frames [] = []
 whole_frames (r ∷ rs) = whole_frame r.deed ++ whole_frames rs
 
+-- so many cuts
+abbrev pub AreCuts : ℕ → List Receipt → Type 0
+AreCuts n rs = (cuts : List (Option (List ℕ))) × (length cuts ≡ n) × (map (λ (r : Receipt). r.deed) rs ≡ map Cut cuts)
+
 -- so many cuts, and then a frame of all
 abbrev pub AreCutsAndWhole : ℕ → List Receipt → Type 0
 AreCutsAndWhole n rs = (cuts : List (Option (List ℕ))) × (last : List ℕ) × (length cuts ≡ n) × (map (λ (r : Receipt). r.deed) rs ≡ map Cut cuts ++ Whole last ∷ [])
 
+-- a cut for each of so many rings, but perhaps for the last, or one more; and then perhaps a frame of all
+abbrev pub AreCutsFor : ℕ → List Receipt → Type 0
+AreCutsFor rung rs = (n : ℕ) × (n ≤ rung + 1) × (rung ≤ n + 1) × (AreCuts n rs ⊎ AreCutsAndWhole n rs)
+
 -- takes of these items
 abbrev pub AreTakes : List (List ℕ) → List Receipt → Type 0
 AreTakes items rs = map (λ (r : Receipt). r.deed) rs ≡ map Took items
-
--- so many cuts
-abbrev pub AreCuts : ℕ → List Receipt → Type 0
-AreCuts n rs = (cuts : List (Option (List ℕ))) × (length cuts ≡ n) × (map (λ (r : Receipt). r.deed) rs ≡ map Cut cuts)

@@ -22,11 +22,16 @@ held_after Lose held frame = []
 held_after Twice held frame = []
 held_after Hold held frame = held ++ frame ∷ []
 
--- what is sent for the frames from this number on, where these are held before
-abbrev pub planned_from : List Deed → ℕ → List (List ℕ) → List (List ℕ) → List (List ℕ)
-planned_from plan number held [] = held
-planned_from plan number held (frame ∷ frames) = sent_for (deed_at plan number) held frame ++ planned_from plan (number + 1) (held_after (deed_at plan number) held frame) frames
+-- what is sent for frames as they are cut, from this number on, where these are held before
+abbrev pub sent_from : List Deed → ℕ → List (List ℕ) → List (List ℕ) → List (List ℕ)
+sent_from plan number held [] = []
+sent_from plan number held (frame ∷ frames) = sent_for (deed_at plan number) held frame ++ sent_from plan (number + 1) (held_after (deed_at plan number) held frame) frames
 
--- what is sent for all frames that are cut, and the whole states after them
+-- which frames are held after them
+abbrev pub held_from : List Deed → ℕ → List (List ℕ) → List (List ℕ) → List (List ℕ)
+held_from plan number held [] = held
+held_from plan number held (frame ∷ frames) = held_from plan (number + 1) (held_after (deed_at plan number) held frame) frames
+
+-- what is sent for all frames that are cut, then those that are still held, and the whole states after them
 abbrev pub planned : List Deed → List (List ℕ) → List (List ℕ) → List (List ℕ)
-planned plan frames wholes = planned_from plan 0 [] frames ++ wholes
+planned plan frames wholes = sent_from plan 0 [] frames ++ held_from plan 0 [] frames ++ wholes

@@ -31,7 +31,7 @@ fn pumped(receipts: Vec<Receipt>, fault: Option<DeskFault>, refused: Option<Vec<
 }
 
 /// Lets the port take each item that the link gives, until the link ends or a fault stops it: the port's own, or `Memory` where there is
-/// no room for a receipt (this project's own).
+/// no room for a receipt. It waits where the link or the port does (this project's own).
 pub fn pump_in<R: Wait, P: Port<R>>(
     rt: &R,
     alloc: Global,

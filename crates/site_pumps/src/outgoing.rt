@@ -159,8 +159,18 @@ impl Outgoing {
             → IsUnderWay plan.now self.old.receipts.items self.old.used self.old.held.items start
             links.old
             → IsFrontOf plan.now self.new.receipts.items start links.new) }
+        ensures stopped { IfErr result (λ cause. P.fault port.new ≡ Some cause
+            → (start : List Sending)
+            → IsUnderWay plan.now self.old.receipts.items self.old.used self.old.held.items start
+            links.old
+            → IsUnderWay plan.now self.new.receipts.items self.new.used self.new.held.items start
+            links.new) }
         ensures receipt { OnOk result ((r : _) × IsOfCut r
             × (self.new.receipts.items ≡ self.old.receipts.items ++ r ∷ [])) }
+        ensures perhaps { OnErr result ((self.new.receipts.items ≡ self.old.receipts.items)
+            ⊎ ((r : _) × IsOfCut r
+            × (self.new.receipts.items ≡ self.old.receipts.items ++ r ∷ []))) }
+        ensures well { OnOk result (P.fault port.new ≡ None) }
         ensures few { self.new.used ≤ vec_len self.new.receipts }
         ensures run { OnOk result ((start : P)
             → PortRun P.makes start self.old.receipts.items port.old
@@ -189,6 +199,7 @@ impl Outgoing {
         port: &mut P,
         links: &mut [LinkSender],
     ) -> Result<(), DeskFault>
+        requires well { P.fault port.old ≡ None }
         ensures ok { OnOk result ((start : List Sending) (plan : List _)
             → IsUnderWay plan self.old.receipts.items self.old.used self.old.held.items start
             links.old
@@ -198,8 +209,17 @@ impl Outgoing {
             → IsUnderWay plan self.old.receipts.items self.old.used self.old.held.items start
             links.old
             → IsFrontOf plan self.new.receipts.items start links.new) }
+        ensures stopped { IfErr result (λ cause. P.fault port.new ≡ Some cause
+            → (start : List Sending) (plan : List _)
+            → IsUnderWay plan self.old.receipts.items self.old.used self.old.held.items start
+            links.old
+            → EachLink (Carries (planned plan (cut_frames self.new.receipts.items) [])) start
+            links.new) }
         ensures receipt { OnOk result ((r : _) × IsOfWhole r
             × (self.new.receipts.items ≡ self.old.receipts.items ++ r ∷ [])) }
+        ensures perhaps { OnErr result ((self.new.receipts.items ≡ self.old.receipts.items)
+            ⊎ ((r : _) × IsOfWhole r
+            × (self.new.receipts.items ≡ self.old.receipts.items ++ r ∷ []))) }
         ensures run { OnOk result ((start : P)
             → PortRun P.makes start self.old.receipts.items port.old
             → PortRun P.makes start self.new.receipts.items port.new) }

@@ -2,8 +2,8 @@ ghost use Rattle.std.specs.Prelude.{◌≡◌, ◌⊎◌, ◌+◌, ⊤, [], ℕ,
 ghost use Rattle.std.specs.Prelude.{OnOk, vec_len};
 ghost use Rattle.site_journal.specs.Ports.{PortRun, PortWork};
 ghost use Rattle.site_pumps.specs.Carried.{Carries, EachLink};
-ghost use Rattle.site_pumps.specs.Deeds.{AreCutsAndWhole, cut_frames, whole_frames};
-ghost use Rattle.site_pumps.specs.Outgoing.{IsFrontOf};
+ghost use Rattle.site_pumps.specs.Deeds.{AreCutsAndWhole, AreCutsFor, cut_frames, whole_frames};
+ghost use Rattle.site_pumps.specs.Outgoing.{IsFrontOf, IsStopped};
 ghost use Rattle.site_pumps.specs.Plans.{planned};
 
 use crate::Deed;
@@ -39,8 +39,12 @@ fn drive<R: Wait, P: Port<R>, B: Bell<R>>(
         links.old links.new) }
     ensures front { OnErr result
         (IsFrontOf plan.now outgoing.new.receipts.items links.old links.new) }
+    ensures stopped { IfErr result (λ cause. P.fault port.new ≡ Some cause
+        → IsStopped plan.now outgoing.new.receipts.items (B.ended bell.new) links.old links.new) }
     ensures receipts { OnOk result ((rung : ℕ) × (B.rings bell.new ≡ B.rings bell.old + rung)
         × AreCutsAndWhole (rung + 1) outgoing.new.receipts.items) }
+    ensures cuts { (rung : ℕ) × (B.rings bell.new ≡ B.rings bell.old + rung)
+        × AreCutsFor rung outgoing.new.receipts.items }
     ensures ended { OnOk result (B.ended bell.new ≡ true) }
     ensures run { OnOk result
         (PortRun P.makes port.old outgoing.new.receipts.items port.new) }
@@ -63,7 +67,8 @@ fn drive<R: Wait, P: Port<R>, B: Bell<R>>(
 /// Cuts at each ring of the bell, and sends each frame on all links alike, as the plan says: its deeds are used in turn, again from
 /// its front, and where there are none each frame is delivered; a cut without a frame uses none. Once the bell has ended it cuts once
 /// more, sends what is held, and then a frame of all that the site knows, whatever the plan. A link that is down gets no more, and the
-/// others go on. A fault stops it: the port's own, or `Memory` where there is no room (this project's own).
+/// others go on. It waits where the bell, the port or a link does. A fault stops it: the port's own, or `Memory` where there is no room
+/// (this project's own).
 pub fn pump_out<R: Wait, P: Port<R>, B: Bell<R>>(
     rt: &R,
     alloc: Global,
@@ -76,9 +81,14 @@ pub fn pump_out<R: Wait, P: Port<R>, B: Bell<R>>(
         (cut_frames result.receipts.items) (whole_frames result.receipts.items)))
         links.old links.new }
     ensures front { IsFrontOf plan.now result.receipts.items links.old links.new }
+    // Where the port has refused a call, all was sent that the plan says of the frames cut so far.
+    ensures stopped { MatchOption result.fault ⊤ (λ cause. P.fault port.new ≡ Some cause
+        → IsStopped plan.now result.receipts.items (B.ended bell.new) links.old links.new) }
     ensures receipts { result.fault ≡ None → (rung : ℕ)
         × (B.rings bell.new ≡ B.rings bell.old + rung)
         × AreCutsAndWhole (rung + 1) result.receipts.items }
+    ensures cuts { (rung : ℕ) × (B.rings bell.new ≡ B.rings bell.old + rung)
+        × AreCutsFor rung result.receipts.items }
     ensures ended { result.fault ≡ None → B.ended bell.new ≡ true }
     // The port has made the steps of the receipts, and no other; it may then have refused a call.
     ensures work { PortWork P.makes P.refuses port.old result.receipts.items result.fault

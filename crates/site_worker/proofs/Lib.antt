@@ -1,2 +1,4 @@
+pub mod Gatings
+pub mod NewSites
 pub mod Workings
 pub mod Sites

@@ -9,6 +9,7 @@ use Rattle.site_journal.specs.declared.desk_fault.DeskFault.{DeskFault}
 use Rattle.site_journal.specs.declared.receipt.Receipt.{Receipt}
 use Rattle.site_journal.specs.Journals.{JournalState}
 use Rattle.site_pumps.proofs.Receipts.{map_more}
+use Rattle.site_worker.specs.Gates.{IsGatedBy}
 use Rattle.site_worker.specs.Promises.{ArePromised, IsPromised}
 use Rattle.site_worker.specs.Runs.{HasRun}
 use Rattle.site_worker.specs.declared.running.EndOf.{EndOf}
@@ -49,6 +50,33 @@ got_at (x ∷ xs) (suc place) none low = got_at xs place none (omega (arith, low
 pub all_got : {E : Type 0} (P : E → Type 0) (xs : List E) → ((place : ℕ) (x : E) → slice_get xs place ≡ Some x → P x) → All P xs
 all_got P xs each place none low = each place (slice_index_or xs place none) (got_at xs place none low)
 
+got_below : {E : Type 0} (xs ys : List E) (place : ℕ) → place < length xs → slice_get (xs ++ ys) place ≡ slice_get xs place
+got_below [] ys place low = absurd (omega (arith, low))
+got_below (x ∷ xs) ys zero low = refl
+got_below (x ∷ xs) ys (suc place) low = got_below xs ys place (omega (arith, low))
+
+got_last : {E : Type 0} (xs : List E) (x : E) → slice_get (xs ++ x ∷ []) (length xs) ≡ Some x
+got_last [] x = refl
+got_last (y ∷ ys) x = got_last ys x
+
+-- what is mapped at a place
+pub got_mapped : {A B : Type 0} (f : A → B) (xs : List A) (place : ℕ) (x : A) → slice_get xs place ≡ Some x → slice_get (map f xs) place ≡ Some (f x)
+got_mapped f [] place x is = absurd (none-some x is)
+got_mapped f (y ∷ ys) zero x is = ap (λ z. Some (f z)) (one-some y x is)
+got_mapped f (y ∷ ys) (suc place) x is = got_mapped f ys place x is
+
+-- the gate of the last work
+pub gates_pop : {W G : Type 0} (f : W → G) (given : List G) (old new : List W) (work : W) → old ≡ new ++ work ∷ [] → ((site : ℕ) → site < length old → slice_get (map f old) site ≡ slice_get given site)
+    → ((site : ℕ) → site < length new → slice_get (map f new) site ≡ slice_get given site) × (slice_get given (length new) ≡ Some (f work))
+gates_pop f given old new work is were = let mapped : map f old ≡ map f new ++ f work ∷ [] = ap (map f) is ∙ map_more f new work in
+    let long = mapped_long f new in
+    let more : length old ≡ length new + 1 = ap length is ∙ length-append new (work ∷ []) in (
+      (λ site low. sym (ap (λ l. slice_get l site) mapped ∙ got_below (map f new) (f work ∷ []) site (omega (arith, low, long))) ∙ were site (omega (arith, low, more))),
+      (let at : slice_get (map f old) (length new) ≡ Some (f work) =
+          ap (λ l. slice_get l (length new)) mapped ∙ subst (λ n. slice_get (map f new ++ f work ∷ []) n ≡ Some (f work)) long (got_last (map f new) (f work)) in
+          sym (were (length new) (omega (arith, more))) ∙ at),
+    )
+
 -- the asks of the last work
 pub asks_pop : {W : Type 0} (f : W → List Ask) (given : List (List Ask)) (old new : List W) (work : W) → old ≡ new ++ work ∷ []
     → ((site : ℕ) → site < length old → slice_index_or (map f old) site [] ≡ slice_index_or given site [])
@@ -65,25 +93,25 @@ asks_pop f given old new work is were = let mapped : map f old ≡ map f new ++ 
 -- ---- promises
 
 -- a thread more
-pub promises_push : {H : Type 0} (f : H → EndOf) (names : List (List ℕ)) (asks : List (List Ask)) (xs all : List H) (h : H) → all ≡ xs ++ h ∷ [] → ArePromised names asks (map f xs)
-    → ((site : ℕ) → site + length xs + 1 ≡ length asks → IsPromised names asks site (f h)) → ArePromised names asks (map f all)
-promises_push f names asks xs all h is each last site k none low at = let mapped : map f all ≡ map f xs ++ f h ∷ [] = ap (map f) is ∙ map_more f xs h in
+pub promises_push : {H G : Type 0} (f : H → EndOf G) (names : List (List ℕ)) (asks : List (List Ask)) (gates : List G) (xs all : List H) (h : H) → all ≡ xs ++ h ∷ [] → ArePromised names asks gates (map f xs)
+    → ((site : ℕ) → site + length xs + 1 ≡ length asks → IsPromised names asks gates site (f h)) → ArePromised names asks gates (map f all)
+promises_push f names asks gates xs all h is each last site k none low at = let mapped : map f all ≡ map f xs ++ f h ∷ [] = ap (map f) is ∙ map_more f xs h in
     let long = mapped_long f xs in
     let within : k < length (map f xs) + 1 = (let e = ap length mapped in omega (arith, low, e, length-append (map f xs) (f h ∷ []))) in
-    subst (λ l. IsPromised names asks site (slice_index_or l k none)) (sym mapped) (⊎_elim
-    (λ below. subst (IsPromised names asks site) (sym (get_or-append (map f xs) (f h ∷ []) none k below)) (each site k none below at))
+    subst (λ l. IsPromised names asks gates site (slice_index_or l k none)) (sym mapped) (⊎_elim
+    (λ below. subst (IsPromised names asks gates site) (sym (get_or-append (map f xs) (f h ∷ []) none k below)) (each site k none below at))
     (λ above. let here : k ≡ length (map f xs) = omega (arith, above, within) in
-    subst (λ j. IsPromised names asks site (slice_index_or (map f xs ++ f h ∷ []) j none)) (sym here)
-    (subst (IsPromised names asks site) (sym (get_or-append_seam (map f xs) (f h) [] none)) (last site (omega (arith, at, here, long))))) (cases_lt k (length (map f xs))))
+    subst (λ j. IsPromised names asks gates site (slice_index_or (map f xs ++ f h ∷ []) j none)) (sym here)
+    (subst (IsPromised names asks gates site) (sym (get_or-append_seam (map f xs) (f h) [] none)) (last site (omega (arith, at, here, long))))) (cases_lt k (length (map f xs))))
 
 -- a thread less
-pub promises_pop : {H : Type 0} (f : H → EndOf) (names : List (List ℕ)) (asks : List (List Ask)) (all front : List H) (h : H) → all ≡ front ++ h ∷ [] → ArePromised names asks (map f all)
-    → ArePromised names asks (map f front) × ((site : ℕ) → site + length front + 1 ≡ length asks → IsPromised names asks site (f h))
-promises_pop f names asks all front h is each = let mapped : map f all ≡ map f front ++ f h ∷ [] = ap (map f) is ∙ map_more f front h in
+pub promises_pop : {H G : Type 0} (f : H → EndOf G) (names : List (List ℕ)) (asks : List (List Ask)) (gates : List G) (all front : List H) (h : H) → all ≡ front ++ h ∷ [] → ArePromised names asks gates (map f all)
+    → ArePromised names asks gates (map f front) × ((site : ℕ) → site + length front + 1 ≡ length asks → IsPromised names asks gates site (f h))
+promises_pop f names asks gates all front h is each = let mapped : map f all ≡ map f front ++ f h ∷ [] = ap (map f) is ∙ map_more f front h in
     let long = mapped_long f front in
-    let whole : ArePromised names asks (map f front ++ f h ∷ []) = subst (ArePromised names asks) mapped each in (
-      (λ site k none low at. subst (IsPromised names asks site) (get_or-append (map f front) (f h ∷ []) none k low) (whole site k none (omega (arith, low, length-append (map f front) (f h ∷ []))) at)),
-      (λ site at. subst (IsPromised names asks site) (get_or-append_seam (map f front) (f h) [] (f h))
+    let whole : ArePromised names asks gates (map f front ++ f h ∷ []) = subst (ArePromised names asks gates) mapped each in (
+      (λ site k none low at. subst (IsPromised names asks gates site) (get_or-append (map f front) (f h ∷ []) none k low) (whole site k none (omega (arith, low, length-append (map f front) (f h ∷ []))) at)),
+      (λ site at. subst (IsPromised names asks gates site) (get_or-append_seam (map f front) (f h) [] (f h))
           (whole site (length (map f front)) (f h) (omega (arith, length-append (map f front) (f h ∷ []))) (omega (arith, at, long)))),
     )
 
@@ -95,10 +123,15 @@ all_pop P all front x is each = let whole = subst (All P) is each in (
 )
 
 -- what was promised has come
-pub run_kept : (names : List (List ℕ)) (asks : List (List Ask)) (site : ℕ) (p : EndOf) (journal : JournalState) (lists : List (List Receipt)) (fault : Option DeskFault) → IsPromised names asks site p
-    → HasRun p.site p.list.value p.passes p.asks.value.items journal lists fault → HasRun site names (length asks + 1) (slice_index_or asks site []) journal lists fault
-run_kept names asks site p journal lists fault is run =
+pub run_kept : {G : Type 0} (names : List (List ℕ)) (asks : List (List Ask)) (gates : List G) (site : ℕ) (p : EndOf G) (journal : JournalState) (lists : List (List Receipt)) (fault : Option DeskFault)
+    → IsPromised names asks gates site p → HasRun p.site p.list.value p.passes p.asks.value.items journal lists fault → HasRun site names (length asks + 1) (slice_index_or asks site []) journal lists fault
+run_kept names asks gates site p journal lists fault is run =
     subst (λ n. HasRun n names (length asks + 1) (slice_index_or asks site []) journal lists fault) is.site_is
     (subst (λ l. HasRun p.site l (length asks + 1) (slice_index_or asks site []) journal lists fault) is.names_are
     (subst (λ n. HasRun p.site p.list.value n (slice_index_or asks site []) journal lists fault) is.passes
     (subst (λ l. HasRun p.site p.list.value p.passes l journal lists fault) is.asks_are run)))
+
+-- and the gate that was promised
+pub gate_kept : {G : Type 0} (Called : G → ℕ → G → Type 0) (names : List (List ℕ)) (asks : List (List Ask)) (gates : List G) (site : ℕ) (p : EndOf G) (lists : List (List Receipt)) (fault : Option DeskFault) (new gate : G)
+    → IsPromised names asks gates site p → slice_get gates site ≡ Some gate → IsGatedBy Called p.gate.value lists fault new → IsGatedBy Called gate lists fault new
+gate_kept Called names asks gates site p lists fault new gate is at gated = subst (λ x. IsGatedBy Called x lists fault new) (one-some p.gate.value gate (sym is.gate_is ∙ at)) gated

@@ -1,4 +1,5 @@
 pub mod Bells
+pub mod Gates
 pub mod Working
 pub mod Runs
 pub mod Promises

@@ -1,28 +1,44 @@
 -- What becomes of a site whose threads are run (this project's own).
-use Rattle.std.specs.Prelude.{ℕ, ◌≡◌, List, Option, None, length}
+use Rattle.std.specs.Prelude.{ℕ, ◌≡◌, ◌≤◌, List, Option, None, length}
+use Rattle.replica.specs.Deeds.{IsNew}
 use Rattle.site_desk.specs.Passes.{PassState}
 use Rattle.site_journal.specs.declared.desk_fault.DeskFault.{DeskFault}
+use Rattle.site_journal.specs.declared.journaled.TheConstants.{MOST_STEPS}
 use Rattle.site_journal.specs.declared.receipt.Receipt.{Receipt}
 use Rattle.site_journal.specs.Journals.{IsOfSite, JournalState}
 use Rattle.site_journal.specs.Settling.{list_of}
-use Rattle.site_worker.specs.Working.{AnswerFront, AreOfPasses, HaveWorked, receipts_in}
+use Rattle.site_worker.specs.Working.{AnswerFront, AreLegal, AreOfPasses, HaveSent, HaveTaken, HaveWorked, receipts_in}
 use Rattle.status_report.specs.declared.asks.Ask.{Ask}
 
+-- as many steps may stand in a journal as in any; where none was dropped, it began from a site that knew nothing
+pub record HasBegun (journal : JournalState) : Type 0 where
+  pub limit : journal.limit ≡ MOST_STEPS
+  pub new : journal.start ≡ 0 → IsNew journal.base
+
 -- the receipts of the first pass answer asks in their order, all of them unless there was a fault
-pub record HasAnswered (asks : List Ask) (lists : List (List Receipt)) (fault : Option DeskFault) : Type 0 where
-  pub front : AnswerFront asks (list_of lists 0)
+pub record HasAnswered (site : ℕ) (names : List (List ℕ)) (asks : List Ask) (lists : List (List Receipt)) (fault : Option DeskFault) : Type 0 where
+  pub front : AnswerFront site names asks (list_of lists 0)
   pub all : fault ≡ None → length (list_of lists 0) ≡ length asks
 
+-- the receipts of the second pass are those of one that sends, and those of each later one of one that takes
+pub record HavePumped (lists : List (List Receipt)) (fault : Option DeskFault) : Type 0 where
+  pub sent : HaveSent (list_of lists 1) fault
+  pub took : (pass : ℕ) → 2 ≤ pass → HaveTaken (list_of lists pass)
+
 -- so many threads of a site have given back these passes, lists of receipts and fault
-pub record IsGathered (number : ℕ) (asks : List Ask) (passes : List PassState) (lists : List (List Receipt)) (fault : Option DeskFault) : Type 0 where
+pub record IsGathered (site : ℕ) (names : List (List ℕ)) (number : ℕ) (asks : List Ask) (passes : List PassState) (lists : List (List Receipt)) (fault : Option DeskFault) : Type 0 where
   pub count : length passes ≡ number
-  pub worked : HaveWorked 0 passes lists
-  pub answered : HasAnswered asks lists fault
+  pub worked : HaveWorked site names 0 passes lists
+  pub answered : HasAnswered site names asks lists fault
+  pub pumped : HavePumped lists fault
 
 -- a site has run with so many passes: it ends with a list of receipts for each, which are as many as its journal has steps
 pub record HasRun (site : ℕ) (names : List (List ℕ)) (number : ℕ) (asks : List Ask) (journal : JournalState) (lists : List (List Receipt)) (fault : Option DeskFault) : Type 0 where
   pub own_site : IsOfSite site names journal
+  pub begun : HasBegun journal
   pub passes : length lists ≡ number
   pub count : journal.count ≡ receipts_in lists
   pub own : AreOfPasses 0 lists
-  pub answered : HasAnswered asks lists fault
+  pub legal : AreLegal site names lists
+  pub answered : HasAnswered site names asks lists fault
+  pub pumped : HavePumped lists fault

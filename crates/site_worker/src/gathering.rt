@@ -39,11 +39,11 @@ impl<L: SiteLedger> Gathered<L> {
     pub fn add(&mut self, worked: Worked<L>)
         requires room { (vec_len self.old.passes < vec_capacity self.old.passes)
             × (vec_len self.old.passes < vec_capacity self.old.receipts) }
-        requires gathered { HaveWorked 0 self.old.passes.items
+        requires gathered { HaveWorked L.site L.names 0 self.old.passes.items
             (map (λ list. list.items) self.old.receipts.items) }
-        requires next { HasDoneAll (fresh_pass (vec_len self.old.passes)) worked.receipts.items
-            worked.pass }
-        ensures gathered { HaveWorked 0 self.new.passes.items
+        requires next { HasDoneAll L.site L.names (fresh_pass (vec_len self.old.passes))
+            worked.receipts.items worked.pass }
+        ensures gathered { HaveWorked L.site L.names 0 self.new.passes.items
             (map (λ list. list.items) self.new.receipts.items) }
         ensures count { vec_len self.new.passes ≡ vec_len self.old.passes + 1 }
         ensures receipts { self.new.receipts.items

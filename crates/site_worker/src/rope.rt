@@ -13,7 +13,8 @@ struct Rings {
     over: bool,
 }
 
-/// A rope for a bell. It takes no memory, and who pulls it waits for nobody that hears the bell (this project's own).
+/// A rope for a bell. It takes no memory. Who pulls it or lets it go waits for its lock, and for nobody that hears the bell (this
+/// project's own).
 #[derive(Drop)]
 pub struct Rope {
     rings: Mutex<Rings>,
@@ -47,7 +48,8 @@ impl Rope {
     }
 }
 
-/// The bell upon a rope, for one that hears: each ring is heard once (this project's own).
+/// The bell upon a rope, for one that hears: each ring is heard once. To wait for the next one takes until the rope is pulled or let go
+/// (this project's own).
 #[derive(Drop)]
 pub struct RopeBell<'a> {
     rope: &'a Rope,

@@ -4,9 +4,10 @@ ghost use Rattle.std.specs.Prelude.{◌≡◌, ◌≢◌, ◌↔◌, ◌⊎◌, 
 ghost use Rattle.std.specs.Prelude.{OnOk, Some, [], length, map, slice_get, slice_index_or};
 ghost use Rattle.std.specs.Prelude.{vec_capacity, vec_len};
 ghost use Rattle.site_journal.specs.Journals.{IsOfSite};
+ghost use Rattle.site_worker.specs.Gates.{IsGatedBy};
 ghost use Rattle.site_worker.specs.Promises.{ArePromised};
-ghost use Rattle.site_worker.specs.Runs.{HasAnswered, HasRun};
-ghost use Rattle.site_worker.specs.Working.{AreOfPasses, receipts_in};
+ghost use Rattle.site_worker.specs.Runs.{HasAnswered, HasBegun, HasRun, HavePumped};
+ghost use Rattle.site_worker.specs.Working.{AreLegal, AreOfPasses, receipts_in};
 ghost use Rattle.status_report.specs.declared.asks.Ask.{Ask};
 
 use crate::site::run_new_site;
@@ -25,17 +26,19 @@ use std::thread::{Promise, PromisedHandle, Scope, Threads};
 /// How many sites may run at once.
 pub const MOST_RUN_SITES: usize = 8;
 
-// A site with so many passes comes to its end, with these queues and these asks; or a fault keeps it from that.
+// A site with so many passes comes to its end, with these queues, these asks and this gate; or a fault keeps it from that.
 #[derive(Drop)]
-pub(crate) struct EndOf {
+pub(crate) struct EndOf<G> {
     site: SiteId,
     passes: usize,
     list: Snapshot<QueueList>,
     asks: Snapshot<Vec<Ask>>,
+    gate: Snapshot<G>,
 }
 
-impl<G: Drop> Promise<Result<SiteEnd<G>, RunFault>> for EndOf {
+impl<G: Gate + Drop> Promise<Result<SiteEnd<G>, RunFault>> for EndOf<G> {
     ghost use Rattle.std.specs.Prelude.{◌≢◌, IfErr, IfOk, map};
+    ghost use Rattle.site_worker.specs.Gates.{IsGatedBy};
     ghost use Rattle.site_worker.specs.Runs.{HasRun};
     ghost use Rattle.site_worker.specs.declared.run_fault.RunFault.{RunFault};
 
@@ -43,11 +46,13 @@ impl<G: Drop> Promise<Result<SiteEnd<G>, RunFault>> for EndOf {
         IfOk ended (λ end. HasRun promise.site promise.list.value promise.passes
         promise.asks.value.items end.journal (map (λ list. list.items) end.receipts.items)
         end.fault)
+        × IfOk ended (λ end. IsGatedBy G.called promise.gate.value
+        (map (λ list. list.items) end.receipts.items) end.fault end.gate)
         × IfErr ended (λ fault. fault ≢ RunFault.BadSites) };
 }
 
 // The thread of a site.
-type Site<G> = PromisedHandle<Result<SiteEnd<G>, RunFault>, EndOf>;
+type Site<G> = PromisedHandle<Result<SiteEnd<G>, RunFault>, EndOf<G>>;
 
 // Those of sites, the last of which is that of the first site.
 type Sites<G> = Vec<Site<G>>;
@@ -67,6 +72,7 @@ fn start_site<'s, 'e: 's, R: Threads + Wait + Sync, G: Gate + Send + Drop + 's>(
     ensures passes { IfOk result (λ handle. handle.promise.passes ≡ vec_len links.from + 2) }
     ensures list { IfOk result (λ handle. handle.promise.list.value ≡ list.now) }
     ensures asks { IfOk result (λ handle. handle.promise.asks.value.items ≡ work.asks.items) }
+    ensures gate { IfOk result (λ handle. handle.promise.gate.value ≡ work.gate) }
     ensures fault { IfErr result (λ fault. fault ≢ RunFault.BadSites) }
 {
     let queues = list.copy()?;
@@ -75,12 +81,15 @@ fn start_site<'s, 'e: 's, R: Threads + Wait + Sync, G: Gate + Send + Drop + 's>(
         passes: links.from.len() + 2,
         list: Snapshot::of(list),
         asks: Snapshot::of(&work.asks),
+        gate: Snapshot::of(&work.gate),
     };
     let run = move || -> Result<SiteEnd<G>, RunFault>
         requires { vec_len links.from ≤ 7 }
         ensures end { IfOk result (λ end. HasRun site queues (vec_len links.from + 2)
             work.asks.items end.journal (map (λ list. list.items) end.receipts.items)
             end.fault) }
+        ensures gated { IfOk result (λ end. IsGatedBy G.called work.gate
+            (map (λ list. list.items) end.receipts.items) end.fault end.gate) }
         ensures fault { IfErr result (λ fault. fault ≢ RunFault.BadSites) }
     { run_new_site(rt, alloc, site, queues, work, links) };
     match scope.spawn_with(promise, run) {
@@ -107,7 +116,7 @@ fn start_sites<'s, 'e: 's, R: Threads + Wait + Sync, G: Gate + Send + Drop + 's>
     requires room { vec_len works ≤ vec_capacity sites.old }
     ensures number { OnOk result (vec_len sites.new ≡ vec_len works) }
     ensures promised { OnOk result (ArePromised list.now
-        (map (λ work. work.asks.items) works.items)
+        (map (λ work. work.asks.items) works.items) (map (λ work. work.gate) works.items)
         (map (λ site. site.promise) sites.new.items)) }
     ensures fault { IfErr result (λ fault. fault ≢ RunFault.BadSites) }
 {
@@ -128,7 +137,7 @@ fn start_sites<'s, 'e: 's, R: Threads + Wait + Sync, G: Gate + Send + Drop + 's>
 }
 
 // Lets sites end that run in vain. The first fault in order, of this one and theirs.
-fn end_sites<R: Threads, G: Drop>(rt: &R, sites: Sites<G>, fault: RunFault) -> RunFault
+fn end_sites<R: Threads, G: Gate + Drop>(rt: &R, sites: Sites<G>, fault: RunFault) -> RunFault
     requires { fault ≢ RunFault.BadSites }
     ensures { result ≢ RunFault.BadSites }
 {
@@ -142,7 +151,7 @@ fn end_sites<R: Threads, G: Drop>(rt: &R, sites: Sites<G>, fault: RunFault) -> R
 }
 
 // Joins sites in their order, and puts their ends there.
-fn join_sites<R: Threads, G: Drop>(
+fn join_sites<R: Threads, G: Gate + Drop>(
     rt: &R,
     sites: Sites<G>,
     ends: Vec<SiteEnd<G>>,
@@ -151,11 +160,13 @@ fn join_sites<R: Threads, G: Drop>(
     requires room { vec_len sites ≤ vec_capacity ends }
     ensures number { IfOk result (λ ends. vec_len ends ≡ vec_len sites) }
     ensures ends { IfOk result (λ ends. (names : List (List ℕ)) (asks : List (List Ask))
-        → length asks ≡ vec_len sites
-        → ArePromised names asks (map (λ site. site.promise) sites.items)
+        (gates : List G) → length asks ≡ vec_len sites
+        → ArePromised names asks gates (map (λ site. site.promise) sites.items)
         → (site : ℕ) (end : _) → slice_get ends.items site ≡ Some end
         → HasRun site names (length asks + 1) (slice_index_or asks site []) end.journal
-        (map (λ list. list.items) end.receipts.items) end.fault) }
+        (map (λ list. list.items) end.receipts.items) end.fault
+        × ((gate : G) → slice_get gates site ≡ Some gate → IsGatedBy G.called gate
+        (map (λ list. list.items) end.receipts.items) end.fault end.gate)) }
     ensures fault { IfErr result (λ fault. fault ≢ RunFault.BadSites) }
 {
     let mut sites = sites;
@@ -187,6 +198,10 @@ fn run_all<'s, 'e: 's, R: Threads + Wait + Sync, G: Gate + Send + Drop + 's>(
         → HasRun site list.now (vec_len works + 1)
         (slice_index_or (map (λ work. work.asks.items) works.items) site []) end.journal
         (map (λ list. list.items) end.receipts.items) end.fault) }
+    ensures gates { IfOk result (λ ends. (site : ℕ) (work : _) (end : _)
+        → slice_get works.items site ≡ Some work → slice_get ends.items site ≡ Some end
+        → IsGatedBy G.called work.gate (map (λ list. list.items) end.receipts.items) end.fault
+        end.gate) }
     ensures fault { IfErr result (λ fault. fault ≢ RunFault.BadSites) }
 {
     let ends = Vec::with_capacity(alloc, works.len())?;
@@ -197,7 +212,8 @@ fn run_all<'s, 'e: 's, R: Threads + Wait + Sync, G: Gate + Send + Drop + 's>(
     join_sites(rt, sites, ends)
 }
 
-/// Runs sites at once, one for each work, of the numbers 0, 1 and so on, all of these queues. Each site has threads of its own: one that
+/// Runs sites at once, one for each work, of the numbers 0, 1 and so on, all of these queues, and waits until all have come to their
+/// ends; a gate that doesn't return keeps it from that. Each site has threads of its own: one that
 /// does its asks in their order, with its gate at each, whose turn is the ask's place from 0; one that cuts behind each answered ask and
 /// sends as its plan says; and one for each other site, that takes what comes of it. These have the site's passes 0, 1, and from 2 on by
 /// the others' numbers. A thread that a fault stops gives up the ends of its links, and the bytes of a take that was refused; the others
@@ -212,6 +228,7 @@ pub fn run_sites<R: Threads + Wait + Sync, G: Gate + Send + Drop>(
     ensures number { IfOk result (λ ends. vec_len ends ≡ vec_len works) }
     ensures sites { IfOk result (λ ends. (site : ℕ) (end : _)
         → slice_get ends.items site ≡ Some end → IsOfSite site list.now end.journal) }
+    ensures begun { IfOk result (λ ends. All (λ end. HasBegun end.journal) ends.items) }
     ensures passes { IfOk result (λ ends.
         All (λ end. vec_len end.receipts ≡ vec_len works + 1) ends.items) }
     ensures count { IfOk result (λ ends. All (λ end. end.journal.count
@@ -220,7 +237,16 @@ pub fn run_sites<R: Threads + Wait + Sync, G: Gate + Send + Drop>(
         AreOfPasses 0 (map (λ list. list.items) end.receipts.items)) ends.items) }
     ensures answers { IfOk result (λ ends. (site : ℕ) (work : _) (end : _)
         → slice_get works.items site ≡ Some work → slice_get ends.items site ≡ Some end
-        → HasAnswered work.asks.items (map (λ list. list.items) end.receipts.items) end.fault) }
+        → HasAnswered site list.now work.asks.items
+        (map (λ list. list.items) end.receipts.items) end.fault) }
+    ensures gates { IfOk result (λ ends. (site : ℕ) (work : _) (end : _)
+        → slice_get works.items site ≡ Some work → slice_get ends.items site ≡ Some end
+        → IsGatedBy G.called work.gate (map (λ list. list.items) end.receipts.items) end.fault
+        end.gate) }
+    ensures pumped { IfOk result (λ ends. All (λ end.
+        HavePumped (map (λ list. list.items) end.receipts.items) end.fault) ends.items) }
+    ensures legal { IfOk result (λ ends. (site : ℕ) (end : _) → slice_get ends.items site ≡ Some end
+        → AreLegal site list.now (map (λ list. list.items) end.receipts.items)) }
     ensures bad_sites { (result ≡ Err RunFault.BadSites)
         ↔ ((vec_len works ≡ 0) ⊎ (MOST_RUN_SITES < vec_len works)) }
 {
@@ -242,6 +268,11 @@ pub fn run_sites<R: Threads + Wait + Sync, G: Gate + Send + Drop>(
                 → HasRun site list.entry.now (vec_len works + 1)
                 (slice_index_or (map (λ work. work.asks.items) works.items) site []) end.journal
                 (map (λ list. list.items) end.receipts.items) end.fault) }
+            ensures gates { IfOk result (λ ends. (site : ℕ) (work : _) (end : _)
+                → slice_get works.items site ≡ Some work
+                → slice_get ends.items site ≡ Some end
+                → IsGatedBy G.called work.gate (map (λ list. list.items) end.receipts.items)
+                end.fault end.gate) }
             ensures fault { IfErr result (λ fault. fault ≢ RunFault.BadSites) }
         { run_all(scope, rt, alloc, list, works, links) },
     )

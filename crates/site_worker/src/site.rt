@@ -1,7 +1,10 @@
 //! One site: its desk, and its threads in a scope of their own.
 ghost use Rattle.std.specs.Prelude.{◌≡◌, ◌≢◌, ◌+◌, ◌≤◌, ℕ, IfErr, IfOk, List, map, vec_len};
+ghost use Rattle.replica.specs.Deeds.{IsNew};
 ghost use Rattle.site_desk.specs.Passes.{AreFresh};
 ghost use Rattle.site_journal.specs.Journals.{IsOfSite};
+ghost use Rattle.site_journal.specs.declared.journaled.TheConstants.{MOST_STEPS};
+ghost use Rattle.site_worker.specs.Gates.{IsGatedBy};
 ghost use Rattle.site_worker.specs.Runs.{HasRun, IsGathered};
 ghost use Rattle.site_worker.specs.Working.{HaveWorked};
 ghost use Rattle.status_report.specs.declared.asks.Ask.{Ask};
@@ -40,8 +43,11 @@ fn run_threads<
     links: LinkEnds,
 ) -> Result<(Gathered<L>, G), RunFault>
     requires { AreFresh (vec_len links.from + 2) passes.items }
-    ensures gathered { IfOk result (λ run. IsGathered (vec_len links.from + 2) tasks.entry.asks.now
-        run.0.passes.items (map (λ list. list.items) run.0.receipts.items) run.0.fault) }
+    ensures gathered { IfOk result (λ run. IsGathered L.site L.names (vec_len links.from + 2)
+        tasks.entry.asks.now run.0.passes.items
+        (map (λ list. list.items) run.0.receipts.items) run.0.fault) }
+    ensures gated { IfOk result (λ run. IsGatedBy G.called gate
+        (map (λ list. list.items) run.0.receipts.items) run.0.fault run.1) }
     ensures fault { IfErr result (λ fault. fault ≢ RunFault.BadSites) }
 {
     let LinkEnds { to, from } = links;
@@ -79,8 +85,11 @@ fn run_scoped<L: SiteLedger + Send + Sync, R: Threads + Wait + Sync, G: Gate + S
     links: LinkEnds,
 ) -> Result<(Gathered<L>, G), RunFault>
     requires { AreFresh (vec_len links.from + 2) passes.items }
-    ensures gathered { IfOk result (λ run. IsGathered (vec_len links.from + 2) asks.now
-        run.0.passes.items (map (λ list. list.items) run.0.receipts.items) run.0.fault) }
+    ensures gathered { IfOk result (λ run. IsGathered L.site L.names (vec_len links.from + 2)
+        asks.now run.0.passes.items (map (λ list. list.items) run.0.receipts.items)
+        run.0.fault) }
+    ensures gated { IfOk result (λ run. IsGatedBy G.called gate
+        (map (λ list. list.items) run.0.receipts.items) run.0.fault run.1) }
     ensures fault { IfErr result (λ fault. fault ≢ RunFault.BadSites) }
 {
     let rope = Rope::new();
@@ -90,9 +99,11 @@ fn run_scoped<L: SiteLedger + Send + Sync, R: Threads + Wait + Sync, G: Gate + S
         rt,
         move |scope| -> Result<(Gathered<L>, G), RunFault>
             requires { AreFresh (vec_len links.from + 2) passes.items }
-            ensures gathered { IfOk result (λ run. IsGathered (vec_len links.from + 2)
-                asks.entry.now run.0.passes.items
+            ensures gathered { IfOk result (λ run. IsGathered L.site L.names
+                (vec_len links.from + 2) asks.entry.now run.0.passes.items
                 (map (λ list. list.items) run.0.receipts.items) run.0.fault) }
+            ensures gated { IfOk result (λ run. IsGatedBy G.called gate
+                (map (λ list. list.items) run.0.receipts.items) run.0.fault run.1) }
             ensures fault { IfErr result (λ fault. fault ≢ RunFault.BadSites) }
         {
             let tasks = Tasks { asks, plan, rope };
@@ -103,10 +114,16 @@ fn run_scoped<L: SiteLedger + Send + Sync, R: Threads + Wait + Sync, G: Gate + S
 
 // Closes the desk of a site, all of whose passes have come back.
 fn ended<L: SiteLedger, G: Drop>(desk: SiteDesk<L>, gathered: Gathered<L>, gate: G) -> SiteEnd<G>
-    requires worked { HaveWorked 0 gathered.passes.items
+    requires worked { HaveWorked L.site L.names 0 gathered.passes.items
         (map (λ list. list.items) gathered.receipts.items) }
     requires all { vec_len gathered.passes ≡ desk.passes }
-    ensures { (number : ℕ) (asks : List Ask) → IsGathered number asks gathered.passes.items
+    requires most { L.limit ≡ MOST_STEPS }
+    requires new { IsNew L.base }
+    ensures receipts { result.receipts ≡ gathered.receipts }
+    ensures fault { result.fault ≡ gathered.fault }
+    ensures gate { result.gate ≡ gate }
+    ensures end { (number : ℕ) (asks : List Ask)
+        → IsGathered L.site L.names number asks gathered.passes.items
         (map (λ list. list.items) gathered.receipts.items) gathered.fault
         → HasRun L.site L.names number asks result.journal
         (map (λ list. list.items) result.receipts.items) result.fault }
@@ -142,8 +159,14 @@ fn run_site<L: SiteLedger + Send + Sync, R: Threads + Wait + Sync, G: Gate + Sen
     requires few { vec_len links.from ≤ 7 }
     requires begun { journal.count ≡ 0 }
     requires site { IsOfSite L.site L.names journal }
+    requires limit { journal.limit ≡ L.limit }
+    requires most { L.limit ≡ MOST_STEPS }
+    requires base { journal.base ≡ L.base }
+    requires new { IsNew L.base }
     ensures end { IfOk result (λ end. HasRun L.site L.names (vec_len links.from + 2)
         work.asks.items end.journal (map (λ list. list.items) end.receipts.items) end.fault) }
+    ensures gated { IfOk result (λ end. IsGatedBy G.called work.gate
+        (map (λ list. list.items) end.receipts.items) end.fault end.gate) }
     ensures fault { IfErr result (λ fault. fault ≢ RunFault.BadSites) }
 {
     let SiteWork { asks, plan, gate } = work;
@@ -176,6 +199,8 @@ pub(crate) fn run_new_site<R: Threads + Wait + Sync, G: Gate + Send + Drop>(
     requires few { vec_len links.from ≤ 7 }
     ensures end { IfOk result (λ end. HasRun site list (vec_len links.from + 2) work.asks.items
         end.journal (map (λ list. list.items) end.receipts.items) end.fault) }
+    ensures gated { IfOk result (λ end. IsGatedBy G.called work.gate
+        (map (λ list. list.items) end.receipts.items) end.fault end.gate) }
     ensures fault { IfErr result (λ fault. fault ≢ RunFault.BadSites) }
 {
     let replica = Replica::new(alloc, site, list);

@@ -4,7 +4,8 @@ ghost use Rattle.std.specs.Prelude.{map, slice_index_or, vec_capacity, vec_len};
 ghost use Rattle.site_desk.specs.Passes.{AreFresh, fresh_pass};
 ghost use Rattle.site_desk.specs.Ports.{HasDoneAll};
 ghost use Rattle.site_journal.specs.Settling.{list_of};
-ghost use Rattle.site_worker.specs.Working.{AnswerFront, HaveWorked};
+ghost use Rattle.site_worker.specs.Gates.{IsGated};
+ghost use Rattle.site_worker.specs.Working.{AnswerFront, HaveSent, HaveTaken, HaveWorked};
 
 use crate::asking::{Worked, ask_all};
 use crate::gathering::Gathered;
@@ -15,21 +16,38 @@ use site_journal::Gate;
 use site_links::{LinkReceiver, LinkSender};
 use status_report::Ask;
 use std::alloc::Global;
+use std::snapshot::Snapshot;
 use std::sync::Wait;
 use std::thread::{Promise, PromisedHandle, Scope, Threads};
 
-// The pass of this number comes back with the receipts of its steps.
+// The second pass comes back with the receipts of its steps, which are those of one that sends.
 #[derive(Drop)]
-pub(crate) struct PassOf {
+struct CutsOf;
+
+impl<L: SiteLedger> Promise<Worked<L>> for CutsOf {
+    ghost use Rattle.site_desk.specs.Passes.{fresh_pass};
+    ghost use Rattle.site_desk.specs.Ports.{HasDoneAll};
+    ghost use Rattle.site_worker.specs.Working.{HaveSent};
+
+    ghost kept_by = { λ promise worked.
+        HasDoneAll L.site L.names (fresh_pass 1) worked.receipts.items worked.pass
+        × HaveSent worked.receipts.items worked.fault };
+}
+
+// The pass of this number comes back with the receipts of its steps, which are takes.
+#[derive(Drop)]
+pub(crate) struct TakesOf {
     ordinal: u32,
 }
 
-impl<L: SiteLedger> Promise<Worked<L>> for PassOf {
+impl<L: SiteLedger> Promise<Worked<L>> for TakesOf {
     ghost use Rattle.site_desk.specs.Passes.{fresh_pass};
     ghost use Rattle.site_desk.specs.Ports.{HasDoneAll};
+    ghost use Rattle.site_worker.specs.Working.{HaveTaken};
 
     ghost kept_by = { λ promise worked.
-        HasDoneAll (fresh_pass promise.ordinal) worked.receipts.items worked.pass };
+        HasDoneAll L.site L.names (fresh_pass promise.ordinal) worked.receipts.items worked.pass
+        × HaveTaken worked.receipts.items };
 }
 
 // What the thread that asks gives back.
@@ -39,25 +57,31 @@ pub(crate) struct Asked<L: SiteLedger, G: Drop> {
     pub gate: G,
 }
 
-// The first pass comes back with the receipts of these asks, of all of them unless there was a fault.
-#[derive(Clone, Copy)]
-struct AsksOf<'a>(&'a [Ask]);
+// The first pass comes back with the receipts of these asks, of all of them unless there was a fault; and this gate, called for each.
+#[derive(Drop)]
+struct AsksOf<'a, G> {
+    asks: &'a [Ask],
+    gate: Snapshot<G>,
+}
 
-impl<'a, L: SiteLedger, G: Drop> Promise<Asked<L, G>> for AsksOf<'a> {
+impl<'a, L: SiteLedger, G: Gate + Drop> Promise<Asked<L, G>> for AsksOf<'a, G> {
     ghost use Rattle.std.specs.Prelude.{◌≡◌, None, length};
     ghost use Rattle.site_desk.specs.Passes.{fresh_pass};
     ghost use Rattle.site_desk.specs.Ports.{HasDoneAll};
+    ghost use Rattle.site_worker.specs.Gates.{IsGated};
     ghost use Rattle.site_worker.specs.Working.{AnswerFront};
 
     ghost kept_by = { λ promise asked.
-        HasDoneAll (fresh_pass 0) asked.worked.receipts.items asked.worked.pass
-        × AnswerFront promise.0.now asked.worked.receipts.items
+        HasDoneAll L.site L.names (fresh_pass 0) asked.worked.receipts.items asked.worked.pass
+        × AnswerFront L.site L.names promise.asks.now asked.worked.receipts.items
         × (asked.worked.fault ≡ None
-        → length asked.worked.receipts.items ≡ length promise.0.now) };
+        → length asked.worked.receipts.items ≡ length promise.asks.now)
+        × IsGated G.called promise.gate.value (length asked.worked.receipts.items)
+        asked.worked.fault asked.gate };
 }
 
 // The threads that take, the last of which has the first link.
-pub(crate) type Takers<L> = Vec<PromisedHandle<Worked<L>, PassOf>>;
+pub(crate) type Takers<L> = Vec<PromisedHandle<Worked<L>, TakesOf>>;
 
 // Starts a thread for each link that takes what comes on it, by the last passes, until one can't be started.
 pub(crate) fn start_takers<'s, 'e: 's, L: SiteLedger + Send + Sync, R: Wait + Sync>(
@@ -83,12 +107,14 @@ pub(crate) fn start_takers<'s, 'e: 's, L: SiteLedger + Send + Sync, R: Wait + Sy
         let Some(pass) = passes.pop() else {
             unreachable!();
         };
-        let promise = PassOf {
+        let promise = TakesOf {
             ordinal: pass.ordinal(),
         };
         let take = move || -> Worked<L>
             requires { pass ≡ fresh_pass pass.ordinal }
-            ensures { HasDoneAll (fresh_pass pass.ordinal) result.receipts.items result.pass }
+            ensures done { HasDoneAll L.site L.names (fresh_pass pass.ordinal)
+                result.receipts.items result.pass }
+            ensures took { HaveTaken result.receipts.items }
         { take_all(rt, alloc, desk, pass, link) };
         match scope.spawn_with(promise, take) {
             Ok(taker) => takers.push_reserved(taker),
@@ -113,16 +139,19 @@ pub(crate) fn join_takers<L: SiteLedger, R: Threads>(
 )
     requires ordinals { (k : ℕ) (none : _) → k < vec_len takers
         → (slice_index_or takers.items k none).promise.ordinal + k ≡ vec_len takers + 1 }
-    requires gathered { HaveWorked 0 gathered.old.passes.items
+    requires gathered { HaveWorked L.site L.names 0 gathered.old.passes.items
         (map (λ list. list.items) gathered.old.receipts.items) }
     requires two { vec_len gathered.old.passes ≡ 2 }
     requires room { (vec_len takers + 2 ≤ vec_capacity gathered.old.passes)
         × (vec_len takers + 2 ≤ vec_capacity gathered.old.receipts) }
-    ensures gathered { HaveWorked 0 gathered.new.passes.items
+    ensures gathered { HaveWorked L.site L.names 0 gathered.new.passes.items
         (map (λ list. list.items) gathered.new.receipts.items) }
     ensures number { vec_len gathered.new.passes ≡ vec_len takers + 2 }
-    ensures first { list_of (map (λ list. list.items) gathered.new.receipts.items) 0
-        ≡ list_of (map (λ list. list.items) gathered.old.receipts.items) 0 }
+    ensures early { (pass : ℕ) → pass < 2
+        → list_of (map (λ list. list.items) gathered.new.receipts.items) pass
+        ≡ list_of (map (λ list. list.items) gathered.old.receipts.items) pass }
+    ensures took { (pass : ℕ) → 2 ≤ pass
+        → HaveTaken (list_of (map (λ list. list.items) gathered.new.receipts.items) pass) }
     ensures fault { gathered.new.fault ≡ None → gathered.old.fault ≡ None }
 {
     let mut takers = takers;
@@ -142,10 +171,13 @@ fn ask_with<L: SiteLedger, R: Wait, G: Gate + Drop>(
     rope: &Rope,
 ) -> Asked<L, G>
     requires { pass ≡ fresh_pass 0 }
-    ensures worked { HasDoneAll (fresh_pass 0) result.worked.receipts.items result.worked.pass }
-    ensures answers { AnswerFront asks.now result.worked.receipts.items }
+    ensures worked { HasDoneAll L.site L.names (fresh_pass 0) result.worked.receipts.items
+        result.worked.pass }
+    ensures answers { AnswerFront L.site L.names asks.now result.worked.receipts.items }
     ensures all { result.worked.fault ≡ None
         → length result.worked.receipts.items ≡ length asks.now }
+    ensures gated { IsGated G.called gate (length result.worked.receipts.items)
+        result.worked.fault result.gate }
 {
     let mut gate = gate;
     let worked = ask_all(rt, alloc, desk, pass, asks, &mut gate, rope);
@@ -179,13 +211,17 @@ pub(crate) fn ask_and_send<
     links: Vec<LinkSender>,
 ) -> Result<(Asked<L, G>, Worked<L>), RunFault>
     requires { AreFresh 2 passes.items }
-    ensures asked { IfOk result (λ both.
-        HasDoneAll (fresh_pass 0) both.0.worked.receipts.items both.0.worked.pass) }
+    ensures asked { IfOk result (λ both. HasDoneAll L.site L.names (fresh_pass 0)
+        both.0.worked.receipts.items both.0.worked.pass) }
     ensures answers { IfOk result (λ both.
-        AnswerFront tasks.entry.asks.now both.0.worked.receipts.items) }
+        AnswerFront L.site L.names tasks.entry.asks.now both.0.worked.receipts.items) }
     ensures all { IfOk result (λ both. both.0.worked.fault ≡ None
         → length both.0.worked.receipts.items ≡ length tasks.entry.asks.now) }
-    ensures sent { IfOk result (λ both. HasDoneAll (fresh_pass 1) both.1.receipts.items both.1.pass) }
+    ensures gated { IfOk result (λ both. IsGated G.called gate
+        (length both.0.worked.receipts.items) both.0.worked.fault both.0.gate) }
+    ensures cut { IfOk result (λ both.
+        HasDoneAll L.site L.names (fresh_pass 1) both.1.receipts.items both.1.pass) }
+    ensures sent { IfOk result (λ both. HaveSent both.1.receipts.items both.1.fault) }
     ensures fault { IfErr result (λ fault. fault ≡ RunFault.NoThread) }
 {
     let Tasks { asks, plan, rope } = tasks;
@@ -195,19 +231,27 @@ pub(crate) fn ask_and_send<
     };
     let send = move || -> Worked<L>
         requires { second ≡ fresh_pass 1 }
-        ensures { HasDoneAll (fresh_pass 1) result.receipts.items result.pass }
+        ensures done { HasDoneAll L.site L.names (fresh_pass 1) result.receipts.items result.pass }
+        ensures sent { HaveSent result.receipts.items result.fault }
     { send_all(rt, alloc, desk, second, links, plan, rope) };
-    let Ok(sender) = scope.spawn_with(PassOf { ordinal: 1 }, send) else {
+    let Ok(sender) = scope.spawn_with(CutsOf, send) else {
         return Err(RunFault::NoThread);
+    };
+    let promise = AsksOf {
+        asks,
+        gate: Snapshot::of(&gate),
     };
     let ask = move || -> Asked<L, G>
         requires { first ≡ fresh_pass 0 }
-        ensures worked { HasDoneAll (fresh_pass 0) result.worked.receipts.items result.worked.pass }
-        ensures answers { AnswerFront asks.entry.now result.worked.receipts.items }
+        ensures worked { HasDoneAll L.site L.names (fresh_pass 0) result.worked.receipts.items
+            result.worked.pass }
+        ensures answers { AnswerFront L.site L.names asks.entry.now result.worked.receipts.items }
         ensures all { result.worked.fault ≡ None
             → length result.worked.receipts.items ≡ length asks.entry.now }
+        ensures gated { IsGated G.called gate (length result.worked.receipts.items)
+            result.worked.fault result.gate }
     { ask_with(rt, alloc, desk, first, asks, gate, rope) };
-    match scope.spawn_with(AsksOf(asks), ask) {
+    match scope.spawn_with(promise, ask) {
         Ok(asker) => {
             let asked = asker.join(rt);
             let sent = sender.join(rt);

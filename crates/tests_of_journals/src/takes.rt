@@ -155,6 +155,8 @@ fn assert_desk_refuses<L: SiteLedger, R: Abort + Wait>(
     requires one { blank.parts ≡ 1 }
     requires begun { journal.count ≡ 0 }
     requires site { IsOfSite L.site L.names journal }
+    requires limit { journal.limit ≡ L.limit }
+    requires base { journal.base ≡ L.base }
 {
     let Ok((desk, mut passes)) = SiteDesk::<L>::new(alloc, blank, journal, 1) else {
         rt.panic("memory");

@@ -54,6 +54,8 @@ fn desk_of_two<L: SiteLedger>(
     requires two { blank.parts ≡ 2 }
     requires begun { journal.count ≡ 0 }
     requires site { IsOfSite L.site L.names journal }
+    requires limit { journal.limit ≡ L.limit }
+    requires base { journal.base ≡ L.base }
 {
     let Ok((desk, mut passes)) = SiteDesk::new(alloc, blank, journal, 2) else {
         rt.panic("memory");
@@ -84,6 +86,8 @@ fn assert_closes<L: SiteLedger>(rt: &impl Abort, alloc: Global, blank: Blank, jo
     requires two { blank.parts ≡ 2 }
     requires begun { journal.count ≡ 0 }
     requires site { IsOfSite L.site L.names journal }
+    requires limit { journal.limit ≡ L.limit }
+    requires base { journal.base ≡ L.base }
 {
     let (desk, first, second) = desk_of_two::<L>(rt, alloc, blank, journal);
     assert!(rt; first.ordinal() == 0 && second.ordinal() == 1 && second.seen() == 0);
@@ -127,6 +131,8 @@ fn assert_fills<L: SiteLedger, R: Abort + Wait>(
     requires two { blank.parts ≡ 2 }
     requires begun { journal.count ≡ 0 }
     requires site { IsOfSite L.site L.names journal }
+    requires limit { journal.limit ≡ L.limit }
+    requires base { journal.base ≡ L.base }
 {
     let (desk, mut first, mut second) = desk_of_two::<L>(rt, alloc, blank, journal);
     let mut one = Vec::new(alloc);
@@ -213,6 +219,8 @@ fn assert_adds<L: SiteLedger + Send + Sync, R: Abort + Threads + Wait + Sync>(
     requires two { blank.parts ≡ 2 }
     requires begun { journal.count ≡ 0 }
     requires site { IsOfSite L.site L.names journal }
+    requires limit { journal.limit ≡ L.limit }
+    requires base { journal.base ≡ L.base }
 {
     let (desk, mut first, mut second) = desk_of_two::<L>(rt, alloc, blank, journal);
     let (lent, one, other) = (&desk, &mut first, &mut second);
@@ -311,6 +319,8 @@ fn assert_excludes<L: SiteLedger + Send + Sync, R: Abort + Threads + Wait + Sync
     requires two { blank.parts ≡ 2 }
     requires begun { journal.count ≡ 0 }
     requires site { IsOfSite L.site L.names journal }
+    requires limit { journal.limit ≡ L.limit }
+    requires base { journal.base ≡ L.base }
 {
     let (desk, mut first, mut second) = desk_of_two::<L>(rt, alloc, blank, journal);
     let (called, done) = (AtomicBool::new(false), AtomicBool::new(false));
@@ -343,6 +353,8 @@ fn assert_ports<L: SiteLedger, R: Abort + Wait>(
     requires two { blank.parts ≡ 2 }
     requires begun { journal.count ≡ 0 }
     requires site { IsOfSite L.site L.names journal }
+    requires limit { journal.limit ≡ L.limit }
+    requires base { journal.base ≡ L.base }
 {
     let (desk, mut first, second) = desk_of_two::<L>(rt, alloc, blank, journal);
     let mut port = DeskPort::new(&desk, &mut first);
@@ -376,7 +388,7 @@ fn taken_by<L: SiteLedger, R: Wait>(
 ) -> PumpedIn
     ensures ordinal { pass.new.ordinal ≡ pass.old.ordinal }
     ensures share { pass.new.share ≡ pass.old.share + vec_len result.receipts }
-    ensures done { HasDoneAll pass.old result.receipts.items pass.new }
+    ensures done { HasDoneAll L.site L.names pass.old result.receipts.items pass.new }
 {
     let mut port = DeskPort::new(desk, pass);
     pump_in(rt, alloc, &mut port, link)
@@ -394,6 +406,8 @@ fn assert_pumps<L: SiteLedger, R: Abort + Wait>(
     requires two { blank.parts ≡ 2 }
     requires begun { journal.count ≡ 0 }
     requires site { IsOfSite L.site L.names journal }
+    requires limit { journal.limit ≡ L.limit }
+    requires base { journal.base ≡ L.base }
 {
     let (desk, mut first, mut second) = desk_of_two::<L>(rt, alloc, blank, journal);
     let (mut sender, mut receiver) = pair(alloc, 2).expect(rt, "memory");

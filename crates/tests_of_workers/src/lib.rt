@@ -2,6 +2,8 @@
 #![tactic(auto)]
 
 #[cfg(test)]
+mod asks;
+#[cfg(test)]
 mod desks;
 #[cfg(test)]
 mod links;
@@ -9,3 +11,5 @@ mod links;
 mod pumps;
 #[cfg(test)]
 mod runs;
+#[cfg(test)]
+mod schedules;

@@ -1,9 +1,9 @@
-use Rattle.std.proofs.Common.{rules, arith, ◌≡◌, ◌+◌, ◌∙◌, [], ap, map, refl}
+use Rattle.std.proofs.Common.{rules, arith, ◌≡◌, ◌+◌, ◌∙◌, [], ap, inl, inr, map, refl, true}
 use Rattle.std.proofs.lemmas.Result.{err_from_is_err_and, on_ok_weaker, on_err_weaker}
 use Rattle.site_journal.specs.declared.receipt.Receipt.{Receipt}
 use Rattle.site_pumps.proofs.Carrying.{on_err}
-use Rattle.site_pumps.proofs.PortRuns.{if_fault, run_none}
-use Rattle.site_pumps.proofs.Receipts.{cuts_more, cuts_whole}
+use Rattle.site_pumps.proofs.PortRuns.{either_way, if_fault, run_none}
+use Rattle.site_pumps.proofs.Receipts.{cuts_more, cuts_perhaps, cuts_whole, whole_perhaps}
 use Rattle.site_pumps.proofs.UnderWay.{at_start_of}
 use Rattle.site_pumps.proofs.outward.drive.Goals as goal
 use Rattle.site_pumps.proofs.outward.drive.Goals.{in-None, in-Some+then-not-wait}
@@ -44,6 +44,36 @@ pub returns-clause-receipts : goal.returns-clause-receipts
 returns-clause-receipts g c = let was = c.loop.invariant in let cut = c.in_ok-cut-2.ensures in
     let same : g.B.Bell.rings c.match-next.bell ≡ g.B.Bell.rings c.loop.bell = elim c.match-next.branch [ in-None w ↦ ap g.B.Bell.rings w.bell-is | in-Some+then-not-wait w ↦ ap g.B.Bell.rings w.bell-is ∙ w.if-not-wait.ensures.rings ] in
     on_ok_weaker c.finish.result (λ r. (was.cuts.0, same ∙ was.cuts.1, cuts_whole _ _ _ r.0 r.2 r.1 (cuts_more _ _ _ cut.receipt.0 cut.receipt.2 cut.receipt.1 was.cuts.2))) c.finish.ensures.receipt
+
+pub returns-in_err-cut-clause-cuts : goal.returns-in_err-cut-clause-cuts
+returns-in_err-cut-clause-cuts g c = let was = c.loop.invariant in
+    (was.cuts.0 + 1, omega (arith, c.if-not-wait.ensures.rings, was.cuts.1), cuts_perhaps was.cuts.0 (was.cuts.0 + 1) _ _ (omega arith) (omega arith) c.in_err-cut.ensures.perhaps was.cuts.2)
+
+pub returns-in_err-cut-2-clause-cuts : goal.returns-in_err-cut-2-clause-cuts
+returns-in_err-cut-2-clause-cuts g c = let was = c.loop.invariant in
+    let same : g.B.Bell.rings c.match-next.bell ≡ g.B.Bell.rings c.loop.bell = elim c.match-next.branch [ in-None w ↦ ap g.B.Bell.rings w.bell-is | in-Some+then-not-wait w ↦ ap g.B.Bell.rings w.bell-is ∙ w.if-not-wait.ensures.rings ] in
+    (was.cuts.0, same ∙ was.cuts.1, cuts_perhaps was.cuts.0 was.cuts.0 _ _ (omega arith) (omega arith) c.in_err-cut-2.ensures.perhaps was.cuts.2)
+
+pub returns-clause-cuts : goal.returns-clause-cuts
+returns-clause-cuts g c = let was = c.loop.invariant in let cut = c.in_ok-cut-2.ensures in
+    let same : g.B.Bell.rings c.match-next.bell ≡ g.B.Bell.rings c.loop.bell = elim c.match-next.branch [ in-None w ↦ ap g.B.Bell.rings w.bell-is | in-Some+then-not-wait w ↦ ap g.B.Bell.rings w.bell-is ∙ w.if-not-wait.ensures.rings ] in
+    let cuts = cuts_more _ _ _ cut.receipt.0 cut.receipt.2 cut.receipt.1 was.cuts.2 in (
+      was.cuts.0,
+      same ∙ was.cuts.1,
+      either_way c.finish.result c.finish.ensures.receipt c.finish.ensures.perhaps (λ r. (was.cuts.0 + 1, omega arith, omega arith, inr (cuts_whole _ _ _ r.0 r.2 r.1 cuts))) (λ r. whole_perhaps was.cuts.0 _ _ r cuts),
+    )
+
+pub returns-in_err-cut-clause-stopped : goal.returns-in_err-cut-clause-stopped
+returns-in_err-cut-clause-stopped g c = let p = err_from_is_err_and c.from_residual.result c.from_residual.ensures.1 in
+    rw (p.1, p.2) (λ told. inl (c.in_err-cut.ensures.stopped told _ c.loop.invariant.under_way).carried)
+
+pub returns-in_err-cut-2-clause-stopped : goal.returns-in_err-cut-2-clause-stopped
+returns-in_err-cut-2-clause-stopped g c = let p = err_from_is_err_and c.from_residual-in_err-cut-2.result c.from_residual-in_err-cut-2.ensures.1 in
+    rw (p.1, p.2) (λ told. inl (c.in_err-cut-2.ensures.stopped told _ c.loop.invariant.under_way).carried)
+
+pub returns-clause-stopped : goal.returns-clause-stopped
+returns-clause-stopped g c = let finished : g.B.Bell.ended c.match-next.bell ≡ true = search rules in
+    if_fault c.finish.result _ _ (λ cause f told. inr (finished, f told _ _ (c.in_ok-cut-2.ensures.ok _ c.loop.invariant.under_way))) c.finish.ensures.stopped
 
 pub returns-in_err-cut-clause-work : goal.returns-in_err-cut-clause-work
 returns-in_err-cut-clause-work g c = let p = err_from_is_err_and c.from_residual.result c.from_residual.ensures.1 in rw (p.1, p.2) (c.in_err-cut.ensures.work _ c.loop.invariant.run)

@@ -1,5 +1,5 @@
 use Rattle.std.specs.List.{All}
-use Rattle.std.specs.Prelude.{ℕ, ◌≡◌, ◌+◌, ◌<◌, ◌≤◌, [], map, slice_index_or, vec_capacity, vec_len}
+use Rattle.std.specs.Prelude.{ℕ, ◌≡◌, ◌+◌, ◌<◌, ◌≤◌, [], map, slice_get, slice_index_or, vec_capacity, vec_len}
 use Rattle.site_worker.specs.Promises.{ArePromised}
 use Rattle.site_worker.proofs.running.start_sites.Given as goal
 
@@ -11,7 +11,8 @@ invariant-loop-work g l = ((site : ℕ) → site < vec_len l.works → slice_ind
     × (vec_len l.to ≡ vec_len l.works)
     × (vec_len l.from ≡ vec_len l.works)
     × All (λ from. vec_len from + 1 ≡ vec_len l.fn.works) l.from.items
-    × ArePromised l.list (map (λ work. work.asks.items) l.fn.works.items) (map (λ site. site.promise) l.sites.items)
+    × ArePromised l.list (map (λ work. work.asks.items) l.fn.works.items) (map (λ work. work.gate) l.fn.works.items) (map (λ site. site.promise) l.sites.items)
+    × ((site : ℕ) → site < vec_len l.works → slice_get (map (λ work. work.gate) l.works.items) site ≡ slice_get (map (λ work. work.gate) l.fn.works.items) site)
 
 abbrev pub decreases-loop-work : goal.decreases-loop-work
 decreases-loop-work g l = vec_len l.works

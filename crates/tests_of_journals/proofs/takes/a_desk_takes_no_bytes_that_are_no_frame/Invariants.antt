@@ -4,4 +4,4 @@ abbrev pub ghosts-assert_desk_refuses-L-Ledger : goal.ghosts-assert_desk_refuses
 ghosts-assert_desk_refuses-L-Ledger g a = record { name = a.blank.name; parts = a.blank.parts }
 
 abbrev pub ghosts-assert_desk_refuses-L-SiteLedger : goal.ghosts-assert_desk_refuses-L-SiteLedger
-ghosts-assert_desk_refuses-L-SiteLedger g a = record { site = a.journal.base.site; names = a.journal.base.names }
+ghosts-assert_desk_refuses-L-SiteLedger g a = record { site = a.journal.base.site; names = a.journal.base.names; limit = a.journal.limit; base = a.journal.base }

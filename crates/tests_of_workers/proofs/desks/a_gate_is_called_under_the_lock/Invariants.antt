@@ -4,4 +4,4 @@ abbrev pub ghosts-assert_excludes-L-Ledger : goal.ghosts-assert_excludes-L-Ledge
 ghosts-assert_excludes-L-Ledger g a = record { name = a.blank.name; parts = a.blank.parts }
 
 abbrev pub ghosts-assert_excludes-L-SiteLedger : goal.ghosts-assert_excludes-L-SiteLedger
-ghosts-assert_excludes-L-SiteLedger g a = record { site = a.journal.base.site; names = a.journal.base.names }
+ghosts-assert_excludes-L-SiteLedger g a = record { site = a.journal.base.site; names = a.journal.base.names; limit = a.journal.limit; base = a.journal.base }

@@ -1,10 +1,10 @@
-use Rattle.std.proofs.Common.{◌∙◌, Global, Vec, ap, refl, subst, sym}
+use Rattle.std.proofs.Common.{◌∙◌, ◌++◌, ◌∷◌, [], Global, Vec, ap, inl, inr, refl, subst, sym}
 use Rattle.std.proofs.lemmas.Result.{err_from_is_err_and}
 use Rattle.site_journal.specs.declared.receipt.Receipt.{Receipt}
 use Rattle.site_pumps.proofs.Carrying.{on_err}
-use Rattle.site_pumps.proofs.PortRuns.{if_memory, run_more, run_same, whatever, work_refused, work_stopped}
+use Rattle.site_pumps.proofs.PortRuns.{each_fault, if_memory, run_more, run_same, whatever, work_refused, work_stopped}
 use Rattle.site_pumps.proofs.UnderWay.{stopped}
-use Rattle.site_pumps.specs.Outgoing.{IsFrontOf}
+use Rattle.site_pumps.specs.Outgoing.{IsFrontOf, IsUnderWay}
 use Rattle.site_pumps.proofs.outgoing.Outgoing.cut.Goals as goal
 
 pub returns-then-is_err-clause-err : goal.returns-then-is_err-clause-err
@@ -25,3 +25,29 @@ returns-clause-run g c = whatever c.treat-treated.result (λ start run. run_more
 pub returns-clause-work : goal.returns-clause-work
 returns-clause-work g c = if_memory c.treat-treated.result _ c.treat-treated.ensures.memory (λ cause memory start run.
     work_stopped g.P.Port.makes g.P.Port.refuses start _ _ _ memory (run_more g.P.Port.makes start _ _ _ _ _ c.in_ok-receipt.receipt c.push_reserved.ensures.items (ap (λ (v : Vec Receipt Global). v.items) c.treat-treated.ensures.receipts ∙ c.reserve.ensures.items) run c.in_ok-receipt.ensures.made))
+
+pub returns-then-is_err-clause-stopped : goal.returns-then-is_err-clause-stopped
+returns-then-is_err-clause-stopped g c = λ told start w. subst (λ l. IsUnderWay c.args.plan.now l c.args.self.now.used c.args.self.now.held.items start c.args.links.now) (sym c.reserve.ensures.items) w
+
+pub returns-in_err-receipt-clause-stopped : goal.returns-in_err-receipt-clause-stopped
+returns-in_err-receipt-clause-stopped g c = let p = err_from_is_err_and c.from_residual.result c.from_residual.ensures.1 in
+    rw (p.1, p.2) (λ told start w. subst (λ l. IsUnderWay c.args.plan.now l c.args.self.now.used c.args.self.now.held.items start c.args.links.now) (sym c.reserve.ensures.items) w)
+
+pub returns-clause-stopped : goal.returns-clause-stopped
+returns-clause-stopped g c = each_fault c.treat-treated.result _ (λ cause told. absurd (cc (told, c.in_ok-receipt.ensures.well)))
+
+pub returns-then-is_err-clause-perhaps : goal.returns-then-is_err-clause-perhaps
+returns-then-is_err-clause-perhaps g c = inl c.reserve.ensures.items
+
+pub returns-in_err-receipt-clause-perhaps : goal.returns-in_err-receipt-clause-perhaps
+returns-in_err-receipt-clause-perhaps g c = on_err c.from_residual.result (inl c.reserve.ensures.items)
+
+pub returns-clause-perhaps : goal.returns-clause-perhaps
+returns-clause-perhaps g c = on_err c.treat-treated.result (inr (
+  c.in_ok-receipt.receipt,
+  c.in_ok-receipt.ensures.deed,
+  c.push_reserved.ensures.items ∙ ap (λ l. l ++ c.in_ok-receipt.receipt ∷ []) (ap (λ (v : Vec Receipt Global). v.items) c.treat-treated.ensures.receipts ∙ c.reserve.ensures.items),
+))
+
+pub returns-clause-well : goal.returns-clause-well
+returns-clause-well g c = whatever c.treat-treated.result c.in_ok-receipt.ensures.well

@@ -1,4 +1,4 @@
-use Rattle.std.proofs.Common.{refl, subst, sym, ap, ◌∙◌, ◌++◌, ◌∷◌, []}
+use Rattle.std.proofs.Common.{refl, subst, sym, ap, inl, inr, ◌∙◌, ◌++◌, ◌∷◌, []}
 use Rattle.std.proofs.lemmas.Result.{err_from_is_err_and}
 use Rattle.site_pumps.specs.Carried.{Begins, Carries, EachLink}
 use Rattle.site_pumps.specs.Deeds.{cut_frames, whole_frames}
@@ -6,7 +6,7 @@ use Rattle.site_pumps.specs.Outgoing.{IsFrontOf}
 use Rattle.site_pumps.specs.Plans.{planned}
 use Rattle.site_pumps.proofs.Carrying.{on_err, each_fewer}
 use Rattle.site_pumps.proofs.PortRuns.{run_more, run_same, work_refused, work_stopped}
-use Rattle.site_pumps.proofs.UnderWay.{stopped, broken_at_held, broken_at_end, ended}
+use Rattle.site_pumps.proofs.UnderWay.{stopped, broken_at_held, broken_at_end, ended, refused_at_end}
 use Rattle.site_pumps.proofs.outgoing.Outgoing.finish.Goals as goal
 
 pub returns-then-is_err-clause-err : goal.returns-then-is_err-clause-err
@@ -44,3 +44,28 @@ returns-in-Ok-clause-run g c = λ start run. run_more g.P.Port.makes start _ _ _
 
 pub returns-in-Err-clause-work : goal.returns-in-Err-clause-work
 returns-in-Err-clause-work g c = λ start run. work_stopped g.P.Port.makes g.P.Port.refuses start _ _ _ refl (run_more g.P.Port.makes start _ _ _ _ _ c.in_ok-receipt.receipt c.push_reserved.ensures.items c.reserve.ensures.items run c.in_ok-receipt.ensures.made)
+
+pub returns-then-is_err-clause-stopped : goal.returns-then-is_err-clause-stopped
+returns-then-is_err-clause-stopped g c = λ told. absurd (cc (told, c.requires.well))
+
+pub returns-in_err-send_each-clause-stopped : goal.returns-in_err-send_each-clause-stopped
+returns-in_err-send_each-clause-stopped g c = let p = err_from_is_err_and c.from_residual.result c.from_residual.ensures.1 in rw (p.1, p.2) (λ told. absurd (cc (told, c.requires.well)))
+
+pub returns-in_err-receipt-clause-stopped : goal.returns-in_err-receipt-clause-stopped
+returns-in_err-receipt-clause-stopped g c = let p = err_from_is_err_and c.from_residual-in_err-receipt.result c.from_residual-in_err-receipt.ensures.1 in
+    rw (p.1, p.2) (λ told start plan w. refused_at_end plan _ _ _ _ start _ _ c.reserve.ensures.items w (subst (λ l. EachLink (Carries l) c.args.links.now c.send_each.new.links) c.as_slice.ensures.value c.in_ok-send_each.ensures.ok))
+
+pub returns-in-Err-clause-stopped : goal.returns-in-Err-clause-stopped
+returns-in-Err-clause-stopped g c = λ told. absurd (cc (told, c.in_ok-receipt.ensures.well))
+
+pub returns-then-is_err-clause-perhaps : goal.returns-then-is_err-clause-perhaps
+returns-then-is_err-clause-perhaps g c = inl c.reserve.ensures.items
+
+pub returns-in_err-send_each-clause-perhaps : goal.returns-in_err-send_each-clause-perhaps
+returns-in_err-send_each-clause-perhaps g c = on_err c.from_residual.result (inl c.reserve.ensures.items)
+
+pub returns-in_err-receipt-clause-perhaps : goal.returns-in_err-receipt-clause-perhaps
+returns-in_err-receipt-clause-perhaps g c = on_err c.from_residual-in_err-receipt.result (inl c.reserve.ensures.items)
+
+pub returns-in-Err-clause-perhaps : goal.returns-in-Err-clause-perhaps
+returns-in-Err-clause-perhaps g c = inr (c.in_ok-receipt.receipt, c.in_ok-receipt.ensures.deed, c.push_reserved.ensures.items ∙ ap (λ l. l ++ c.in_ok-receipt.receipt ∷ []) c.reserve.ensures.items)
