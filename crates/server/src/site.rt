@@ -136,6 +136,8 @@ fn run_site<L: SiteLedger + Send + Sync, R: Threads + Wait + Clock + Eprint + Sy
     requires few { vec_len links.from ≤ 7 }
     requires begun { journal.count ≡ 0 }
     requires site { IsOfSite L.site L.names journal }
+    requires limit { journal.limit ≡ L.limit }
+    requires base { journal.base ≡ L.base }
     ensures { IfOk result (λ journal. IsOfSite L.site L.names journal) }
 {
     let number = links.from.len() as u32 + 5;

@@ -49,6 +49,8 @@ fn desk_of_one<L: SiteLedger>(
     requires one { blank.parts ≡ 1 }
     requires begun { journal.count ≡ 0 }
     requires site { IsOfSite L.site L.names journal }
+    requires limit { journal.limit ≡ L.limit }
+    requires base { journal.base ≡ L.base }
 {
     let Ok((desk, mut passes)) = SiteDesk::new(alloc, blank, journal, 1) else {
         rt.panic("memory");
@@ -82,6 +84,8 @@ fn assert_answers<L: SiteLedger, R: Abort + Wait>(
     requires one { blank.parts ≡ 1 }
     requires begun { journal.count ≡ 0 }
     requires site { IsOfSite L.site L.names journal }
+    requires limit { journal.limit ≡ L.limit }
+    requires base { journal.base ≡ L.base }
 {
     let (desk, pass) = desk_of_one::<L>(rt, alloc, blank, journal);
     let mut asked = PassDesk::new(&desk, pass);
@@ -115,6 +119,8 @@ fn dropped_above<L: SiteLedger, R: Abort + Wait>(
     requires one { blank.parts ≡ 1 }
     requires begun { journal.count ≡ 0 }
     requires site { IsOfSite L.site L.names journal }
+    requires limit { journal.limit ≡ L.limit }
+    requires base { journal.base ≡ L.base }
 {
     let (desk, mut pass) = desk_of_one::<L>(rt, alloc, blank, journal);
     assert!(rt; desk.call(rt, &mut pass, &status(alloc)).is_ok());
