@@ -1,5 +1,5 @@
 """Runs the programs on as much as they may hold: scripts of sites with as many members, runs and totals as there may be, frames with
-as many parts, and a long script with little memory."""
+as many parts, a session with as many members, and a long script with little memory."""
 import resource
 import subprocess
 import sys
@@ -13,6 +13,7 @@ MOST_RUNS = 65_536
 MOST_TOTALS = 16_384
 ONE_GIBIBYTE = 1 << 30
 FRAMES = f"{folder('frame_cases')}/out/frame_cases"
+SESSIONS = f"{folder('session_cases')}/out/session_cases"
 
 
 def reply(response, message):
@@ -153,6 +154,20 @@ def frames_past_the_limits():
     return f"frames of {MOST_MEMBERS:,} cells, {MOST_RUNS:,} runs and {MOST_TOTALS:,} totals, and of one more each"
 
 
+def session_of_all_members():
+    """A session adds as many members as there may be, and gets the report of them whole."""
+    interfaces = [f"SIP/{it}" for it in range(MOST_MEMBERS)]
+    asked = [f"Action: QueueAdd\r\nQueue: sales\r\nInterface: {it}\r\n\r\n" for it in interfaces]
+    asked += ["Action: QueueStatus\r\n\r\n", "Action: Logoff\r\n\r\n"]
+    replies = [ADDED] * MOST_MEMBERS + [report(interfaces), reply("Goodbye", "Thanks for all the fish.")]
+    wanted = "".join(["Queue Sites Call Manager/1.0.0\r\n", *replies]).encode()
+    ran = run(SESSIONS, ["1024", "", "", "sales"], "".join(asked).encode())
+    if ran.stdout != wanted or ran.returncode:
+        why = first_difference(wanted, ran.stdout) if ran.stdout != wanted else f"the status is {ran.returncode}"
+        raise Failed(f"in the session of all members {why}")
+    return f"a session that shows {MOST_MEMBERS:,} members"
+
+
 def changes_with_little_memory():
     """Thousands of changes, each sent to another site, fit in a gibibyte of addresses: no step takes more room than it needs."""
     lines = [
@@ -174,6 +189,7 @@ TESTS = {
         changes_with_little_memory,
     ],
     "frame_cases": [frames_past_the_limits],
+    "session_cases": [session_of_all_members],
 }
 
 

@@ -59,7 +59,8 @@ impl Model for Session {
 }
 
 impl Session {
-    /// A session that isn't logged in, for this user and secret. It greets with `Queue Sites Call Manager/1.0.0`.
+    /// A session that isn't logged in, for this user and secret; nobody can send one that is no login word
+    /// (`is_login_word`). It greets with `Queue Sites Call Manager/1.0.0`.
     pub fn new(user: Text80, secret: Text80) -> Session
         ensures { result ≡ record {
           greeting = own_greeting;

@@ -1,12 +1,13 @@
 //! How the values of fields are read.
-ghost use Rattle.std.specs.Prelude.{◌≡◌, ◌<◌, ◌^◌, length, true, unwrap_or};
+ghost use Rattle.std.specs.Prelude.{◌≡◌, ◌≢◌, ◌↔◌, ◌<◌, ◌^◌, [], length, true, unwrap_or, IsTrue};
 ghost use Rattle.std.specs.Option.{SomeIff};
 ghost use Rattle.std.specs.List.{list_all, list_any};
 ghost use Rattle.std.specs.Char.{is_ascii_digit};
+ghost use Rattle.ami_text.specs.MessageFields.{trim_of};
 ghost use Rattle.ami_session.specs.FieldValues.{is_word, is_yes, is_bad_in_id, clean_id, id_of};
 ghost use Rattle.ami_session.specs.FieldValues.{text_of, name_of, penalty_of, number_of};
 
-use ami_text::Message;
+use ami_text::{Message, trimmed};
 use dots::{Interface, Penalty, QueueName, Text80};
 
 /// Whether a text is this word, without ASCII case.
@@ -52,6 +53,15 @@ pub fn text_of(value: &[u8]) -> Option<Text80>
     ensures { result ≡ text_of value.now }
 {
     Text80::new(value).ok()
+}
+
+/// Whether a client can send this user or secret: a field's value is read without the spaces and tabs
+/// at its ends, and one that is empty counts as absent (this project's own). With another word nobody
+/// can log in; but where it is empty, whoever sends none can.
+pub fn is_login_word(word: &Text80) -> bool
+    ensures { IsTrue result ↔ ((word.now ≢ []) × (trim_of word.now ≡ word.now)) }
+{
+    !word.is_empty() && trimmed(word.as_bytes()) == word.as_bytes()
 }
 
 /// The interface of a value, where it is one.

@@ -31,6 +31,7 @@ mod writing;
 pub use failed::Failed;
 pub use feed::Feed;
 pub use feed_fault::FeedFault;
+pub use line::trimmed;
 pub use memory_sink::MemorySink;
 pub use memory_source::MemorySource;
 pub use message::Message;

@@ -57,7 +57,8 @@ pub fn trimmed_end(bytes: &[u8]) -> &[u8]
     rest
 }
 
-/// The bytes without spaces and tabs at both ends.
+/// The bytes without spaces and tabs at both ends, as a field's name and its value are read (this
+/// project's own).
 pub fn trimmed(bytes: &[u8]) -> &[u8]
     ensures { result.now ≡ trim_of bytes.now }
 {

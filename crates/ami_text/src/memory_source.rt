@@ -1,5 +1,5 @@
-ghost use Rattle.std.specs.Prelude.{◌≡◌, ◌<◌, ◌≤◌, ◌==◌, ◌↔◌, min, [], ◌++◌, true, false, Some};
-ghost use Rattle.std.specs.Prelude.{None, length, take, IsErr, IfOk, OnOk, OnErr};
+ghost use Rattle.std.specs.Prelude.{◌≡◌, ◌<◌, ◌≤◌, ◌==◌, ◌↔◌, ◌+◌, min, [], ◌++◌, true, false, Some};
+ghost use Rattle.std.specs.Prelude.{None, length, take, unwrap_or, IsErr, IfOk, OnOk, OnErr};
 ghost use Rattle.ami_text.specs.Devices.{one_less};
 
 use crate::calls_left::count_down;
@@ -75,6 +75,8 @@ impl<'a> Source for MemorySource<'a> {
 
     ghost failed = { λ s. s.failed };
 
+    ghost reads_left = { λ s. unwrap_or s.reads_left 0 };
+
     /// Gives the next bytes: as many as are left and the piece has room for, up to the most of one
     /// read.
     ///
@@ -91,6 +93,7 @@ impl<'a> Source for MemorySource<'a> {
         ensures fails { OnErr result (self.new.failed ≡ true) }
         ensures err_bytes { OnErr result (self.new.left ≡ self.old.left) }
         ensures err_end { OnErr result (self.new.ended ≡ self.old.ended) }
+        ensures counted { unwrap_or self.old.reads_left 0 ≤ unwrap_or self.new.reads_left 0 + 1 }
 
         // It gives as much as one read may give, until the read that is to fail.
         ensures most { IfOk result (λ n.

@@ -5,14 +5,17 @@ ghost use Rattle.ami_text.specs.StdDevices.{sink_writer, sink_failed};
 use crate::{Failed, Sink};
 use std::io::{ErrorKind, Write};
 
-/// How often one write that is interrupted is tried before the device counts as failed.
+/// How often one write or flush that is interrupted is tried before the device counts as failed.
 pub const WRITE_TRIES: u32 = 1000;
 
 /// A sink over a writer of std's. The bytes that it has taken are those that the writer holds, where
-/// the writer tells them, so with what it held before.
+/// the writer tells them, so with what it held before. Each write is flushed, so that a writer which
+/// holds bytes back, as a `BufWriter`, sends them on at once.
 #[derive(Drop)]
 pub struct StdSink<W> {
     writer: W,
+    // The last flush failed, and the next write does.
+    is_stuck: bool,
     failed: bool,
 }
 
@@ -24,6 +27,7 @@ impl<W> StdSink<W> {
     {
         StdSink {
             writer,
+            is_stuck: false,
             failed: false,
         }
     }
@@ -41,10 +45,11 @@ impl<W: Write> Sink for StdSink<W> {
 
     ghost failed = { λ s. sink_failed s };
 
-    /// Writes once to the writer. A write that is interrupted is tried again, a thousand times in
-    /// all.
+    /// Writes once to the writer, and flushes it. Where one of the two is interrupted it is tried
+    /// again, a thousand times in all.
     ///
-    /// `Failed`: the writer answered an error, or was interrupted a thousand times.
+    /// `Failed`: the writer answered an error, be it `WouldBlock` or `TimedOut`, or was interrupted a
+    /// thousand times; or the flush of the write before was, whose bytes the writer had taken.
     fn write(&mut self, bytes: &[u8]) -> Result<usize, Failed>
         requires { sink_failed self.old ≡ false }
         ensures count { IfOk result (λ n. n ≤ length bytes.now) }
@@ -57,8 +62,13 @@ impl<W: Write> Sink for StdSink<W> {
         ensures err_bytes { OnErr result (Keeps (W.contents (sink_writer self.old))
             (W.contents (sink_writer self.new))) }
     {
+        if self.is_stuck {
+            self.failed = true;
+            return Err(Failed);
+        }
         match write_retrying(&mut self.writer, bytes) {
             Ok(count) => {
+                self.is_stuck = flush_retrying(&mut self.writer).is_err();
                 self.failed = count == 0 && !bytes.is_empty();
                 Ok(count)
             }
@@ -78,6 +88,23 @@ fn write_retrying<W: Write>(writer: &mut W, bytes: &[u8]) -> Result<usize, Faile
     for _ in 0..WRITE_TRIES {
         match writer.write(bytes) {
             Ok(count) => return Ok(count),
+            Err(error) => {
+                if error.kind() != ErrorKind::Interrupted {
+                    return Err(Failed);
+                }
+            }
+        }
+    }
+    Err(Failed)
+}
+
+// Flushes, and tries again where that is interrupted.
+fn flush_retrying<W: Write>(writer: &mut W) -> Result<(), Failed>
+    ensures { Keeps (W.contents writer.old) (W.contents writer.new) }
+{
+    for _ in 0..WRITE_TRIES {
+        match writer.flush() {
+            Ok(()) => return Ok(()),
             Err(error) => {
                 if error.kind() != ErrorKind::Interrupted {
                     return Err(Failed);

@@ -50,7 +50,8 @@ impl<R: Read> Source for StdSource<R> {
     /// Reads once from the reader. A read that is interrupted is tried again, a thousand times in
     /// all.
     ///
-    /// `Failed`: the reader answered an error, or was interrupted a thousand times.
+    /// `Failed`: the reader answered an error, be it `WouldBlock` or `TimedOut`, or was interrupted a
+    /// thousand times.
     fn read(&mut self, piece: &mut [u8]) -> Result<usize, Failed>
         requires { source_failed self.old ≡ false }
         ensures count { IfOk result (λ n. n ≤ length piece.new) }

@@ -1,14 +1,13 @@
 -- What is done upon an ask that the desk answers.
-use Rattle.std.proofs.Common.{◌≡◌, ℕ, List, [], ◌∷◌, refl, sym, ◌∙◌, subst, append-nil, Option, Result, Ok, Err, IfErr, OnErr, OnOk}
+use Rattle.std.proofs.Common.{◌≡◌, inr, ℕ, List, [], ◌∷◌, refl, sym, ◌∙◌, subst, append-nil, Option, Result, Ok, Err, IfErr, OnErr, OnOk}
 use Rattle.std.specs.Io.KnownBytes.{Appends}
-use Rattle.ami_text.proofs.Taking.{taken-none}
 use Rattle.ami_text.specs.Devices.{HasTaken}
 use Rattle.status_report.specs.declared.asks.Answer.{Answer}
 use Rattle.status_report.specs.declared.asks.Ask.{Ask}
 use Rattle.ami_session.specs.Checks.{Asks, Reaction, Waiting, answer_reply}
 use Rattle.serve.specs.declared.serve_fault.ServeFault.{ServeFault}
 use Rattle.serve.specs.declared.serve_fault.ServeFault.TheVariants.{Write}
-use Rattle.serve.specs.Steps.{BreaksOff, HasBegun, HasDone, HasSaid}
+use Rattle.serve.specs.Steps.{BreaksOff, HasDone, HasSaid, IsUnsaid}
 
 -- the reply upon the answer is to be written
 pub ask-done : {D : Type 0} (Answers : D → Ask → Answer → D → Type 0) (ask : Ask) (waiting : Waiting) (answer : Answer) (d e : D) (text : List ℕ)
@@ -34,6 +33,7 @@ front-said Answers Refuses r d e old new text (Err f) done is taken =
     subst (λ fault. BreaksOff Answers Refuses r d e old new fault) (sym is) (record { text = text; done = done; taken = taken })
 
 -- or nothing was
-pub none-said : {D : Type 0} (Answers : D → Ask → Answer → D → Type 0) (r : Reaction) (d e : D) (old : Option (List ℕ)) (text : List ℕ)
-    → HasDone Answers r d e text → HasBegun Answers r d e old old
-none-said Answers r d e old text done = record { text = text; done = done; taken = record { front = []; rest = text; is = refl; taken = taken-none old } }
+pub none-said : {D : Type 0} (Answers : D → Ask → Answer → D → Type 0) (ask : Ask) (waiting : Waiting) (answer : Answer) (d e : D) (old : Option (List ℕ))
+    → Answers d ask answer e → IsUnsaid Answers (Asks ask waiting) d e old old
+none-said Answers ask waiting answer d e old answered =
+    record { taken = refl; desk = inr (record { ask = ask; waiting = waiting; asked = refl; answer = answer; answered = answered }) }

@@ -26,13 +26,14 @@ come-none given held reads none = record {
   bytes = [];
   given = given-none given;
   many = omega arith;
+  few = omega arith;
   holds = (subst (λ t. Gives t [] held) (sym (append-nil held)) (none held), inl (append-nil held));
 }
 
 -- what holds of the stream
 pub come-so : (given after : Option (List ℕ)) (held : List ℕ) (reads left : ℕ) (H K : List ℕ → Type 0) → ((stream : List ℕ) → H stream → K stream)
     → HasCome given after held reads left H → HasCome given after held reads left K
-come-so given after held reads left H K so come = record { bytes = come.bytes; given = come.given; many = come.many; holds = so (held ++ come.bytes) come.holds }
+come-so given after held reads left H K so come = record { bytes = come.bytes; given = come.given; many = come.many; few = come.few; holds = so (held ++ come.bytes) come.holds }
 
 -- and then more has
 pub come-more : (given now after : Option (List ℕ)) (held rest : List ℕ) (reads left last : ℕ) (K : List ℕ → Type 0) → MoreStays
@@ -42,12 +43,24 @@ come-more given now after held rest reads left last K stays come more = record {
   bytes = come.bytes ++ more.bytes;
   given = given-grows given now after come.bytes more.bytes come.given more.given;
   many = omega (arith, come.many, more.many, length-append come.bytes more.bytes);
+  few = omega (arith, come.few, more.few, length-append come.bytes more.bytes);
   holds = (more.bytes, subst (λ t. Gives t [] (rest ++ more.bytes)) (append_assoc held come.bytes more.bytes) (stays (held ++ come.bytes) more.bytes rest [] come.holds), more.holds);
 }
 
 -- what is left of a stream is no longer than it
 pub left-within : (bytes rest : List ℕ) → Gives bytes [] rest → length rest ≤ length bytes
 left-within bytes rest gives = omega (arith, ap (length {A = ℕ}) gives.2, length-append (lines_text gives.0) rest)
+
+-- what was held before a piece is no message, so that it was wanted
+wanted : (held rest came piece : List ℕ) → Gives (held ++ came) [] rest → IsRest rest → length piece ≤ 1024 → IsWanted held (held ++ (came ++ piece))
+wanted held rest came piece gives is_rest short = inr (record {
+  before = came;
+  piece = piece;
+  is = sym (append_assoc held came piece);
+  short = short;
+  rest = rest;
+  reads = (gives, is_rest);
+})
 
 -- a piece came, and what was held before it is no message
 pub piece-came : (given now after : Option (List ℕ)) (held rest more : List ℕ) (reads left last : ℕ) → MoreStays → IsRest rest → length more ≤ length rest + 1024
@@ -57,19 +70,27 @@ piece-came given now after held rest more reads left last stays is_rest short co
   bytes = come.bytes ++ piece.bytes;
   given = given-grows given now after come.bytes piece.bytes come.given piece.given;
   many = omega (arith, come.many, piece.many, length-append come.bytes piece.bytes);
+  few = omega (arith, come.few, piece.few, length-append come.bytes piece.bytes);
   holds = (
     subst (λ t. Gives (held ++ (come.bytes ++ piece.bytes)) [] t) (sym piece.holds)
         (subst (λ t. Gives t [] (rest ++ piece.bytes)) (append_assoc held come.bytes piece.bytes) (stays (held ++ come.bytes) piece.bytes rest [] come.holds)),
-    inr (record {
-      before = come.bytes;
-      piece = piece.bytes;
-      is = sym (append_assoc held come.bytes piece.bytes);
-      short = omega (arith, short, ap (length {A = ℕ}) piece.holds, length-append rest piece.bytes);
-      rest = rest;
-      reads = (come.holds, is_rest);
-    }),
+    wanted held rest come.bytes piece.bytes come.holds is_rest (omega (arith, short, ap (length {A = ℕ}) piece.holds, length-append rest piece.bytes)),
   );
 }
+
+-- a piece came for which there was no memory
+piece-lost : (given now after : Option (List ℕ)) (held rest more : List ℕ) (reads left last : ℕ) → IsRest rest
+    → HasCome given now held reads left (λ stream. Gives stream [] rest) → HasCome now after rest left last (IsHeld (Err Memory) rest more)
+    → HasCome given after held reads last (IsWanted held)
+piece-lost given now after held rest more reads left last is_rest come piece =
+    let short : length (rest ++ piece.bytes) ≤ length rest + 1024 = piece.holds in
+    record {
+      bytes = come.bytes ++ piece.bytes;
+      given = given-grows given now after come.bytes piece.bytes come.given piece.given;
+      many = omega (arith, come.many, piece.many, length-append come.bytes piece.bytes);
+      few = omega (arith, come.few, piece.few, length-append come.bytes piece.bytes);
+      holds = wanted held rest come.bytes piece.bytes come.holds is_rest (omega (arith, short, length-append rest piece.bytes));
+    }
 
 -- none came, and what is held is no message
 pub none-came : (given now after : Option (List ℕ)) (held rest more : List ℕ) (reads left last : ℕ) → MoreStays → IsRest rest
@@ -85,8 +106,7 @@ pub broken-came : (fault : ServeFault) (given now after : Option (List ℕ)) (he
     → HasCome given after held reads last (IsNext (Err fault) held more)
 broken-came Read given now after held rest more reads left last stays is_rest come piece = none-came given now after held rest more reads left last stays is_rest come piece
 broken-came Turns given now after held rest more reads left last stays is_rest come piece = none-came given now after held rest more reads left last stays is_rest come piece
-broken-came Memory given now after held rest more reads left last stays is_rest come piece =
-    come-so given after held reads last _ _ (λ stream x. tt) (come-more given now after held rest reads left last _ stays come piece)
+broken-came Memory given now after held rest more reads left last stays is_rest come piece = piece-lost given now after held rest more reads left last is_rest come piece
 broken-came Write given now after held rest more reads left last stays is_rest come piece = absurd piece.holds
 broken-came LineTooLong given now after held rest more reads left last stays is_rest come piece = absurd piece.holds
 broken-came TooManyFields given now after held rest more reads left last stays is_rest come piece = absurd piece.holds
@@ -107,9 +127,9 @@ not-both o fault none some = cc
 
 -- what a feed shows that fails
 pub fault-next : (fault : FeedFault) (told : ServeFault) (was : FeedState) (old held stream : List ℕ) → told ≡ session_fault fault → was.fault ≡ None
-    → (IsStreamFault (Some fault) → (was.fault ≡ Some fault) ⊎ HasFault fault was.held) → Gives stream [] was.held → IsNext (Err told) old held stream
-fault-next stream_fault.LineTooLong told was old held stream is works shows gives =
+    → (IsStreamFault (Some fault) → (was.fault ≡ Some fault) ⊎ HasFault fault was.held) → Gives stream [] was.held → IsWanted old stream → IsNext (Err told) old held stream
+fault-next stream_fault.LineTooLong told was old held stream is works shows gives wants =
     subst (λ f. IsNext (Err f) old held stream) (sym is) (was.held, gives, ⊎_elim (λ failed. absurd (not-both was.fault stream_fault.LineTooLong works failed)) (λ has. has) (shows tt))
-fault-next stream_fault.TooManyFields told was old held stream is works shows gives =
+fault-next stream_fault.TooManyFields told was old held stream is works shows gives wants =
     subst (λ f. IsNext (Err f) old held stream) (sym is) (was.held, gives, ⊎_elim (λ failed. absurd (not-both was.fault stream_fault.TooManyFields works failed)) (λ has. has) (shows tt))
-fault-next stream_fault.Memory told was old held stream is works shows gives = subst (λ f. IsNext (Err f) old held stream) (sym is) tt
+fault-next stream_fault.Memory told was old held stream is works shows gives wants = subst (λ f. IsNext (Err f) old held stream) (sym is) wants

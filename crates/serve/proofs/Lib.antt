@@ -3,3 +3,4 @@ pub mod Coming
 pub mod Serving
 pub mod Taking
 pub mod TextSteps
+pub mod Working

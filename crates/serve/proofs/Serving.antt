@@ -1,10 +1,10 @@
 -- How a session goes on, message by message.
-use Rattle.std.proofs.Common.{◌≡◌, ◌≢◌, ◌≤◌, ⊎_elim, inl, inr, ℕ, ◌+◌, Bool, true, false, List, [], ◌∷◌, ◌++◌, refl, sym, ◌∙◌, ap, subst, arith, append_assoc, append-nil, length, length-append, Option, Ok, Err, Some, None}
+use Rattle.std.proofs.Common.{◌≡◌, ◌≢◌, ◌≤◌, ⊎_elim, inl, inr, ℕ, ◌+◌, ◌*◌, Bool, true, false, List, [], ◌∷◌, ◌++◌, refl, sym, ◌∙◌, ap, subst, arith, append_assoc, append-nil, length, length-append, Option, Ok, Err, Some, None}
 use Rattle.std.proofs.lemmas.List.{append_cancel_left}
 use Rattle.std.proofs.lemmas.List.Elements.{All-nil}
 use Rattle.std.specs.Io.KnownBytes.{Appends}
 use Rattle.ami_text.proofs.Taking.{given-grows, given-none, taken-grows}
-use Rattle.ami_text.specs.Devices.{HasEnded, HasGiven, HasTaken}
+use Rattle.ami_text.specs.Devices.{HasEnded, HasGiven, HasGivenUpTo, HasTaken}
 use Rattle.ami_text.specs.Lines.{IsFullLine}
 use Rattle.ami_text.specs.Stream.{Ending, Gives, IsRest, Reads, Rest}
 use Rattle.status_report.specs.declared.asks.Answer.{Answer}
@@ -14,8 +14,8 @@ use Rattle.ami_session.specs.FieldValues.{Fields}
 use Rattle.ami_session.specs.Text.{after_all, greeting, is_end, is_over}
 use Rattle.serve.specs.declared.serve_fault.ServeFault.{ServeFault}
 use Rattle.serve.specs.declared.serve_fault.ServeFault.TheVariants.{Read, Write, LineTooLong, TooManyFields, DeskDown, Turns, Memory}
-use Rattle.serve.specs.Sessions.{AreAnswered, Carries, EndsInPiece, HasText, IsBegun, IsLeftBy, IsRefused, IsServed}
-use Rattle.serve.specs.Steps.{BreaksOff, HasBegun, HasCome, HasSaid, IsDown, IsNext, IsUntouched, IsWanted, WantsPiece}
+use Rattle.serve.specs.Sessions.{AreAnswered, Carries, EndsInPiece, HasText, IsBegun, IsLeftBy, IsRefused, IsServed, IsUnfinished}
+use Rattle.serve.specs.Steps.{BreaksOff, HasAnswered, HasBegun, HasCome, HasSaid, IsDown, IsNext, IsUnsaid, IsWanted, WantsPiece}
 use Rattle.serve.proofs.Coming.{LaterFollows, MoreStays}
 use Rattle.serve.proofs.TextSteps.{after-one, over-one, text-one}
 
@@ -31,7 +31,8 @@ pub record Going {D : Type 0} (Answers : D → Ask → Answer → D → Type 0) 
   pub is_now : now ≡ after_all s messages
   pub has_text : HasText Answers s d e messages text
   pub many : 1000000 ≤ reads + length bytes
-  pub last : EndsInPiece s bytes
+  pub few : length bytes + 1024 * reads ≤ 1024000000
+  pub in_piece : EndsInPiece messages bytes
 
 -- no bytes are no message
 none-rest : IsRest []
@@ -46,26 +47,41 @@ none-rest = record {
 }
 
 -- no piece came yet
-no-piece : (s : SessionState) → Gives [] [] [] → EndsInPiece s []
-no-piece s none = record { before = []; piece = []; is = refl; short = omega arith; messages = []; rest = []; reads = (none, none-rest); goes_on = refl }
+no-piece : Gives [] [] [] → EndsInPiece [] []
+no-piece none = record { before = []; piece = []; is = refl; short = omega arith; earlier = []; later = []; are = refl; rest = []; reads = (none, none-rest) }
 
 -- a piece that came was wanted
-piece-wanted : (s : SessionState) (first piece held : List ℕ) (messages : List Fields) → PiecesJoin → Gives first messages held → is_over s messages ≡ false
-    → EndsInPiece s first → IsWanted held (held ++ piece) → EndsInPiece s (first ++ piece)
-piece-wanted s first piece held messages join gives on last wanted = ⊎_elim
-    (λ (none : held ++ piece ≡ held). subst (λ t. EndsInPiece s t)
+piece-wanted : (first piece held : List ℕ) (messages : List Fields) → PiecesJoin → Gives first messages held
+    → EndsInPiece messages first → IsWanted held (held ++ piece) → EndsInPiece messages (first ++ piece)
+piece-wanted first piece held messages join gives last wanted = ⊎_elim
+    (λ (none : held ++ piece ≡ held). subst (λ t. EndsInPiece messages t)
     (sym (ap (λ t. first ++ t) (append_cancel_left held piece [] (none ∙ sym (append-nil held))) ∙ append-nil first)) last)
     (λ (x : WantsPiece held (held ++ piece)). record {
       before = first ++ x.before;
       piece = x.piece;
       is = ap (λ t. first ++ t) (append_cancel_left held piece (x.before ++ x.piece) (x.is ∙ append_assoc held x.before x.piece)) ∙ sym (append_assoc first x.before x.piece);
       short = x.short;
-      messages = messages ++ [];
+      earlier = messages ++ [];
+      later = [];
+      are = sym (append-nil messages) ∙ sym (append-nil (messages ++ []));
       rest = x.rest;
       reads = join first x.before held messages [] (Rest x.rest) gives x.reads;
-      goes_on = subst (λ ms. is_over s ms ≡ false) (sym (append-nil messages)) on;
     })
     wanted
+
+-- one message more is answered, and no piece came
+piece-stays : (messages : List Fields) (message : Fields) (bytes : List ℕ) → EndsInPiece messages bytes → EndsInPiece (messages ++ message ∷ []) bytes
+piece-stays messages message bytes x = record {
+  before = x.before;
+  piece = x.piece;
+  is = x.is;
+  short = x.short;
+  earlier = x.earlier;
+  later = x.later ++ message ∷ [];
+  are = ap (λ t. t ++ message ∷ []) x.are ∙ append_assoc x.earlier x.later (message ∷ []);
+  rest = x.rest;
+  reads = x.reads;
+}
 
 -- nothing is answered yet
 greeted : {D : Type 0} (Answers : D → Ask → Answer → D → Type 0) (s : SessionState) (d : D) → HasText Answers s d d [] (greeting s)
@@ -86,7 +102,8 @@ going-start Answers s d given old new held reads none is_held is_reads taken = r
     is_now = refl;
     has_text = greeted Answers s d;
     many = omega (arith, is_reads);
-    last = no-piece s (none []);
+    few = omega (arith, is_reads);
+    in_piece = no-piece (none []);
   };
 }
 
@@ -104,7 +121,7 @@ greeting-begun Answers s d given old new none taken = record {
     gives = none [];
     more = taken.rest;
     has_text = subst (λ t. HasText Answers s d d [] t) taken.is (greeted Answers s d);
-    ends = inl refl;
+    ends = inl (refl, refl);
   };
 }
 
@@ -126,6 +143,7 @@ record ReadOn (held : List ℕ) (reads left : ℕ) (H : List ℕ → List ℕ �
   pub before : H first text
   pub more : K (held ++ piece)
   pub many : reads ≤ left + length piece
+  pub few : length piece + 1024 * left ≤ 1024 * reads
 
 reads-on : (given now after old new : Option (List ℕ)) (held : List ℕ) (reads left : ℕ) (H : List ℕ → List ℕ → Type 0) (K : List ℕ → Type 0)
     → Carries given now old new H → HasCome now after held reads left K → Carries given after old new (ReadOn held reads left H K)
@@ -134,7 +152,7 @@ reads-on given now after old new held reads left H K c come = record {
   text = c.text;
   given = given-grows given now after c.bytes come.bytes c.given come.given;
   taken = c.taken;
-  holds = record { first = c.bytes; piece = come.bytes; is = refl; before = c.holds; more = come.holds; many = come.many };
+  holds = record { first = c.bytes; piece = come.bytes; is = refl; before = c.holds; more = come.holds; many = come.many; few = come.few };
 }
 
 -- the stream has no further message, and an ending
@@ -151,18 +169,20 @@ ended-by Answers s now d e held reads left K bytes text ending join so x =
       has_text = going.has_text;
     }
 
--- nothing more is told of the stream
-begun-before : {D : Type 0} (Answers : D → Ask → Answer → D → Type 0) (s now : SessionState) (d e : D) (held : List ℕ) (reads left : ℕ) (K : List ℕ → Type 0) (bytes text : List ℕ)
-    → MoreStays → ReadOn held reads left (Going Answers s d e now held reads) K bytes text → IsBegun Answers s d e bytes text
-begun-before Answers s now d e held reads left K bytes text stays x =
+-- there is no memory for more of it
+unfinished : {D : Type 0} (Answers : D → Ask → Answer → D → Type 0) (s now : SessionState) (d e : D) (held : List ℕ) (reads left : ℕ) (bytes text : List ℕ)
+    → PiecesJoin → MoreStays → ReadOn held reads left (Going Answers s d e now held reads) (IsWanted held) bytes text → IsUnfinished Answers s d e bytes text
+unfinished Answers s now d e held reads left bytes text join stays x =
     let going = x.before in
     record {
       messages = going.messages;
       rest = held ++ x.piece;
       gives = subst (λ t. Gives t going.messages (held ++ x.piece)) (sym x.is) (stays x.first x.piece held going.messages going.gives);
-      more = [];
-      has_text = subst (λ t. HasText Answers s d e going.messages t) (sym (append-nil text)) going.has_text;
-      ends = inr (inl (going.goes_on, refl));
+      in_piece = subst (λ t. EndsInPiece going.messages t) (sym x.is) (piece-wanted x.first x.piece held going.messages join going.gives going.in_piece x.more);
+      goes_on = going.goes_on;
+      left = e;
+      has_text = going.has_text;
+      desk = inl refl;
     }
 
 -- the reader has ended
@@ -195,7 +215,7 @@ reading-breaks Answers Refuses TooManyFields s now d e given before after old ne
     carries-so given after old new _ _ (λ bytes text x. ended-by Answers s now d e held reads left (IsNext (Err TooManyFields) held rest) bytes text _ join (λ stream more. more) x)
     (reads-on given before after old new held reads left _ _ c come)
 reading-breaks Answers Refuses Memory s now d e given before after old new held rest reads left join stays c come =
-    carries-so given after old new _ _ (λ bytes text x. begun-before Answers s now d e held reads left (IsNext (Err Memory) held rest) bytes text stays x)
+    carries-so given after old new _ _ (λ bytes text x. unfinished Answers s now d e held reads left bytes text join stays x)
     (reads-on given before after old new held reads left _ _ c come)
 reading-breaks Answers Refuses Write s now d e given before after old new held rest reads left join stays c come = absurd come.holds
 reading-breaks Answers Refuses DeskDown s now d e given before after old new held rest reads left join stays c come = absurd come.holds
@@ -210,15 +230,32 @@ turns-over Answers s now d e given before after old new held reads left K none c
   many = omega (arith, c.holds.many, come.many, none, length-append c.bytes come.bytes);
 }
 
+-- no more bytes came than the reads may give
+pub given-few : {D : Type 0} (Answers : D → Ask → Answer → D → Type 0) (s now : SessionState) (d e : D) (given before after old new : Option (List ℕ)) (held : List ℕ)
+    (reads left : ℕ) (K : List ℕ → Type 0) → Carries given before old new (Going Answers s d e now held reads) → HasCome before after held reads left K
+    → HasGivenUpTo given after 1024000000
+given-few Answers s now d e given before after old new held reads left K c come = record {
+  bytes = c.bytes ++ come.bytes;
+  given = given-grows given before after c.bytes come.bytes c.given come.given;
+  few = omega (arith, c.holds.few, come.few, length-append c.bytes come.bytes);
+}
+
+-- none came
+pub given-nothing : (given : Option (List ℕ)) → HasGivenUpTo given given 1024000000
+given-nothing given = record { bytes = []; given = given-none given; few = omega arith }
+
 -- a message came
 record MessageCame {D : Type 0} (Answers : D → Ask → Answer → D → Type 0) (s : SessionState) (d e : D) (now : SessionState) (message : Fields) (rest : List ℕ) (left : ℕ) (bytes text : List ℕ) : Type 0 where
   pub messages : List Fields
+  pub behind : List ℕ
+  pub answered : Gives bytes messages behind
   pub gives : Gives bytes (messages ++ message ∷ []) rest
   pub goes_on : is_over s messages ≡ false
   pub is_now : now ≡ after_all s messages
   pub has_text : HasText Answers s d e messages text
   pub many : 1000000 ≤ left + length bytes
-  pub last : EndsInPiece s bytes
+  pub few : length bytes + 1024 * left ≤ 1024000000
+  pub in_piece : EndsInPiece messages bytes
 
 -- what was written, and then this
 message-came : {D : Type 0} (Answers : D → Ask → Answer → D → Type 0) (s now : SessionState) (d e : D) (given before after old new : Option (List ℕ)) (held rest : List ℕ) (message : Fields)
@@ -233,12 +270,15 @@ message-came Answers s now d e given before after old new held rest message read
     let all = later (x.first ++ x.piece) (held ++ x.piece) rest going.messages (message ∷ []) more x.more.0 in
     record {
       messages = going.messages;
+      behind = held ++ x.piece;
+      answered = subst (λ t. Gives t going.messages (held ++ x.piece)) (sym x.is) more;
       gives = subst (λ t. Gives t (going.messages ++ message ∷ []) rest) (sym x.is) all;
       goes_on = going.goes_on;
       is_now = going.is_now;
       has_text = going.has_text;
       many = omega (arith, going.many, x.many, length-append x.first x.piece, ap (length {A = ℕ}) x.is);
-      last = subst (λ t. EndsInPiece s t) (sym x.is) (piece-wanted s x.first x.piece held going.messages join going.gives going.goes_on going.last x.more.1);
+      few = omega (arith, going.few, x.few, length-append x.first x.piece, ap (length {A = ℕ}) x.is);
+      in_piece = subst (λ t. EndsInPiece going.messages t) (sym x.is) (piece-wanted x.first x.piece held going.messages join going.gives going.in_piece x.more.1);
     })
     (reads-on given before after old new held reads left _ _ c come)
 
@@ -250,7 +290,8 @@ record Said {D : Type 0} (Answers : D → Ask → Answer → D → Type 0) (s : 
   pub is_now : now ≡ after_all s messages
   pub has_text : HasText Answers s d e (messages ++ message ∷ []) text
   pub many : 1000000 ≤ left + length bytes
-  pub last : EndsInPiece s bytes
+  pub few : length bytes + 1024 * left ≤ 1024000000
+  pub in_piece : EndsInPiece messages bytes
 
 said : {D : Type 0} (Answers : D → Ask → Answer → D → Type 0) (s now : SessionState) (d mid e : D) (given after old before new : Option (List ℕ)) (rest : List ℕ) (message : Fields) (left : ℕ)
     → Carries given after old before (MessageCame Answers s d mid now message rest left) → HasSaid Answers (reaction now message) mid e before new
@@ -269,7 +310,8 @@ said Answers s now d mid e given after old before new rest message left c has =
         is_now = x.is_now;
         has_text = text-one Answers s now d mid e x.messages message c.text has.text x.goes_on x.is_now x.has_text has.done;
         many = x.many;
-        last = x.last;
+        few = x.few;
+        in_piece = x.in_piece;
       };
     }
 
@@ -288,7 +330,8 @@ going-on Answers s now next d mid e given before after old written new held rest
       is_now = is ∙ ap (λ t. session_after t message) x.is_now ∙ sym (after-one x.messages s message);
       has_text = x.has_text;
       many = x.many;
-      last = x.last;
+      few = x.few;
+      in_piece = piece-stays x.messages message bytes x.in_piece;
     })
     (said Answers s now d mid e given after old written new rest message left (message-came Answers s now d mid given before after old written held rest message reads left join stays later c come) has)
 
@@ -305,7 +348,14 @@ served-by-end Answers s now d mid e given before after old written new held rest
       rest = rest;
       gives = x.gives;
       has_text = x.has_text;
-      at_end = inl (over-one x.messages s message x.goes_on ∙ ap (λ t. is_end (reaction t message)) (sym x.is_now) ∙ over, x.last);
+      at_end = inl (record {
+        before = x.messages;
+        last = message;
+        are = refl;
+        goes_on = x.goes_on;
+        over = over-one x.messages s message x.goes_on ∙ ap (λ t. is_end (reaction t message)) (sym x.is_now) ∙ over;
+        in_piece = x.in_piece;
+      });
     })
     (said Answers s now d mid e given after old written new rest message left (message-came Answers s now d mid given before after old written held rest message reads left join stays later c come) has)
 
@@ -328,34 +378,53 @@ begun Answers s now d mid e given after old before new rest message left c has =
         more = has.taken.rest;
         has_text = subst (λ t. HasText Answers s d e (x.messages ++ message ∷ []) t)
             (ap (λ t. c.text ++ t) has.taken.is ∙ sym (append_assoc c.text has.taken.front has.taken.rest)) all;
-        ends = inr (inr (record {
+        ends = inr (record {
           before = x.messages;
           last = message;
           are = refl;
           goes_on = x.goes_on;
+          in_piece = x.in_piece;
           left = mid;
           written = c.text;
           part = has.taken.front;
           has_text = x.has_text;
           is = refl;
-        }));
+        });
       };
     }
 
 -- nothing of it was
-untouched : {D : Type 0} (Answers : D → Ask → Answer → D → Type 0) (s now : SessionState) (d mid e : D) (given before after old written new : Option (List ℕ)) (held rest : List ℕ) (message : Fields)
-    (reads left : ℕ) → MoreStays
-    → Carries given before old written (Going Answers s d mid now held reads) → HasCome before after held reads left (IsNext (Ok (Some message)) held rest)
-    → IsUntouched mid e written new → Carries given after old new (IsBegun Answers s d e)
-untouched Answers s now d mid e given before after old written new held rest message reads left stays c come same =
-    let so = carries-so given after old written _ _ (λ bytes text x. begun-before Answers s now d mid held reads left (IsNext (Ok (Some message)) held rest) bytes text stays x)
-    (reads-on given before after old written held reads left _ _ c come) in
+unsaid : {D : Type 0} (Answers : D → Ask → Answer → D → Type 0) (s now : SessionState) (d mid e : D) (given after old before new : Option (List ℕ)) (rest : List ℕ) (message : Fields) (left : ℕ)
+    → Carries given after old before (MessageCame Answers s d mid now message rest left) → IsUnsaid Answers (reaction now message) mid e before new
+    → Carries given after old new (IsUnfinished Answers s d e)
+unsaid Answers s now d mid e given after old before new rest message left c none =
+    let x = c.holds in
     record {
-      bytes = so.bytes;
-      text = so.text;
-      given = so.given;
-      taken = subst (λ t. Appends old t so.text) (sym same.taken) so.taken;
-      holds = subst (λ t. IsBegun Answers s d t so.bytes so.text) (sym same.desk) so.holds;
+      bytes = c.bytes;
+      text = c.text;
+      given = c.given;
+      taken = subst (λ t. Appends old t c.text) (sym none.taken) c.taken;
+      holds = record {
+        messages = x.messages;
+        rest = x.behind;
+        gives = x.answered;
+        in_piece = x.in_piece;
+        goes_on = x.goes_on;
+        left = mid;
+        has_text = x.has_text;
+        desk = ⊎_elim (λ (same : e ≡ mid). inl same)
+            (λ (y : HasAnswered Answers (reaction now message) mid e). inr (record {
+              last = message;
+              rest = rest;
+              gives = x.gives;
+              ask = y.ask;
+              waiting = y.waiting;
+              asked = ap (λ t. reaction t message) (sym x.is_now) ∙ y.asked;
+              answer = y.answer;
+              answered = y.answered;
+            }))
+            none.desk;
+      };
     }
 
 -- the desk gave no answer
@@ -374,6 +443,7 @@ refused Answers Refuses s now d mid e given after old before new rest message le
         last = message;
         rest = rest;
         gives = x.gives;
+        in_piece = x.in_piece;
         left = mid;
         goes_on = x.goes_on;
         has_text = x.has_text;
@@ -392,8 +462,7 @@ pub answering-breaks : {D : Type 0} (Answers : D → Ask → Answer → D → Ty
 answering-breaks Answers Refuses Write s now d mid e given before after old written new held rest message reads left join stays later c come broken =
     begun Answers s now d mid e given after old written new rest message left (message-came Answers s now d mid given before after old written held rest message reads left join stays later c come) broken
 answering-breaks Answers Refuses Memory s now d mid e given before after old written new held rest message reads left join stays later c come broken =
-    ⊎_elim (λ front. begun Answers s now d mid e given after old written new rest message left (message-came Answers s now d mid given before after old written held rest message reads left join stays later c come) front)
-    (λ same. untouched Answers s now d mid e given before after old written new held rest message reads left stays c come same) broken
+    unsaid Answers s now d mid e given after old written new rest message left (message-came Answers s now d mid given before after old written held rest message reads left join stays later c come) broken
 answering-breaks Answers Refuses DeskDown s now d mid e given before after old written new held rest message reads left join stays later c come broken =
     refused Answers Refuses s now d mid e given after old written new rest message left (message-came Answers s now d mid given before after old written held rest message reads left join stays later c come) broken
 answering-breaks Answers Refuses Read s now d mid e given before after old written new held rest message reads left join stays later c come broken = absurd broken

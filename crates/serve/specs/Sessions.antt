@@ -27,16 +27,27 @@ pub record HasText {D : Type 0} (Answers : D → Ask → Answer → D → Type 0
   pub run : DeskRun Answers d (asks s messages) answers e
   pub is : text ≡ session_text s messages answers
 
--- the bytes are those before the last piece, whose messages don't end the session, and that piece, of at most 1,024 bytes
-pub record EndsInPiece (s : SessionState) (bytes : List ℕ) : Type 0 where
+-- the bytes end in a piece of at most 1,024 bytes, and those before it have the first of these messages and no others: once these were
+-- answered no further piece was read
+pub record EndsInPiece (messages : List Fields) (bytes : List ℕ) : Type 0 where
   pub before : List ℕ
   pub piece : List ℕ
   pub is : bytes ≡ before ++ piece
   pub short : length piece ≤ 1024
-  pub messages : List Fields
+  pub earlier : List Fields
+  pub later : List Fields
+  pub are : messages ≡ earlier ++ later
   pub rest : List ℕ
-  pub reads : Reads before messages (Rest rest)
-  pub goes_on : is_over s messages ≡ false
+  pub reads : Reads before earlier (Rest rest)
+
+-- the last of the messages ends the session, none before it does, and it came with the last piece
+pub record IsEndedByLast (s : SessionState) (messages : List Fields) (bytes : List ℕ) : Type 0 where
+  pub before : List Fields
+  pub last : Fields
+  pub are : messages ≡ before ++ last ∷ []
+  pub goes_on : is_over s before ≡ false
+  pub over : is_over s messages ≡ true
+  pub in_piece : EndsInPiece before bytes
 
 -- a session was served: the text is that of the messages of the bytes, up to a Logoff that came with the last piece, or to the end of a reader that has ended with nothing left
 pub record IsServed {D : Type 0} (Answers : D → Ask → Answer → D → Type 0) (s : SessionState) (d e : D) (ended : Bool) (left : Option (List ℕ)) (bytes text : List ℕ) : Type 0 where
@@ -44,7 +55,7 @@ pub record IsServed {D : Type 0} (Answers : D → Ask → Answer → D → Type 
   pub rest : List ℕ
   pub gives : Gives bytes messages rest
   pub has_text : HasText Answers s d e messages text
-  pub at_end : ((is_over s messages ≡ true) × EndsInPiece s bytes) ⊎ (IsRest rest × HasEnded ended left)
+  pub at_end : IsEndedByLast s messages bytes ⊎ (IsRest rest × HasEnded ended left)
 
 -- all messages of the bytes are answered, none of them has ended the session, and nothing but this ending stands behind them
 pub record AreAnswered {D : Type 0} (Answers : D → Ask → Answer → D → Type 0) (s : SessionState) (d e : D) (ending : Ending) (bytes text : List ℕ) : Type 0 where
@@ -53,35 +64,61 @@ pub record AreAnswered {D : Type 0} (Answers : D → Ask → Answer → D → Ty
   pub goes_on : is_over s messages ≡ false
   pub has_text : HasText Answers s d e messages text
 
--- all messages but the last are answered, none of these has ended the session, and of what is written upon the last there is a part
-pub record IsAtLast {D : Type 0} (Answers : D → Ask → Answer → D → Type 0) (s : SessionState) (d : D) (messages : List Fields) (text : List ℕ) : Type 0 where
+-- all messages before the last are answered, none of them has ended the session, no more was read than the last needs, and of what is
+-- written upon it there is a part
+pub record IsAtLast {D : Type 0} (Answers : D → Ask → Answer → D → Type 0) (s : SessionState) (d : D) (messages : List Fields) (bytes text : List ℕ) : Type 0 where
   pub before : List Fields
   pub last : Fields
   pub are : messages ≡ before ++ last ∷ []
   pub goes_on : is_over s before ≡ false
+  pub in_piece : EndsInPiece before bytes
   pub left : D
   pub written : List ℕ
   pub part : List ℕ
   pub has_text : HasText Answers s d left before written
   pub is : text ≡ written ++ part
 
--- the text is a front of that of the messages that were answered; it ends in the greeting, behind all that is written upon them, or in
--- what is written upon the last
+-- the text is a front of that of the messages that were answered; it ends in the greeting, before which nothing was read, or in what is
+-- written upon the last message
 pub record IsBegun {D : Type 0} (Answers : D → Ask → Answer → D → Type 0) (s : SessionState) (d e : D) (bytes text : List ℕ) : Type 0 where
   pub messages : List Fields
   pub rest : List ℕ
   pub gives : Gives bytes messages rest
   pub more : List ℕ
   pub has_text : HasText Answers s d e messages (text ++ more)
-  pub ends : (messages ≡ []) ⊎ (((is_over s messages ≡ false) × (more ≡ [])) ⊎ IsAtLast Answers s d messages text)
+  pub ends : ((messages ≡ []) × (bytes ≡ [])) ⊎ IsAtLast Answers s d messages bytes text
 
--- all messages before the last are answered, none of them has ended the session, and what the last asks the desk refused in the state in
--- which they left it
+-- the desk has answered what the message behind these asks
+pub record IsUnreplied {D : Type 0} (Answers : D → Ask → Answer → D → Type 0) (s : SessionState) (d e : D) (messages : List Fields) (bytes : List ℕ) : Type 0 where
+  pub last : Fields
+  pub rest : List ℕ
+  pub gives : Gives bytes (messages ++ last ∷ []) rest
+  pub ask : Ask
+  pub waiting : Waiting
+  pub asked : reaction (after_all s messages) last ≡ Asks ask waiting
+  pub answer : Answer
+  pub answered : Answers d ask answer e
+
+-- all messages before the last piece are answered, and some of it may be; none of them has ended the session, and nothing is written
+-- upon another one, but the desk may have answered what it asks
+pub record IsUnfinished {D : Type 0} (Answers : D → Ask → Answer → D → Type 0) (s : SessionState) (d e : D) (bytes text : List ℕ) : Type 0 where
+  pub messages : List Fields
+  pub rest : List ℕ
+  pub gives : Gives bytes messages rest
+  pub in_piece : EndsInPiece messages bytes
+  pub goes_on : is_over s messages ≡ false
+  pub left : D
+  pub has_text : HasText Answers s d left messages text
+  pub desk : (e ≡ left) ⊎ IsUnreplied Answers s left e messages bytes
+
+-- all messages before the last are answered, none of them has ended the session, no more was read than the last needs, and what it asks
+-- the desk refused in the state in which they left it
 pub record IsRefused {D : Type 0} (Answers : D → Ask → Answer → D → Type 0) (Refuses : D → Ask → D → Type 0) (s : SessionState) (d e : D) (bytes text : List ℕ) : Type 0 where
   pub messages : List Fields
   pub last : Fields
   pub rest : List ℕ
   pub gives : Gives bytes (messages ++ last ∷ []) rest
+  pub in_piece : EndsInPiece messages bytes
   pub left : D
   pub goes_on : is_over s messages ≡ false
   pub has_text : HasText Answers s d left messages text
@@ -98,4 +135,4 @@ IsLeftBy Answers Refuses s d e LineTooLong bytes text = AreAnswered Answers s d 
 IsLeftBy Answers Refuses s d e TooManyFields bytes text = AreAnswered Answers s d e (Fault feed.TooManyFields) bytes text
 IsLeftBy Answers Refuses s d e DeskDown bytes text = IsRefused Answers Refuses s d e bytes text
 IsLeftBy Answers Refuses s d e Write bytes text = IsBegun Answers s d e bytes text
-IsLeftBy Answers Refuses s d e Memory bytes text = IsBegun Answers s d e bytes text
+IsLeftBy Answers Refuses s d e Memory bytes text = IsUnfinished Answers s d e bytes text

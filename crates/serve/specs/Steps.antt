@@ -17,21 +17,23 @@ use Rattle.serve.specs.Desks.{DeskRun}
 abbrev pub bytes_ahead : ℕ → List ℕ → ℕ
 bytes_ahead reads held = 1024 * reads + length held
 
--- A source has given bytes, at least one for each read that was used, and this holds of the stream that they make with
--- those held before.
+-- A source has given bytes, at least one and at most 1,024 for each read that was used, and this holds of the stream that
+-- they make with those held before.
 pub record HasCome (left_old left_new : Option (List ℕ)) (held : List ℕ) (reads_old reads_new : ℕ) (Holds : List ℕ → Type 0) : Type 0 where
   pub bytes : List ℕ
   pub given : Consumes left_old left_new bytes
   pub many : reads_old ≤ reads_new + length bytes
+  pub few : length bytes + 1024 * reads_new ≤ 1024 * reads_old
   pub holds : Holds (held ++ bytes)
 
--- what is held after a read: the stream, where a piece came; the same as before, where none did
+-- what is held after a read: the stream, where a piece came; the same as before, where none did; it isn't told where there was no memory
+-- for a piece
 abbrev pub IsHeld : Result Bool ServeFault → List ℕ → List ℕ → List ℕ → Type 0
 IsHeld (Ok true) old new stream = new ≡ stream
 IsHeld (Ok false) old new stream = (new ≡ stream) × (new ≡ old)
 IsHeld (Err Read) old new stream = (new ≡ stream) × (new ≡ old)
 IsHeld (Err Turns) old new stream = (new ≡ stream) × (new ≡ old)
-IsHeld (Err Memory) old new stream = Unit {0}
+IsHeld (Err Memory) old new stream = length stream ≤ length old + 1024
 IsHeld (Err Write) old new stream = ⊥
 IsHeld (Err LineTooLong) old new stream = ⊥
 IsHeld (Err TooManyFields) old new stream = ⊥
@@ -58,7 +60,7 @@ IsNext (Err Read) old new stream = Reads stream [] (Rest new)
 IsNext (Err Turns) old new stream = Reads stream [] (Rest new)
 IsNext (Err LineTooLong) old new stream = Reads stream [] (Fault feed.LineTooLong)
 IsNext (Err TooManyFields) old new stream = Reads stream [] (Fault feed.TooManyFields)
-IsNext (Err Memory) old new stream = Unit {0}
+IsNext (Err Memory) old new stream = IsWanted old stream
 IsNext (Err Write) old new stream = ⊥
 IsNext (Err DeskDown) old new stream = ⊥
 
@@ -88,15 +90,23 @@ pub record IsDown {D : Type 0} (Refuses : D → Ask → D → Type 0) (r : React
   pub refused : Refuses d ask e
   pub taken : taken_new ≡ taken_old
 
--- nothing was asked, and nothing was written
-pub record IsUntouched {D : Type 0} (d e : D) (taken_old taken_new : Option (List ℕ)) : Type 0 where
-  pub desk : e ≡ d
+-- the desk has answered what a reaction asks
+pub record HasAnswered {D : Type 0} (Answers : D → Ask → Answer → D → Type 0) (r : Reaction) (d e : D) : Type 0 where
+  pub ask : Ask
+  pub waiting : Waiting
+  pub asked : r ≡ Asks ask waiting
+  pub answer : Answer
+  pub answered : Answers d ask answer e
+
+-- nothing was written; nothing was asked, or the desk has answered it
+pub record IsUnsaid {D : Type 0} (Answers : D → Ask → Answer → D → Type 0) (r : Reaction) (d e : D) (taken_old taken_new : Option (List ℕ)) : Type 0 where
   pub taken : taken_new ≡ taken_old
+  pub desk : (e ≡ d) ⊎ HasAnswered Answers r d e
 
 -- where a fault breaks off what is done upon a reaction
 abbrev pub BreaksOff : {D : Type 0} → (D → Ask → Answer → D → Type 0) → (D → Ask → D → Type 0) → Reaction → D → D → Option (List ℕ) → Option (List ℕ) → ServeFault → Type 0
 BreaksOff Answers Refuses r d e taken_old taken_new Write = HasBegun Answers r d e taken_old taken_new
-BreaksOff Answers Refuses r d e taken_old taken_new Memory = HasBegun Answers r d e taken_old taken_new ⊎ IsUntouched d e taken_old taken_new
+BreaksOff Answers Refuses r d e taken_old taken_new Memory = IsUnsaid Answers r d e taken_old taken_new
 BreaksOff Answers Refuses r d e taken_old taken_new DeskDown = IsDown Refuses r d e taken_old taken_new
 BreaksOff Answers Refuses r d e taken_old taken_new Read = ⊥
 BreaksOff Answers Refuses r d e taken_old taken_new LineTooLong = ⊥

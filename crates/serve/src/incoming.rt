@@ -49,6 +49,10 @@ pub fn next_message<S: Source>(
     ensures come { HasCome (S.left reader.old) (S.left reader.new) incoming.old.feed.held
         incoming.old.reads incoming.new.reads
         (IsNext result incoming.old.feed.held incoming.new.feed.held) }
+    ensures counted { IfOk result (λ next. IfSome next (λ _.
+        S.reads_left reader.old + incoming.new.reads
+        ≤ S.reads_left reader.new + incoming.old.reads)) }
+    ensures reads { S.reads_left reader.old ≤ S.reads_left reader.new + incoming.old.reads }
     ensures goes_on { IfOk result (λ next. IfSome next (λ _.
         incoming.new.reads < 1000000 → S.ended reader.new ≡ false)) }
     ensures ended { result ≡ Ok None → HasEnded (S.ended reader.new) (S.left reader.new) }
@@ -88,6 +92,9 @@ fn read_piece<S: Source>(reader: &mut S, incoming: &mut Incoming) -> Result<bool
     ensures more { result ≡ Ok true → (incoming.new.reads + 1 ≡ incoming.old.reads)
         × (bytes_ahead incoming.new.reads incoming.new.feed.held
         ≤ bytes_ahead incoming.old.reads incoming.old.feed.held) }
+    ensures counted { result ≡ Ok true → S.reads_left reader.old + incoming.new.reads
+        ≤ S.reads_left reader.new + incoming.old.reads }
+    ensures reads { S.reads_left reader.old ≤ S.reads_left reader.new + incoming.old.reads }
     ensures goes_on { result ≡ Ok true → S.ended reader.new ≡ false }
     ensures ended { result ≡ Ok false → HasEnded (S.ended reader.new) (S.left reader.new) }
     ensures works { OnOk result (S.failed reader.new ≡ false) }

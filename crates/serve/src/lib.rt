@@ -4,12 +4,14 @@
 //! ask, and writes the replies, whatever the devices do.
 #![tactic(auto)]
 
-ghost use Rattle.std.specs.Prelude.{◌≡◌, true, false, IfErr, OnOk, IsErrOf};
-ghost use Rattle.ami_text.specs.Devices.{HasGiven};
+ghost use Rattle.std.specs.Prelude.{◌≡◌, ◌≤◌, ◌+◌, true, false, IfErr, OnOk, IsErrOf};
+ghost use Rattle.ami_text.specs.Devices.{HasGiven, HasGivenUpTo};
+ghost use Rattle.serve.specs.Desks.{HasWorked};
 ghost use Rattle.serve.specs.Sessions.{Carries, IsLeftBy, IsServed};
 
 mod desk;
 mod incoming;
+pub mod laws;
 mod replica_desk;
 mod replying;
 mod serve_fault;
@@ -25,16 +27,17 @@ pub use serve_fault::ServeFault;
 use std::alloc::Global;
 
 /// Serves one client to the end of its session: writes the session's greeting, reads the client's
-/// bytes in pieces of at most 1,024, and answers each message in turn, by itself or upon the desk's
-/// answer (the messages and replies are Asterisk's Manager Interface, the limits this project's
-/// own). `Ok` after a Logoff is answered, or where the reader has ended; bytes behind a Logoff make
-/// no difference, and none are read but with its last piece. It returns if the desk's calls do.
+/// bytes in pieces of at most 1,024, at most 1,000,000 times, and answers each message in turn, by
+/// itself or upon the desk's answer (the messages and replies are Asterisk's Manager Interface, the
+/// limits this project's own). All that is due is written before the next read. `Ok` after a Logoff
+/// is answered, or where the reader has ended; bytes behind a Logoff make no difference, and none
+/// are read but with its last piece. It returns if the desk's calls do.
 ///
 /// Faults, as each comes: `Read` where the reader failed; `Write` where the writer failed, or took
 /// none of bytes that aren't empty; `LineTooLong` and `TooManyFields` where the client's stream has
 /// them, once the messages before are answered; `DeskDown` where the desk gave no answer; `Turns`
-/// where 1,000,000 reads gave no end; `Memory`. What was written is then a front of the session's
-/// text: the whole text so far, but for `Write` and `Memory`.
+/// where 1,000,000 reads gave no end; `Memory`, of the session itself. What was written is then a
+/// front of the session's text, and but for `Write` it ends behind its greeting or a whole reply.
 pub fn serve<R, S: Source, W: Sink, D: Desk<R>>(
     rt: &R,
     alloc: Global,
@@ -62,6 +65,13 @@ pub fn serve<R, S: Source, W: Sink, D: Desk<R>>(
     ensures write { IsErrOf result ServeFault.Write → W.failed writer.new ≡ true }
     ensures turns { IsErrOf result ServeFault.Turns → (S.ended reader.new ≡ false)
         × HasGiven (S.left reader.old) (S.left reader.new) 1000000 }
+
+    // It reads at most 1,000,000 times, and so at most 1,024,000,000 bytes.
+    ensures reads { S.reads_left reader.old ≤ S.reads_left reader.new + 1000000 }
+    ensures bytes { HasGivenUpTo (S.left reader.old) (S.left reader.new) 1024000000 }
+
+    // The desk has answered asks, and may have refused one more.
+    ensures desk { HasWorked D.answers D.refuses desk.old desk.new }
 
     // At Ok both devices work.
     ensures works { OnOk result ((S.failed reader.new ≡ false) × (W.failed writer.new ≡ false)) }

@@ -9,7 +9,8 @@ pub enum ServeFault {
     /// The reader failed. All that was asked before is answered.
     #[error("read failed")]
     Read,
-    /// The writer failed, or took no bytes. A front of the session's text was written.
+    /// The writer failed, or took no bytes. A front of the session's text was written; nothing was read
+    /// that the reply in which it ends doesn't need.
     #[error("write failed")]
     Write,
     /// A line's content has more than 1,024 bytes. The messages before it are answered.
@@ -24,7 +25,8 @@ pub enum ServeFault {
     /// 1,000,000 reads gave no end. All that was asked is answered.
     #[error("too many reads")]
     Turns,
-    /// Memory was wanting. A front of the session's text was written.
+    /// Memory was wanting, but not at the desk. The messages that came before the last piece are
+    /// answered, and no reply is cut off; the desk may have answered one message more.
     #[error("out of memory")]
     Memory,
 }

@@ -1,14 +1,16 @@
-//! Sessions whose devices or whose desk fail, and sessions over readers and writers of std's.
-ghost use Rattle.std.specs.Prelude.{Bool, OnOk, Some};
+//! Sessions whose devices or whose desk fail, sessions whose reader sees what was written, and sessions over readers and writers of std's.
+ghost use Rattle.std.specs.Prelude.{◌≡◌, Bool, OnOk, Some, None, false};
 ghost use Rattle.serve.specs.Replicas.{AnswersAs};
 ghost use Rattle.serve.specs.Sessions.{Carries, IsServed};
 
 use crate::shared::{assert_text, replica, text};
 use ami_session::Session;
-use ami_text::{MemorySink, MemorySource, StdSink, StdSource};
+use ami_text::{Failed, MemorySink, MemorySource, Sink, Source, StdSink, StdSource};
+use serve::laws::a_session_keeps_what_each_answer_keeps;
 use serve::{Desk, DeskDown, ReplicaDesk, ServeFault, serve};
 use status_report::{Answer, Ask};
 use std::alloc::Global;
+use std::cell::Cell;
 use std::process::Abort;
 
 const GREETING: &str = "Queue Sites Call Manager/1.0.0\r\n";
@@ -185,6 +187,105 @@ fn reads_are_numbered(rt: HostRuntime) {
     }
 }
 
+// A sink that takes all, and keeps how many bytes that is.
+#[derive(Drop)]
+struct CountingSink<'a> {
+    taken: &'a Cell<usize>,
+}
+
+impl<'a> Sink for CountingSink<'a> {
+    ghost taken = { λ sink. None };
+
+    ghost failed = { λ sink. false };
+
+    fn write(&mut self, bytes: &[u8]) -> Result<usize, Failed> {
+        self.taken.set(self.taken.get().saturating_add(bytes.len()));
+        Ok(bytes.len())
+    }
+}
+
+// A source that sees how many bytes a sink has taken, and keeps whether these were at each read as many as were due.
+#[derive(Drop)]
+struct SeeingSource<'a> {
+    source: MemorySource<'a>,
+    taken: &'a Cell<usize>,
+    given: usize,
+    is_prompt: bool,
+}
+
+impl<'a> Source for SeeingSource<'a> {
+    ghost left = { λ s. Some s.source.left };
+
+    ghost ended = { λ s. s.source.ended };
+
+    ghost failed = { λ s. s.source.failed };
+
+    fn read(&mut self, piece: &mut [u8]) -> Result<usize, Failed> {
+        self.is_prompt = self.is_prompt && self.taken.get() == due(self.given);
+        match self.source.read(piece) {
+            Ok(count) => {
+                self.given = self.given.saturating_add(count);
+                Ok(count)
+            }
+            Err(failed) => Err(failed),
+        }
+    }
+}
+
+// How many bytes are due once so many of the session's were read: the greeting, and a reply for each message that has come.
+fn due(read: usize) -> usize {
+    let mut written = 0;
+    for (from, bytes) in [(0, 32), (46, 87), (93, 143), (114, 495)] {
+        if from <= read {
+            written = bytes;
+        }
+    }
+    written
+}
+
+// Whether a session is served in pieces of so many bytes by at most so many reads, and all that is due is written before each of them.
+fn is_prompt(rt: &impl Abort, alloc: Global, most: usize, reads: u64) -> bool {
+    let taken = Cell::new(0);
+    let mut reader = SeeingSource {
+        source: MemorySource::failing(SESSION.as_bytes(), most.max(1), reads),
+        taken: &taken,
+        given: 0,
+        is_prompt: true,
+    };
+    let mut writer = CountingSink { taken: &taken };
+    let mut desk = desk(rt, alloc);
+    let served = serve(&(), alloc, &mut reader, &mut writer, login(rt), &mut desk);
+    drop(desk);
+    served == Ok(()) && reader.is_prompt && taken.get() == 551
+}
+
+#[test]
+fn all_that_is_due_is_written_before_each_read(rt: HostRuntime) {
+    // The session has 132 bytes.
+    for (most, reads) in [(1, 132), (2, 66), (46, 3), (47, 3), (100, 2), (1_024, 1)] {
+        assert!(rt; is_prompt(&rt, rt.alloc(), most, reads));
+    }
+}
+
+#[test]
+fn messages_are_not_numbered(rt: HostRuntime) {
+    // One more than there may be reads, in pieces of 1,024 bytes.
+    const MESSAGES: usize = 1_000_001;
+    let alloc = rt.alloc();
+    let mut stream = Vec::new(alloc);
+    for _ in 0..MESSAGES {
+        stream.extend_from_slice(b"x\n\n").expect(&rt, "memory");
+    }
+    let taken = Cell::new(0);
+    let mut reader = MemorySource::new(&stream, 1_024);
+    let mut writer = CountingSink { taken: &taken };
+    let mut desk = desk(&rt, alloc);
+    let served = serve(&(), alloc, &mut reader, &mut writer, login(&rt), &mut desk);
+    drop(desk);
+    // The greeting, and for each message an error of 55 bytes.
+    assert!(rt; served == Ok(()) && taken.get() == 32 + 55 * MESSAGES);
+}
+
 const WANTING: &str = "Response: Error\r\nMessage: Out of memory\r\n\r\n";
 
 // Whether these texts, one behind the other, are the bytes.
@@ -199,12 +300,15 @@ fn is_text(given: &[u8], texts: &[&str]) -> bool {
     rest.is_empty()
 }
 
-// How a session upon an add and a status has ended that lacked memory at most once, as a word. What was written is a front
-// of the text; or the desk lacked memory, the reply tells so, and the session went on.
+// How a session upon an add and a status has ended that lacked memory at most once, as a word. What was written is the greeting
+// and whole replies; or the desk lacked memory, the reply tells so, and the session went on.
 fn end_of(rt: &impl Abort, served: Result<(), ServeFault>, written: &[u8]) -> &'static str {
     let whole = [GREETING, ADDED, REPORT];
     if let Err(fault) = served {
-        assert!(rt; fault == ServeFault::Memory && is_front(written, &whole));
+        let is_greeted = is_text(written, &[GREETING]);
+        assert!(rt;
+            fault == ServeFault::Memory && (is_greeted || is_text(written, &[GREETING, ADDED]))
+        );
         return "fault";
     }
     if is_text(written, &whole) {
@@ -218,7 +322,7 @@ fn end_of(rt: &impl Abort, served: Result<(), ServeFault>, written: &[u8]) -> &'
 }
 
 // Serves a session over a slice, and answers how it ended, what is left of the slice, and what was written behind what a vector
-// held. Its contract is what `serve` tells of a reader and a writer of std's.
+// held. Its contract is what `serve` tells of a reader and a writer of std's, and that the desk is of the same site.
 fn served_over_a_slice<'a>(
     alloc: Global,
     bytes: &'a [u8],
@@ -226,11 +330,13 @@ fn served_over_a_slice<'a>(
     session: Session,
     desk: &mut ReplicaDesk,
 ) -> (Result<(), ServeFault>, &'a [u8], Vec<u8>)
-    ensures { OnOk result.0 (Carries (Some bytes.now) (Some result.1.now)
+    ensures site { desk.new.replica.site ≡ desk.old.replica.site }
+    ensures served { OnOk result.0 (Carries (Some bytes.now) (Some result.1.now)
         (Some held.items) (Some result.2.items) (λ read written. (ended : Bool)
         × IsServed (λ old asked answer new. AnswersAs old.replica asked answer new.replica)
         session desk.old desk.new ended (Some result.1.now) read written)) }
 {
+    a_session_keeps_what_each_answer_keeps::<(), ReplicaDesk, u16>();
     let mut reader = StdSource::new(bytes);
     let mut writer = StdSink::new(held);
     let served = serve(&(), alloc, &mut reader, &mut writer, session, desk);

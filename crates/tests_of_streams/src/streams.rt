@@ -9,7 +9,7 @@ use ami_text::{
 use std::alloc::Global;
 use std::fmt::Debug;
 use std::io;
-use std::io::{Error, ErrorKind, Read, Write};
+use std::io::{BufWriter, Error, ErrorKind, Read, Write};
 use std::process::Abort;
 
 // Checks that a value is the wanted one.
@@ -218,16 +218,26 @@ fn a_sink_hands_what_it_takes_to_its_writer(rt: HostRuntime) {
     assert_bytes(&rt, sink.into_inner().as_slice(), b"abc");
 }
 
-// A device that answers so many errors of a kind, and then moves a byte.
+#[test]
+fn a_sink_sends_what_its_writer_holds_back(rt: HostRuntime) {
+    let writer = BufWriter::new(rt.alloc(), Vec::new(rt.alloc())).expect(&rt, "memory");
+    let mut sink = StdSink::new(writer);
+    assert_same(&rt, &sink.write(b"abc"), &Ok(3));
+    let writer = sink.into_inner();
+    assert_bytes(&rt, writer.get_ref().as_slice(), b"abc");
+}
+
+// A device that answers so many errors of a kind, to reads and writes or to flushes, and else moves a byte.
 #[derive(Drop)]
 struct Faulty {
     errors: u32,
     kind: ErrorKind,
+    at_flush: bool,
 }
 
 impl Faulty {
-    fn answer(&mut self) -> io::Result<()> {
-        if self.errors > 0 {
+    fn answer(&mut self, is_flush: bool) -> io::Result<()> {
+        if self.errors > 0 && self.at_flush == is_flush {
             self.errors -= 1;
             return Err(Error::from(self.kind));
         }
@@ -237,7 +247,7 @@ impl Faulty {
 
 impl Read for Faulty {
     fn read(&mut self, buf: &mut [u8]) -> io::Result<usize> {
-        self.answer()?;
+        self.answer(false)?;
         match buf.first_mut() {
             Some(first) => {
                 *first = b'x';
@@ -250,27 +260,33 @@ impl Read for Faulty {
 
 impl Write for Faulty {
     fn write(&mut self, buf: &[u8]) -> io::Result<usize> {
-        self.answer()?;
+        self.answer(false)?;
         Ok(buf.len().min(1))
     }
 
     fn flush(&mut self) -> io::Result<()> {
-        Ok(())
+        self.answer(true)
     }
 }
 
 // The errors of a device, and what a source or a sink over it answers: an interruption is borne a
 // thousand times, and any other error not once.
-const ANSWERS: [(u32, ErrorKind, Result<usize, Failed>); 3] = [
+const ANSWERS: [(u32, ErrorKind, Result<usize, Failed>); 5] = [
     (999, ErrorKind::Interrupted, Ok(1)),
     (1000, ErrorKind::Interrupted, Err(Failed)),
     (1, ErrorKind::BrokenPipe, Err(Failed)),
+    (1, ErrorKind::WouldBlock, Err(Failed)),
+    (1, ErrorKind::TimedOut, Err(Failed)),
 ];
 
 #[test]
 fn a_reader_that_is_interrupted_is_read_again(rt: HostRuntime) {
     for (errors, kind, want) in ANSWERS {
-        let mut source = StdSource::new(Faulty { errors, kind });
+        let mut source = StdSource::new(Faulty {
+            errors,
+            kind,
+            at_flush: false,
+        });
         assert_same(&rt, &source.read(&mut [0u8; 4]), &want);
         assert_same(&rt, &source.into_inner().errors, &0);
     }
@@ -279,8 +295,29 @@ fn a_reader_that_is_interrupted_is_read_again(rt: HostRuntime) {
 #[test]
 fn a_writer_that_is_interrupted_is_written_to_again(rt: HostRuntime) {
     for (errors, kind, want) in ANSWERS {
-        let mut sink = StdSink::new(Faulty { errors, kind });
+        let mut sink = StdSink::new(Faulty {
+            errors,
+            kind,
+            at_flush: false,
+        });
         assert_same(&rt, &sink.write(b"ab"), &want);
+        assert_same(&rt, &sink.into_inner().errors, &0);
+    }
+}
+
+// The write whose flush fails has given its bytes, so it is the next one that fails.
+#[test]
+fn a_writer_that_is_not_flushed_fails_at_the_next_write(rt: HostRuntime) {
+    for (errors, kind, want) in ANSWERS {
+        let mut sink = StdSink::new(Faulty {
+            errors,
+            kind,
+            at_flush: true,
+        });
+        let Ok(1) = sink.write(b"a") else {
+            rt.panic("the write fails");
+        };
+        assert_same(&rt, &sink.write(b"b"), &want);
         assert_same(&rt, &sink.into_inner().errors, &0);
     }
 }

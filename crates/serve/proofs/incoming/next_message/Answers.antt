@@ -17,13 +17,14 @@ returns-in-Ok-Some-clause-come g c =
 pub returns-in-Err-clause-come : goal.returns-in-Err-clause-come
 returns-in-Err-clause-come g c =
     come-so _ _ _ _ _ (λ stream. Gives stream [] c.pieces.incoming.feed.held × IsWanted _ stream) _
-    (λ stream x. fault-next c.in-Err.fault c.from.result c.pieces.incoming.feed _ _ stream c.from.ensures c.pieces.invariant.feed c.in-Err.ensures.fault x.0)
+    (λ stream x. fault-next c.in-Err.fault c.from.result c.pieces.incoming.feed _ _ stream c.from.ensures c.pieces.invariant.feed c.in-Err.ensures.fault x.0 x.1)
     c.pieces.invariant.come
 
 pub pieces-init : goal.pieces-init
 pieces-init g c = record {
   works = c.requires.reader;
   feed = c.requires.feed;
+  counted = omega arith;
   goes_on = c.requires.goes_on;
   come = come-none _ _ _ c.messages_so_far.ensures.none;
   ahead = omega arith;
@@ -42,6 +43,7 @@ pieces-preserved g c =
     record {
       works = c.in-Ok-true.ensures.works;
       feed = c.in-Ok-true.ensures.feed;
+      counted = omega (arith, c.read_piece.ensures.counted is, c.pieces.invariant.counted);
       goes_on = λ less. c.read_piece.ensures.goes_on is;
       come = piece-came _ _ _ _ left _ _ _ _ laws.more rest.1 short before (held-so _ _ left _ _ _ _ _ is c.read_piece.ensures.come);
       ahead = omega (arith, more.1, left-within held left rest.0, c.pieces.invariant.ahead);

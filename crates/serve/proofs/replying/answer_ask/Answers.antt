@@ -1,4 +1,4 @@
-use Rattle.std.proofs.Common.{◌≡◌, ◌∙◌, inl, refl}
+use Rattle.std.proofs.Common.{◌≡◌, ◌∙◌}
 use Rattle.ami_session.specs.Checks.{answer_reply}
 use Rattle.serve.proofs.AskSteps.{all-said, ask-done, front-said, none-said}
 use Rattle.serve.proofs.replying.answer_ask.Goals as goal
@@ -16,6 +16,4 @@ returns-in-Ok-answer-clause-fault g c =
     front-said g.D.Desk.answers g.D.Desk.refuses _ _ _ _ _ c.deref.result.now c.write.result done c.write.ensures.fault c.write.ensures.begun
 
 pub returns-clause-fault : goal.returns-clause-fault
-returns-clause-fault g c =
-    let text = answer_reply c.args.pending c.in-Ok.answer in
-    inl (none-said g.D.Desk.answers _ _ _ _ text (ask-done g.D.Desk.answers c.args.ask c.args.pending c.in-Ok.answer c.args.desk.now c.ask.new.self text c.in-Ok.ensures.answered refl))
+returns-clause-fault g c = none-said g.D.Desk.answers c.args.ask c.args.pending c.in-Ok.answer c.args.desk.now c.ask.new.self _ c.in-Ok.ensures.answered
