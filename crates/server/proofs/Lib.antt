@@ -1,5 +1,4 @@
 pub mod PlaceLemmas
 pub mod PortRuns
 pub mod SentBytes
-pub mod SessionRuns
 pub mod Sites
