@@ -35,8 +35,10 @@ impl Rope {
     /// Rings once. Only the first 2^40 rings are heard, and none once the rope was let go.
     pub fn pull<R: Wait>(&self, rt: &R) {
         let mut rings = self.rings.lock(rt);
-        rings.count = rings.count.saturating_add(1);
-        self.pulled.notify_all();
+        if !rings.over {
+            rings.count = rings.count.saturating_add(1);
+            self.pulled.notify_all();
+        }
     }
 
     /// Ends the bell once all rings so far are heard.
