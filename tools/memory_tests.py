@@ -1,5 +1,6 @@
-"""Refuses each allocation in turn of what a test does with its memory. The test prints `ready` once it has prepared that, asserts
-itself what was kept or written, and prints a word that tells how it ended. What is told here is that no refusal is passed over."""
+"""Refuses each allocation in turn of what a test does with its memory, the first, the second and so on, until a run makes no more.
+The test prints `ready` once it has prepared that, asserts itself what was kept or written, and prints a word that tells how it ended.
+What is told here is that no refusal is passed over. A test that starts threads doesn't make as many allocations each time."""
 import itertools
 import os
 import sys
@@ -63,6 +64,18 @@ TESTS = [
         whole="whole",
         refused={"fault": "ended it with Memory", "reply": "were replied to as Out of memory"},
     ),
+    MemoryTest(
+        crate="tests_of_workers",
+        name="runs::memory_of_a_run",
+        what="a run of three sites as threads",
+        whole="whole",
+        refused={
+            "no thread": "kept a thread from being started",
+            "no run": "ended the run with Memory",
+            "stopped": "stopped a site's thread with Memory",
+            "unread": "left an audit or a report untold",
+        },
+    ),
 ]
 
 
@@ -77,18 +90,26 @@ def end_of(ran):
     return ran.stdout.decode().splitlines()[1]
 
 
+def ends_of(test, run_refusing, tests):
+    """How a test ends with each of its allocations refused in turn, in their order, but for those that it makes before it is ready."""
+    ends = []
+    for number in itertools.count(1):
+        ran, allocations = run_refusing(number, tests, [test.name])
+        if ran.returncode >= 0 and allocations < number:
+            return ends
+        if ends or is_ready(ran):
+            ends.append(end_of(ran))
+            expect(ends[-1] in test.refused, f"allocation {len(ends)} of {test.what} was refused, and nothing tells so", ran)
+
+
 def run_one(test, run_refusing):
     """Runs a test with each of its allocations refused. Answers a line that tells what was run."""
     tests = f"{folder(test.crate)}/out/{test.crate}_tests"
     if not os.path.exists(tests):
         raise Failed(f"the tests of {test.crate} are not built")
-    whole, allocations = run_refusing(0, tests, [test.name])
+    whole, _ = run_refusing(0, tests, [test.name])
     expect(end_of(whole) == test.whole, f"with all its memory the test does not print {test.whole!r}", whole)
-    runs = [run_refusing(number, tests, [test.name])[0] for number in range(1, allocations + 1)]
-    counted = list(itertools.dropwhile(lambda ran: not is_ready(ran), runs))
-    ends = [end_of(ran) for ran in counted]
-    for number, (ran, end) in enumerate(zip(counted, ends), 1):
-        expect(end in test.refused, f"allocation {number} of {test.what} was refused, and nothing tells so", ran)
+    ends = ends_of(test, run_refusing, tests)
     for end, led_to in test.refused.items():
         expect(end in ends, f"no refused allocation of {test.what} {led_to}", whole)
     told = ", ".join(f"{ends.count(end)} {led_to}" for end, led_to in test.refused.items())

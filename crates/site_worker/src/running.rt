@@ -216,9 +216,9 @@ fn run_all<'s, 'e: 's, R: Threads + Wait + Sync, G: Gate + Send + Drop + 's>(
 /// ends; a gate that doesn't return keeps it from that. Each site has threads of its own: one that
 /// does its asks in their order, with its gate at each, whose turn is the ask's place from 0; one that cuts behind each answered ask and
 /// sends as its plan says; and one for each other site, that takes what comes of it. These have the site's passes 0, 1, and from 2 on by
-/// the others' numbers. A thread that a fault stops gives up the ends of its links, and the bytes of a take that was refused; the others
-/// go on. Faults, in order: 1 `BadSites`, exactly where there are no works, or more than 8; 2 `NoThread`, where a thread can't be started;
-/// those that were started come to their ends first; 3 `Memory` (this project's own).
+/// the others' numbers. A journal may have 1,000,000 steps. A thread that a fault stops gives up the ends of its links, and the bytes of a
+/// take that was refused; the others go on. Faults, in order: 1 `BadSites`, exactly where there are no works, or more than 8; 2 `NoThread`,
+/// where a thread can't be started; those that were started come to their ends first; 3 `Memory` (this project's own).
 pub fn run_sites<R: Threads + Wait + Sync, G: Gate + Send + Drop>(
     rt: &R,
     alloc: Global,

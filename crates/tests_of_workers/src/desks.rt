@@ -3,13 +3,14 @@ ghost use Rattle.std.specs.Prelude.{◌≡◌, ◌+◌, true, vec_len};
 ghost use Rattle.site_journal.specs.Journals.{IsOfSite};
 ghost use Rattle.site_desk.specs.Ports.{HasDoneAll};
 
-use dots::{Interface, Label, Penalty, QueueName, SiteId, Text80};
-use replica::{Command, QueueList, Replica};
+use crate::asks::{add, list, status};
+use dots::SiteId;
+use replica::Replica;
 use site_desk::{CloseFault, DeskPort, Pass, SiteDesk, SiteLedger, close};
 use site_journal::{DecodeFault, DeskFault, Gate, Journaled, Port, Receipt, StepDeed, settle};
 use site_links::{LinkReceiver, pair};
 use site_pumps::{PumpedIn, pump_in};
-use status_report::{Answer, Ask, StatusRequest};
+use status_report::{Answer, Ask, ask};
 use std::alloc::Global;
 use std::marker::Brand;
 use std::process::Abort;
@@ -19,27 +20,21 @@ use std::sync::ledger::Blank;
 use std::thread::Threads;
 use std::{hint, thread};
 
-// The journal of site 0 that knows nothing, of the queue `sales`, in which so many steps may stand.
-fn journal(rt: &impl Abort, alloc: Global, limit: u32) -> Journaled
+// A site that knows nothing, of the queue `sales`.
+fn replica(rt: &impl Abort, alloc: Global, site: u16) -> Replica {
+    let site = SiteId::new(site).expect(rt, "a site");
+    Replica::new(alloc, site, list(rt, alloc))
+}
+
+// The journal of a site, in which so many steps may stand.
+fn journal(rt: &impl Abort, alloc: Global, replica: Replica, limit: u32) -> Journaled
     ensures begun { result.count ≡ 0 }
     ensures site { IsOfSite result.base.site result.base.names result }
 {
-    let name = QueueName::new(b"sales").expect(rt, "a name");
-    let list = QueueList::new(alloc, &[name]).expect(rt, "a list");
-    let site = SiteId::new(0).expect(rt, "a site");
-    let replica = Replica::new(alloc, site, list);
     match Journaled::new(alloc, replica, limit.clamp(1, 1_000_000)) {
         Ok(journal) => journal,
         Err(_) => rt.panic("memory"),
     }
-}
-
-fn status(alloc: Global) -> Ask {
-    Ask::Status(StatusRequest {
-        queue: None,
-        member: None,
-        action_id: dots::Bytes::new(Vec::new(alloc)),
-    })
 }
 
 // A desk over a journal, and its two passes.
@@ -65,7 +60,7 @@ fn desk_of_two<L: SiteLedger>(
     (desk, first, second)
 }
 
-// What close answers, given these passes.
+// The journal of a desk that is closed with both of its passes.
 fn closed<L: SiteLedger>(
     rt: &impl Abort,
     alloc: Global,
@@ -77,6 +72,22 @@ fn closed<L: SiteLedger>(
     passes.push(first).expect(rt, "memory");
     passes.push(second).expect(rt, "memory");
     close(desk, passes).ok().expect(rt, "a journal")
+}
+
+// A desk that isn't closed with one of its two passes, and the pass, which have both come back.
+fn kept_open<L: SiteLedger>(
+    rt: &impl Abort,
+    alloc: Global,
+    desk: SiteDesk<L>,
+    pass: Pass<L>,
+) -> (SiteDesk<L>, Pass<L>) {
+    let mut passes = Vec::new(alloc);
+    passes.push(pass).expect(rt, "memory");
+    let (fault, desk, mut passes) = close(desk, passes).err().expect(rt, "a fault");
+    assert!(rt; fault == CloseFault::WrongPasses && passes.len() == 1);
+    let pass = passes.pop().expect(rt, "a pass");
+    drop(passes);
+    (desk, pass)
 }
 
 // A desk is closed with all of its passes, and not with one of them.
@@ -91,20 +102,16 @@ fn assert_closes<L: SiteLedger>(rt: &impl Abort, alloc: Global, blank: Blank, jo
 {
     let (desk, first, second) = desk_of_two::<L>(rt, alloc, blank, journal);
     assert!(rt; first.ordinal() == 0 && second.ordinal() == 1 && second.seen() == 0);
-    let mut passes = Vec::new(alloc);
-    passes.push(first).expect(rt, "memory");
-    let (fault, desk, mut passes) = close(desk, passes).err().expect(rt, "a fault");
-    assert!(rt; fault == CloseFault::WrongPasses && passes.len() == 1);
-    let first = passes.pop().expect(rt, "a pass");
+    let (desk, first) = kept_open(rt, alloc, desk, first);
     let journal = closed(rt, alloc, desk, first, second);
     assert!(rt; journal.len() == 0);
-    drop(passes);
     drop(journal);
 }
 
 #[test]
 fn a_desk_is_closed_with_all_of_its_passes(rt: HostRuntime) {
-    let journal = journal(&rt, rt.alloc(), 5);
+    let replica = replica(&rt, rt.alloc(), 0);
+    let journal = journal(&rt, rt.alloc(), replica, 5);
     assert_closes::<Brand>(&rt, rt.alloc(), Blank::new(2), journal);
 }
 
@@ -115,7 +122,7 @@ fn asked<L: SiteLedger, R: Abort + Wait>(
     desk: &SiteDesk<L>,
     pass: &mut Pass<L>,
 ) -> Receipt {
-    let receipt = desk.call(rt, pass, &status(alloc));
+    let receipt = desk.call(rt, pass, &Ask::Status(status(alloc)));
     receipt.ok().expect(rt, "a receipt")
 }
 
@@ -145,7 +152,7 @@ fn assert_fills<L: SiteLedger, R: Abort + Wait>(
             .expect(rt, "memory");
     }
     assert!(rt; first.seen() == 19_999 && second.seen() == 20_000);
-    let refused = desk.call(rt, &mut first, &status(alloc));
+    let refused = desk.call(rt, &mut first, &Ask::Status(status(alloc)));
     assert!(rt; refused.err() == Some(DeskFault::JournalFull));
     let journal = closed(rt, alloc, desk, first, second);
     assert!(rt; journal.len() == 20_000);
@@ -157,21 +164,9 @@ fn assert_fills<L: SiteLedger, R: Abort + Wait>(
 
 #[test]
 fn two_passes_fill_a_journal(rt: HostRuntime) {
-    let journal = journal(&rt, rt.alloc(), 20_000);
+    let replica = replica(&rt, rt.alloc(), 0);
+    let journal = journal(&rt, rt.alloc(), replica, 20_000);
     assert_fills::<Brand, HostRuntime>(&rt, rt.alloc(), Blank::new(2), journal);
-}
-
-fn add(rt: &impl Abort, interface: &[u8]) -> Ask {
-    Ask::Command(Command::Add {
-        queue: QueueName::new(b"sales").expect(rt, "a name"),
-        interface: Interface::new(interface).expect(rt, "an interface"),
-        penalty: Penalty::new(0).expect(rt, "a penalty"),
-        paused: false,
-        label: Label {
-            name: Text80::empty(),
-            state: Text80::empty(),
-        },
-    })
 }
 
 // Whether a receipt has a report in which these bytes stand.
@@ -196,7 +191,7 @@ fn added<L: SiteLedger, R: Abort + Wait>(
     pass: &mut Pass<L>,
     interface: &[u8],
 ) -> Vec<Receipt> {
-    let done = desk.call(rt, pass, &add(rt, interface));
+    let done = desk.call(rt, pass, &add(rt, interface, 0));
     let report = asked(rt, alloc, desk, pass);
     assert!(rt; reports(&report, interface));
     let mut receipts = Vec::new(alloc);
@@ -239,7 +234,8 @@ fn assert_adds<L: SiteLedger + Send + Sync, R: Abort + Threads + Wait + Sync>(
 
 #[test]
 fn two_threads_find_what_they_have_added(rt: HostRuntime) {
-    let journal = journal(&rt, rt.alloc(), 20);
+    let replica = replica(&rt, rt.alloc(), 0);
+    let journal = journal(&rt, rt.alloc(), replica, 20);
     assert_adds::<Brand, HostRuntime>(&rt, rt.alloc(), Blank::new(2), journal);
 }
 
@@ -282,7 +278,8 @@ fn looked<L: SiteLedger, R: Abort + Wait>(
         turns: 1_000_000,
         saw: false,
     };
-    let receipt = desk.call_gated(rt, pass, &status(alloc), &mut gate, 0);
+    let asked = Ask::Status(status(alloc));
+    let receipt = desk.call_gated(rt, pass, &asked, &mut gate, 0);
     assert!(rt; receipt.is_ok() && called.load(Ordering::SeqCst));
     drop(receipt);
     gate.saw
@@ -337,7 +334,8 @@ fn assert_excludes<L: SiteLedger + Send + Sync, R: Abort + Threads + Wait + Sync
 
 #[test]
 fn a_gate_is_called_under_the_lock(rt: HostRuntime) {
-    let journal = journal(&rt, rt.alloc(), 20);
+    let replica = replica(&rt, rt.alloc(), 0);
+    let journal = journal(&rt, rt.alloc(), replica, 20);
     assert_excludes::<Brand, HostRuntime>(&rt, rt.alloc(), Blank::new(2), journal);
 }
 
@@ -374,7 +372,8 @@ fn assert_ports<L: SiteLedger, R: Abort + Wait>(
 
 #[test]
 fn a_port_answers_as_its_desk(rt: HostRuntime) {
-    let journal = journal(&rt, rt.alloc(), 2);
+    let replica = replica(&rt, rt.alloc(), 0);
+    let journal = journal(&rt, rt.alloc(), replica, 2);
     assert_ports::<Brand, HostRuntime>(&rt, rt.alloc(), Blank::new(2), journal);
 }
 
@@ -430,6 +429,96 @@ fn assert_pumps<L: SiteLedger, R: Abort + Wait>(
 
 #[test]
 fn a_pump_works_by_its_pass(rt: HostRuntime) {
-    let journal = journal(&rt, rt.alloc(), 5);
+    let replica = replica(&rt, rt.alloc(), 0);
+    let journal = journal(&rt, rt.alloc(), replica, 5);
     assert_pumps::<Brand, HostRuntime>(&rt, rt.alloc(), Blank::new(2), journal);
+}
+
+// The frame in which site 0 says that it has added SIP/1.
+fn frame_of_an_add(rt: &impl Abort, alloc: Global) -> Vec<u8> {
+    let mut first = journal(rt, alloc, replica(rt, alloc, 0), 2);
+    assert!(rt; first.call(0, &add(rt, b"SIP/1", 0)).is_ok());
+    let cut = first.cut(0).ok().expect(rt, "a step");
+    drop(first);
+    let StepDeed::Cut(Some(bytes)) = cut.deed else {
+        rt.panic("another deed");
+    };
+    bytes.into_vec()
+}
+
+// Asserts that a receipt is of a take of these bytes, by this pass and at this position.
+fn assert_took(rt: &impl Abort, receipt: &Receipt, pass: u32, position: u64, bytes: &[u8]) {
+    assert!(rt; receipt.pass == pass && receipt.position == position);
+    let StepDeed::Took(took) = &receipt.deed else {
+        rt.panic("another deed");
+    };
+    assert!(rt; took.as_slice() == bytes);
+}
+
+// The receipt of a take, by the desk itself.
+fn taken<L: SiteLedger, R: Abort + Wait>(
+    rt: &R,
+    alloc: Global,
+    desk: &SiteDesk<L>,
+    pass: &mut Pass<L>,
+    frame: &[u8],
+) -> Receipt {
+    let bytes = Vec::from_slice(alloc, frame).expect(rt, "memory");
+    desk.take(rt, pass, bytes).ok().expect(rt, "a receipt")
+}
+
+// The receipt of a take, by a port of the desk.
+fn taken_by_port<L: SiteLedger, R: Abort + Wait>(
+    rt: &R,
+    alloc: Global,
+    desk: &SiteDesk<L>,
+    pass: &mut Pass<L>,
+    frame: &[u8],
+) -> Receipt {
+    let bytes = Vec::from_slice(alloc, frame).expect(rt, "memory");
+    let mut port = DeskPort::new(desk, pass);
+    port.take(rt, bytes).ok().expect(rt, "a receipt")
+}
+
+// A site that knew SIP/9 takes a frame of another twice, and then shows SIP/1 too. With one of its passes its desk isn't closed.
+fn assert_takes<L: SiteLedger, R: Abort + Wait>(
+    rt: &R,
+    alloc: Global,
+    blank: Blank,
+    journal: Journaled,
+    frame: &[u8],
+)
+    requires name { blank.name ≡ L.name }
+    requires ledger { blank.parts ≡ L.parts }
+    requires two { blank.parts ≡ 2 }
+    requires begun { journal.count ≡ 0 }
+    requires site { IsOfSite L.site L.names journal }
+{
+    let (desk, mut first, mut second) = desk_of_two::<L>(rt, alloc, blank, journal);
+    let took = taken(rt, alloc, &desk, &mut first, frame);
+    assert_took(rt, &took, 0, 0, frame);
+    let again = taken_by_port(rt, alloc, &desk, &mut second, frame);
+    assert_took(rt, &again, 1, 1, frame);
+    let shown = asked(rt, alloc, &desk, &mut first);
+    assert!(rt; shown.position == 2);
+    assert!(rt; reports(&shown, b"Location: SIP/1\r\n"));
+    assert!(rt; reports(&shown, b"Location: SIP/9\r\n"));
+    drop((took, again, shown));
+    let (desk, first) = kept_open(rt, alloc, desk, first);
+    assert!(rt; first.ordinal() == 0 && first.seen() == 3);
+    let journal = closed(rt, alloc, desk, first, second);
+    assert!(rt; journal.len() == 3 && journal.start() == 0);
+    drop(journal);
+}
+
+#[test]
+fn a_desk_takes_frames_of_another_site(rt: HostRuntime) {
+    let alloc = rt.alloc();
+    let frame = frame_of_an_add(&rt, alloc);
+    let mut replica = replica(&rt, alloc, 1);
+    let done = ask(alloc, &mut replica, add(&rt, b"SIP/9", 0));
+    assert!(rt; matches!(done, Answer::Done));
+    drop(done);
+    let journal = journal(&rt, alloc, replica, 5);
+    assert_takes::<Brand, HostRuntime>(&rt, alloc, Blank::new(2), journal, &frame);
 }

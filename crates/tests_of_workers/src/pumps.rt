@@ -1,4 +1,4 @@
-//! Pumps, over a port that hands out numbered frames, and a bell that rings so often.
+//! Pumps, over a port that hands out numbered frames, and a bell that rings so often and adds one to the number each time.
 ghost use Rattle.std.specs.Prelude.{◌≡◌, ◌+◌, ◌≤◌, IfErr, IfOk, None, Some};
 
 use dots::Bytes;
@@ -6,20 +6,22 @@ use site_journal::{Bell, DecodeFault, DeskFault, Port, Receipt, StepDeed};
 use site_links::{LinkReceiver, LinkSender, pair};
 use site_pumps::{Deed, PumpedIn, pump_in, pump_out};
 use std::alloc::Global;
+use std::cell::Cell;
 use std::process::Abort;
 use std::sync::Wait;
 
-// A port whose cuts have the frames 1, 2, 3 and so on, each a byte, and whose frame of all is the byte 0. It takes each frame but the
-// byte 9.
+// A port whose cuts have the number as their frame, a byte, where it isn't that of the last cut, and whose frame of all is the byte 0.
+// It takes each frame but the byte 9.
 #[derive(Drop)]
-struct NumberedPort {
+struct NumberedPort<'a> {
     alloc: Global,
-    next: u8,
+    number: &'a Cell<u8>,
+    last: u8,
     steps: u64,
     fault: Option<DeskFault>,
 }
 
-impl NumberedPort {
+impl<'a> NumberedPort<'a> {
     // One step more. The one fault is that no number is left.
     fn step(&mut self, deed: StepDeed) -> Result<Receipt, DeskFault>
         ensures position { IfOk result (λ receipt. receipt.position ≡ self.old.steps) }
@@ -55,7 +57,7 @@ impl NumberedPort {
     }
 }
 
-impl<R> Port<R> for NumberedPort {
+impl<'a, R> Port<R> for NumberedPort<'a> {
     ghost use Rattle.std.specs.Prelude.{◌≡◌, ◌+◌};
 
     ghost makes = { λ old receipt new.
@@ -70,10 +72,14 @@ impl<R> Port<R> for NumberedPort {
     ghost fault = { λ port. port.fault };
 
     fn cut(&mut self, _rt: &R) -> Result<Receipt, DeskFault> {
-        let Ok(bytes) = Vec::from_slice(self.alloc, &[self.next]) else {
+        let number = self.number.get();
+        if number == self.last {
+            return self.step(StepDeed::Cut(None));
+        }
+        let Ok(bytes) = Vec::from_slice(self.alloc, &[number]) else {
             return Err(self.refuse(DeskFault::Memory));
         };
-        self.next = self.next.wrapping_add(1);
+        self.last = number;
         self.step(StepDeed::Cut(Some(Bytes::new(bytes))))
     }
 
@@ -99,34 +105,39 @@ impl<R> Port<R> for NumberedPort {
     }
 }
 
-// A bell that rings so often.
+// A bell that rings so often, and adds one to a number before each ring and before its end.
 #[derive(Drop)]
-struct CountedBell {
-    left: u8,
-    rings: u64,
+struct AddingBell<'a> {
+    number: &'a Cell<u8>,
+    most: u8,
+    rings: u8,
     has_ended: bool,
 }
 
-impl<R> Bell<R> for CountedBell {
+impl<'a, R> Bell<R> for AddingBell<'a> {
     ghost rings = { λ bell. bell.rings };
 
     ghost ended = { λ bell. bell.has_ended };
 
     fn wait(&mut self, _rt: &R) -> bool {
-        if self.has_ended || self.left == 0 || self.rings >= 1_099_511_627_776 {
+        if self.has_ended {
+            return false;
+        }
+        self.number.set(self.number.get().wrapping_add(1));
+        if self.rings >= self.most {
             self.has_ended = true;
             return false;
         }
-        self.left -= 1;
         self.rings += 1;
         true
     }
 }
 
-fn port(alloc: Global) -> NumberedPort {
+fn port<'a>(alloc: Global, number: &'a Cell<u8>) -> NumberedPort<'a> {
     NumberedPort {
         alloc,
-        next: 1,
+        number,
+        last: 0,
         steps: 0,
         fault: None,
     }
@@ -150,9 +161,11 @@ fn assert_sent<R: Abort + Wait>(rt: &R, alloc: Global, plan: &[Deed], rings: u8,
     let (first, mut one) = link(rt, alloc);
     let (second, mut other) = link(rt, alloc);
     let mut links = [first, second];
-    let mut port = port(alloc);
-    let mut bell = CountedBell {
-        left: rings,
+    let number = Cell::new(0);
+    let mut port = port(alloc, &number);
+    let mut bell = AddingBell {
+        number: &number,
+        most: rings,
         rings: 0,
         has_ended: false,
     };
@@ -182,7 +195,9 @@ fn pumped<R: Abort + Wait>(rt: &R, alloc: Global, items: &[u8]) -> PumpedIn {
         assert!(rt; sender.send(rt, bytes).is_ok());
     }
     drop(sender);
-    pump_in(rt, alloc, &mut port(alloc), &mut receiver)
+    let number = Cell::new(0);
+    let mut port = port(alloc, &number);
+    pump_in(rt, alloc, &mut port, &mut receiver)
 }
 
 #[test]

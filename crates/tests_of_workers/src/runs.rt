@@ -1,33 +1,20 @@
 //! Sites as threads: that they run at once, and what they come to.
 ghost use Rattle.std.specs.Prelude.{◌≡◌};
 
-use dots::{Bytes, Interface, Label, Penalty, QueueName, Text80};
-use replica::{Command, QueueList};
-use site_audit::audit;
+use crate::asks::{add, list, sales, status};
+use replica::Command;
 use site_worker::{
-    Deed, Gate, Journaled, LinkPlan, RunFault, SiteEnd, SiteWork, run_sites, settle,
+    AuditFault, Deed, DeskFault, Gate, Journaled, LinkPlan, Receipt, RunFault, SiteEnd, SiteWork,
+    StepDeed, audit, run_sites, settle,
 };
 use sites_world::World;
-use status_report::{Ask, StatusRequest, report};
+use status_report::{Ask, report};
 use std::alloc::Global;
 use std::process::Abort;
 use std::sync::Wait;
 use std::sync::atomic::{AtomicBool, Ordering};
 use std::thread;
 use std::thread::Threads;
-
-// The list of the queue `sales`.
-fn list(rt: &impl Abort, alloc: Global) -> QueueList {
-    QueueList::new(alloc, &[sales(rt)]).expect(rt, "a list")
-}
-
-fn status(alloc: Global) -> StatusRequest {
-    StatusRequest {
-        queue: None,
-        member: None,
-        action_id: Bytes::new(Vec::new(alloc)),
-    }
-}
 
 // Says at the first ask that it is called, and then waits for the other gate's word for at most so many turns.
 #[derive(Drop)]
@@ -117,54 +104,88 @@ Event: QueueMember\r\nQueue: sales\r\nName: SIP/2\r\nLocation: SIP/2\r\nStateInt
 Penalty: 2\r\nPaused: 0\r\nPausedReason: \r\n\r\n\
 Event: QueueStatusComplete\r\nEventList: Complete\r\nListItems: 4\r\n\r\n";
 
-// A gate that does nothing.
+// A gate of a site that expects the turns 0, 1 and so on, and counts those that came so.
 #[derive(Drop)]
-struct OpenGate;
-
-impl Gate for OpenGate {
-    ghost called = { λ old turn new. new ≡ old };
-
-    fn inside(&mut self, _turn: u64) {}
+struct TurnsGate {
+    site: u8,
+    turns: u64,
 }
 
-fn sales(rt: &impl Abort) -> QueueName {
-    QueueName::new(b"sales").expect(rt, "a name")
-}
+impl Gate for TurnsGate {
+    ghost called = { λ old turn new. new.site ≡ old.site };
 
-// The work of a site that adds a member with this penalty and counts a call, with a plan of all deeds.
-fn adding(rt: &impl Abort, alloc: Global, interface: &[u8], penalty: u32) -> SiteWork<OpenGate> {
-    let add = Ask::Command(Command::Add {
-        queue: sales(rt),
-        interface: Interface::new(interface).expect(rt, "an interface"),
-        penalty: Penalty::new(penalty).expect(rt, "a penalty"),
-        paused: false,
-        label: Label {
-            name: Text80::empty(),
-            state: Text80::empty(),
-        },
-    });
-    let mut asks = Vec::new(alloc);
-    asks.push(add).expect(rt, "memory");
-    asks.push(Ask::Command(Command::Completed { queue: sales(rt) }))
-        .expect(rt, "memory");
-    let mut deeds = Vec::new(alloc);
-    for deed in [Deed::Lose, Deed::Twice, Deed::Hold, Deed::Deliver] {
-        deeds.push(deed).expect(rt, "memory");
+    fn inside(&mut self, turn: u64) {
+        if turn == self.turns {
+            self.turns = turn.wrapping_add(1);
+        }
     }
+}
+
+// The work of a site with these asks and these deeds.
+fn work(
+    rt: &impl Abort,
+    alloc: Global,
+    site: u8,
+    asks: Vec<Ask>,
+    deeds: &[Deed],
+) -> SiteWork<TurnsGate> {
+    let deeds = Vec::from_slice(alloc, deeds).expect(rt, "memory");
     SiteWork {
         asks,
         plan: LinkPlan::new(deeds),
-        gate: OpenGate,
+        gate: TurnsGate { site, turns: 0 },
     }
 }
 
-// Asserts what a site ends with that had two asks, of three sites.
-fn assert_end(rt: &impl Abort, alloc: Global, end: &SiteEnd<OpenGate>) {
-    assert!(rt; end.fault.is_none() && end.receipts.len() == 4 && end.receipts[0].len() == 2);
+// The works of three sites, each of which adds a member with its number for a penalty, and counts a call; all deeds are in its plan.
+fn works_of_three(rt: &impl Abort, alloc: Global) -> Vec<SiteWork<TurnsGate>> {
+    let deeds = [Deed::Lose, Deed::Twice, Deed::Hold, Deed::Deliver];
+    let mut works = Vec::new(alloc);
+    for (site, interface) in [(0, b"SIP/0"), (1, b"SIP/1"), (2, b"SIP/2")] {
+        let mut asks = Vec::new(alloc);
+        asks.push(add(rt, interface, u32::from(site)))
+            .expect(rt, "memory");
+        asks.push(Ask::Command(Command::Completed { queue: sales(rt) }))
+            .expect(rt, "memory");
+        works
+            .push(work(rt, alloc, site, asks, &deeds))
+            .expect(rt, "memory");
+    }
+    works
+}
+
+// Asserts that each of these lists has takes of one other site, whose number is the eighth byte of a frame.
+fn assert_takes(rt: &impl Abort, lists: &[Vec<Receipt>], others: &[u8]) {
+    for (list, other) in lists.iter().zip(others) {
+        for receipt in list.as_slice() {
+            let StepDeed::Took(frame) = &receipt.deed else {
+                rt.panic("another deed");
+            };
+            assert!(rt; frame.as_slice().get(7).copied() == Some(*other));
+        }
+    }
+}
+
+// Asserts what a site ends with that had two asks, of three sites: each ask is a cut, and there are one more and a frame of all.
+fn assert_end(rt: &impl Abort, end: &SiteEnd<TurnsGate>, site: u8, others: &[u8]) {
+    assert!(rt; end.fault.is_none() && end.gate.site == site && end.gate.turns == 2);
+    assert!(rt; end.receipts.len() == 4);
+    assert!(rt; end.receipts[0].len() == 2 && end.receipts[1].len() == 4);
+    let lists = end.receipts.get(2..).expect(rt, "lists");
+    assert_takes(rt, lists, others);
     assert!(rt; settle(&end.journal, end.receipts.as_slice()).is_ok());
-    let shown = report(alloc, end.journal.replica(), &status(alloc)).expect(rt, "memory");
-    assert!(rt; shown.as_slice() == REPORT.as_bytes());
-    drop(shown);
+}
+
+// Whether there is memory for the reports of journals, each of which then is what sites show that came to the same.
+fn is_reported(rt: &impl Abort, alloc: Global, journals: &[Journaled]) -> bool {
+    for journal in journals {
+        let Ok(shown) = report(alloc, journal.replica(), &status(alloc)) else {
+            return false;
+        };
+        assert!(rt; shown.as_slice() == REPORT.as_bytes());
+        drop(shown);
+    }
+    true
 }
 
 // Asserts that journals are one run of events, which lead each site of a world to its journal's report.
@@ -184,21 +205,22 @@ fn assert_one_run(rt: &impl Abort, alloc: Global, journals: &[Journaled]) {
     drop(events);
 }
 
+// Three sites, and of each the others.
+const SITES: [(u8, [u8; 2]); 3] = [(0, [1, 2]), (1, [0, 2]), (2, [0, 1])];
+
 #[test]
 fn sites_come_to_the_same_whatever_is_lost(rt: HostRuntime) {
     let alloc = rt.alloc();
-    let mut works = Vec::new(alloc);
-    for (interface, penalty) in [(b"SIP/0", 0), (b"SIP/1", 1), (b"SIP/2", 2)] {
-        let work = adding(&rt, alloc, interface, penalty);
-        works.push(work).expect(&rt, "memory");
-    }
+    let works = works_of_three(&rt, alloc);
     let ends = run_sites(&rt, alloc, &list(&rt, alloc), works).expect(&rt, "ends");
     assert!(rt; ends.len() == 3);
     let mut journals = Vec::new(alloc);
     for end in ends {
-        assert_end(&rt, alloc, &end);
+        let (site, others) = SITES.get(journals.len()).expect(&rt, "three sites");
+        assert_end(&rt, &end, *site, others);
         journals.push(end.journal).expect(&rt, "memory");
     }
+    assert!(rt; is_reported(&rt, alloc, journals.as_slice()));
     assert_one_run(&rt, alloc, journals.as_slice());
     drop(journals);
 }
@@ -211,12 +233,9 @@ fn fault_of<R: Abort + Threads + Wait + Sync>(
 ) -> Option<RunFault> {
     let mut works = Vec::new(alloc);
     for _ in 0..sites {
-        let work = SiteWork {
-            asks: Vec::new(alloc),
-            plan: LinkPlan::new(Vec::new(alloc)),
-            gate: OpenGate,
-        };
-        works.push(work).expect(rt, "memory");
+        works
+            .push(work(rt, alloc, 0, Vec::new(alloc), &[]))
+            .expect(rt, "memory");
     }
     run_sites(rt, alloc, &list(rt, alloc), works).err()
 }
@@ -227,4 +246,107 @@ fn one_to_eight_sites_run(rt: HostRuntime) {
     assert!(rt; fault_of(&rt, alloc, 0) == Some(RunFault::BadSites));
     assert!(rt; fault_of(&rt, alloc, 9) == Some(RunFault::BadSites));
     assert!(rt; fault_of(&rt, alloc, 1).is_none() && fault_of(&rt, alloc, 8).is_none());
+}
+
+// The work of a site that adds a member, and treats all of its frames alike.
+fn sending(rt: &impl Abort, alloc: Global, interface: &[u8], deed: Deed) -> SiteWork<TurnsGate> {
+    let mut asks = Vec::new(alloc);
+    asks.push(add(rt, interface, 0)).expect(rt, "memory");
+    work(rt, alloc, 0, asks, &[deed])
+}
+
+// Asserts how often the second of two sites takes a frame of the first, which treats its one cut so, and the first one of the second,
+// whose one cut is lost.
+fn assert_sends<R: Abort + Threads + Wait + Sync>(rt: &R, alloc: Global, deed: Deed, takes: usize) {
+    let mut works = Vec::new(alloc);
+    works
+        .push(sending(rt, alloc, b"SIP/0", deed))
+        .expect(rt, "memory");
+    works
+        .push(sending(rt, alloc, b"SIP/1", Deed::Lose))
+        .expect(rt, "memory");
+    let ends = run_sites(rt, alloc, &list(rt, alloc), works).expect(rt, "ends");
+    assert!(rt; ends.len() == 2);
+    assert!(rt; ends[0].receipts.len() == 3 && ends[1].receipts.len() == 3);
+    assert!(rt; ends[0].receipts[2].len() == 1 && ends[1].receipts[2].len() == takes);
+    drop(ends);
+}
+
+#[test]
+fn each_site_sends_by_its_own_plan(rt: HostRuntime) {
+    use Deed::{Deliver, Hold, Lose, Twice};
+    let alloc = rt.alloc();
+    for (deed, takes) in [(Deliver, 2), (Lose, 1), (Twice, 3), (Hold, 2)] {
+        assert_sends(&rt, alloc, deed, takes);
+    }
+}
+
+// Asserts that a site's receipts settle its journal, which is put behind others, whatever it lacked memory for. Whether it did.
+fn is_stopped(rt: &impl Abort, end: SiteEnd<TurnsGate>, journals: &mut Vec<Journaled>) -> bool {
+    assert!(rt; end.receipts.len() == 4);
+    assert!(rt; settle(&end.journal, end.receipts.as_slice()).is_ok());
+    let fault = end.fault;
+    assert!(rt; matches!(fault, None | Some(DeskFault::Memory)));
+    journals.push(end.journal).expect(rt, "memory");
+    fault.is_some()
+}
+
+// Whether there is memory for an audit, which then tells that journals are one run.
+fn is_audited(rt: &impl Abort, alloc: Global, journals: &[Journaled]) -> bool {
+    match audit(alloc, journals) {
+        Ok(events) => {
+            drop(events);
+            true
+        }
+        Err(fault) => {
+            assert!(rt; fault == AuditFault::Memory);
+            false
+        }
+    }
+}
+
+// How a run of three sites has ended that lacked memory at most once, as a word: its journals settle and are one run, and where no site
+// has a fault all show the same.
+fn end_of(
+    rt: &impl Abort,
+    alloc: Global,
+    ends: Vec<SiteEnd<TurnsGate>>,
+    journals: &mut Vec<Journaled>,
+) -> &'static str {
+    let mut has_fault = false;
+    for end in ends {
+        if is_stopped(rt, end, journals) {
+            has_fault = true;
+        }
+    }
+    assert!(rt; journals.len() == 3);
+    if !is_audited(rt, alloc, journals.as_slice()) {
+        return "unread";
+    }
+    if has_fault {
+        return "stopped";
+    }
+    if is_reported(rt, alloc, journals.as_slice()) {
+        "whole"
+    } else {
+        "unread"
+    }
+}
+
+// Runs three sites, and prints how that ended; tools/memory_tests.py runs this test with each allocation refused in turn.
+#[test]
+fn memory_of_a_run(rt: HostRuntime) {
+    let alloc = rt.alloc();
+    let list = list(&rt, alloc);
+    let works = works_of_three(&rt, alloc);
+    let mut journals = Vec::with_capacity(alloc, 3).expect(&rt, "memory");
+    assert!(rt; println!(rt; "ready").is_ok());
+    let end = match run_sites(&rt, alloc, &list, works) {
+        Ok(ends) => end_of(&rt, alloc, ends, &mut journals),
+        Err(RunFault::NoThread) => "no thread",
+        Err(RunFault::Memory) => "no run",
+        Err(RunFault::BadSites) => rt.panic("three sites"),
+    };
+    assert!(rt; println!(rt; "{end}").is_ok());
+    drop(journals);
 }
