@@ -48,7 +48,7 @@ struct ServeWords<'a> {
 
 // The words of a command line that is right.
 #[derive(Drop)]
-enum Words<'a> {
+enum CommandWords<'a> {
     Script(ScriptWords<'a>),
     Serve(ServeWords<'a>),
 }
@@ -71,8 +71,8 @@ pub fn read_command_line<R: Env + AllocGlobal + Print + Eprint>(rt: &R) -> io::R
         Err(_) => return wrong_words(rt, "the arguments are no text"),
     };
     match right_words(alloc, words.as_slice()) {
-        Ok(Words::Script(words)) => script_request(rt, &words),
-        Ok(Words::Serve(words)) => serve_request(rt, &words),
+        Ok(CommandWords::Script(words)) => script_request(rt, &words),
+        Ok(CommandWords::Serve(words)) => serve_request(rt, &words),
         Err(error) if error.kind() == ErrorKind::OutOfMemory => out_of_memory(rt),
         Err(error) => {
             error.print(rt)?;
@@ -95,10 +95,10 @@ fn words<R: Env + AllocGlobal>(rt: &R) -> io::Result<Vec<String>> {
 }
 
 // The words of a command line that is right.
-fn right_words<'a>(alloc: Global, words: &'a [String]) -> Result<Words<'a>, Error> {
+fn right_words<'a>(alloc: Global, words: &'a [String]) -> Result<CommandWords<'a>, Error> {
     let matches = command(alloc)?.try_get_matches_from(words)?;
     if let Some(serve) = matches.subcommand_matches("serve") {
-        return Ok(Words::Serve(serve_words(alloc, serve)?));
+        return Ok(CommandWords::Serve(serve_words(alloc, serve)?));
     }
     let mut sites = 0;
     let mut queues = Vec::new(alloc);
@@ -106,7 +106,7 @@ fn right_words<'a>(alloc: Global, words: &'a [String]) -> Result<Words<'a>, Erro
         sites = script.get_one::<u16>("SITES").unwrap_or(0);
         queues = queues_of(alloc, script)?;
     }
-    Ok(Words::Script(ScriptWords { sites, queues }))
+    Ok(CommandWords::Script(ScriptWords { sites, queues }))
 }
 
 fn serve_words<'a>(alloc: Global, serve: &ArgMatches<'a>) -> Result<ServeWords<'a>, AllocError> {
