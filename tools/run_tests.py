@@ -1,7 +1,7 @@
 """Runs what must pass, and tells at the end what was run and how long each part of it took.
 
     ./test                     the whole gate, the program from the command line, the cases, sites that work on what is drawn by
-                               lot, and tests with each allocation refused
+                               lot, the server, and tests with each allocation refused
     ./test CRATE..             what a change of these crates can break: layout, proofs, tests and stored runs of these and
                                of the crates that stand on them, over the work that earlier checks kept, and the
                                must-fail edits of these
@@ -22,6 +22,7 @@ import gate
 import limit_tests
 import memory_tests
 import program_tests
+import server_tests
 import site_tests
 from crates import TOP, all_crates, folder, is_program, read, stored_words, with_those_above
 
@@ -85,6 +86,10 @@ def run_sites(parts):
     parts.run("sites that work on what is drawn by lot", part_of(site_tests.run_all))
 
 
+def run_server(parts):
+    parts.run("the server, and clients of it", part_of(server_tests.run_all))
+
+
 def run_without_memory(parts, crates):
     if any(test.crate in crates for test in memory_tests.TESTS):
         parts.run("tests with each allocation refused", part_of(lambda: memory_tests.run_all(crates)))
@@ -106,6 +111,7 @@ def whole():
         run_cases(parts)
         run_at_limits(parts)
         run_sites(parts)
+        run_server(parts)
         run_without_memory(parts, all_crates())
     print("\n".join(parts.lines))
     if not parts.has_failed and clean and head:
@@ -171,6 +177,8 @@ def of_crates(names, is_program_changed=False, are_cases_changed=False):
         run_at_limits(parts, programs)
     if not parts.has_failed and "site_runs" in changed:
         run_sites(parts)
+    if not parts.has_failed and (is_program_changed or PROGRAM in changed):
+        run_server(parts)
     if not parts.has_failed:
         run_without_memory(parts, changed)
     print("\n".join(parts.lines))
