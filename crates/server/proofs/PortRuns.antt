@@ -37,8 +37,8 @@ stopped {L = L} p q old cause stop was = ⊎_elim
 -- a port that has worked
 pub counted_work : {L : Type 0} (p q : CountedPort (DeskPort L)) (receipts : List Receipt) (fault : Option DeskFault)
     → PortWork (λ (old : CountedPort (DeskPort L)) receipt (new : CountedPort (DeskPort L)). MakesByPass (lent_pass old.port) receipt (lent_pass new.port))
-        (λ (old : CountedPort (DeskPort L)) cause (new : CountedPort (DeskPort L)). RefusesByPass (lent_pass old.port) cause (lent_pass new.port) ⊎ ((cause ≡ JournalFull) × (new.port ≡ old.port)))
-        p receipts fault q
+    (λ (old : CountedPort (DeskPort L)) cause (new : CountedPort (DeskPort L)). RefusesByPass (lent_pass old.port) cause (lent_pass new.port) ⊎ ((cause ≡ JournalFull) × (new.port ≡ old.port)))
+    p receipts fault q
     → IsSamePass (lent_pass p.port) (lent_pass q.port)
 counted_work p q receipts None work = counted_run p q receipts work
 counted_work p q receipts (Some cause) work = stopped work.0 q (lent_pass p.port) cause work.2 (counted_run p work.0 receipts work.1)

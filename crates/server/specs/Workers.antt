@@ -1,5 +1,5 @@
 -- The passes of a site's threads.
-use Rattle.std.specs.Prelude.{ℕ, ◌≡◌, List}
+use Rattle.std.specs.Prelude.{◌≡◌, List}
 use Rattle.site_desk.specs.Passes.{PassState}
 use Rattle.server.specs.Places.{AtEach}
 

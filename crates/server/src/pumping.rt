@@ -65,7 +65,9 @@ pub(crate) fn send_news<L: SiteLedger, R: Wait + Clock>(
     let mut again = false;
     for _ in rt.forever() {
         let links = links.as_mut_slice();
-        let Pumped { receipts, fault } = send_by(rt, alloc, &site.desk, &mut pass, links, &mut bell);
+        let Pumped { receipts, fault } = send_by(
+            rt, alloc, &site.desk, &mut pass, links, &mut bell,
+        );
         let Some(fault) = fault else {
             break;
         };

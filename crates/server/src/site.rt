@@ -52,12 +52,7 @@ pub(crate) struct Site<L: SiteLedger> {
 
 // Starts all threads of a site, and joins them: first those that answer, upon which the site's bell ends, and then the others. Where one
 // can't be started no site begins, and those that were started end first.
-fn run_workers<
-    's,
-    'e: 's,
-    L: SiteLedger + Send + Sync,
-    R: Threads + Wait + Clock + Eprint + Sync,
->(
+fn run_workers<'s, 'e: 's, L: SiteLedger + Send + Sync, R: Threads + Wait + Clock + Eprint + Sync>(
     scope: &'s Scope<'s, &'e ()>,
     rt: &'s R,
     alloc: Global,

@@ -2,7 +2,8 @@
 use crate::clients::{
     Exchange, GREETING, LOGIN, LOGOFF, connected, ends, free_port, list, served, settings, talks,
 };
-use server::LAST_PORT;
+use std::io;
+use std::io::{ErrorKind, Write};
 use std::net::{Net, TcpListener, TcpStream};
 use std::process::Abort;
 use std::sync::Wait;
@@ -15,6 +16,11 @@ use std::time::{Clock, Duration};
 const SHORT: u64 = 300;
 
 const LONG: u64 = 900;
+
+// How long a client waits to write, in seconds, and how often it asks at most.
+const PATIENCE: u64 = 20;
+
+const ASKS: u32 = 100_000;
 
 // A login that isn't a whole message yet.
 const HALF_LOGIN: Exchange = ("Action: Login\r\nUsername: admin\r\n", "");
@@ -87,4 +93,52 @@ fn silent_clients_lose_their_slots(rt: HostRuntime) {
     assert_times(&rt, 24_460, true, &[GREETING, HALF_LOGIN], false);
     assert_times(&rt, 24_480, false, &[GREETING, LOGIN], false);
     assert_times(&rt, 24_500, true, &[GREETING, LOGIN], true);
+}
+
+// Asks for a report, which has the ActionID three times.
+fn asks_at_length(stream: &TcpStream) -> io::Result<()> {
+    let mut writer = stream;
+    writer.write_all(b"Action: QueueStatus\r\nActionID: ")?;
+    writer.write_all(&[b'a'; 1_000])?;
+    writer.write_all(b"\r\n\r\n")
+}
+
+// Asks for one report after another and reads none, until the stream is given up. Whether that came of the server.
+fn reads_nothing<R: Net<Listener = TcpListener, Stream = TcpStream>>(
+    rt: &R,
+    port: u16,
+    over: &AtomicBool,
+) -> bool {
+    let Some(stream) = connected(rt, port, over) else {
+        return false;
+    };
+    let patience = Some(Duration::from_secs(PATIENCE));
+    if !talks(&stream, &[GREETING, LOGIN]) || stream.set_write_timeout(patience).is_err() {
+        return false;
+    }
+    for _ in 0..ASKS {
+        if let Err(error) = asks_at_length(&stream) {
+            return error.kind() != ErrorKind::WouldBlock;
+        }
+    }
+    false
+}
+
+#[test]
+fn a_client_that_reads_nothing_is_given_up(rt: HostRuntime) {
+    let alloc = rt.alloc();
+    let port = free_port(&rt, 24_520, 1);
+    let mut settings = settings(&rt, 1, port);
+    settings.session.write = Duration::from_millis(SHORT);
+    let list = list(&rt, alloc);
+    let over = AtomicBool::new(false);
+    let (shared, settings, list, over) = (&rt, &settings, &list, &over);
+    let (ended, given_up) = join(
+        shared,
+        || served(shared, alloc, settings, list, 1, over),
+        || reads_nothing(shared, port, over),
+    );
+    assert!(&rt; given_up);
+    assert!(&rt; ended.is_ok());
+    drop(ended);
 }
