@@ -149,7 +149,10 @@ fn login_word<'a>(alloc: Global, name: &'a str, help: &'a str) -> Arg<'a> {
 }
 
 fn option<'a>(alloc: Global, name: &'a str, value: &'a str, help: &'a str) -> Arg<'a> {
-    Arg::new(alloc, name).long(name).value_name(value).help(help)
+    Arg::new(alloc, name)
+        .long(name)
+        .value_name(value)
+        .help(help)
 }
 
 fn queues<'a>(alloc: Global) -> Arg<'a> {
@@ -169,7 +172,12 @@ fn script<'a>(alloc: Global) -> Result<Command<'a>, AllocError> {
 
 fn serve<'a>(alloc: Global) -> Result<Command<'a>, AllocError> {
     let bind = option(alloc, "bind", "ADDRESS", "The address that is listened on");
-    let idle = option(alloc, "idle", "SECONDS", "How long a client may be silent; 0 for ever");
+    let idle = option(
+        alloc,
+        "idle",
+        "SECONDS",
+        "How long a client may be silent; 0 for ever",
+    );
     Command::new(alloc, "serve")
         .about("Serves Manager clients, each site at a port of its own")
         .after_help(SERVE_EXAMPLE)

@@ -37,9 +37,7 @@ fn run<
         + Wait
         + Clock
         + Sync,
->(
-    rt: &R,
-) -> io::Result<Exit> {
+>(rt: &R) -> io::Result<Exit> {
     match read_command_line(rt)? {
         Request::Script(sites, list) => exit_of(rt, run_input(rt, sites, &list)),
         Request::Serve(settings, list) => serve_all(rt, &settings, &list),
@@ -80,11 +78,7 @@ fn serve_all<
         + Wait
         + Clock
         + Sync,
->(
-    rt: &R,
-    settings: &ServerSettings,
-    list: &QueueList,
-) -> io::Result<Exit> {
+>(rt: &R, settings: &ServerSettings, list: &QueueList) -> io::Result<Exit> {
     let ServerSettings { sites, port, .. } = settings;
     if *sites < 1 || *sites > MOST_SERVED_SITES || *port < 1 || *port > LAST_PORT {
         eprintln!(rt; "queue_sites: bad number of sites, or bad port")?;

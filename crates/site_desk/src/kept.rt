@@ -26,8 +26,7 @@ pub(crate) struct Kept<L: SiteLedger> {
     ghost counted: { journal.count ≡ book.total },
     ghost of_site: { IsOfSite L.site L.names journal },
     ghost limited: { journal.limit ≡ L.limit },
-    ghost begun: { journal.start ≡ 0 → IsSameSite L.base journal.base }
-        by { begun-prop journal.start L.base journal.base },
+    ghost begun: { journal.start ≡ 0 → IsSameSite L.base journal.base } by { begun-prop journal.start L.base journal.base },
 }
 
 // The receipt of a step that a pass has done at this position, which is counted.

@@ -2,7 +2,9 @@
 use ami_text::StdSink;
 use dots::{QueueName, Text80};
 use replica::QueueList;
-use server::{LAST_PORT, MOST_SERVED_SITES, ServeSitesFault, ServerSettings, SessionSettings, serve_sites};
+use server::{
+    LAST_PORT, MOST_SERVED_SITES, ServeSitesFault, ServerSettings, SessionSettings, serve_sites,
+};
 use site_journal::Journaled;
 use std::alloc::Global;
 use std::io;

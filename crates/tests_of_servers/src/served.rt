@@ -106,8 +106,12 @@ fn the_log_tells_who_listens(rt: HostRuntime) {
     settings.address = Ipv4Addr::new(127, 0, 0, 2);
     let (ended, log) = served_without_clients(&rt, alloc, &settings, 10);
     assert!(&rt; ended.is_ok_and(|journals| journals.len() == 2));
-    let lines = format!(in alloc; "listening 127.0.0.2:{}\nlistening 127.0.0.2:{}\n", port, port + 1)
-        .expect(&rt, "memory");
+    let lines = format!(in alloc;
+        "listening 127.0.0.2:{}\nlistening 127.0.0.2:{}\n",
+        port,
+        port + 1
+    )
+    .expect(&rt, "memory");
     assert!(&rt; log.as_slice() == lines.as_bytes());
     // The second line fails.
     let (ended, log) = served_without_clients(&rt, alloc, &settings, 1);

@@ -2,15 +2,14 @@
 use crate::clients::{
     Exchange, GREETING, LOGIN, LOGOFF, connected, ends, free_port, list, served, settings, talks,
 };
-use std::io;
 use std::io::{ErrorKind, Write};
 use std::net::{Net, TcpListener, TcpStream};
 use std::process::Abort;
 use std::sync::Wait;
 use std::sync::atomic::AtomicBool;
-use std::thread;
 use std::thread::{Threads, join};
 use std::time::{Clock, Duration};
+use std::{io, thread};
 
 // In milliseconds: what a client may take for its first message or be silent, and what one is silent that takes too long.
 const SHORT: u64 = 300;
@@ -48,13 +47,7 @@ fn ends_silent<R: Net<Listener = TcpListener, Stream = TcpStream> + Clock>(
 
 // Serves one client that is silent behind these exchanges; it may take a short time for its first message or be silent for one, but not
 // both. Whether its stream ends as it must.
-fn assert_times<R>(
-    rt: &R,
-    base: u16,
-    first_message: bool,
-    exchanges: &[Exchange],
-    goes_on: bool,
-)
+fn assert_times<R>(rt: &R, base: u16, first_message: bool, exchanges: &[Exchange], goes_on: bool)
 where
     R: Net<Listener = TcpListener, Stream = TcpStream>
         + Abort

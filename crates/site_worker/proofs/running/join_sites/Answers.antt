@@ -23,9 +23,9 @@ loop-site-preserved g c =
             each_push (λ site (end : SiteEnd g.row.G.Denot). HasRun site names (length asks + 1) (slice_index_or asks site []) end.journal (map (λ list. list.items) end.receipts.items) end.fault
                 × ((gate : _) → slice_get gates site ≡ Some gate → IsGatedBy g.G.Gate.called gate (map (λ list. list.items) end.receipts.items) end.fault end.gate)) c.loop-site.ends.items c.push_reserved.new.self.items end
                 c.push_reserved.ensures.items before.1 (
-                run_kept names asks gates site c.in-Some.site.promise end.journal lists end.fault kept c.in-Ok.ensures.0,
-                λ gate at. gate_kept g.G.Gate.called names asks gates site c.in-Some.site.promise lists end.fault end.gate gate kept at c.in-Ok.ensures.1,
-            ),
+                  run_kept names asks gates site c.in-Some.site.promise end.journal lists end.fault kept c.in-Ok.ensures.0,
+                  λ gate at. gate_kept g.G.Gate.called names asks gates site c.in-Some.site.promise lists end.fault end.gate gate kept at c.in-Ok.ensures.1,
+                ),
           ),
     )
 

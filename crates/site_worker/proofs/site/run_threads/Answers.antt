@@ -19,5 +19,5 @@ returns-in-Ok-clause-gathered g c =
     (c.join_takers.ensures.early 1 (omega arith) ∙ list_behind (λ list. list.items) one two sent.receipts 1 c.add-in-Ok.ensures.receipts first)
     c.join_takers.ensures.took
     (λ well. let both = sym c.add-in-Ok.ensures.fault ∙ c.join_takers.ensures.fault well in
-        (none_behind c.in_ok-gathered.gathered.fault asked.fault (sym c.add.ensures.fault ∙ none_before c.add.new.self.fault sent.fault both), none_behind c.add.new.self.fault sent.fault both))
+    (none_behind c.in_ok-gathered.gathered.fault asked.fault (sym c.add.ensures.fault ∙ none_before c.add.new.self.fault sent.fault both), none_behind c.add.new.self.fault sent.fault both))
     c.in-Ok.ensures.answers c.in-Ok.ensures.all c.in-Ok.ensures.sent
