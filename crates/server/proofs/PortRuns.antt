@@ -1,6 +1,6 @@
 -- What a port that counts its calls leaves of the pass that it has borrowed.
 use Rattle.std.specs.Borrow.{MutBor}
-use Rattle.std.proofs.Common.{◌≡◌, ◌∙◌, ◌⊎◌, List, [], ◌∷◌, Option, Some, None, refl, sym, ap, subst, ⊎_elim}
+use Rattle.std.proofs.Common.{◌≡◌, ◌∙◌, ◌⊎◌, ℕ, List, [], ◌∷◌, Option, Some, None, refl, sym, ap, subst, ⊎_elim}
 use Rattle.site_desk.specs.Passes.{PassState}
 use Rattle.site_desk.specs.Ports.{MakesByPass, RefusesByPass, lent_pass}
 use Rattle.site_desk.specs.declared.desk_port.DeskPort.{DeskPort}
@@ -15,11 +15,11 @@ pub record IsSamePass (old new : MutBor PassState) : Type 0 where
   pub ordinal : new.now.ordinal ≡ old.now.ordinal
   pub same : new.ghost_name ≡ old.ghost_name
 
-pub counted_run : {L : Type 0} (p q : CountedPort (DeskPort L)) (receipts : List Receipt)
-    → PortRun (λ (old : CountedPort (DeskPort L)) receipt (new : CountedPort (DeskPort L)). MakesByPass (lent_pass old.port) receipt (lent_pass new.port)) p receipts q
+pub counted_run : {L : Type 0} (site : ℕ) (names : List (List ℕ)) (p q : CountedPort (DeskPort L)) (receipts : List Receipt)
+    → PortRun (λ (old : CountedPort (DeskPort L)) receipt (new : CountedPort (DeskPort L)). MakesByPass site names (lent_pass old.port) receipt (lent_pass new.port)) p receipts q
     → IsSamePass (lent_pass p.port) (lent_pass q.port)
-counted_run {L = L} p q [] run = subst (λ (x : CountedPort (DeskPort L)). IsSamePass (lent_pass p.port) (lent_pass x.port)) run (record { ordinal = refl; same = refl })
-counted_run p q (receipt ∷ receipts) run = let rest = counted_run run.0 q receipts run.2 in record {
+counted_run {L = L} site names p q [] run = subst (λ (x : CountedPort (DeskPort L)). IsSamePass (lent_pass p.port) (lent_pass x.port)) run (record { ordinal = refl; same = refl })
+counted_run site names p q (receipt ∷ receipts) run = let rest = counted_run site names run.0 q receipts run.2 in record {
   ordinal = rest.ordinal ∙ ap (λ (s : PassState). s.ordinal) run.1.done.counted;
   same = rest.same ∙ run.1.same;
 }
@@ -35,10 +35,10 @@ stopped {L = L} p q old cause stop was = ⊎_elim
     (λ same. subst (λ (x : CountedPort (DeskPort L)). IsSamePass old (lent_pass x.port)) same.1 was) stop
 
 -- a port that has worked
-pub counted_work : {L : Type 0} (p q : CountedPort (DeskPort L)) (receipts : List Receipt) (fault : Option DeskFault)
-    → PortWork (λ (old : CountedPort (DeskPort L)) receipt (new : CountedPort (DeskPort L)). MakesByPass (lent_pass old.port) receipt (lent_pass new.port))
+pub counted_work : {L : Type 0} (site : ℕ) (names : List (List ℕ)) (p q : CountedPort (DeskPort L)) (receipts : List Receipt) (fault : Option DeskFault)
+    → PortWork (λ (old : CountedPort (DeskPort L)) receipt (new : CountedPort (DeskPort L)). MakesByPass site names (lent_pass old.port) receipt (lent_pass new.port))
     (λ (old : CountedPort (DeskPort L)) cause (new : CountedPort (DeskPort L)). RefusesByPass (lent_pass old.port) cause (lent_pass new.port) ⊎ ((cause ≡ JournalFull) × (new.port ≡ old.port)))
     p receipts fault q
     → IsSamePass (lent_pass p.port) (lent_pass q.port)
-counted_work p q receipts None work = counted_run p q receipts work
-counted_work p q receipts (Some cause) work = stopped work.0 q (lent_pass p.port) cause work.2 (counted_run p work.0 receipts work.1)
+counted_work site names p q receipts None work = counted_run site names p q receipts work
+counted_work site names p q receipts (Some cause) work = stopped work.0 q (lent_pass p.port) cause work.2 (counted_run site names p work.0 receipts work.1)

@@ -4,4 +4,4 @@ use Rattle.server.proofs.pumping.take_by.Goals as goal
 
 -- the port has worked by its pass alone
 pub returns : goal.returns
-returns g c = let work = counted_work _ _ _ _ c.pump_in.ensures.work in search rules
+returns g c = let work = counted_work _ _ _ _ _ _ c.pump_in.ensures.work in search rules
