@@ -1,7 +1,7 @@
 //! Sessions of one site at once.
 use crate::clients::{
-    ADD, Exchange, GREETING, LOGIN, LOGOFF, STATUS, connected, ends, free_port, list, sees, served,
-    session, settings, talks,
+    ADD, Exchange, GOODBYE, GREETING, LOGIN, LOGOFF, STATUS, connected, ends, free_port, list,
+    sees, served, session, settings, talks,
 };
 use server::LAST_PORT;
 use std::net::{Net, TcpListener, TcpStream};
@@ -75,7 +75,7 @@ fn sessions_run_at_once(rt: HostRuntime) {
 // What comes behind a logoff is never read, and doesn't take back the reply.
 const LOGOFF_AND_MORE: Exchange = (
     "Action: Logoff\r\n\r\nAction: QueueStatus\r\n\r\nAction: QueueStatus\r\n\r\n",
-    LOGOFF.1,
+    GOODBYE,
 );
 
 // Whether so many sessions in turn read all that is due to them.

@@ -45,11 +45,11 @@ Event: QueueStatusComplete\r\nEventList: Complete\r\nListItems: 2\r\n\r\n";
 /// A status after the add.
 pub const STATUS: Exchange = ("Action: QueueStatus\r\n\r\n", REPORT);
 
+/// The reply to a logoff.
+pub const GOODBYE: &str = "Response: Goodbye\r\nMessage: Thanks for all the fish.\r\n\r\n";
+
 /// A logoff.
-pub const LOGOFF: Exchange = (
-    "Action: Logoff\r\n\r\n",
-    "Response: Goodbye\r\nMessage: Thanks for all the fish.\r\n\r\n",
-);
+pub const LOGOFF: Exchange = ("Action: Logoff\r\n\r\n", GOODBYE);
 
 // How often a client tries to connect.
 const TRIES: u32 = 1_000_000;

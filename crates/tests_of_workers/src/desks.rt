@@ -493,6 +493,8 @@ fn assert_takes<L: SiteLedger, R: Abort + Wait>(
     requires two { blank.parts ≡ 2 }
     requires begun { journal.count ≡ 0 }
     requires site { IsOfSite L.site L.names journal }
+    requires limit { journal.limit ≡ L.limit }
+    requires base { journal.base ≡ L.base }
 {
     let (desk, mut first, mut second) = desk_of_two::<L>(rt, alloc, blank, journal);
     let took = taken(rt, alloc, &desk, &mut first, frame);

@@ -120,15 +120,16 @@ impl<'a, R> Bell<R> for AddingBell<'a> {
     ghost ended = { λ bell. bell.has_ended };
 
     fn wait(&mut self, _rt: &R) -> bool {
+        let rings = self.rings;
         if self.has_ended {
             return false;
         }
         self.number.set(self.number.get().wrapping_add(1));
-        if self.rings >= self.most {
+        if rings >= self.most {
             self.has_ended = true;
             return false;
         }
-        self.rings += 1;
+        self.rings = rings + 1;
         true
     }
 }

@@ -89,10 +89,10 @@ impl<'a, L: SiteLedger, R: Abort + Wait> Bell<R> for AddingBell<'a, L> {
     ghost ended = { λ bell. bell.has_ended };
 
     fn wait(&mut self, rt: &R) -> bool {
+        let place = usize::from(self.rings);
         if self.has_ended {
             return false;
         }
-        let place = usize::from(self.rings);
         let wanted = self.wanted.get(place).copied().expect(rt, "a number");
         if !comes(self.received, wanted) {
             self.is_late = true;
