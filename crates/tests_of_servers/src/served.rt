@@ -71,11 +71,12 @@ fn a_port_that_is_taken(rt: HostRuntime) {
     drop(taken);
 }
 
-// Serves sites that take no client, over a log that fails at the write behind so many. How that ends, and what the log has taken.
+// Serves two sites at 127.0.0.2 that take no client, over a log that fails at the write behind so many. How that ends, and what the log
+// has taken.
 fn served_without_clients<R>(
     rt: &R,
     alloc: Global,
-    settings: &ServerSettings,
+    port: u16,
     writes: u64,
 ) -> (Result<Vec<Journaled>, ServeSitesFault>, MemorySink)
 where
@@ -86,14 +87,19 @@ where
         + Clock
         + Eprint
         + Sync,
-    requires some { 1 ≤ settings.now.sites }
-    requires most { settings.now.sites ≤ 8 }
-    requires first { 1 ≤ settings.now.port }
-    requires last { settings.now.port ≤ 65528 }
+    requires first { 1 ≤ port }
+    requires last { port ≤ 65528 }
 {
+    let ServerSettings { session, .. } = settings(rt, 2, port);
+    let settings = ServerSettings {
+        sites: 2,
+        address: Ipv4Addr::new(127, 0, 0, 2),
+        port,
+        session,
+    };
     let mut log = MemorySink::failing(alloc, 700, writes);
     let list = list(rt, alloc);
-    let ended = serve_sites(rt, alloc, settings, &list, Some(0), &mut log);
+    let ended = serve_sites(rt, alloc, &settings, &list, Some(0), &mut log);
     (ended, log)
 }
 
@@ -102,9 +108,7 @@ fn the_log_tells_who_listens(rt: HostRuntime) {
     let alloc = rt.alloc();
     let port = free_port(&rt, 24_380, 2);
     assert!(&rt; 0 < port && port < LAST_PORT);
-    let mut settings = settings(&rt, 2, port);
-    settings.address = Ipv4Addr::new(127, 0, 0, 2);
-    let (ended, log) = served_without_clients(&rt, alloc, &settings, 10);
+    let (ended, log) = served_without_clients(&rt, alloc, port, 10);
     assert!(&rt; ended.is_ok_and(|journals| journals.len() == 2));
     let lines = format!(in alloc;
         "listening 127.0.0.2:{}\nlistening 127.0.0.2:{}\n",
@@ -114,7 +118,7 @@ fn the_log_tells_who_listens(rt: HostRuntime) {
     .expect(&rt, "memory");
     assert!(&rt; log.as_slice() == lines.as_bytes());
     // The second line fails.
-    let (ended, log) = served_without_clients(&rt, alloc, &settings, 1);
+    let (ended, log) = served_without_clients(&rt, alloc, port, 1);
     assert!(&rt; ended.err() == Some(ServeSitesFault::Write));
     assert!(&rt; lines.as_bytes().starts_with(log.as_slice()) && !log.as_slice().is_empty());
     drop(log);
