@@ -22,12 +22,15 @@ def read(path):
         return file.read()
 
 
-def run(program, words, given=b"", out=subprocess.PIPE, place=TOP, more=None, before=None):
+def run(program, words, given=b"", out=subprocess.PIPE, place=TOP, more=None, before=None, limit=None):
     """Runs a program on these bytes, or on an open file, and answers its status, what it wrote and what it told. What is to be done
-    before it starts is done in its process."""
+    before it starts is done in its process. It may have a limit, in seconds."""
     how = {"input": given} if isinstance(given, bytes) else {"stdin": given}
-    how |= {"env": {**os.environ, **(more or {})}, "preexec_fn": before, "check": False}
-    return subprocess.run([program, *words], cwd=place, stdout=out, stderr=subprocess.PIPE, **how)
+    how |= {"env": {**os.environ, **(more or {})}, "preexec_fn": before, "check": False, "timeout": limit}
+    try:
+        return subprocess.run([program, *words], cwd=place, stdout=out, stderr=subprocess.PIPE, **how)
+    except subprocess.TimeoutExpired as why:
+        raise Failed(f"{program!r} {' '.join(map(repr, words))}: no end within {limit} seconds; it got {more}") from why
 
 
 def expect(is_so, what, ran):
@@ -126,7 +129,7 @@ def refusing(room):
 
     def run_refusing(number, program, words, given=b""):
         more = {"LD_PRELOAD": library, "REFUSED_ALLOCATION": str(number), "ALLOCATIONS_FILE": counted}
-        ran = run(program, words, given, more=more)
+        ran = run(program, words, given, more=more, limit=60)
         return ran, int(read(counted)) if ran.returncode >= 0 else 0
 
     return run_refusing
