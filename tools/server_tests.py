@@ -22,10 +22,8 @@ USER, SECRET = "admin", "s3"
 GREETING = "Queue Sites Call Manager/1.0.0"
 # How long anything may take that isn't a matter of time limits, in seconds.
 PATIENCE = 20
-# How long the server waits for a first message, and for each write to a client that doesn't read.
-SLOT_SECONDS = 30
-# How many writes of one reply may wait so long, since the system takes a part of it before it takes nothing more.
-MOST_WAITS = 4
+# How long the server waits for a first message, and for a client that reads nothing, and how much longer such a client may keep its place.
+SLOT_SECONDS, MORE_SECONDS = 30, 5
 SLOTS = 4
 # How long sites may take until they show the same, in seconds.
 SETTLED = 5
@@ -185,6 +183,13 @@ def shown(server, site=0):
         report = it.ask("QueueStatus")
         it.leave()
     return report
+
+
+def until_shown(server, site, text):
+    """Waits until a site's status has a text."""
+    ends = time.monotonic() + SETTLED
+    while text not in shown(server, site):
+        need(time.monotonic() < ends, f"site {site} doesn't show {text!r}")
 
 
 def wrong_words():
@@ -375,31 +380,60 @@ def hostile_clients():
     return "garbage, resets, and 200 connections"
 
 
+def fill(server, site, members):
+    """Adds so many members at a site."""
+    with server.logged_in(site) as it:
+        for number in range(members):
+            it.succeed("QueueAdd", Queue="sales", Interface=f"SIP/{number}")
+        it.leave()
+
+
+def deaf_client(server, site):
+    """A client that asks for far more than the system holds for it, and reads nothing."""
+    it = server.logged_in(site)
+    it.socket.setblocking(False)
+    for _ in range(1_000):
+        with contextlib.suppress(BlockingIOError):
+            it.socket.send(b"Action: QueueStatus\r\n\r\n")
+    return it
+
+
+def next_client(server, site, started):
+    """A client of a site whose places are all held is greeted once these are given up, and no earlier."""
+    most = SLOT_SECONDS + MORE_SECONDS
+    with server.client(site, most) as it:
+        waited = time.monotonic() - started
+        need(SLOT_SECONDS - 1 < waited < most, f"a client of site {site} is greeted after {waited:.1f} seconds")
+        it.leave()
+
+
+def read_slowly(it, asks=300):
+    """A client that is logged in reads a little now and then, while the server waits to write, and gets all that it has asked for."""
+    it.socket.setsockopt(socket.SOL_SOCKET, socket.SO_RCVBUF, 65_536)
+    it.send(asks * b"Action: QueueStatus\r\n\r\n" + b"Action: Logoff\r\n\r\n")
+    ends, read = time.monotonic() + SLOT_SECONDS + MORE_SECONDS, []
+    while time.monotonic() < ends:
+        read.append(it.socket.recv(16_384))
+        time.sleep(0.5)
+    written = b"".join(read) + it.rest()
+    complete = written.count(b"Event: QueueStatusComplete\r\n")
+    need(complete == asks and written.endswith(b"all the fish.\r\n\r\n"), f"a client that reads slowly gets {complete} of {asks} reports")
+
+
 def clients_that_hold_on():
-    """Four clients that send nothing lose their places after half a minute, and four that never read what they ask for within two minutes;
-    others are served then, and no earlier."""
-    members = 200
-    with Server(2) as server:
-        with server.logged_in(1) as it:
-            for number in range(members):
-                it.succeed("QueueAdd", Queue="sales", Interface=f"SIP/{number}")
-            it.leave()
-        started = time.monotonic()
-        silent = [server.client(0) for _ in range(SLOTS)]
-        deaf = [server.logged_in(1) for _ in range(SLOTS)]
-        for it in deaf:
-            it.socket.setblocking(False)
-            for _ in range(1_000):
-                with contextlib.suppress(BlockingIOError):
-                    it.socket.send(b"Action: QueueStatus\r\n\r\n")
-        for site, most in ((0, 2 * SLOT_SECONDS), (1, MOST_WAITS * SLOT_SECONDS)):
-            with server.client(site, most) as it:
-                waited = time.monotonic() - started
-                need(SLOT_SECONDS - 1 < waited < most, f"a client of site {site} is greeted after {waited:.0f} seconds")
-                it.leave()
-        for it in [*silent, *deaf]:
+    """Clients that send nothing, and those that never read what they ask for, lose their places after half a minute; others are served then, and
+    no earlier. One that reads slowly keeps its place."""
+    with Server(2) as server, concurrent.futures.ThreadPoolExecutor(3) as threads:
+        fill(server, 1, 200)
+        until_shown(server, 0, b"ListItems: 201\r\n")
+        slow, started = server.logged_in(0), time.monotonic()
+        held = [server.client(0) for _ in range(SLOTS - 1)] + [deaf_client(server, 1) for _ in range(SLOTS)]
+        jobs = [threads.submit(next_client, server, site, started) for site in range(2)]
+        for it in [threads.submit(read_slowly, slow), *jobs]:
+            it.result()
+        for it in [slow, *held]:
             it.socket.close()
-    return "four silent clients, and four that never read"
+    return "clients that send nothing, that never read, and that read slowly"
 
 
 def idle_clients():

@@ -1,5 +1,5 @@
 -- What clauses see of a source over a reader and of a sink over a writer.
-use Rattle.std.specs.Prelude.{Bool}
+use Rattle.std.specs.Prelude.{Bool, ℕ}
 use Rattle.ami_text.specs.declared.std_source.StdSource.{StdSource}
 use Rattle.ami_text.specs.declared.std_sink.StdSink.{StdSink}
 
@@ -22,3 +22,7 @@ sink_writer s = s.writer
 -- whether the sink has failed
 abbrev pub sink_failed : {W : Type 0} → StdSink W → Bool
 sink_failed s = s.failed
+
+-- how often one write may wait for as long as its writer lets it
+abbrev pub sink_waits : {W : Type 0} → StdSink W → ℕ
+sink_waits s = s.waits

@@ -1,6 +1,6 @@
 ghost use Rattle.std.specs.Prelude.{◌≡◌, ◌<◌, ◌≤◌, true, false, length, nat_lt, take, IfOk, OnErr};
 ghost use Rattle.std.specs.Io.KnownBytes.{Appends, Keeps, WriteAppends};
-ghost use Rattle.ami_text.specs.StdDevices.{sink_writer, sink_failed};
+ghost use Rattle.ami_text.specs.StdDevices.{sink_writer, sink_failed, sink_waits};
 
 use crate::{Failed, Sink};
 use std::io::{ErrorKind, Write};
@@ -14,21 +14,42 @@ pub const WRITE_TRIES: u32 = 1000;
 #[derive(Drop)]
 pub struct StdSink<W> {
     writer: W,
+    // How often one write may wait for as long as the writer lets it.
+    waits: u32,
     // The last flush failed, and the next write does.
     is_stuck: bool,
     failed: bool,
 }
 
 impl<W> StdSink<W> {
-    /// A sink that hands what it takes to the writer.
+    /// A sink that hands what it takes to the writer. One write waits once.
     pub fn new(writer: W) -> Self
         ensures writer { sink_writer result ≡ writer }
+        ensures waits { sink_waits result ≡ 1 }
         ensures failed { sink_failed result ≡ false }
     {
         StdSink {
             writer,
+            waits: 1,
             is_stuck: false,
             failed: false,
+        }
+    }
+
+    /// The sink whose writes wait so often: one that would block or times out is tried again, up to
+    /// so many tries. So over a writer whose writes wait for a limited time, a write is given up
+    /// after so many times that time in which no byte was taken, and bytes that are taken meanwhile
+    /// are told within that time (this project's own). 0 is as 1, and more than 1,000 as that.
+    pub fn with_waits(self, waits: u32) -> Self
+        ensures writer { sink_writer result ≡ sink_writer self }
+        ensures waits { sink_waits result ≡ waits }
+        ensures failed { sink_failed result ≡ sink_failed self }
+    {
+        StdSink {
+            writer: self.writer,
+            waits,
+            is_stuck: self.is_stuck,
+            failed: self.failed,
         }
     }
 
@@ -46,10 +67,12 @@ impl<W: Write> Sink for StdSink<W> {
     ghost failed = { λ s. sink_failed s };
 
     /// Writes once to the writer, and flushes it. Where one of the two is interrupted it is tried
-    /// again, a thousand times in all.
+    /// again, a thousand times in all; so is a write that would block or times out, as often as it
+    /// may wait.
     ///
-    /// `Failed`: the writer answered an error, be it `WouldBlock` or `TimedOut`, or was interrupted a
-    /// thousand times; or the flush of the write before was, whose bytes the writer had taken.
+    /// `Failed`: the writer answered `WouldBlock` or `TimedOut` as often as a write may wait, another
+    /// error once, or was interrupted a thousand times; or the flush of the write before, whose bytes
+    /// the writer had taken, was answered with any error, or interrupted a thousand times.
     fn write(&mut self, bytes: &[u8]) -> Result<usize, Failed>
         requires { sink_failed self.old ≡ false }
         ensures count { IfOk result (λ n. n ≤ length bytes.now) }
@@ -66,7 +89,7 @@ impl<W: Write> Sink for StdSink<W> {
             self.failed = true;
             return Err(Failed);
         }
-        match write_retrying(&mut self.writer, bytes) {
+        match write_retrying(&mut self.writer, self.waits, bytes) {
             Ok(count) => {
                 self.is_stuck = flush_retrying(&mut self.writer).is_err();
                 self.failed = count == 0 && !bytes.is_empty();
@@ -80,19 +103,20 @@ impl<W: Write> Sink for StdSink<W> {
     }
 }
 
-// Writes once, and tries again where the write is interrupted.
-fn write_retrying<W: Write>(writer: &mut W, bytes: &[u8]) -> Result<usize, Failed>
+// Writes once, and tries again where the write is interrupted, or has waited and may wait again.
+fn write_retrying<W: Write>(writer: &mut W, waits: u32, bytes: &[u8]) -> Result<usize, Failed>
     ensures count { IfOk result (λ n. n ≤ length bytes.now) }
     ensures writer { WriteAppends (W.contents writer.old) (W.contents writer.new) result bytes.now }
 {
+    let mut waits = waits;
     for _ in 0..WRITE_TRIES {
         match writer.write(bytes) {
             Ok(count) => return Ok(count),
-            Err(error) => {
-                if error.kind() != ErrorKind::Interrupted {
-                    return Err(Failed);
-                }
-            }
+            Err(error) => match error.kind() {
+                ErrorKind::Interrupted => {}
+                ErrorKind::WouldBlock | ErrorKind::TimedOut if waits > 1 => waits -= 1,
+                _ => return Err(Failed),
+            },
         }
     }
     Err(Failed)

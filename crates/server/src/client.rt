@@ -8,7 +8,7 @@ use crate::telling::{tell_ended, tell_not_ready};
 use ami_text::StdSink;
 use dots::SiteId;
 use pass_desk::{PassDesk, RingingDesk};
-use serve::serve;
+use serve::{ServeFault, serve};
 use site_desk::SiteLedger;
 use std::alloc::Global;
 use std::io;
@@ -24,6 +24,10 @@ const LAST_READS: u32 = 64;
 
 const LAST_MILLIS: u64 = 200;
 
+// How often a write waits for a client that reads nothing, each time for that part of the time that it may. So the system tells within that
+// part what it took, and the client's time begins anew.
+const WRITE_WAITS: u32 = 100;
+
 // Makes a connection ready for its session, and tells when that was.
 fn made_ready<R: Clock>(
     rt: &R,
@@ -31,7 +35,7 @@ fn made_ready<R: Clock>(
     settings: &SessionSettings,
 ) -> io::Result<Instant> {
     stream.set_nodelay(true)?;
-    stream.set_write_timeout(Some(settings.write))?;
+    stream.set_write_timeout(Some(settings.write / WRITE_WAITS))?;
     Instant::now(rt)
 }
 
@@ -57,6 +61,24 @@ fn say_goodbye(stream: &TcpStream) {
     }
 }
 
+// Ends a session's stream, and tells of a fault that isn't of the client's own making. A client that couldn't be written to reads nothing, or is
+// gone: it isn't waited for.
+fn end_session<R: Eprint>(
+    rt: &R,
+    site: SiteId,
+    stream: &TcpStream,
+    served: Result<(), ServeFault>,
+) {
+    match served {
+        Ok(()) => say_goodbye(stream),
+        Err(ServeFault::Write) => {}
+        Err(fault) => {
+            tell_ended(rt, site, fault);
+            say_goodbye(stream);
+        }
+    }
+}
+
 // Answers a client of a site over this desk.
 pub(crate) fn answer_client<'x, L: SiteLedger, R: Wait + Clock + Eprint>(
     rt: &'x R,
@@ -76,11 +98,8 @@ pub(crate) fn answer_client<'x, L: SiteLedger, R: Wait + Clock + Eprint>(
         }
     };
     let mut reader = ClientSource::new(rt, stream, connected, settings);
-    let mut writer = StdSink::new(stream);
+    let mut writer = StdSink::new(stream).with_waits(WRITE_WAITS);
     let session = settings.session();
     let served = serve(rt, alloc, &mut reader, &mut writer, session, desk);
-    if let Err(fault) = served {
-        tell_ended(rt, site, fault);
-    }
-    say_goodbye(stream);
+    end_session(rt, site, stream, served);
 }

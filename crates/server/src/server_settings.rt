@@ -12,7 +12,7 @@ const FIRST_MESSAGE: u64 = 30;
 // How long it may be silent.
 const IDLE: u64 = 3_600;
 
-// How long a write may wait until it reads.
+// How long it may read nothing.
 const WRITE: u64 = 30;
 
 /// Who may log in, how clients are greeted, and how long they may take (this project's own).
@@ -28,13 +28,13 @@ pub struct SessionSettings {
     pub first_message: Duration,
     /// How long a client may be silent while the server waits for it, longer than 0. `None`: without end.
     pub idle: Option<Duration>,
-    /// How long a write may wait for a client that reads nothing, longer than 0.
+    /// How long the system may take no byte of what is written to a client, since that reads nothing; at least 1 millisecond.
     pub write: Duration,
 }
 
 impl SessionSettings {
-    /// Sessions for this user and secret, with the session's own greeting. A client has 30 seconds for its first message and may be
-    /// silent for an hour, and a write waits for 30 seconds.
+    /// Sessions for this user and secret, with the session's own greeting. A client has 30 seconds for its first message, may be silent for
+    /// an hour, and may read nothing for 30 seconds.
     pub fn new(user: Text80, secret: Text80) -> SessionSettings
         ensures user { result.user ≡ user }
         ensures secret { result.secret ≡ secret }

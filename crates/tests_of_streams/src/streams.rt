@@ -305,6 +305,31 @@ fn a_writer_that_is_interrupted_is_written_to_again(rt: HostRuntime) {
     }
 }
 
+// How often a sink may wait, how often its writer times out or would block, and what the sink answers. A write that waits once is the
+// sink's without a number.
+const WAITS: [(u32, u32, ErrorKind, Result<usize, Failed>); 6] = [
+    (3, 2, ErrorKind::WouldBlock, Ok(1)),
+    (3, 2, ErrorKind::TimedOut, Ok(1)),
+    (3, 3, ErrorKind::WouldBlock, Err(Failed)),
+    (3, 3, ErrorKind::TimedOut, Err(Failed)),
+    (0, 1, ErrorKind::TimedOut, Err(Failed)),
+    (3, 1, ErrorKind::BrokenPipe, Err(Failed)),
+];
+
+#[test]
+fn a_writer_that_times_out_is_written_to_again(rt: HostRuntime) {
+    for (waits, errors, kind, want) in WAITS {
+        let writer = Faulty {
+            errors,
+            kind,
+            at_flush: false,
+        };
+        let mut sink = StdSink::new(writer).with_waits(waits);
+        assert_same(&rt, &sink.write(b"ab"), &want);
+        assert_same(&rt, &sink.into_inner().errors, &0);
+    }
+}
+
 // The write whose flush fails has given its bytes, so it is the next one that fails.
 #[test]
 fn a_writer_that_is_not_flushed_fails_at_the_next_write(rt: HostRuntime) {
