@@ -89,12 +89,9 @@ group_between m ls i j w v a b =
     sym (kept_between (is_own m) ls i (j - i) (λ k d l h. own_before m (get_or ls k d) (a.0 k d l h))
     (λ k d l h. own_between m (get_or ls k d) (a.1 k d l (omega arith)) (b.0 k d (omega arith) (omega arith))) (λ k d l h. own_past m (get_or ls k d) (b.1 k d (omega arith) h)) (omega arith))
 
--- the entries up to a place are those of members that aren't greater, where those before a member's first ones are lesser
-pub upto_from : (m : Member) (ls : List Listed) (i j : ℕ) → Lesser m ls i → AllWithin (λ l. is_le (member_cmp l.member m) ≡ true) ls i j → AllWithin (λ l. is_le (member_cmp l.member m) ≡ true) ls 0 j
-upto_from m ls i j a b k d lo hi = elim (cases_lt k i) [
-  | inl l ↦ ap is_le (less_of (member_cmp (get_or ls k d).member m) (a.0 k d lo l))
-  | inr h ↦ b k d h hi
-]
+-- entries of lesser members are of no greater ones
+pub none_greater : (m : Member) (ls : List Listed) (i : ℕ) → Lesser m ls i → AllWithin (λ l. is_le (member_cmp l.member m) ≡ true) ls 0 i
+none_greater m ls i a k d lo hi = ap is_le (less_of (member_cmp (get_or ls k d).member m) (a.0 k d lo hi))
 
 -- from an entry of a greater member on none is the member's
 pub past_from : (m : Member) (ls : List Listed) (i : ℕ) (e : Listed) → Rises ls → i < length ls → is_le (member_cmp (get_or ls i e).member m) ≡ false → AllWithin (λ l. is_le (member_cmp l.member m) ≡ false) ls i (length ls)

@@ -47,3 +47,4 @@ pub mod DeadDots
 pub mod Deaths
 pub mod KeptSets
 pub mod Shows
+pub mod RowWalks

@@ -6,13 +6,15 @@ use Rattle.std.specs.Option.{option_map}
 use Rattle.std.proofs.lemmas.List.{append-nil, map-append, take_more}
 use Rattle.std.proofs.lemmas.List.Elements.{filter_map-append}
 use Rattle.dots.specs.Conditions.{DotFields}
+use Rattle.dots.specs.Rows.{row_of, row_of_fields}
+use Rattle.dots.specs.declared.member.Member.{Member}
 use Rattle.op_arena.specs.Ids.{Id}
 use Rattle.member_orset.specs.declared.live_dot.LiveDot.{LiveDot}
 use Rattle.member_orset.specs.LiveLists.{live_of}
-use Rattle.member_orset.specs.PlacedStates.{CellMap, IsPlaced, PlacedState, cells_at, cells_of, listed_at}
-use Rattle.member_orset.specs.ShownRows.{dots_listed, fields_after, fields_held, fields_shown}
-use Rattle.member_orset.proofs.LiveMaps.{its_live}
-use Rattle.member_orset.proofs.ShownFields.{shown-push}
+use Rattle.member_orset.specs.PlacedStates.{AreIndexed, CellMap, IsPlaced, PlacedState, cells_at, cells_of, listed_at}
+use Rattle.member_orset.specs.ShownRows.{cells_view, dots_listed, fields_after, fields_held, fields_shown, group}
+use Rattle.member_orset.proofs.LiveMaps.{its_live, rise}
+use Rattle.member_orset.proofs.ShownFields.{row_shown, shown-push}
 
 -- the fields of the cells of ids
 abbrev pub fields_at : CellMap → List Id → List DotFields
@@ -46,3 +48,10 @@ held_at s (id ∷ ids) a = one (maps.get s.held id) refl (held_at s ids a)
         → fields_held (live_of (cells_of s)) (dots_listed (each (λ c. record { member = c.member; dot = c.dot }) (cons_option o (cells_at s.held ids)))) ≡ each (λ c. c.fields) (cons_option o (cells_at s.held ids))
     one None e r = r
     one (Some c) e r = λ k. cons_option (option_map (λ h. h.1) (its_live s.dots s.held s.spent a id c e k)) (r k)
+
+-- so the cells of a member's ids show its row
+pub row_of_group : (s : PlacedState) (members ids : List Id) (m : Member) → AreIndexed s members → listed_at s.held ids ≡ group m (listed_at s.held members)
+    → option_map (λ f. row_of_fields f.penalty f.pause f.label) (fields_shown (fields_at s.held ids)) ≡ row_of (cells_view (cells_of s)) m
+row_of_group s members ids m a own =
+    ap (λ fields. option_map (λ f. row_of_fields f.penalty f.pause f.label) (fields_shown fields)) (sym (held_at s ids a.placed) ∙ ap (λ ls. fields_held (live_of (cells_of s)) (dots_listed ls)) own)
+    ∙ sym (row_shown (cells_of s) (listed_at s.held members) m (rise s.dots s.held s.spent a.placed) a.index)

@@ -25,7 +25,7 @@ use Rattle.member_orset.specs.Index.{Listed}
 use Rattle.member_orset.specs.declared.live_dot.LiveDot.{LiveDot}
 use Rattle.member_orset.specs.LiveLists.{live_of}
 use Rattle.member_orset.specs.Index.{IsIndex, Rises}
-use Rattle.member_orset.specs.ShownRows.{IsLeastAfter, IsLeastEntry, cells_view, dots_listed, group, is_after, is_left, is_own, is_passed, rows_after}
+use Rattle.member_orset.specs.ShownRows.{IsLeastEntry, cells_view, dots_listed, group, is_after, is_left, is_own, is_passed, rows_after}
 use Rattle.member_orset.proofs.CellLists.{Rise}
 use Rattle.member_orset.proofs.IndexPlaces.{not_lesser}
 use Rattle.member_orset.proofs.Indexes.{partitioned_by}
@@ -309,7 +309,7 @@ module _ (queue : ℕ) (last : Option Text) where
 
   module _ (ls : List Listed) (i : ℕ) (before : AllWithin (λ l. is_passed queue last l.member ≡ true) ls 0 i) where
     -- nothing is left where all are passed over
-    pub least_none : length ls ≤ i → IsLeastAfter queue last ls None
+    pub least_none : length ls ≤ i → All (λ e. is_left queue last e ≡ false) ls
     least_none w k e l = not_left (get_or ls k e) (before k e (omega arith) (omega arith))
 
     module _ (rest : AllWithin (λ l. is_passed queue last l.member ≡ false) ls i (length ls)) (r : Rises ls) (x : Listed) (w : i < length ls) (is : x ≡ get_or ls i x) where
@@ -328,7 +328,7 @@ module _ (queue : ℕ) (last : Option Text) where
       not_before k e l h = ap (λ y. is_lt (member_cmp (get_or ls k e).member y.member)) (sym (same_entry e)) ∙ not_lesser ls i k e r l h
 
       -- nor where the first that isn't is of another queue
-      pub least_beyond : x.member.queue ≢ queue → IsLeastAfter queue last ls None
+      pub least_beyond : x.member.queue ≢ queue → All (λ e. is_left queue last e ≡ false) ls
       least_beyond other k e l = elim (cases_Bool (nat_lt k i)) [
         | inl t ↦ not_left (get_or ls k e) (before k e (omega arith) (grind (arith, nat_tests, t)))
         | inr f ↦
@@ -338,7 +338,7 @@ module _ (queue : ℕ) (last : Option Text) where
       ]
 
       -- the first that isn't has the least interface where it is of the queue
-      pub least_here : x.member.queue ≡ queue → IsLeastAfter queue last ls (Some x)
+      pub least_here : x.member.queue ≡ queue → IsLeastEntry queue last ls x
       least_here own = record {
         here = (i, w, sym is);
         own = and_from (nat_eq queue x.member.queue) (is_after last x.member.interface) (same_queue queue x.member.queue (sym own)) (elim stopped [ inl q ↦ absurd (omega (arith, q, own)) | inr p ↦ p.1 ]);

@@ -17,4 +17,5 @@ pub mod Index
 pub mod PlacedStates
 pub mod Joining
 pub mod ShownRows
+pub mod RowWalks
 pub mod Gathering

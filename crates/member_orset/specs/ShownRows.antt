@@ -81,8 +81,3 @@ pub record IsLeastEntry (queue : ℕ) (last : Option (List ℕ)) (index : List L
   pub here : Contains index l
   pub own : is_left queue last l ≡ true
   pub least : All (λ e. is_left queue last e ≡ true → is_lt (text_cmp e.member.interface l.member.interface) ≡ false) index
-
--- the entry of the least interface that is left, or none where none is
-abbrev pub IsLeastAfter : ℕ → Option (List ℕ) → List Listed → Option Listed → Type 0
-IsLeastAfter queue last index None = All (λ e. is_left queue last e ≡ false) index
-IsLeastAfter queue last index (Some l) = IsLeastEntry queue last index l

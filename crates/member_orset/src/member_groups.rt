@@ -1,7 +1,7 @@
 //! The ids of the cells of one member in the index of members, which stand together.
 ghost use Rattle.std.specs.Prelude.{◌≡◌, ◌≤◌, length, true, false};
 ghost use Rattle.std.specs.FinMap as map;
-ghost use Rattle.std.specs.List.{list_any};
+ghost use Rattle.std.specs.List.{AllWithin, list_any};
 ghost use Rattle.std.specs.List.Sorted.{IsPartitionPoint};
 ghost use Rattle.std.specs.Option.{option_map_or};
 ghost use Rattle.std.specs.Ordering.{is_le, is_lt};
@@ -60,27 +60,26 @@ fn place_of<const LAST: u32>(
     )
 }
 
-// The place past the ids of a member, of which the first stands at a place. They are walked, as they are by who reads
-// them then.
-fn end_of<const LAST: u32>(
+// The place past the ids of members that don't lie after another one, of which some are known to be. They are walked, as
+// they are by who reads them then.
+pub(crate) fn end_of<const LAST: u32>(
     cells: &PlacedCells<LAST>,
     members: &[CellId],
-    first: usize,
+    known: usize,
     member: &Member,
 ) -> usize
     requires held { AreHeld cells.now.held members.now }
     requires rises { Rises (listed_at cells.now.held members.now) }
-    requires within { first ≤ length members.now }
-    requires first { IsPartitionPoint (λ l. is_lt (member_cmp l.member member.now) ≡ true)
-        (λ l. is_lt (member_cmp l.member member.now) ≡ false)
-        (listed_at cells.now.held members.now) first }
-    ensures order { first ≤ result }
+    requires within { known ≤ length members.now }
+    requires known { AllWithin (λ l. is_le (member_cmp l.member member.now) ≡ true)
+        (listed_at cells.now.held members.now) 0 known }
+    ensures order { known ≤ result }
     ensures within { result ≤ length members.now }
     ensures end { IsPartitionPoint (λ l. is_le (member_cmp l.member member.now) ≡ true)
         (λ l. is_le (member_cmp l.member member.now) ≡ false)
         (listed_at cells.now.held members.now) result }
 {
-    let mut end = first;
+    let mut end = known;
     while end < members.len() {
         if !is_upto(cells, members[end], member) {
             return end;

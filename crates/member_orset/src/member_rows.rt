@@ -1,7 +1,7 @@
 //! The row that the cells of one member show.
 ghost use Rattle.std.specs.Prelude.{◌≡◌, map as each};
 ghost use Rattle.std.specs.Option.{option_map};
-ghost use Rattle.dots.specs.Rows.{row_of};
+ghost use Rattle.dots.specs.Rows.{row_of, row_of_fields};
 ghost use Rattle.dots.specs.Views.{row_view};
 ghost use Rattle.member_orset.specs.PlacedStates.{AreIndexed, cells_at, cells_of};
 ghost use Rattle.member_orset.specs.ShownRows.{cells_view, fields_shown, latest_fields};
@@ -30,6 +30,19 @@ fn latest_in<'a, const LAST: u32>(
     latest
 }
 
+// The row that the cells of ids show together, where one has a cell.
+pub(crate) fn row_over<'a, const LAST: u32>(
+    cells: &'a PlacedCells<LAST>,
+    ids: &[CellId],
+) -> Option<Row<'a>>
+    ensures { option_map row_view result
+        ≡ option_map (λ f. row_of_fields f.penalty f.pause f.label)
+        (fields_shown (each (λ c. c.fields) (cells_at cells.now.held ids.now))) }
+{
+    let latest = latest_in(cells, ids)?;
+    Some(latest.row())
+}
+
 // The row of a member, where it has a live dot.
 pub(crate) fn row_in<'a, const LAST: u32>(
     cells: &'a PlacedCells<LAST>,
@@ -39,6 +52,5 @@ pub(crate) fn row_in<'a, const LAST: u32>(
     requires { AreIndexed cells.now members.now }
     ensures { option_map row_view result ≡ row_of (cells_view (cells_of cells.now)) member.now }
 {
-    let latest = latest_in(cells, group_of(cells, members, member))?;
-    Some(latest.row())
+    row_over(cells, group_of(cells, members, member))
 }

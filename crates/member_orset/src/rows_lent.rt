@@ -1,18 +1,21 @@
-ghost use Rattle.std.specs.Prelude.{◌≡◌, false};
+ghost use Rattle.std.specs.Prelude.{◌≡◌, ◌≤◌, false, length, IfSome};
 ghost use Rattle.std.specs.FinMap as map;
 ghost use Rattle.std.specs.Iterator.{YieldsFirstBy, item_count};
-ghost use Rattle.std.specs.Option.{option_map, option_map_or};
+ghost use Rattle.std.specs.List.{All};
+ghost use Rattle.std.specs.Option.{option_map_or};
 ghost use Rattle.dots.specs.Views.{listed_row_view};
 ghost use Rattle.member_orset.specs.Index.{Rises, listing};
 ghost use Rattle.member_orset.specs.PlacedStates.{AreHeld, listed_at};
-ghost use Rattle.member_orset.specs.ShownRows.{IsLeastAfter, is_after, is_passed};
+ghost use Rattle.member_orset.specs.RowWalks.{IsNext, IsReached, interface_before};
+ghost use Rattle.member_orset.specs.ShownRows.{is_left, is_passed};
 
 use crate::Row;
 use crate::live_dot::LiveDot;
-use crate::member_rows::row_in;
+use crate::member_groups::end_of;
+use crate::member_rows::row_over;
 use crate::placed_cells::PlacedCells;
 use crate::places::LAST_GENERATION;
-use dots::{Interface, Member};
+use dots::Interface;
 use op_arena::CellId;
 use std::marker::Model;
 
@@ -23,81 +26,71 @@ pub struct Rows<'a> {
     cells: &'a PlacedCells<LAST_GENERATION>,
     members: &'a [CellId],
     queue: u16,
-    last: Option<&'a Interface>,
+    passed: usize,
 }
 
 impl<'a> Model for Rows<'a> {
     ghost use Rattle.std.specs.Prelude.{ℕ, List};
-    ghost use Rattle.std.specs.Option.{option_map};
     ghost use Rattle.dots.specs.Rows.{MemberRow};
 
     ghost Value = { List (List ℕ × MemberRow) };
 
-    ghost use Rattle.member_orset.specs.PlacedStates.{AreIndexed, cells_of};
-    ghost use Rattle.member_orset.specs.ShownRows.{cells_view, rows_after};
+    ghost use Rattle.member_orset.specs.RowWalks.{IsWalk, rows_left};
 
-    ghost view = { λ r. rows_after (cells_view (cells_of r.cells.now)) r.queue
-        (option_map (λ i. i.now) r.last) };
+    ghost view = { λ r. rows_left r.cells.now r.members.now r.queue r.passed };
 
-    ghost invariant = { λ r. AreIndexed r.cells.now r.members.now };
+    ghost invariant = { λ r. IsWalk r.cells.now r.members.now r.queue r.passed };
 }
 
-// Whether an interface lies after another one, where there is one.
-fn lies_after(last: Option<&Interface>, interface: &Interface) -> bool
-    ensures { result ≡ is_after (option_map (λ i. i.now) last.entry) interface.now }
-{
-    match last {
-        Some(last) => *last < *interface,
-        None => true,
-    }
-}
-
-// Whether a member lies before those of a queue whose interfaces lie after another one, where there is one.
-fn is_member_passed(member: &Member, queue: u16, last: Option<&Interface>) -> bool
-    ensures { result ≡ is_passed queue (option_map (λ i. i.now) last.entry) member.now }
-{
-    member.queue < queue || (member.queue == queue && !lies_after(last, &member.interface))
-}
-
-// The same of the member of an id's cell.
-fn is_id_passed<const LAST: u32>(
-    cells: &PlacedCells<LAST>,
-    id: CellId,
-    queue: u16,
-    last: Option<&Interface>,
-) -> bool
+// Whether the cell of an id is of a queue with a lesser number.
+fn is_of_lesser_queue<const LAST: u32>(cells: &PlacedCells<LAST>, id: CellId, queue: u16) -> bool
     ensures { result
-        ≡ option_map_or (λ c. is_passed queue (option_map (λ i. i.now) last.entry) c.member)
-        (map.get cells.now.held id) false }
+        ≡ option_map_or (λ c. is_passed queue None c.member) (map.get cells.now.held id) false }
 {
     match cells.cell(id) {
-        Some(cell) => is_member_passed(&cell.member, queue, last),
+        Some(cell) => cell.member.queue < queue,
         None => false,
     }
 }
 
-// A cell of the least interface of a queue that lies after another one, where there is one.
-fn least_after<'a, const LAST: u32>(
+// How many ids stand before those of a queue. They are found by halving.
+fn place_of_queue<const LAST: u32>(
+    cells: &PlacedCells<LAST>,
+    members: &[CellId],
+    queue: u16,
+) -> usize
+    requires held { AreHeld cells.now.held members.now }
+    requires rises { Rises (listed_at cells.now.held members.now) }
+    ensures reached { IsReached queue (listed_at cells.now.held members.now) result }
+    ensures first { interface_before queue (listed_at cells.now.held members.now) result ≡ None }
+{
+    members.partition_point(
+        |id: &CellId| -> bool
+            ensures { result
+                ≡ option_map_or (λ c. is_passed queue None c.member)
+                (map.get cells.entry.now.held id.now) false }
+        { is_of_lesser_queue(cells, *id, queue) },
+    )
+}
+
+// The cell of the id at a place that a walk over a queue has reached, where it is of the queue.
+fn next_cell<'a, const LAST: u32>(
     cells: &'a PlacedCells<LAST>,
     members: &[CellId],
     queue: u16,
-    last: Option<&Interface>,
+    place: usize,
 ) -> Option<&'a LiveDot>
     requires held { AreHeld cells.now.held members.now }
     requires rises { Rises (listed_at cells.now.held members.now) }
-    ensures { IsLeastAfter queue (option_map (λ i. i.now) last.entry)
-        (listed_at cells.now.held members.now)
-        (option_map (λ c. listing c.now) result) }
+    requires reached { IsReached queue (listed_at cells.now.held members.now) place }
+    ensures some { IfSome result (λ cell.
+        IsNext queue (listed_at cells.now.held members.now) place (listing cell.now)) }
+    ensures none { result ≡ None
+        → All (λ l. is_left queue
+        (interface_before queue (listed_at cells.now.held members.now) place) l ≡ false)
+        (listed_at cells.now.held members.now) }
 {
-    let place = members.partition_point(
-        |id: &CellId| -> bool
-            ensures { result
-                ≡ option_map_or
-                (λ c. is_passed queue (option_map (λ i. i.now) last.entry) c.member)
-                (map.get cells.entry.now.held id.now) false }
-        { is_id_passed(cells, *id, queue, last) },
-    );
-    if place == members.len() {
+    if place >= members.len() {
         return None;
     }
     let cell = cells.cell(members[place])?;
@@ -121,11 +114,12 @@ impl<'a> Rows<'a> {
         requires { AreIndexed cells.now members.now }
         ensures { result ≡ rows_after (cells_view (cells_of cells.now)) queue None }
     {
+        let passed = place_of_queue(cells, members, queue);
         Rows {
             cells,
             members,
             queue,
-            last: None,
+            passed,
         }
     }
 }
@@ -138,10 +132,11 @@ impl<'a> Iterator for Rows<'a> {
     ghost remaining = { item_count (λ s. s) };
 
     fn next(&mut self) -> Option<(&'a Interface, Row<'a>)> {
-        let (cells, members) = (self.cells, self.members);
-        let cell = least_after(cells, members, self.queue, self.last)?;
-        let row = row_in(cells, members, &cell.member)?;
-        self.last = Some(&cell.member.interface);
+        let (cells, members, first) = (self.cells, self.members, self.passed);
+        let cell = next_cell(cells, members, self.queue, first)?;
+        let end = end_of(cells, members, first + 1, &cell.member);
+        let row = row_over(cells, &members[first..end])?;
+        self.passed = end;
         Some((&cell.member.interface, row))
     }
 }

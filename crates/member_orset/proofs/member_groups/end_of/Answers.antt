@@ -6,7 +6,7 @@ use Rattle.std.proofs.lemmas.Bool.{cases_lt}
 use Rattle.dots.specs.Orders.{member_cmp}
 use Rattle.member_orset.specs.Index.{Listed}
 use Rattle.member_orset.specs.PlacedStates.{listed_at}
-use Rattle.member_orset.proofs.IndexPlaces.{past_from, upto_from}
+use Rattle.member_orset.proofs.IndexPlaces.{past_from}
 use Rattle.member_orset.proofs.ListedIds.{as_long, told_there}
 use Rattle.member_orset.proofs.member_groups.end_of.Goals as goal
 
@@ -14,7 +14,7 @@ pub loop-end-init : goal.loop-end-init
 loop-end-init g c = record {
   order = omega arith;
   within = c.requires.within;
-  upto = λ k d lo hi. absurd (omega arith);
+  upto = c.requires.known;
 }
 
 pub loop-end-preserved : goal.loop-end-preserved
@@ -51,7 +51,7 @@ returns-then-not-is_upto-clause-end g c =
     sym (told_there held ids c.requires.held (λ l. is_le (member_cmp l.member m)) end id no_entry c.loop-end-test.true)
     ∙ ap (λ i. option_map_or (λ x. is_le (member_cmp x.member m)) (map.get held i) false) (sym c.index-members-end.is)
     ∙ sym c.is_upto.ensures ∙ c.if-not-is_upto.true in (
-      upto_from m (listed_at held ids) c.args.first end c.requires.first c.loop-end.invariant.upto,
+      c.loop-end.invariant.upto,
       past_from m (listed_at held ids) end no_entry c.requires.rises (omega (arith, as_long held ids c.requires.held)) greater,
     )
 
@@ -61,6 +61,6 @@ returns-clause-end g c =
     let ids = c.args.members.now in
     let m = c.args.member.now in
     let all = as_long held ids c.requires.held in (
-      upto_from m (listed_at held ids) c.args.first c.loop-end.end c.requires.first c.loop-end.invariant.upto,
+      c.loop-end.invariant.upto,
       λ k d lo hi. absurd (omega arith),
     )

@@ -8,9 +8,9 @@ use Rattle.member_orset.proofs.member_groups.end_of.Given as goal
 -- the entries of the ids so far are of no greater member
 abbrev pub invariant-loop-end : goal.invariant-loop-end
 invariant-loop-end g l = record {
-  order : l.first ≤ l.end;
+  order : l.known ≤ l.end;
   within : l.end ≤ length l.members;
-  upto : AllWithin (λ x. is_le (member_cmp x.member l.member) ≡ true) (listed_at l.cells.held l.members) l.first l.end;
+  upto : AllWithin (λ x. is_le (member_cmp x.member l.member) ≡ true) (listed_at l.cells.held l.members) 0 l.end;
 }
 
 abbrev pub decreases-loop-end : goal.decreases-loop-end

@@ -1,41 +1,77 @@
-use Rattle.std.proofs.Common.{◌≡◌, [], length, sym, ap, subst, ◌∙◌, arith}
+use Rattle.std.proofs.Common.{◌≡◌, ◌<◌, [], length, sym, ap, subst, ◌∙◌, arith, refl}
 use Rattle.std.specs.Iterator.{YieldsFirstBy}
-use Rattle.std.specs.Option.{option_map}
 use Rattle.dots.specs.Views.{listed_row_view, row_view}
 use Rattle.member_orset.specs.Index.{listing}
-use Rattle.member_orset.specs.PlacedStates.{cells_of, listed_at}
-use Rattle.member_orset.proofs.LiveMaps.{rise}
-use Rattle.member_orset.proofs.Shows.{has_row, next_row, no_more_rows}
+use Rattle.member_orset.specs.PlacedStates.{listed_at}
+use Rattle.member_orset.proofs.ListedIds.{as_long}
+use Rattle.member_orset.proofs.RowWalks.{has_next, no_rows_left, row_next, rows_next, upto_next, walk_next}
 use Rattle.member_orset.proofs.rows_lent.RowsIterator.next.Goals as goal
 
 pub returns-in_err-cell-clause-steps : goal.returns-in_err-cell-clause-steps
 returns-in_err-cell-clause-steps c =
     let r = c.self.inside in
-    let s = r.cells.now in
-    let a = c.self.invariant in
-    let none : c.args.self.now ≡ [] = sym c.self.view_is ∙ no_more_rows (cells_of s) (listed_at s.held r.members.now) r.queue (rise s.dots s.held s.spent a.placed) a.index (option_map (λ i. i.now) r.last) c.in_err-cell.ensures in
+    let none : c.args.self.now ≡ [] = sym c.self.view_is ∙ no_rows_left r.cells.now r.members.now r.queue r.passed c.self.invariant (c.in_err-cell.ensures.none refl) in
     subst (λ x. YieldsFirstBy listed_row_view (λ s. s) c.args.self.now x c.args.self.now) (sym c.from_residual.ensures) (none, none)
+
+pub overflow_add-first : goal.overflow_add-first
+overflow_add-first c =
+    let r = c.self.inside in
+    let within = c.in_ok-cell.ensures.some.within in
+    let long = as_long r.cells.now.held r.members.now c.self.invariant.indexed.held in
+    omega arith
+
+pub end_of-end-requires : goal.end_of-end-requires
+end_of-end-requires c =
+    let r = c.self.inside in
+    let index = listed_at r.cells.now.held r.members.now in
+    let within = c.in_ok-cell.ensures.some.within in
+    let long = as_long r.cells.now.held r.members.now c.self.invariant.indexed.held in (
+      omega arith,
+      (
+        c.self.invariant.indexed.held,
+        (
+          c.self.invariant.indexed.index.rises,
+          (
+            omega arith,
+            upto_next r.queue index r.passed (listing c.in_ok-cell.cell.now) c.self.invariant.indexed.index.rises c.self.invariant.reached c.in_ok-cell.ensures.some,
+          ),
+        ),
+      ),
+    )
 
 pub returns-in_err-row-clause-steps : goal.returns-in_err-row-clause-steps
 returns-in_err-row-clause-steps c =
     let r = c.self.inside in
-    let s = r.cells.now in
-    let a = c.self.invariant in
-    absurd (has_row (cells_of s) (listed_at s.held r.members.now) (listing c.in_ok-cell.cell.now) (rise s.dots s.held s.spent a.placed) a.index c.in_ok-cell.ensures.here (sym c.in_err-row.ensures))
+    let end = c.end_of-end.ensures in
+    let l = listing c.in_ok-cell.cell.now in
+    let some : r.passed < c.end_of-end.result = let order = end.order in omega arith in
+    absurd (has_next r.cells.now r.members.now r.queue r.passed l c.self.invariant c.in_ok-cell.ensures.some c.end_of-end.result some end.within end.end
+    (sym (c.in_err-row.ensures ∙ row_next r.cells.now r.members.now r.queue r.passed l c.self.invariant c.in_ok-cell.ensures.some c.end_of-end.result some end.within end.end)))
+
+pub invariant_of-self : goal.invariant_of-self
+invariant_of-self c =
+    let r = c.self.inside in
+    let end = c.end_of-end.ensures in
+    let some : r.passed < c.end_of-end.result = let order = end.order in omega arith in
+    walk_next r.cells.now r.members.now r.queue r.passed (listing c.in_ok-cell.cell.now) c.self.invariant c.in_ok-cell.ensures.some c.end_of-end.result some end.within end.end
 
 pub returns-clause-steps : goal.returns-clause-steps
 returns-clause-steps c =
     let r = c.self.inside in
-    let s = r.cells.now in
-    let a = c.self.invariant in
+    let end = c.end_of-end.ensures in
+    let l = listing c.in_ok-cell.cell.now in
+    let some : r.passed < c.end_of-end.result = let order = end.order in omega arith in
     sym c.self.view_is
-    ∙ next_row (cells_of s) (listed_at s.held r.members.now) r.queue (rise s.dots s.held s.spent a.placed) a.index (option_map (λ i. i.now) r.last) (listing c.in_ok-cell.cell.now) (row_view c.in_ok-row.row) c.in_ok-cell.ensures (sym c.in_ok-row.ensures)
+    ∙ rows_next r.cells.now r.members.now r.queue r.passed l c.self.invariant c.in_ok-cell.ensures.some c.end_of-end.result some end.within end.end (row_view c.in_ok-row.row)
+    (sym (c.in_ok-row.ensures ∙ row_next r.cells.now r.members.now r.queue r.passed l c.self.invariant c.in_ok-cell.ensures.some c.end_of-end.result some end.within end.end))
 
 pub returns-clause-goes : goal.returns-clause-goes
 returns-clause-goes c =
     let r = c.self.inside in
-    let s = r.cells.now in
-    let a = c.self.invariant in
+    let end = c.end_of-end.ensures in
+    let l = listing c.in_ok-cell.cell.now in
+    let some : r.passed < c.end_of-end.result = let order = end.order in omega arith in
     let steps = sym c.self.view_is
-    ∙ next_row (cells_of s) (listed_at s.held r.members.now) r.queue (rise s.dots s.held s.spent a.placed) a.index (option_map (λ i. i.now) r.last) (listing c.in_ok-cell.cell.now) (row_view c.in_ok-row.row) c.in_ok-cell.ensures (sym c.in_ok-row.ensures) in
+    ∙ rows_next r.cells.now r.members.now r.queue r.passed l c.self.invariant c.in_ok-cell.ensures.some c.end_of-end.result some end.within end.end (row_view c.in_ok-row.row)
+    (sym (c.in_ok-row.ensures ∙ row_next r.cells.now r.members.now r.queue r.passed l c.self.invariant c.in_ok-cell.ensures.some c.end_of-end.result some end.within end.end)) in
     record { on = λ f. (tt, tt, omega (arith, ap length steps)); keeps = tt; rests = λ f. tt }
