@@ -38,6 +38,7 @@ pub mod Indexes
 pub mod IndexPlaces
 pub mod Relisted
 pub mod ListedIds
+pub mod IndexLists
 pub mod LiveChanges
 pub mod ShownCells
 pub mod MemberDots

@@ -39,7 +39,26 @@ pub members_count : (s : PlacedState) (members : List Id) → AreIndexed s membe
 members_count s members x =
     sym (as_long s.held members x.held) ∙ as_many (cells_of s) (listed_at s.held members) (rise s.dots s.held s.spent x.placed) x.index ∙ placed_long s.dots s.held x.placed.there
 
--- one dot more
+-- one dot more is placed
+module _ (s t : PlacedState) (a : IsPlaced s) (i : ℕ) (cell : LiveDot) (id : Id) (gap : IsGap (cells_of s) cell.dot i) (free : maps.get s.held id ≡ None) (h : t.held ≡ maps.insert s.held id cell) where
+  pub live_more : cells_of t ≡ insert (cells_of s) i cell → live_of (cells_of t) ≡ maps.insert (live_of (cells_of s)) cell.dot (holding cell)
+  live_more cs = maps.same_map dots_total dots_exact _ _ (λ q.
+      ap (λ ds. maps.get (live_of ds) q) cs ∙ brought_live (cells_of s) i cell q (rise s.dots s.held s.spent a) gap ∙ sym (maps.get-insert dots_total (live_of (cells_of s)) cell.dot (holding cell) q))
+
+  pub ids_more : t.dots ≡ insert s.dots i (record { dot = cell.dot; id = id }) → ids_by t.dots ≡ maps.insert (ids_by s.dots) cell.dot id
+  ids_more ds =
+      let w : i ≤ length s.dots = let v = gap.within in omega (arith, placed_long s.dots s.held a.there) in
+      ap ids_by ds
+      ∙ put_map dot_cmp dots_total dots_exact (λ p. p.dot) (λ p. p.id) s.dots i (record { dot = cell.dot; id = id }) a.sorted w (ahead_dots s.dots s.held a.there cell.dot i cell w gap.before) (before_dots s.dots s.held a.there cell.dot i cell gap)
+
+  pub is_new : sets.contains s.spent id ≡ false → ((g : ℕ) → g < id.generation → sets.contains s.spent (id_of id.index g) ≡ true) → IsNew (ids_by s.dots) s.spent s.spent id
+  is_new unspent lesser = record {
+    free = λ dot e. let there = its_cell s.dots s.held s.spent a dot id e in let none = ap (option_map (λ c. c.dot)) (sym free) ∙ there in cc;
+    unspent = unspent;
+    lesser = lesser;
+  }
+
+-- and is in the index
 module _ (s t : PlacedState) (members : List Id) (x : AreIndexed s members) (i : ℕ) (cell : LiveDot) (id : Id) (gap : IsGap (cells_of s) cell.dot i) (free : maps.get s.held id ≡ None) (h : t.held ≡ maps.insert s.held id cell) where
   pub held_more : AreHeld t.held members
   held_more = subst (λ m. AreHeld m members) (sym h) (still_held s.held id cell members free x.held)
@@ -52,23 +71,6 @@ module _ (s t : PlacedState) (members : List Id) (x : AreIndexed s members) (i :
 
   pub rises_more : Rises (listed_at t.held members)
   rises_more = subst Rises (sym listed_kept) x.index.rises
-
-  pub live_more : cells_of t ≡ insert (cells_of s) i cell → live_of (cells_of t) ≡ maps.insert (live_of (cells_of s)) cell.dot (holding cell)
-  live_more cs = maps.same_map dots_total dots_exact _ _ (λ q.
-      ap (λ ds. maps.get (live_of ds) q) cs ∙ brought_live (cells_of s) i cell q (rise s.dots s.held s.spent x.placed) gap ∙ sym (maps.get-insert dots_total (live_of (cells_of s)) cell.dot (holding cell) q))
-
-  pub ids_more : t.dots ≡ insert s.dots i (record { dot = cell.dot; id = id }) → ids_by t.dots ≡ maps.insert (ids_by s.dots) cell.dot id
-  ids_more ds =
-      let w : i ≤ length s.dots = let v = gap.within in omega (arith, placed_long s.dots s.held x.placed.there) in
-      ap ids_by ds
-      ∙ put_map dot_cmp dots_total dots_exact (λ p. p.dot) (λ p. p.id) s.dots i (record { dot = cell.dot; id = id }) x.placed.sorted w (ahead_dots s.dots s.held x.placed.there cell.dot i cell w gap.before) (before_dots s.dots s.held x.placed.there cell.dot i cell gap)
-
-  pub is_new : sets.contains s.spent id ≡ false → ((g : ℕ) → g < id.generation → sets.contains s.spent (id_of id.index g) ≡ true) → IsNew (ids_by s.dots) s.spent s.spent id
-  is_new unspent lesser = record {
-    free = λ dot e. let there = its_cell s.dots s.held s.spent x.placed dot id e in let none = ap (option_map (λ c. c.dot)) (sym free) ∙ there in cc;
-    unspent = unspent;
-    lesser = lesser;
-  }
 
   not_listed : is_listed (listed_at s.held members) cell.member cell.dot ≡ false
   not_listed = x.index.lists cell.member cell.dot ∙ ap (λ o. option_map_or (eq_by_cmp member_cmp cell.member) (option_map (λ h. h.0) o) false) (gap_live (cells_of s) cell.dot i (rise s.dots s.held s.spent x.placed) gap)

@@ -1,5 +1,5 @@
 -- Lists whose keys rise by an order: what is found in them, and what they are after one more, one replaced or one less.
-use Rattle.std.proofs.Common.{◌≡◌, ◌≢◌, ℕ, Bool, suc, zero, ◌≤◌, ◌<◌, true, false, not, cond, List, [], ◌∷◌, length, map as each, get_or, set, Some, None, inl, inr, refl, sym, ap, ◌∙◌, subst, arith}
+use Rattle.std.proofs.Common.{◌≡◌, ◌≢◌, ℕ, Bool, suc, zero, ◌≤◌, ◌<◌, true, false, not, cond, ◌&&◌, List, [], ◌∷◌, length, map as each, get_or, set, Some, None, inl, inr, refl, sym, ap, ◌∙◌, subst, arith}
 use Rattle.std.specs.Cmp.{IsTotalOrder}
 use Rattle.std.specs.FinMap.{IsAntisymmetric}
 use Rattle.std.specs.FinMap.Entries.{put, find, is_sorted, below_all, where_key}
@@ -82,6 +82,15 @@ module _ {X K V : Type 0} (R : K → K → Ordering) (o : IsTotalOrder R) (exact
 
   pub below_from : (d x : K) (cs : List X) → is_lt (R d x) ≡ true → below_all R x (entries cs) ≡ true → below_all R d (entries cs) ≡ true
   below_from d x cs l h = sorted.below_from R o d x (entries cs) (less_of _ l) h
+
+  -- keys of which each lies before the next one rise
+  pub rise_steps : (cs : List X) → ((k : ℕ) (e : X) → suc k < length cs → is_lt (R (key (get_or cs k e)) (key (get_or cs (suc k) e))) ≡ true) → Rise cs
+  rise_steps [] h = refl
+  rise_steps (c ∷ cs) h = first cs (λ e l. h 0 e l) (rise_steps cs (λ k e l. h (suc k) e (omega arith)))
+    where
+      first : (xs : List X) → ((e : X) → 1 < length (c ∷ xs) → is_lt (R (key c) (key (get_or xs 0 e))) ≡ true) → Rise xs → Rise (c ∷ xs)
+      first [] l s = refl
+      first (x ∷ xs) l s = let less = l x (omega arith) in λ i. (less i && below_from (key c) (key x) xs less (rise-head x xs s) i) && s i
 
   -- elements that pass a test come first, where each that lies before one that passes it passes it
   pub partitioned_by : (p : X → Bool) → ((a b : X) → is_lt (R (key a) (key b)) ≡ true → p b ≡ true → p a ≡ true) → (cs : List X) → Rise cs → IsPartitionedBy p cs

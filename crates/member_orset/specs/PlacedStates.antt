@@ -1,8 +1,9 @@
 -- The live dots in their order, each with the id of its cell, and the cells by their ids.
-use Rattle.std.specs.Prelude.{ℕ, ◌≡◌, false, IsTrue, IsSome, Some, List, length, map, min, refl}
+use Rattle.std.specs.Prelude.{ℕ, ◌≡◌, ◌≤◌, false, IsTrue, IsSome, Some, List, [], length, map, min, refl}
 use Rattle.std.specs.Coded.{Coded, code_by, coded×, coded_ℕ, coded_list}
 use Rattle.std.specs.List.{All, filter_map}
-use Rattle.std.specs.Option.{option_map}
+use Rattle.std.specs.Option.{option_cmp, option_map}
+use Rattle.std.specs.declared.cmp.Ordering.{Ordering}
 use Rattle.std.specs.FinMap as maps
 use Rattle.std.specs.FinSet as sets
 use Rattle.dots.specs.Values.{Dot}
@@ -17,7 +18,7 @@ use Rattle.member_orset.specs.declared.placed.Placed.{Placed}
 use Rattle.member_orset.specs.CellIds.{IdSet}
 use Rattle.member_orset.specs.LiveLists.{live_of}
 use Rattle.member_orset.specs.LiveStates.{LiveState}
-use Rattle.member_orset.specs.Index.{IsIndex, Listed, listing}
+use Rattle.member_orset.specs.Index.{IsIndex, Listed, listed_cmp, listing}
 use Rattle.member_orset.specs.PlacedLists.{id_entries}
 
 -- the cells by their ids
@@ -85,11 +86,22 @@ IsPlaced s = ArePlaced s.dots s.held s.spent
 abbrev pub listed_at : CellMap → List Id → List Listed
 listed_at held ids = map listing (cells_at held ids)
 
+-- how two ids lie in the index of members by the entries of their cells: an id without one lies before those that have one
+abbrev pub id_order : CellMap → Id → Id → Ordering
+id_order held id other = option_cmp listed_cmp (option_map listing (maps.get held id)) (option_map listing (maps.get held other))
+
 -- what live dots are kept by: they are placed, and the index has the ids of their cells, by their members and then by dots
 pub record AreIndexed (s : PlacedState) (members : List Id) : Type 0 where
   pub placed : IsPlaced s
   pub held : AreHeld s.held members
   pub index : IsIndex (listed_at s.held members) (live_of (cells_of s))
+
+-- placed dots that have no index yet: no id is spent, and the list that it is made in is empty and has room for it
+pub record AreUnlisted (s : PlacedState) (members : List Id) (capacity : ℕ) : Type 0 where
+  pub placed : IsPlaced s
+  pub unspent : s.spent ≡ sets.empty
+  pub empty : members ≡ []
+  pub room : length s.dots ≤ capacity
 
 -- what contracts see of them, where the index has room for so many ids
 abbrev pub live_state : PlacedState → ℕ → LiveState

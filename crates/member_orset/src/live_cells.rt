@@ -1,24 +1,27 @@
-ghost use Rattle.std.specs.Prelude.{◌≡◌, ◌+◌, ◌<◌, ◌≤◌, ◌↔◌, ◌≢◌, ◌++◌, [], ◌∷◌, IsOk, IsTrue};
+ghost use Rattle.std.specs.Prelude.{◌≡◌, ◌+◌, ◌<◌, ◌≤◌, ◌↔◌, ◌≢◌, [], IsOk, IsTrue, length};
 ghost use Rattle.std.specs.Prelude.{IfOk, IfSome, OnOk, Err, None};
 ghost use Rattle.std.specs.Prelude.{map as each};
 ghost use Rattle.std.specs.Option.{option_map};
 ghost use Rattle.std.specs.FinMap as map;
 ghost use Rattle.std.specs.FinSet as set;
+ghost use Rattle.std.specs.Vec.{vec_capacity};
 ghost use Rattle.dots.specs.Values.{Dot};
 ghost use Rattle.dots.specs.Rows.{dots_of, row_of, rows_of};
 ghost use Rattle.dots.specs.Views.{row_view};
 ghost use Rattle.member_orset.specs.CellIds.{IsNew, retired_of};
 ghost use Rattle.member_orset.specs.Members.{IsPresentIn, most_places, view_of};
 ghost use Rattle.member_orset.specs.Reads.{cell_read};
-ghost use Rattle.member_orset.specs.LiveLists.{entry_of};
+ghost use Rattle.member_orset.specs.LiveLists.{live_of};
 ghost use Rattle.member_orset.specs.LiveStates.{AreLive, HasId, HasTaken, TakesFields, spent_with};
+ghost use Rattle.member_orset.specs.PlacedLists.{id_entries};
+ghost use Rattle.member_orset.specs.PlacedStates.{IsPlaced, cells_of};
 
 use crate::cells_lent::Cells;
 use crate::dots_lent::Dots;
 use crate::insertion::put_in;
 use crate::live_dot::LiveDot;
 use crate::member_groups::{group_of, has_member};
-use crate::member_ids::{copy_members, place_in};
+use crate::member_ids::{copy_members, list_members, place_in};
 use crate::member_rows::row_in;
 use crate::placed::Placed;
 use crate::placed_cells::PlacedCells;
@@ -66,6 +69,19 @@ impl<const LAST: u32> LiveCells<LAST> {
             placed: PlacedCells::new(alloc),
             members: Vec::new(alloc),
         }
+    }
+
+    // The live dots that are placed. It makes their index in an empty list, with room for it.
+    pub(crate) fn of(placed: PlacedCells<LAST>, mut members: Vec<CellId>) -> Self
+        requires valid { IsPlaced placed }
+        requires empty { members.items ≡ [] }
+        requires room { length placed.dots ≤ vec_capacity members }
+        ensures live { result.live ≡ live_of (cells_of placed.entry) }
+        ensures ids { result.ids ≡ map.from_sorted (id_entries placed.entry.dots) }
+        ensures spent { result.spent ≡ placed.entry.spent }
+    {
+        list_members(&placed, &mut members);
+        LiveCells { placed, members }
     }
 
     // The allocator that it grows with.

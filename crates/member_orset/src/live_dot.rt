@@ -7,6 +7,7 @@ ghost use Rattle.member_orset.specs.Reads.{cell_read};
 use crate::Cell;
 use dots::{Dot, Member};
 use lww_registers::Fields;
+use std::cmp::Ordering;
 
 // A live dot with its member and fields.
 #[derive(Drop)]
@@ -27,12 +28,19 @@ impl LiveDot {
         }
     }
 
+    // How it lies to another one in the index of members.
+    pub(crate) fn order(&self, other: &LiveDot) -> Ordering
+        ensures { result ≡ listed_cmp (listing self.now) (listing other.now) }
+    {
+        let by_member = self.member.cmp(&other.member);
+        by_member.then(self.dot.cmp(&other.dot))
+    }
+
     // Whether it lies before another one in the index of members.
     pub(crate) fn is_listed_before(&self, other: &LiveDot) -> bool
         ensures { result ≡ is_lt (listed_cmp (listing self.now) (listing other.now)) }
     {
-        let by_member = self.member.cmp(&other.member);
-        by_member.then(self.dot.cmp(&other.dot)).is_lt()
+        self.order(other).is_lt()
     }
 
     // The same once more.

@@ -1,17 +1,21 @@
 //! The index of members: the ids of the live dots, in the order of their cells' members and then of their dots.
-ghost use Rattle.std.specs.Prelude.{◌≡◌, IfOk, IsSomeAnd, Some, false};
+ghost use Rattle.std.specs.Prelude.{◌≡◌, ◌≤◌, [], IfOk, IsSomeAnd, Some, false, length};
 ghost use Rattle.std.specs.FinMap as map;
+ghost use Rattle.std.specs.List.Sorted.{IsPermutation, IsSorted};
 ghost use Rattle.std.specs.Option.{option_map_or};
-ghost use Rattle.std.specs.Ordering.{is_lt};
+ghost use Rattle.std.specs.Ordering.{is_le, is_lt};
+ghost use Rattle.std.specs.Vec.{vec_capacity};
 ghost use Rattle.member_orset.specs.declared.live_dot.LiveDot.{LiveDot as live_dot};
 ghost use Rattle.member_orset.specs.Index.{IsPlaceFor, Rises, listed_cmp, listing};
-ghost use Rattle.member_orset.specs.PlacedStates.{AreHeld, IsPlaced, cells_at, cells_of, listed_at};
+ghost use Rattle.member_orset.specs.PlacedStates.{AreHeld, AreIndexed, IsPlaced};
+ghost use Rattle.member_orset.specs.PlacedStates.{cells_at, cells_of, id_order, listed_at};
 
 use crate::live_dot::LiveDot;
 use crate::placed_cells::PlacedCells;
 use dots::Memory;
 use op_arena::CellId;
 use std::alloc::Global;
+use std::cmp::Ordering;
 
 // Whether the cell of an id lies before another one.
 fn lies_before<const LAST: u32>(cells: &PlacedCells<LAST>, id: CellId, cell: &LiveDot) -> bool
@@ -46,6 +50,54 @@ pub(crate) fn place_in<const LAST: u32>(
                 (map.get cells.entry.now.held other.now) false }
         { lies_before(cells, *other, cell) },
     )
+}
+
+// How the cells of two ids lie in the index; an id without a cell lies before those that have one.
+fn order_of<const LAST: u32>(cells: &PlacedCells<LAST>, id: CellId, other: CellId) -> Ordering
+    ensures { result ≡ id_order cells.now.held id other }
+{
+    match (cells.cell(id), cells.cell(other)) {
+        (Some(cell), Some(after)) => cell.order(after),
+        (Some(_), None) => Ordering::Greater,
+        (None, Some(_)) => Ordering::Less,
+        (None, None) => Ordering::Equal,
+    }
+}
+
+// Sorts ids by their cells, where they aren't in that order yet.
+fn sort_members<const LAST: u32>(cells: &PlacedCells<LAST>, members: &mut Vec<CellId>)
+    ensures same { IsPermutation members.old.items members.new.items }
+    ensures sorted { IsSorted (id_order cells.now.held) members.new.items }
+    ensures capacity { vec_capacity members.new ≡ vec_capacity members.old }
+{
+    let are_sorted = members.is_sorted_by(
+        |id: &CellId, other: &CellId| -> bool
+            ensures { result ≡ is_le (id_order cells.entry.now.held id.now other.now) }
+        { order_of(cells, *id, *other).is_le() },
+    );
+    if are_sorted {
+        return;
+    }
+    members.sort_unstable_by(
+        |id: &CellId, other: &CellId| -> Ordering
+            ensures { result ≡ id_order cells.entry.now.held id.now other.now }
+        { order_of(cells, *id, *other) },
+    );
+}
+
+// Makes the index of all that is placed, in an empty list with room for it.
+pub(crate) fn list_members<const LAST: u32>(cells: &PlacedCells<LAST>, members: &mut Vec<CellId>)
+    requires valid { IsPlaced cells.now }
+    requires empty { members.old.items ≡ [] }
+    requires room { length cells.now.dots ≤ vec_capacity members.old }
+    ensures indexed { AreIndexed cells.now members.new.items }
+    ensures capacity { vec_capacity members.old ≤ vec_capacity members.new }
+{
+    let dots = cells.placed();
+    for placed in dots {
+        members.push_reserved(placed.id);
+    }
+    sort_members(cells, members);
 }
 
 // The id that the cell of an id has in a copy.

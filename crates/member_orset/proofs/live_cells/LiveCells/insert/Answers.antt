@@ -67,17 +67,17 @@ invariant_of-self g c =
 pub returns-clause-live : goal.returns-clause-live
 returns-clause-live g c =
     let s = c.self.inside.placed in
-    live_more s c.insert-id.new.self c.self.inside.members.items c.self.invariant c.in-Err.place c.args.cell c.insert-id.result c.in-Err.ensures.missed c.insert-id.ensures.free c.insert-id.ensures.held c.insert-id.ensures.cells
+    live_more s c.insert-id.new.self c.self.invariant.placed c.in-Err.place c.args.cell c.insert-id.result c.in-Err.ensures.missed c.insert-id.ensures.free c.insert-id.ensures.held c.insert-id.ensures.cells
     ∙ ap (λ x. map.insert x.live c.args.cell.dot (c.args.cell.member, c.args.cell.fields)) c.self.view_is
 
 pub returns-clause-ids : goal.returns-clause-ids
 returns-clause-ids g c =
     let s = c.self.inside.placed in
-    ids_more s c.insert-id.new.self c.self.inside.members.items c.self.invariant c.in-Err.place c.args.cell c.insert-id.result c.in-Err.ensures.missed c.insert-id.ensures.free c.insert-id.ensures.held c.insert-id.ensures.dots
+    ids_more s c.insert-id.new.self c.self.invariant.placed c.in-Err.place c.args.cell c.insert-id.result c.in-Err.ensures.missed c.insert-id.ensures.free c.insert-id.ensures.held c.insert-id.ensures.dots
     ∙ ap (λ x. map.insert x.ids c.args.cell.dot c.insert-id.result) c.self.view_is
 
 pub returns-clause-new : goal.returns-clause-new
 returns-clause-new g c =
     let s = c.self.inside.placed in
     subst (λ x. IsNew x.ids x.spent x.spent c.insert-id.result) c.self.view_is
-    (is_new s c.insert-id.new.self c.self.inside.members.items c.self.invariant c.in-Err.place c.args.cell c.insert-id.result c.in-Err.ensures.missed c.insert-id.ensures.free c.insert-id.ensures.held c.insert-id.ensures.unspent c.insert-id.ensures.lesser)
+    (is_new s c.insert-id.new.self c.self.invariant.placed c.in-Err.place c.args.cell c.insert-id.result c.in-Err.ensures.missed c.insert-id.ensures.free c.insert-id.ensures.held c.insert-id.ensures.unspent c.insert-id.ensures.lesser)
