@@ -13,7 +13,7 @@ use Rattle.dots.specs.Orders.{dot_cmp}
 use Rattle.dots.specs.DotSets.{Run, in_run, in_runs, is_apart, AreApart, IsRunsOf, first_dot, last_dot, next_dot}
 use Rattle.dots.proofs.DotOrder.{dots_total}
 use Rattle.dots.proofs.Apart.{rest_misses_next}
-use Rattle.dots.proofs.Fronts.{open_at}
+use Rattle.general_lemmas.proofs.Fronts.{open_at}
 use Rattle.causal_context.specs.RunLists.{is_below, holds, within, all_within}
 use Rattle.causal_context.proofs.Places.{apart_drop}
 

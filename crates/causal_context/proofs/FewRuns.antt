@@ -15,7 +15,7 @@ use Rattle.dots.proofs.DotOrder.{dots_total, dots_exact, same_dot}
 use Rattle.dots.proofs.OneMoreDot.{dot_before, insert_known, run_count-insert}
 use Rattle.dots.proofs.Runs.{contains-set_of, runs_of_set}
 use Rattle.dots.proofs.RunCounts.{run_count-runs}
-use Rattle.dots.proofs.TruthTables.{or_swap}
+use Rattle.general_lemmas.proofs.TruthTables.{or_swap}
 
 abbrev Dots : Type 0
 Dots = sets.FinSet dot_cmp

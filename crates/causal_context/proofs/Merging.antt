@@ -18,8 +18,8 @@ use Rattle.dots.proofs.Apart.{apart_trans}
 use Rattle.dots.proofs.RunCounts.{run_count-runs}
 use Rattle.dots.proofs.Runs.{contains-set_of}
 use Rattle.causal_context.specs.Contexts.{IsContext, IsRun}
-use Rattle.dots.proofs.TruthTables.{or_swap}
-use Rattle.dots.proofs.Fronts.{open_at}
+use Rattle.general_lemmas.proofs.TruthTables.{or_swap}
+use Rattle.general_lemmas.proofs.Fronts.{open_at}
 use Rattle.causal_context.specs.RunLists.{IsNext, begins_by, is_first_ours, run_over}
 
 -- all that follow a run begin after it

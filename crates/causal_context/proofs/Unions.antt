@@ -4,7 +4,7 @@ use Rattle.std.specs.FinSet as sets
 use Rattle.dots.specs.Values.{Dot}
 use Rattle.dots.specs.Orders.{dot_cmp}
 use Rattle.dots.proofs.DotOrder.{dots_total, dots_exact}
-use Rattle.dots.proofs.Membership.{same-tests}
+use Rattle.general_lemmas.proofs.Membership.{same-tests}
 
 abbrev Dots : Type 0
 Dots = sets.FinSet dot_cmp

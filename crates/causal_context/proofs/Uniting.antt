@@ -13,7 +13,7 @@ use Rattle.dots.specs.DotSets.{Run, in_run, in_runs, is_apart, AreApart, IsRunsO
 use Rattle.dots.proofs.DotOrder.{dots_total}
 use Rattle.dots.proofs.Apart.{apart_trans}
 use Rattle.dots.proofs.Runs.{contains-set_of, set_of-runs}
-use Rattle.dots.proofs.Fronts.{open_at}
+use Rattle.general_lemmas.proofs.Fronts.{open_at}
 use Rattle.causal_context.specs.RunLists.{run_over}
 use Rattle.causal_context.proofs.Places.{apart_drop}
 

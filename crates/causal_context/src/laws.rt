@@ -5,7 +5,7 @@ ghost use Rattle.std.specs.FinSet as set;
 ghost use Rattle.std.specs.List.{All};
 ghost use Rattle.dots.specs.Values.{Dot};
 ghost use Rattle.dots.specs.Orders.{dot_cmp};
-ghost use Rattle.dots.specs.Joins.{IsJoin};
+ghost use Rattle.general_lemmas.specs.Joins.{IsJoin};
 ghost use Rattle.dots.specs.DotSets.{IsRunsOf, Run, first_dot, last_dot, next_dot, run_count};
 
 /// Contexts are joined in any order: a join is the union. Each two agree.

@@ -6,8 +6,8 @@ use Rattle.dots.specs.declared.limits.TheConstants.{MOST_LIVE, MOST_RUNS}
 use Rattle.dots.specs.Values.{Dot}
 use Rattle.dots.specs.Orders.{dot_cmp}
 use Rattle.dots.specs.DotSets.{run_count}
-use Rattle.dots.specs.Conditions.{Condition, Live, Dead, ConditionsAgree, condition_joined}
-use Rattle.dots.proofs.ConditionLaws.{unknown_is_neutral}
+use Rattle.operations.specs.Conditions.{Condition, Live, Dead, ConditionsAgree, condition_joined}
+use Rattle.operations.proofs.ConditionLaws.{unknown_is_neutral}
 use Rattle.dots.proofs.DotOrder.{dots_exact}
 use Rattle.dots.proofs.KeySets.{len_of_keys}
 use Rattle.dots.proofs.Unions.{union-empty}

@@ -2,8 +2,8 @@
 use Rattle.std.proofs.Common.{◌≡◌, map as each, is_none, ap, arith}
 use Rattle.std.specs.FinMap as map
 use Rattle.std.specs.List.{count_by}
-use Rattle.dots.specs.Totals.{Entries, count_missing}
-use Rattle.dots.proofs.TotalsLaws.{entries_empty}
+use Rattle.operations.specs.Totals.{Entries, count_missing}
+use Rattle.operations.proofs.TotalsLaws.{entries_empty}
 use Rattle.site_totals.specs.Tally.{Tally, HasRoomFor}
 
 none_missing : (x : Entries) → count_missing x map.empty ≡ 0

@@ -2,11 +2,11 @@
 use Rattle.std.proofs.Common.{sym, ap, subst, ◌∙◌}
 use Rattle.std.specs.FinMap as map
 use Rattle.std.specs.FinSet as set
-use Rattle.dots.specs.Conditions.{ConditionsAgree, condition_joined}
-use Rattle.dots.specs.Totals.{Entries}
-use Rattle.dots.specs.Totals as totals
-use Rattle.dots.proofs.ConditionLaws.{conditions_agree, conditions_assoc, conditions_comm, conditions_self, unknown_is_neutral}
-use Rattle.dots.proofs.TotalsLaws.{joined_assoc, joined_comm, joined_empty, joined_self}
+use Rattle.operations.specs.Conditions.{ConditionsAgree, condition_joined}
+use Rattle.operations.specs.Totals.{Entries}
+use Rattle.operations.specs.Totals as totals
+use Rattle.operations.proofs.ConditionLaws.{conditions_agree, conditions_assoc, conditions_comm, conditions_self, unknown_is_neutral}
+use Rattle.operations.proofs.TotalsLaws.{joined_assoc, joined_comm, joined_empty, joined_self}
 use Rattle.dots.proofs.Unions.{union-assoc, union-comm, union-empty, union-same}
 use Rattle.member_orset.specs.Members.{condition_of}
 use Rattle.delta.specs.DeltaStates.{DeltaState, IsEmpty, IsSame}

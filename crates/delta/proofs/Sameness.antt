@@ -3,7 +3,7 @@ use Rattle.std.proofs.Common.{◌≡◌, Bool, true, false, Option, Some, None, 
 use Rattle.std.specs.FinMap as map
 use Rattle.std.specs.FinSet as set
 use Rattle.dots.specs.Values.{Dot}
-use Rattle.dots.specs.Conditions.{Condition, Live, Dead}
+use Rattle.operations.specs.Conditions.{Condition, Live, Dead}
 use Rattle.dots.proofs.DotOrder.{dots_exact, dots_total}
 use Rattle.member_orset.specs.Members.{Members, Holding, SaysTheSame, condition_at, condition_of}
 

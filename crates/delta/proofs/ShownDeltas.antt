@@ -7,14 +7,14 @@ use Rattle.dots.specs.declared.calls.Calls.{Calls}
 use Rattle.dots.specs.declared.calls.Calls.TheVariants.{Completed, Abandoned}
 use Rattle.dots.specs.declared.member.Member.{Member}
 use Rattle.dots.specs.Values.{Dot}
-use Rattle.dots.specs.Conditions.{DotFields, Live, Dead, fields_in}
-use Rattle.dots.specs.Counts.{site_total}
-use Rattle.dots.specs.Knowledge.{Knowledge, is_named, member_of, visible_dots}
-use Rattle.dots.specs.Rows.{ShowAlike, dot_view}
-use Rattle.dots.specs.Totals.{totals_of}
+use Rattle.operations.specs.Conditions.{DotFields, Live, Dead, fields_in}
+use Rattle.operations.specs.Counts.{site_total}
+use Rattle.operations.specs.Knowledge.{Knowledge, is_named, member_of, visible_dots}
+use Rattle.operations.specs.Rows.{ShowAlike, dot_view}
+use Rattle.operations.specs.Totals.{totals_of}
 use Rattle.dots.proofs.DotOrder.{dots_exact, dots_total}
-use Rattle.dots.proofs.JoinedKnowledge.{member-some}
-use Rattle.dots.proofs.VisibleLaws.{visible-dot}
+use Rattle.operations.proofs.JoinedKnowledge.{member-some}
+use Rattle.operations.proofs.VisibleLaws.{visible-dot}
 use Rattle.site_totals.specs.Raising.{number_of}
 use Rattle.member_orset.specs.Members.{Holding, Members, condition_at, dot_view_of}
 use Rattle.delta.specs.DeltaStates.{DeltaState}

@@ -6,18 +6,18 @@ use Rattle.std.specs.FinSet as set
 use Rattle.dots.specs.declared.member.Member.{Member}
 use Rattle.dots.specs.Values.{Dot}
 use Rattle.dots.specs.DotSets.{run_count}
-use Rattle.dots.specs.Conditions.{Live, Dead, ConditionsAgree, condition_in, condition_joined, fields_in}
-use Rattle.dots.specs.Knowledge.{Knowledge, IsConsistent, SameOperations, is_asserted, is_named, known_dots, member_of, visible_dots}
-use Rattle.dots.specs.Totals.{totals_of}
-use Rattle.dots.specs.Traces.{LeaveTraces}
+use Rattle.operations.specs.Conditions.{Live, Dead, ConditionsAgree, condition_in, condition_joined, fields_in}
+use Rattle.operations.specs.Knowledge.{Knowledge, IsConsistent, SameOperations, is_asserted, is_named, known_dots, member_of, visible_dots}
+use Rattle.operations.specs.Totals.{totals_of}
+use Rattle.operations.specs.Traces.{LeaveTraces}
 use Rattle.dots.proofs.DotOrder.{dots_exact, dots_total}
-use Rattle.dots.proofs.JoinedKnowledge.{condition-both, conditions-agree, known-both, member-some}
+use Rattle.operations.proofs.JoinedKnowledge.{condition-both, conditions-agree, known-both, member-some}
 use Rattle.dots.proofs.KeySets.{len_of_keys}
-use Rattle.dots.proofs.KnownLaws.{known-dot}
-use Rattle.dots.proofs.StandingJoins.{represents-both, represents-none, represents-same}
-use Rattle.dots.proofs.StandingLaws.{represents_one}
-use Rattle.dots.proofs.TraceLaws.{traces-none}
-use Rattle.dots.proofs.VisibleLaws.{visible-dot}
+use Rattle.operations.proofs.KnownLaws.{known-dot}
+use Rattle.operations.proofs.StandingJoins.{represents-both, represents-none, represents-same}
+use Rattle.operations.proofs.StandingLaws.{represents_one}
+use Rattle.operations.proofs.TraceLaws.{traces-none}
+use Rattle.operations.proofs.VisibleLaws.{visible-dot}
 use Rattle.member_orset.specs.Members.{Holding, both_joined, cells_joined, condition_at, condition_of, is_live, joined_dots, runs_joined}
 use Rattle.delta.specs.DeltaStates.{DeltaState, IsEmpty, IsSame}
 use Rattle.delta.specs.Joining.{Agree, IsJoinOf}

@@ -1,7 +1,7 @@
 -- The join of two deltas: when there is one, and what it is.
 use Rattle.std.specs.Prelude.{◌≡◌, ◌≢◌, Result, Ok, Err}
 use Rattle.std.specs.FinSet as set
-use Rattle.dots.specs.Totals.{join_of}
+use Rattle.operations.specs.Totals.{join_of}
 use Rattle.member_orset.specs.Members as sets
 use Rattle.member_orset.specs.Refusals as refusals
 use Rattle.member_orset.specs.declared.join_fault.JoinFault.{JoinFault}

@@ -1,11 +1,11 @@
 -- What a delta stands for.
 use Rattle.std.specs.Prelude.{ℕ, ◌≡◌}
 use Rattle.dots.specs.declared.calls.Calls.{Calls}
-use Rattle.dots.specs.Conditions.{Represents}
-use Rattle.dots.specs.Counts.{site_total}
-use Rattle.dots.specs.Knowledge.{Knowledge}
-use Rattle.dots.specs.Rows.{ShowAlike, dot_view}
-use Rattle.dots.specs.Totals.{totals_of}
+use Rattle.operations.specs.Conditions.{Represents}
+use Rattle.operations.specs.Counts.{site_total}
+use Rattle.operations.specs.Knowledge.{Knowledge}
+use Rattle.operations.specs.Rows.{ShowAlike, dot_view}
+use Rattle.operations.specs.Totals.{totals_of}
 use Rattle.site_totals.specs.Raising.{number_of}
 use Rattle.member_orset.specs.Members.{condition_of, dot_view_of}
 use Rattle.delta.specs.DeltaStates.{DeltaState}

@@ -2,7 +2,7 @@
 ghost use Rattle.std.specs.Prelude.{◌≡◌, ◌≢◌, ◌↔◌, ◌≤◌, Err, IsOk, IsTrue, OnErr, OnOk};
 ghost use Rattle.std.specs.FinMap as map;
 ghost use Rattle.std.specs.FinSet as set;
-ghost use Rattle.dots.specs.Totals.{join_of};
+ghost use Rattle.operations.specs.Totals.{join_of};
 ghost use Rattle.member_orset.specs.Members.{IsJoinOf, IsPrepared, IsUnchanged, IsWithinLimits};
 ghost use Rattle.member_orset.specs.Members.{KeepsIds};
 ghost use Rattle.member_orset.specs.Refusals.{IsRefusedJoin};

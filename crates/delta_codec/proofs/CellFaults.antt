@@ -3,7 +3,8 @@ use Rattle.std.proofs.Common.{ℕ, ◌&&◌, not, arith}
 use Rattle.std.specs.Prelude.{nat_le, nat_lt}
 use Rattle.std.specs.Int.{w16, w64}
 use Rattle.dots.specs.declared.limits.TheConstants.{MOST_CALLS, MOST_COUNT, QUEUES}
-use Rattle.dots.specs.Totals.{IsTotal, is_zero}
+use Rattle.dots.specs.CountedCalls.{is_zero}
+use Rattle.operations.specs.Totals.{IsTotal}
 use Rattle.dots.specs.Values.{IsName}
 use Rattle.causal_context.specs.Contexts.{IsRun}
 use Rattle.delta_codec.specs.declared.decode_fault.DecodeFault.TheVariants.{BadRange}

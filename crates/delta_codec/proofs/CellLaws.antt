@@ -5,9 +5,10 @@ use Rattle.std.proofs.lemmas.Bool.Decides.{nat_tests}
 use Rattle.dots.specs.declared.call_totals.CallTotals.{CallTotals}
 use Rattle.dots.specs.declared.limits.TheConstants.{MOST_CALLS, QUEUES}
 use Rattle.dots.specs.declared.label.Label.{Label}
-use Rattle.dots.specs.Conditions.{DotFields, no_fields}
-use Rattle.dots.specs.Registers.{Entry}
-use Rattle.dots.specs.Totals.{IsTotal, is_zero}
+use Rattle.operations.specs.Conditions.{DotFields, no_fields}
+use Rattle.operations.specs.Registers.{Entry}
+use Rattle.dots.specs.CountedCalls.{is_zero}
+use Rattle.operations.specs.Totals.{IsTotal}
 use Rattle.dots.specs.Values.{IsCount, IsPenalty, IsSite, PauseState}
 use Rattle.dots.specs.WithinLimits.{IsDot, IsLabel, IsPause}
 use Rattle.causal_context.specs.Contexts.{IsRun}

@@ -8,7 +8,7 @@ use Rattle.std.proofs.lemmas.List.{append-nil, nil_from_length}
 use Rattle.std.proofs.Math.Bool.{or-false}
 use Rattle.dots.specs.DotSets.{Run, dots_between, in_run, in_runs}
 use Rattle.dots.specs.Orders.{dot_cmp}
-use Rattle.dots.specs.Totals.{Entries}
+use Rattle.operations.specs.Totals.{Entries}
 use Rattle.dots.specs.Values.{Dot}
 use Rattle.member_orset.specs.Members.{Holding}
 use Rattle.dots.proofs.DotOrder.{dots_total}

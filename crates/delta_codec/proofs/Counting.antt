@@ -9,11 +9,11 @@ use Rattle.std.specs.FinMap.Entries.{below_all}
 use Rattle.std.proofs.lemmas.Bool.{and_parts}
 use Rattle.std.proofs.lemmas.Cmp.{ranked}
 use Rattle.std.proofs.lemmas.List.Elements.{All-head, All-tail}
-use Rattle.dots.specs.SortedEntries.{IsRising}
-use Rattle.dots.specs.Totals.{Entries, IsTotal, Key, key_cmp}
-use Rattle.dots.proofs.SortedEntries.{rising_head, rising_tail}
-use Rattle.dots.proofs.TotalsLaws.{keys_total}
-use Rattle.dots.proofs.TruthTables.{fact, less_of}
+use Rattle.general_lemmas.specs.SortedEntries.{IsRising}
+use Rattle.operations.specs.Totals.{Entries, IsTotal, Key, key_cmp}
+use Rattle.general_lemmas.proofs.SortedEntries.{rising_head, rising_tail}
+use Rattle.operations.proofs.TotalsLaws.{keys_total}
+use Rattle.general_lemmas.proofs.TruthTables.{fact, less_of}
 use Rattle.delta_codec.specs.declared.limits.TheConstants.{MOST_TOTALS}
 use Rattle.delta_codec.specs.Parts.{TotalParts}
 

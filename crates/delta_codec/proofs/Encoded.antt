@@ -6,12 +6,12 @@ use Rattle.std.proofs.lemmas.List.{get_or_default}
 use Rattle.dots.specs.declared.limits.TheConstants.{MOST_RUNS}
 use Rattle.dots.specs.DotSets.{IsRunsOf, Run}
 use Rattle.dots.specs.Orders.{dot_cmp}
-use Rattle.dots.specs.SortedEntries.{IsAt, IsRising}
-use Rattle.dots.specs.Totals.{IsTotal}
+use Rattle.general_lemmas.specs.SortedEntries.{IsAt, IsRising}
+use Rattle.operations.specs.Totals.{IsTotal}
 use Rattle.dots.specs.Values.{IsSite}
 use Rattle.dots.proofs.DotOrder.{dots_total}
-use Rattle.dots.proofs.SortedEntries.{find_at}
-use Rattle.dots.proofs.TruthTables.{fact}
+use Rattle.general_lemmas.proofs.SortedEntries.{find_at}
+use Rattle.general_lemmas.proofs.TruthTables.{fact}
 use Rattle.causal_context.specs.Contexts.{IsRun}
 use Rattle.member_orset.specs.Members.{Holding, IsLiveIn, IsWithinLimits}
 use Rattle.delta.specs.declared.frame.Frame.{Frame}

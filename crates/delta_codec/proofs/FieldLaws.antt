@@ -7,7 +7,7 @@ use Rattle.std.proofs.lemmas.Bool.{ltb-false, le-ltb}
 use Rattle.std.proofs.lemmas.Bool.Decides.{nat_tests}
 use Rattle.std.proofs.lemmas.List.{take_at, drop_at, take-append-drop, length-append, length-take}
 use Rattle.dots.specs.declared.limits.TheConstants.{MOST_CALLS, MOST_COUNT, MOST_PENALTY, QUEUES, SITES, TEXT_BYTES}
-use Rattle.dots.specs.Registers.{Entry}
+use Rattle.operations.specs.Registers.{Entry}
 use Rattle.dots.specs.Values.{IsCount, IsPenalty, IsSite, IsText, PauseState, is_bad_byte}
 use Rattle.dots.specs.WithinLimits.{IsLabel, IsPause, IsStamp}
 use Rattle.delta_codec.specs.declared.decode_fault.DecodeFault.TheVariants.{BadRange, BadText}

@@ -15,19 +15,20 @@ use Rattle.std.proofs.lemmas.List.{append-nil, nil_from_length, length-append, l
 use Rattle.dots.specs.declared.call_totals.CallTotals.{CallTotals}
 use Rattle.dots.specs.DotSets.{IsRunsOf, Run}
 use Rattle.dots.specs.Orders.{dot_cmp}
-use Rattle.dots.specs.SortedEntries.{IsRising}
-use Rattle.dots.specs.Totals.{Entries, IsTotal, greater, is_zero, key_cmp, no_calls}
+use Rattle.general_lemmas.specs.SortedEntries.{IsRising}
+use Rattle.dots.specs.CountedCalls.{is_zero, no_calls}
+use Rattle.operations.specs.Totals.{Entries, IsTotal, greater, key_cmp}
 use Rattle.dots.proofs.DotOrder.{dots_exact, dots_total}
-use Rattle.dots.proofs.SortedEntries.{less_back, rising_head, rising_tail}
-use Rattle.dots.proofs.TotalsLaws.{entries_empty, joined_single, keys_total, same_totals, zero_greater}
+use Rattle.general_lemmas.proofs.SortedEntries.{less_back, rising_head, rising_tail}
+use Rattle.operations.proofs.TotalsLaws.{entries_empty, joined_single, keys_total, same_totals, zero_greater}
 use Rattle.dots.proofs.UniqueRuns.{runs_unique}
-use Rattle.dots.proofs.TruthTables.{less_of}
+use Rattle.general_lemmas.proofs.TruthTables.{less_of}
 use Rattle.std.specs.Option.{unwrap_or}
 use Rattle.std.proofs.lemmas.Bool.Decides.{nat_tests}
 use Rattle.delta_codec.proofs.ListLaws.{by_recursion}
 use Rattle.delta_codec.proofs.Measuring.{content_size}
 use Rattle.dots.specs.declared.label.Label.{Label}
-use Rattle.dots.specs.Registers.{Entry}
+use Rattle.operations.specs.Registers.{Entry}
 use Rattle.dots.specs.Values.{Dot, PauseState}
 use Rattle.dots.specs.WithinLimits.{IsLabel, IsPause}
 use Rattle.member_orset.specs.Members.{Holding, condition_at}

@@ -7,7 +7,7 @@ use Rattle.std.specs.Option.{option_map}
 use Rattle.std.specs.Int.{w32}
 use Rattle.dots.specs.declared.limits.TheConstants.{MOST_LIVE, MOST_RUNS}
 use Rattle.dots.specs.DotSets.{Run, in_runs, is_apart}
-use Rattle.dots.specs.Totals.{IsTotal, Key}
+use Rattle.operations.specs.Totals.{IsTotal, Key}
 use Rattle.dots.specs.Values.{Dot}
 use Rattle.causal_context.specs.Contexts.{IsRun}
 use Rattle.delta_codec.specs.declared.decode_fault.DecodeFault.{DecodeFault}

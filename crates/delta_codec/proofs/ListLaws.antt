@@ -13,13 +13,13 @@ use Rattle.std.proofs.lemmas.List.Elements.{All-cons, All-from_recursion, All-he
 use Rattle.dots.specs.declared.limits.TheConstants.{MOST_LIVE, MOST_RUNS}
 use Rattle.dots.specs.DotSets.{AreApart, Run, is_apart}
 use Rattle.dots.specs.Orders.{dot_cmp}
-use Rattle.dots.specs.SortedEntries.{IsRising}
-use Rattle.dots.specs.Totals.{IsTotal, Key, key_cmp}
+use Rattle.general_lemmas.specs.SortedEntries.{IsRising}
+use Rattle.operations.specs.Totals.{IsTotal, Key, key_cmp}
 use Rattle.dots.specs.Values.{Dot}
 use Rattle.dots.proofs.DotOrder.{dots_total}
-use Rattle.dots.proofs.SortedEntries.{below_first, rising_head, rising_tail}
-use Rattle.dots.proofs.TotalsLaws.{keys_total}
-use Rattle.dots.proofs.TruthTables.{less_of}
+use Rattle.general_lemmas.proofs.SortedEntries.{below_first, rising_head, rising_tail}
+use Rattle.operations.proofs.TotalsLaws.{keys_total}
+use Rattle.general_lemmas.proofs.TruthTables.{less_of}
 use Rattle.causal_context.specs.Contexts.{IsRun}
 use Rattle.delta_codec.specs.declared.decode_fault.DecodeFault.{DecodeFault}
 use Rattle.delta_codec.specs.declared.decode_fault.DecodeFault.TheVariants.{BadOrder, BadRange, TooLarge}

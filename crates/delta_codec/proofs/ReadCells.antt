@@ -8,7 +8,7 @@ use Rattle.std.proofs.lemmas.Bool.{cases_Bool}
 use Rattle.dots.specs.Values.{Dot}
 use Rattle.dots.specs.Orders.{dot_cmp}
 use Rattle.dots.proofs.DotOrder.{dots_total, dots_exact}
-use Rattle.dots.proofs.TruthTables.{equal_of}
+use Rattle.general_lemmas.proofs.TruthTables.{equal_of}
 use Rattle.member_orset.specs.Members.{Holding}
 use Rattle.delta_codec.specs.declared.decode_fault.DecodeFault.TheVariants.{BadOrder}
 use Rattle.delta_codec.specs.Reading.{is_dot_before, order_fault, unless}

@@ -6,8 +6,8 @@ use Rattle.std.specs.Int.{w16, w32, to_be_bytes}
 use Rattle.dots.specs.declared.limits.TheConstants.{MOST_LIVE, MOST_RUNS, QUEUES, TEXT_BYTES}
 use Rattle.dots.specs.DotSets.{Run, in_runs, is_apart}
 use Rattle.dots.specs.Orders.{dot_cmp}
-use Rattle.dots.specs.Registers.{Entry}
-use Rattle.dots.specs.Totals.{IsTotal, key_cmp}
+use Rattle.operations.specs.Registers.{Entry}
+use Rattle.operations.specs.Totals.{IsTotal, key_cmp}
 use Rattle.dots.specs.Values.{Dot, IsName, IsPenalty, IsText, is_bad_byte}
 use Rattle.dots.specs.WithinLimits.{IsDot, IsPause, IsStamp}
 use Rattle.causal_context.specs.Contexts.{IsRun}

@@ -6,8 +6,8 @@ use Rattle.std.specs.List.{All}
 use Rattle.dots.specs.declared.limits.TheConstants.{MOST_LIVE, MOST_RUNS}
 use Rattle.dots.specs.DotSets.{Run, AreApart, IsRunsOf, in_runs}
 use Rattle.dots.specs.Orders.{dot_cmp}
-use Rattle.dots.specs.SortedEntries.{IsRising}
-use Rattle.dots.specs.Totals.{IsTotal, key_cmp}
+use Rattle.general_lemmas.specs.SortedEntries.{IsRising}
+use Rattle.operations.specs.Totals.{IsTotal, key_cmp}
 use Rattle.dots.specs.Values.{IsCount, IsSite}
 use Rattle.causal_context.specs.Contexts.{IsRun}
 use Rattle.delta.specs.declared.frame.Frame.{Frame}

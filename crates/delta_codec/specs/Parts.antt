@@ -4,10 +4,10 @@ use Rattle.std.specs.Int.{w16, w32, w64, to_be_bytes}
 use Rattle.std.specs.List.{All, flat_map}
 use Rattle.dots.specs.declared.call_totals.CallTotals.{CallTotals}
 use Rattle.dots.specs.declared.label.Label.{Label}
-use Rattle.dots.specs.Conditions.{DotFields}
+use Rattle.operations.specs.Conditions.{DotFields}
 use Rattle.dots.specs.DotSets.{Run}
-use Rattle.dots.specs.Registers.{Entry}
-use Rattle.dots.specs.Totals.{Key}
+use Rattle.operations.specs.Registers.{Entry}
+use Rattle.operations.specs.Totals.{Key}
 use Rattle.dots.specs.Values.{Dot, Stamp, PauseState, IsPenalty}
 use Rattle.dots.specs.WithinLimits.{IsDot, IsMember, IsPause, IsLabel, IsStamp}
 use Rattle.member_orset.specs.Members.{HasField, Holding}

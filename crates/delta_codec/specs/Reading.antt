@@ -7,11 +7,12 @@ use Rattle.std.specs.List.{list_any}
 use Rattle.std.specs.Ordering.{is_lt}
 use Rattle.dots.specs.declared.label.Label.{Label}
 use Rattle.dots.specs.declared.limits.TheConstants.{MOST_CALLS, MOST_COUNT, MOST_LIVE, MOST_PENALTY, MOST_RUNS, QUEUES, SITES, TEXT_BYTES}
-use Rattle.dots.specs.Conditions.{DotFields}
+use Rattle.operations.specs.Conditions.{DotFields}
 use Rattle.dots.specs.DotSets.{Run, dots_between, is_apart}
 use Rattle.dots.specs.Orders.{dot_cmp}
-use Rattle.dots.specs.Registers.{Entry}
-use Rattle.dots.specs.Totals.{Entries, Key, is_zero, join_of, key_cmp, single}
+use Rattle.operations.specs.Registers.{Entry}
+use Rattle.dots.specs.CountedCalls.{is_zero}
+use Rattle.operations.specs.Totals.{Entries, Key, join_of, key_cmp, single}
 use Rattle.dots.specs.Values.{Dot, PauseState, Stamp, is_bad_byte}
 use Rattle.member_orset.specs.Members.{Holding}
 use Rattle.delta_codec.specs.declared.decode_fault.DecodeFault.{DecodeFault}

@@ -5,7 +5,7 @@ use Rattle.dots.specs.declared.limits.TheConstants.{MOST_COUNT, SITES}
 use Rattle.dots.specs.Orders.{dot_cmp}
 use Rattle.dots.specs.Values.{Dot}
 use Rattle.dots.specs.WithinLimits.{AreDots}
-use Rattle.dots.proofs.Counting.{numbered}
+use Rattle.general_lemmas.proofs.Counting.{numbered}
 use Rattle.dots.proofs.DotOrder.{dots_exact, dots_total}
 
 -- a number of its own for each dot

@@ -11,7 +11,7 @@ use Rattle.std.proofs.lemmas.Bool.{and_parts}
 use Rattle.dots.specs.Values.{Dot}
 use Rattle.dots.specs.Orders.{dot_cmp}
 use Rattle.dots.proofs.DotOrder.{dots_total, dots_exact}
-use Rattle.dots.proofs.TruthTables.{fact}
+use Rattle.general_lemmas.proofs.TruthTables.{fact}
 
 apart : (o : Ordering) → is_lt o ≡ true → is_eq o ≡ false
 apart Less h = refl

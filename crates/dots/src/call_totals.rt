@@ -1,5 +1,5 @@
 ghost use Rattle.std.specs.Prelude.{◌≡◌};
-ghost use Rattle.dots.specs.Totals.{is_zero, no_calls};
+ghost use Rattle.dots.specs.CountedCalls.{is_zero, no_calls};
 
 /// How many calls were completed, and how many abandoned.
 #[derive(Clone, Copy, Debug, PartialEq, Eq)]

@@ -1,5 +1,5 @@
 ghost use Rattle.std.specs.Prelude.{◌≡◌};
-ghost use Rattle.dots.specs.Counts.{same_calls};
+ghost use Rattle.dots.specs.CountedCalls.{same_calls};
 
 /// The calls that are counted (this project's own).
 #[derive(Clone, Copy, Debug)]

@@ -1,7 +1,7 @@
 -- When two registers are in conflict.
 use Rattle.std.proofs.Common.{◌≡◌, ◌↔◌, IsTrue, IsFalse, Bool, true, false, Option, Some, refl, ap, ◌∙◌}
-use Rattle.dots.specs.Registers.{Entry, InConflict}
-use Rattle.dots.proofs.RegisterLaws.{one_entry}
+use Rattle.operations.specs.Registers.{Entry, InConflict}
+use Rattle.operations.proofs.RegisterLaws.{one_entry}
 
 -- of two entries under one stamp, a test whether their values are one tells whether the registers are in conflict
 pub conflict_by_test : {T : Type 0} (x y : Option (Entry T)) (a b : Entry T) → x ≡ Some a → y ≡ Some b → a.stamp ≡ b.stamp

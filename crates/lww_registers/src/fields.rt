@@ -1,5 +1,5 @@
 ghost use Rattle.std.specs.Prelude.{◌≡◌, ◌↔◌, IsTrue, IsFalse};
-ghost use Rattle.dots.specs.Conditions.{FieldsAgree, FieldsInConflict, fields_joined, no_fields};
+ghost use Rattle.operations.specs.Conditions.{FieldsAgree, FieldsInConflict, fields_joined, no_fields};
 
 use crate::Register;
 use dots::{Label, Pause, Penalty};
@@ -17,7 +17,7 @@ pub struct Fields {
 }
 
 impl Model for Fields {
-    ghost use Rattle.dots.specs.Conditions.{DotFields};
+    ghost use Rattle.operations.specs.Conditions.{DotFields};
 
     ghost Value = { DotFields };
 

@@ -1,8 +1,8 @@
 //! What holds of every join, whatever the registers. The functions have no body: their contracts are the laws.
 ghost use Rattle.std.specs.Prelude.{◌≡◌, Option};
-ghost use Rattle.dots.specs.Joins.{IsJoin, IsLeastAbove, IsOrder};
-ghost use Rattle.dots.specs.Registers.{Entry, Agree, IsBelow, KeepsLatest, join_of};
-ghost use Rattle.dots.specs.Conditions.{DotFields, FieldsAgree, fields_joined};
+ghost use Rattle.general_lemmas.specs.Joins.{IsJoin, IsLeastAbove, IsOrder};
+ghost use Rattle.operations.specs.Registers.{Entry, Agree, IsBelow, KeepsLatest, join_of};
+ghost use Rattle.operations.specs.Conditions.{DotFields, FieldsAgree, fields_joined};
 
 /// A join keeps the entry of the greatest stamp: it has an entry where one of both has one, that of one
 /// of both, and none of either is later.

@@ -1,6 +1,6 @@
 ghost use Rattle.std.specs.Prelude.{◌≡◌, ◌↔◌, IsTrue, IsFalse};
 ghost use Rattle.std.specs.Option.{option_copied, option_map};
-ghost use Rattle.dots.specs.Registers.{Agree, InConflict, join_of};
+ghost use Rattle.operations.specs.Registers.{Agree, InConflict, join_of};
 
 use crate::FieldValue;
 use dots::Stamp;
@@ -15,7 +15,7 @@ pub struct Register<T> {
 impl<T> Model for Register<T> {
     ghost use Rattle.std.specs.Prelude.{Option};
     ghost use Rattle.std.specs.Option.{option_map};
-    ghost use Rattle.dots.specs.Registers.{Entry};
+    ghost use Rattle.operations.specs.Registers.{Entry};
 
     ghost Value = { Option (Entry T) };
 

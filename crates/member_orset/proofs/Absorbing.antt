@@ -9,7 +9,7 @@ use Rattle.std.proofs.Math.Bool.{or-true}
 use Rattle.dots.specs.declared.limits.TheConstants.{MOST_LIVE}
 use Rattle.dots.specs.Values.{Dot}
 use Rattle.dots.specs.DotSets.{IsRunsOf, Run, in_runs}
-use Rattle.dots.specs.Conditions.{ConditionsAgree}
+use Rattle.operations.specs.Conditions.{ConditionsAgree}
 use Rattle.dots.proofs.DotOrder.{dots_total}
 use Rattle.dots.proofs.KeySets.{len_of_keys}
 use Rattle.op_arena.specs.Ids.{Id}

@@ -4,8 +4,8 @@ use Rattle.std.specs.Prelude.{IsTrue, IsFalse}
 use Rattle.std.specs.FinMap as map
 use Rattle.std.specs.FinSet as set
 use Rattle.dots.specs.Values.{Dot}
-use Rattle.dots.specs.Registers.{Agree, Entry, InConflict}
-use Rattle.dots.specs.Conditions.{Condition, ConditionsAgree, Dead, DotFields, FieldsAgree, FieldsInConflict, Live}
+use Rattle.operations.specs.Registers.{Agree, Entry, InConflict}
+use Rattle.operations.specs.Conditions.{Condition, ConditionsAgree, Dead, DotFields, FieldsAgree, FieldsInConflict, Live}
 use Rattle.member_orset.specs.Members.{CanBeJoined, Conflicts, ConditionsConflict, Holding, Members, condition_at, condition_of}
 use Rattle.member_orset.specs.LiveLists.{HoldingsAgree, HoldingsConflict}
 use Rattle.member_orset.specs.Joining.{IsTold}

@@ -15,7 +15,7 @@ use Rattle.dots.specs.declared.member.Member.{Member}
 use Rattle.dots.specs.Values.{Dot}
 use Rattle.dots.specs.Orders.{dot_cmp}
 use Rattle.dots.specs.DotSets.{run_count}
-use Rattle.dots.specs.Conditions.{ConditionsAgree, Dead, DotFields, Live, condition_joined, fields_joined}
+use Rattle.operations.specs.Conditions.{ConditionsAgree, Dead, DotFields, Live, condition_joined, fields_joined}
 use Rattle.dots.proofs.DotOrder.{dots_total}
 use Rattle.dots.proofs.OneMoreDot.{insert_known}
 use Rattle.member_orset.specs.declared.join_fault.JoinFault.{JoinFault}

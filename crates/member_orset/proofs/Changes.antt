@@ -15,9 +15,9 @@ use Rattle.std.proofs.lemmas.List.Edits.{length-remove}
 use Rattle.dots.specs.Values.{Dot}
 use Rattle.dots.specs.Orders.{dot_cmp}
 use Rattle.dots.specs.DotSets.{run_count}
-use Rattle.dots.specs.Conditions.{Condition, Live, Dead, condition_joined}
+use Rattle.operations.specs.Conditions.{Condition, Live, Dead, condition_joined}
 use Rattle.dots.proofs.DotOrder.{dots_total, dots_exact}
-use Rattle.dots.proofs.TruthTables.{truth, fact}
+use Rattle.general_lemmas.proofs.TruthTables.{truth, fact}
 use Rattle.member_orset.specs.declared.live_dot.LiveDot.{LiveDot}
 use Rattle.member_orset.specs.Members.{Holding, HasField, condition_at, condition_of}
 use Rattle.member_orset.specs.LiveLists.{IsAt, IsGap, AreCells, holding, entries_of, live_of, members_of}

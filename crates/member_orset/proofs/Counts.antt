@@ -14,7 +14,7 @@ use Rattle.dots.specs.Orders.{dot_cmp}
 use Rattle.dots.specs.DotSets.{AreApart, Run, in_run, in_runs}
 use Rattle.dots.proofs.Apart.{rest_misses}
 use Rattle.dots.proofs.DotOrder.{dots_total}
-use Rattle.dots.proofs.Membership.{any-in}
+use Rattle.general_lemmas.proofs.Membership.{any-in}
 
 module _ {X : Type 0} where
   count-cons : (p : X → Bool) (x : X) (xs : List X) → count_by p (x ∷ xs) ≡ cond (p x) 1 0 + count_by p xs

@@ -4,11 +4,11 @@ use Rattle.std.specs.FinMap as map
 use Rattle.std.specs.FinSet as set
 use Rattle.std.specs.Ordering.{eq_by_cmp}
 use Rattle.std.proofs.lemmas.Bool.{and_parts, not-true}
-use Rattle.dots.specs.Conditions.{DotFields, fields_joined}
+use Rattle.operations.specs.Conditions.{DotFields, fields_joined}
 use Rattle.dots.specs.Orders.{dot_cmp}
 use Rattle.dots.specs.Values.{Dot}
 use Rattle.dots.specs.WithinLimits.{AreDots}
-use Rattle.dots.proofs.Counting.{apart, given, within}
+use Rattle.general_lemmas.proofs.Counting.{apart, given, within}
 use Rattle.dots.proofs.DotCounts.{dots-few}
 use Rattle.dots.proofs.DotOrder.{dots_exact, dots_total}
 use Rattle.op_arena.specs.Ids.{id_cmp}

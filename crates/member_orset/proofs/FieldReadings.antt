@@ -1,7 +1,7 @@
 -- What holds of fields that are joined.
 use Rattle.std.proofs.Common.{◌≡◌, Option, Some, None, refl, ap}
-use Rattle.dots.specs.Registers.{Entry, join_of}
-use Rattle.dots.specs.Conditions.{DotFields, fields_joined}
+use Rattle.operations.specs.Registers.{Entry, join_of}
+use Rattle.operations.specs.Conditions.{DotFields, fields_joined}
 use Rattle.member_orset.specs.Members.{HasField}
 
 first_none : {T : Type 0} (a b : Option (Entry T)) → join_of a b ≡ None → a ≡ None

@@ -12,7 +12,7 @@ use Rattle.dots.specs.Orders.{dot_cmp}
 use Rattle.dots.proofs.DotOrder.{dots_total}
 use Rattle.op_arena.specs.Ids.{Id, id_cmp, id_of}
 use Rattle.op_arena.proofs.IdOrder.{ids_exact, ids_total}
-use Rattle.dots.proofs.TruthTables.{equal_of}
+use Rattle.general_lemmas.proofs.TruthTables.{equal_of}
 use Rattle.member_orset.specs.CellIds.{HadId, IdMap, IdSet, IdsFollow, IsNew}
 use Rattle.member_orset.specs.Joining.{HaveGrown}
 use Rattle.member_orset.specs.LiveStates.{LiveState, spent_with}

@@ -15,8 +15,8 @@ use Rattle.std.proofs.lemmas.List.Folds.{list_any_none}
 use Rattle.dots.specs.declared.member.Member.{Member}
 use Rattle.dots.specs.Orders.{member_cmp}
 use Rattle.dots.proofs.MemberOrder.{members_total}
-use Rattle.dots.proofs.Membership.{any-in}
-use Rattle.dots.proofs.TruthTables.{less_of}
+use Rattle.general_lemmas.proofs.Membership.{any-in}
+use Rattle.general_lemmas.proofs.TruthTables.{less_of}
 use Rattle.member_orset.specs.Index.{Listed}
 use Rattle.member_orset.specs.Index.{Rises}
 use Rattle.member_orset.specs.ShownRows.{group, is_own}

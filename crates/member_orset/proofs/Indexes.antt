@@ -17,7 +17,7 @@ use Rattle.dots.specs.Orders.{dot_cmp, member_cmp}
 use Rattle.dots.specs.declared.member.Member.{Member}
 use Rattle.dots.proofs.DotOrder.{dots_total, dots_exact}
 use Rattle.dots.proofs.MemberOrder.{members_total, exact_members}
-use Rattle.dots.proofs.TruthTables.{first_alone, third_alone, truth, fact}
+use Rattle.general_lemmas.proofs.TruthTables.{first_alone, third_alone, truth, fact}
 use Rattle.member_orset.specs.Index.{Listed}
 use Rattle.member_orset.specs.Members.{Holding}
 use Rattle.member_orset.specs.Index.{IsBelow, IsIndex, IsPlaceFor, Rises, is_held, is_listed, listed_cmp, listings}

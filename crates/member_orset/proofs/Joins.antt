@@ -1,7 +1,7 @@
 -- The join of what is live on two sides, dot by dot.
 use Rattle.std.proofs.Common.{◌≡◌, Bool, true, false, ◌&&◌, ◌||◌, Option, Some, None, is_some, refl, subst}
 use Rattle.std.proofs.lemmas.Option.{same_Some}
-use Rattle.dots.specs.Conditions.{condition_joined, fields_joined}
+use Rattle.operations.specs.Conditions.{condition_joined, fields_joined}
 use Rattle.member_orset.specs.Members.{Holding, condition_at, is_live}
 use Rattle.member_orset.specs.Joining.{holding_joined}
 

@@ -3,7 +3,7 @@ use Rattle.std.proofs.Common.{◌≡◌, ◌≤◌, false, refl, sym, subst}
 use Rattle.std.specs.FinMap as map
 use Rattle.std.specs.FinSet as set
 use Rattle.dots.specs.declared.limits.TheConstants.{MOST_LIVE, MOST_RUNS}
-use Rattle.dots.specs.Conditions.{DotFields}
+use Rattle.operations.specs.Conditions.{DotFields}
 use Rattle.dots.specs.DotSets.{run_count}
 use Rattle.dots.specs.Orders.{dot_cmp}
 use Rattle.dots.specs.Values.{Dot}

@@ -7,7 +7,7 @@ use Rattle.std.specs.Option.{option_map, option_map_or}
 use Rattle.std.specs.Ordering.{is_lt}
 use Rattle.std.proofs.lemmas.List.{drop-map, get_or-map, length-map, take-map}
 use Rattle.std.proofs.lemmas.List.Elements.{All-drop, All-head, All-tail, All-take}
-use Rattle.dots.specs.Conditions.{no_fields}
+use Rattle.operations.specs.Conditions.{no_fields}
 use Rattle.op_arena.specs.Ids.{Id, id_of}
 use Rattle.member_orset.specs.Index.{Listed}
 use Rattle.member_orset.specs.declared.live_dot.LiveDot.{LiveDot}

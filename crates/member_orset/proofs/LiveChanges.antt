@@ -8,7 +8,7 @@ use Rattle.std.specs.Ordering.{eq_by_cmp}
 use Rattle.std.proofs.lemmas.Bool.{cases_Bool, cases_order}
 use Rattle.dots.specs.Values.{Dot}
 use Rattle.dots.specs.Orders.{dot_cmp, member_cmp}
-use Rattle.dots.specs.Conditions.{DotFields}
+use Rattle.operations.specs.Conditions.{DotFields}
 use Rattle.dots.proofs.DotOrder.{dots_total, dots_exact}
 use Rattle.op_arena.specs.Ids.{Id, id_cmp, id_of}
 use Rattle.member_orset.specs.Index.{Listed}

@@ -8,7 +8,7 @@ use Rattle.std.proofs.lemmas.List.Elements.{Contains-get_or}
 use Rattle.dots.specs.Values.{Dot}
 use Rattle.dots.specs.Orders.{dot_cmp}
 use Rattle.dots.proofs.DotOrder.{dots_exact, dots_total}
-use Rattle.dots.proofs.Membership.{any-in}
+use Rattle.general_lemmas.proofs.Membership.{any-in}
 use Rattle.member_orset.specs.declared.placed.Placed.{Placed}
 use Rattle.member_orset.specs.LiveRuns.{IsLiveRun}
 use Rattle.member_orset.specs.PlacedLists.{is_placed}

@@ -9,9 +9,9 @@ use Rattle.std.proofs.lemmas.Option.{same_Some}
 use Rattle.dots.specs.Values.{Dot}
 use Rattle.dots.specs.Orders.{dot_cmp}
 use Rattle.dots.proofs.DotOrder.{dots_total, dots_exact}
-use Rattle.dots.proofs.Membership.{first-in, later-in}
-use Rattle.dots.proofs.SortedEntries.{find_at}
-use Rattle.dots.proofs.TruthTables.{fact}
+use Rattle.general_lemmas.proofs.Membership.{first-in, later-in}
+use Rattle.general_lemmas.proofs.SortedEntries.{find_at}
+use Rattle.general_lemmas.proofs.TruthTables.{fact}
 use Rattle.member_orset.proofs.DotTests.{one_dot}
 
 module _ {V : Type 0} where

@@ -13,11 +13,11 @@ use Rattle.std.proofs.Math.Bool.{and-true}
 use Rattle.dots.specs.declared.member.Member.{Member}
 use Rattle.dots.specs.Values.{Dot}
 use Rattle.dots.specs.Orders.{dot_cmp, member_cmp}
-use Rattle.dots.specs.Rows.{dots_of, is_of}
-use Rattle.dots.specs.SetItems.{in_order}
+use Rattle.operations.specs.Rows.{dots_of, is_of}
+use Rattle.general_lemmas.specs.SetItems.{in_order}
 use Rattle.dots.proofs.DotOrder.{dots_total, dots_exact}
-use Rattle.dots.proofs.ItemOrder.{in_order-keys, in_order-list, units}
-use Rattle.dots.proofs.TruthTables.{truth, fact}
+use Rattle.general_lemmas.proofs.ItemOrder.{in_order-keys, in_order-list, units}
+use Rattle.general_lemmas.proofs.TruthTables.{truth, fact}
 use Rattle.member_orset.specs.Index.{Listed}
 use Rattle.member_orset.specs.declared.live_dot.LiveDot.{LiveDot}
 use Rattle.member_orset.specs.Members.{Holding}

@@ -10,7 +10,7 @@ use Rattle.std.proofs.lemmas.Cmp.{nat_cmp_total, tied_itself}
 use Rattle.dots.specs.declared.member.Member.{Member}
 use Rattle.dots.specs.Orders.{dot_cmp, member_cmp, text_cmp}
 use Rattle.dots.proofs.MemberOrder.{members_total, exact_members}
-use Rattle.dots.proofs.TruthTables.{less_of, equal_of}
+use Rattle.general_lemmas.proofs.TruthTables.{less_of, equal_of}
 use Rattle.member_orset.specs.Index.{Listed}
 use Rattle.member_orset.specs.Index.{listed_cmp}
 use Rattle.member_orset.specs.ShownRows.{is_own}

@@ -3,7 +3,7 @@ use Rattle.std.proofs.Common.{◌≡◌, ◌≢◌, ℕ, ◌≤◌, ◌<◌, tru
 use Rattle.std.proofs.Common.{Contains}
 use Rattle.std.specs.List.{AllWithin}
 use Rattle.std.proofs.lemmas.List.Elements.{Contains-get_or}
-use Rattle.dots.proofs.Membership.{any-in}
+use Rattle.general_lemmas.proofs.Membership.{any-in}
 use Rattle.std.specs.Ordering.{eq_by_cmp, is_lt}
 use Rattle.std.proofs.lemmas.Bool.{cases_Bool}
 use Rattle.dots.specs.Values.{Dot}

@@ -8,7 +8,7 @@ use Rattle.std.specs.FinMap.Entries.{below_all, find, is_sorted}
 use Rattle.dots.specs.Values.{Dot}
 use Rattle.dots.specs.Orders.{dot_cmp}
 use Rattle.dots.proofs.DotOrder.{dots_total, dots_exact}
-use Rattle.dots.proofs.TruthTables.{fact}
+use Rattle.general_lemmas.proofs.TruthTables.{fact}
 use Rattle.member_orset.specs.CellIds.{IdMap}
 use Rattle.member_orset.specs.declared.placed.Placed.{Placed}
 use Rattle.member_orset.specs.LiveStates.{LiveState}

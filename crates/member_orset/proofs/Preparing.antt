@@ -5,7 +5,7 @@ use Rattle.std.specs.FinSet as set
 use Rattle.dots.specs.declared.limits.TheConstants.{MOST_LIVE}
 use Rattle.dots.specs.Orders.{dot_cmp}
 use Rattle.dots.specs.DotSets.{run_count}
-use Rattle.dots.specs.Conditions.{ConditionsAgree, condition_joined}
+use Rattle.operations.specs.Conditions.{ConditionsAgree, condition_joined}
 use Rattle.causal_context.specs.Contexts as contexts
 use Rattle.causal_context.specs.Contexts.{Known}
 use Rattle.member_orset.specs.Members.{CanBeJoined, IsPrepared, Members, cells_joined, condition_at, condition_of, is_live, joined_dots, runs_joined}

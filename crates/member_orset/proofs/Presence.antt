@@ -8,9 +8,9 @@ use Rattle.std.specs.Ordering.{eq_by_cmp}
 use Rattle.std.specs.Cmp.{tied_then}
 use Rattle.std.proofs.lemmas.Bool.{and_from, and_parts}
 use Rattle.dots.specs.declared.member.Member.{Member}
-use Rattle.dots.specs.Conditions.{DotFields}
+use Rattle.operations.specs.Conditions.{DotFields}
 use Rattle.dots.specs.Orders.{dot_cmp, member_cmp}
-use Rattle.dots.proofs.Membership.{any-in, in-any}
+use Rattle.general_lemmas.proofs.Membership.{any-in, in-any}
 use Rattle.member_orset.specs.Index.{Listed}
 use Rattle.member_orset.specs.Members.{Members, Holding, IsPresent}
 use Rattle.member_orset.specs.Index.{IsIndex, listed_cmp}

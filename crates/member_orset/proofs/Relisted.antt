@@ -14,7 +14,7 @@ use Rattle.std.proofs.Math.Bool.{and-false}
 use Rattle.dots.specs.Values.{Dot}
 use Rattle.dots.specs.Orders.{dot_cmp, member_cmp}
 use Rattle.dots.specs.declared.member.Member.{Member}
-use Rattle.dots.proofs.TruthTables.{first_alone, third_alone}
+use Rattle.general_lemmas.proofs.TruthTables.{first_alone, third_alone}
 use Rattle.member_orset.specs.declared.live_dot.LiveDot.{LiveDot}
 use Rattle.member_orset.specs.LiveLists.{entries_of, holding, live_of}
 use Rattle.member_orset.specs.Members.{HasField}

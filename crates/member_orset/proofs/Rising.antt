@@ -11,10 +11,10 @@ use Rattle.std.specs.declared.cmp.Ordering.TheVariants.{Less, Equal, Greater}
 use Rattle.std.proofs.lemmas.Bool.{and_parts, cases_lt}
 use Rattle.std.proofs.lemmas.List.{get_or-map, get_or_default, length-map, map-set}
 use Rattle.std.proofs.lemmas.Cmp.{tied_itself}
-use Rattle.dots.specs.SortedEntries.{IsAt, IsGapFor}
-use Rattle.dots.proofs.SortedEntries as sorted
-use Rattle.dots.proofs.SortedEntries.{find_at, find_below, find_in_gap, put_in_gap, rising_at, rising_head, rising_tail}
-use Rattle.dots.proofs.TruthTables.{equal_of, less_of}
+use Rattle.general_lemmas.specs.SortedEntries.{IsAt, IsGapFor}
+use Rattle.general_lemmas.proofs.SortedEntries as sorted
+use Rattle.general_lemmas.proofs.SortedEntries.{find_at, find_below, find_in_gap, put_in_gap, rising_at, rising_head, rising_tail}
+use Rattle.general_lemmas.proofs.TruthTables.{equal_of, less_of}
 
 greater : (o : Ordering) → is_lt o ≡ false → is_eq o ≡ false → o ≡ Greater
 greater Less h k = absurd (cc)

@@ -13,7 +13,7 @@ use Rattle.std.proofs.lemmas.List.{get_or_default}
 use Rattle.std.proofs.lemmas.Option.{slice_get-get_or}
 use Rattle.dots.specs.declared.member.Member.{Member}
 use Rattle.dots.specs.Orders.{member_cmp, text_cmp}
-use Rattle.dots.specs.Rows.{MemberRow, interface_in, row_of, row_of_fields}
+use Rattle.operations.specs.Rows.{MemberRow, interface_in, row_of, row_of_fields}
 use Rattle.dots.proofs.MemberOrder.{members_total}
 use Rattle.op_arena.specs.Ids.{Id}
 use Rattle.member_orset.specs.Index.{Listed, Rises, listed_cmp}

@@ -15,7 +15,7 @@ use Rattle.dots.specs.DotSets.{IsRunsOf, Run, dots_between, in_run, next_dot, ru
 use Rattle.dots.proofs.DotOrder.{dots_total, dots_exact, same_dot}
 use Rattle.dots.proofs.OneMoreDot.{dot_before, run_count-insert}
 use Rattle.dots.proofs.Runs.{contains-set_of}
-use Rattle.dots.proofs.TruthTables.{or_swap}
+use Rattle.general_lemmas.proofs.TruthTables.{or_swap}
 use Rattle.causal_context.specs.Contexts.{IsRun}
 use Rattle.member_orset.proofs.DotTests.{one_dot}
 use Rattle.member_orset.specs.Reads.{seen_dots}

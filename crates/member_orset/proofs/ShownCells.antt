@@ -5,8 +5,8 @@ use Rattle.std.specs.List.{cons_option}
 use Rattle.std.specs.Option.{option_map}
 use Rattle.std.proofs.lemmas.List.{append-nil, map-append, take_more}
 use Rattle.std.proofs.lemmas.List.Elements.{filter_map-append}
-use Rattle.dots.specs.Conditions.{DotFields}
-use Rattle.dots.specs.Rows.{row_of, row_of_fields}
+use Rattle.operations.specs.Conditions.{DotFields}
+use Rattle.operations.specs.Rows.{row_of, row_of_fields}
 use Rattle.dots.specs.declared.member.Member.{Member}
 use Rattle.op_arena.specs.Ids.{Id}
 use Rattle.member_orset.specs.declared.live_dot.LiveDot.{LiveDot}

@@ -9,12 +9,12 @@ use Rattle.std.proofs.lemmas.List.Elements.{All-head, All-weaker, filter_passes}
 use Rattle.dots.specs.declared.member.Member.{Member}
 use Rattle.dots.specs.Values.{Dot}
 use Rattle.dots.specs.Orders.{dot_cmp, member_cmp}
-use Rattle.dots.specs.Registers.{Entry, join_of}
-use Rattle.dots.specs.Conditions.{DotFields}
-use Rattle.dots.specs.Knowledge.{latest_of}
-use Rattle.dots.specs.Rows.{is_of, dots_of, row_if, row_of, row_of_fields}
-use Rattle.dots.specs.SetItems.{in_order}
-use Rattle.dots.proofs.RegisterLaws.{joined_assoc}
+use Rattle.operations.specs.Registers.{Entry, join_of}
+use Rattle.operations.specs.Conditions.{DotFields}
+use Rattle.operations.specs.Knowledge.{latest_of}
+use Rattle.operations.specs.Rows.{is_of, dots_of, row_if, row_of, row_of_fields}
+use Rattle.general_lemmas.specs.SetItems.{in_order}
+use Rattle.operations.proofs.RegisterLaws.{joined_assoc}
 use Rattle.member_orset.specs.Index.{Listed}
 use Rattle.member_orset.specs.declared.live_dot.LiveDot.{LiveDot}
 use Rattle.member_orset.specs.Members.{Holding}

@@ -17,10 +17,10 @@ use Rattle.std.proofs.Math.Bool.{and-false, or-true}
 use Rattle.dots.specs.declared.member.Member.{Member}
 use Rattle.dots.specs.Values.{Dot}
 use Rattle.dots.specs.Orders.{member_cmp, text_cmp}
-use Rattle.dots.specs.SetItems.{in_order}
-use Rattle.dots.specs.Rows.{MemberRow, interface_in, interfaces_of, is_of, dots_of, row_if, row_of, rows_of}
-use Rattle.dots.proofs.ItemOrder.{in_order-has}
-use Rattle.dots.proofs.Membership.{any-in, in-any}
+use Rattle.general_lemmas.specs.SetItems.{in_order}
+use Rattle.operations.specs.Rows.{MemberRow, interface_in, interfaces_of, is_of, dots_of, row_if, row_of, rows_of}
+use Rattle.general_lemmas.proofs.ItemOrder.{in_order-has}
+use Rattle.general_lemmas.proofs.Membership.{any-in, in-any}
 use Rattle.member_orset.specs.Index.{Listed}
 use Rattle.member_orset.specs.declared.live_dot.LiveDot.{LiveDot}
 use Rattle.member_orset.specs.LiveLists.{live_of}
@@ -31,7 +31,7 @@ use Rattle.member_orset.proofs.IndexPlaces.{not_lesser}
 use Rattle.member_orset.proofs.Indexes.{partitioned_by}
 use Rattle.member_orset.proofs.MemberDots.{dots_are}
 use Rattle.dots.proofs.MemberOrder.{exact_texts}
-use Rattle.dots.proofs.TruthTables.{fact, less_of, equal_of}
+use Rattle.general_lemmas.proofs.TruthTables.{fact, less_of, equal_of}
 use Rattle.member_orset.proofs.MemberOrder.{by_members, interface_not_less, less_parts, member_itself, one_member, queue_not_less}
 
 -- texts in their order

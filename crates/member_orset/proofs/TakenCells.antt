@@ -7,8 +7,8 @@ use Rattle.std.specs.FinMap.Entries.{find, is_sorted}
 use Rattle.std.proofs.lemmas.List.Elements.{Contains-append_right}
 use Rattle.dots.specs.Values.{Dot}
 use Rattle.dots.specs.Orders.{dot_cmp}
-use Rattle.dots.proofs.Membership.{first-in}
-use Rattle.dots.proofs.TruthTables.{fact}
+use Rattle.general_lemmas.proofs.Membership.{first-in}
+use Rattle.general_lemmas.proofs.TruthTables.{fact}
 use Rattle.member_orset.specs.declared.live_dot.LiveDot.{LiveDot}
 use Rattle.member_orset.specs.Joining.{AgreeWith, HaveGrown, IsJoinedWith, IsTakenIn, holding_with}
 use Rattle.member_orset.specs.LiveLists.{HoldingsAgree, entry_of, holding}

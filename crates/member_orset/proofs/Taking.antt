@@ -7,9 +7,9 @@ use Rattle.std.specs.FinMap.Entries.{find, is_sorted}
 use Rattle.std.proofs.lemmas.Bool.{cases_Bool}
 use Rattle.dots.specs.Values.{Dot}
 use Rattle.dots.specs.Orders.{dot_cmp}
-use Rattle.dots.specs.Conditions.{fields_joined}
+use Rattle.operations.specs.Conditions.{fields_joined}
 use Rattle.dots.proofs.DotOrder.{dots_total}
-use Rattle.dots.proofs.SortedEntries.{find_below, rising_head, rising_tail}
+use Rattle.general_lemmas.proofs.SortedEntries.{find_below, rising_head, rising_tail}
 use Rattle.op_arena.specs.Ids.{Id}
 use Rattle.member_orset.specs.declared.live_dot.LiveDot.{LiveDot}
 use Rattle.member_orset.specs.CellIds.{IsNew}

@@ -13,7 +13,7 @@ use Rattle.member_orset.specs.declared.live_dot.LiveDot.{LiveDot}
 use Rattle.member_orset.specs.Members.{Holding, HasField}
 use Rattle.member_orset.specs.LiveLists.{holding, entries_of, live_of}
 use Rattle.member_orset.proofs.DotTests.{one_dot}
-use Rattle.dots.proofs.TruthTables.{truth}
+use Rattle.general_lemmas.proofs.TruthTables.{truth}
 use Rattle.member_orset.proofs.CellLists.{Rise}
 
 -- the map of cells that rise has the cells as its entries

@@ -6,7 +6,7 @@ use Rattle.std.specs.Ordering.{eq_by_cmp}
 use Rattle.dots.specs.Values.{Dot}
 use Rattle.dots.specs.DotSets.{Run, in_run, in_runs}
 use Rattle.dots.specs.Orders.{dot_cmp}
-use Rattle.dots.specs.Conditions.{fields_joined}
+use Rattle.operations.specs.Conditions.{fields_joined}
 use Rattle.op_arena.specs.Ids.{Id}
 use Rattle.member_orset.specs.declared.live_dot.LiveDot.{LiveDot}
 use Rattle.member_orset.specs.CellIds.{IdsFollow, IsNew}

@@ -1,9 +1,9 @@
 pub use Rattle.dots.specs.Values
 pub use Rattle.dots.specs.Orders
 pub use Rattle.dots.specs.DotSets
-pub use Rattle.dots.specs.Registers
-pub use Rattle.dots.specs.Conditions
-pub use Rattle.dots.specs.Rows
+pub use Rattle.operations.specs.Registers
+pub use Rattle.operations.specs.Conditions
+pub use Rattle.operations.specs.Rows
 pub mod CellIds
 pub mod Members
 pub mod LiveStates

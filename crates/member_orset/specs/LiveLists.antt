@@ -7,7 +7,7 @@ use Rattle.std.specs.FinSet as set
 use Rattle.dots.specs.declared.limits.TheConstants.{MOST_LIVE}
 use Rattle.dots.specs.Values.{Dot}
 use Rattle.dots.specs.Orders.{dot_cmp}
-use Rattle.dots.specs.Conditions.{FieldsAgree, FieldsInConflict}
+use Rattle.operations.specs.Conditions.{FieldsAgree, FieldsInConflict}
 use Rattle.member_orset.specs.declared.live_dot.LiveDot.{LiveDot}
 use Rattle.member_orset.specs.Members.{Members, Holding, HasField}
 

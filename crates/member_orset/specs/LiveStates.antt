@@ -6,8 +6,8 @@ use Rattle.std.specs.Coded.{Coded, code_by, coded×, coded_ℕ}
 use Rattle.dots.specs.Values.{Dot}
 use Rattle.dots.specs.Orders.{dot_cmp}
 use Rattle.dots.specs.DotSets.{dot_code}
-use Rattle.dots.specs.Codes.{member_code, fields_code}
-use Rattle.dots.specs.Conditions.{DotFields, FieldsAgree, fields_joined}
+use Rattle.operations.specs.Codes.{member_code, fields_code}
+use Rattle.operations.specs.Conditions.{DotFields, FieldsAgree, fields_joined}
 use Rattle.op_arena.specs.Ids.{Id, id_code}
 use Rattle.member_orset.specs.CellIds.{AreApart, IdMap, IdSet, retired_of}
 use Rattle.member_orset.specs.Members.{Holding, most_places}

@@ -11,9 +11,9 @@ use Rattle.dots.specs.declared.member.Member.{Member}
 use Rattle.dots.specs.Values.{Dot}
 use Rattle.dots.specs.Orders.{dot_cmp}
 use Rattle.dots.specs.DotSets.{dot_code, run_count}
-use Rattle.dots.specs.Conditions.{DotFields, Condition, Live, Dead, ConditionsAgree, FieldsInConflict, condition_joined, no_fields}
-use Rattle.dots.specs.Rows.{DotView}
-use Rattle.dots.specs.Codes.{member_code, fields_code}
+use Rattle.operations.specs.Conditions.{DotFields, Condition, Live, Dead, ConditionsAgree, FieldsInConflict, condition_joined, no_fields}
+use Rattle.operations.specs.Rows.{DotView}
+use Rattle.operations.specs.Codes.{member_code, fields_code}
 use Rattle.dots.specs.WithinLimits.{AreDots}
 use Rattle.op_arena.specs.Ids.{Id, id_code}
 use Rattle.member_orset.specs.declared.join_fault.JoinFault.{JoinFault}

@@ -9,8 +9,8 @@ use Rattle.std.specs.FinSet as sets
 use Rattle.dots.specs.Values.{Dot}
 use Rattle.dots.specs.Orders.{dot_cmp}
 use Rattle.dots.specs.DotSets.{dot_code}
-use Rattle.dots.specs.Codes.{member_code, fields_code}
-use Rattle.dots.specs.Conditions.{DotFields, fields_joined}
+use Rattle.operations.specs.Codes.{member_code, fields_code}
+use Rattle.operations.specs.Conditions.{DotFields, fields_joined}
 use Rattle.dots.specs.declared.member.Member.{Member}
 use Rattle.op_arena.specs.Ids.{Id, id_cmp, id_code}
 use Rattle.member_orset.specs.declared.live_dot.LiveDot.{LiveDot}

@@ -6,7 +6,7 @@ use Rattle.dots.specs.declared.limits.TheConstants.{MOST_LIVE, MOST_RUNS}
 use Rattle.dots.specs.declared.member.Member.{Member}
 use Rattle.dots.specs.Values.{Dot}
 use Rattle.dots.specs.DotSets.{run_count}
-use Rattle.dots.specs.Conditions.{DotFields, Condition, Live, ConditionsAgree}
+use Rattle.operations.specs.Conditions.{DotFields, Condition, Live, ConditionsAgree}
 use Rattle.member_orset.specs.declared.join_fault.JoinFault.{JoinFault}
 use Rattle.member_orset.specs.declared.join_fault.JoinFault.TheVariants.{Conflict, CellsFull, RunsFull}
 use Rattle.member_orset.specs.Members.{Members, CanBeJoined, Conflicts, ConditionsConflict}

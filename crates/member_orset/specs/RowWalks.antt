@@ -2,7 +2,7 @@
 use Rattle.std.specs.Prelude.{ℕ, zero, suc, ◌≡◌, ◌<◌, ◌≤◌, true, false, List, length, slice_get, slice_index_or, Option, None}
 use Rattle.std.specs.List.{AllWithin}
 use Rattle.std.specs.Option.{option_and_then}
-use Rattle.dots.specs.Rows.{MemberRow, interface_in}
+use Rattle.operations.specs.Rows.{MemberRow, interface_in}
 use Rattle.op_arena.specs.Ids.{Id}
 use Rattle.member_orset.specs.Index.{Listed}
 use Rattle.member_orset.specs.PlacedStates.{AreIndexed, PlacedState, cells_of, listed_at}

@@ -8,9 +8,9 @@ use Rattle.std.specs.Ordering.{eq_by_cmp, is_lt}
 use Rattle.dots.specs.declared.member.Member.{Member}
 use Rattle.dots.specs.Values.{Dot}
 use Rattle.dots.specs.Orders.{dot_cmp, member_cmp, text_cmp}
-use Rattle.dots.specs.Conditions.{DotFields, fields_joined}
-use Rattle.dots.specs.Knowledge.{latest_of}
-use Rattle.dots.specs.Rows.{DotView, MemberRow, rows_of}
+use Rattle.operations.specs.Conditions.{DotFields, fields_joined}
+use Rattle.operations.specs.Knowledge.{latest_of}
+use Rattle.operations.specs.Rows.{DotView, MemberRow, rows_of}
 use Rattle.member_orset.specs.declared.latest.Latest.{Latest}
 use Rattle.member_orset.specs.Index.{Listed}
 use Rattle.member_orset.specs.declared.live_dot.LiveDot.{LiveDot}

@@ -23,7 +23,7 @@ impl<'a> Model for Cells<'a> {
     ghost use Rattle.std.specs.Coded.{coded×, coded_list};
     ghost use Rattle.dots.specs.Values.{Dot};
     ghost use Rattle.dots.specs.DotSets.{dot_code};
-    ghost use Rattle.dots.specs.Codes.{member_code, fields_code};
+    ghost use Rattle.operations.specs.Codes.{member_code, fields_code};
     ghost use Rattle.member_orset.specs.Members.{Holding};
 
     ghost Value = { List (Dot × Holding) };

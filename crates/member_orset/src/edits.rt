@@ -4,7 +4,7 @@ ghost use Rattle.std.specs.Prelude.{OnErr, OnOk, Err, None, true, false};
 ghost use Rattle.std.specs.FinMap as map;
 ghost use Rattle.std.specs.FinSet as set;
 ghost use Rattle.dots.specs.DotSets.{run_count};
-ghost use Rattle.dots.specs.Conditions.{FieldsAgree};
+ghost use Rattle.operations.specs.Conditions.{FieldsAgree};
 ghost use Rattle.member_orset.specs.CellIds.{IdsFollow, retired_of};
 ghost use Rattle.member_orset.specs.LiveStates.{AreLive, fields_met};
 ghost use Rattle.member_orset.specs.Members.{live_with, most_places};

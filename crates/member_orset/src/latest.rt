@@ -1,9 +1,9 @@
 ghost use Rattle.std.specs.Prelude.{◌≡◌};
 ghost use Rattle.std.specs.Option.{option_map};
-ghost use Rattle.dots.specs.Registers.{join_of};
-ghost use Rattle.dots.specs.Conditions.{fields_joined};
-ghost use Rattle.dots.specs.Rows.{row_of_fields};
-ghost use Rattle.dots.specs.Views.{row_view};
+ghost use Rattle.operations.specs.Registers.{join_of};
+ghost use Rattle.operations.specs.Conditions.{fields_joined};
+ghost use Rattle.operations.specs.Rows.{row_of_fields};
+ghost use Rattle.operations.specs.Views.{row_view};
 ghost use Rattle.member_orset.specs.ShownRows.{fields_after, latest_fields};
 
 use crate::Row;

@@ -35,10 +35,11 @@ mod taken_cells;
 
 pub use cell::Cell;
 pub use cells_lent::Cells;
-pub use dots::{Memory, Row};
+pub use dots::Memory;
 pub use dots_lent::Dots;
 pub use join_fault::JoinFault;
 pub use member_set::MemberSet;
 pub use op_arena::CellId;
+pub use operations::Row;
 pub use rows_lent::Rows;
 pub use set_builder::SetBuilder;

@@ -1,8 +1,8 @@
 //! The row that the cells of one member show.
 ghost use Rattle.std.specs.Prelude.{◌≡◌, map as each};
 ghost use Rattle.std.specs.Option.{option_map};
-ghost use Rattle.dots.specs.Rows.{row_of, row_of_fields};
-ghost use Rattle.dots.specs.Views.{row_view};
+ghost use Rattle.operations.specs.Rows.{row_of, row_of_fields};
+ghost use Rattle.operations.specs.Views.{row_view};
 ghost use Rattle.member_orset.specs.PlacedStates.{AreIndexed, cells_at, cells_of};
 ghost use Rattle.member_orset.specs.ShownRows.{cells_view, fields_shown, latest_fields};
 

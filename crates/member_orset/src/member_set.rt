@@ -5,8 +5,8 @@ ghost use Rattle.std.specs.FinMap as map;
 ghost use Rattle.std.specs.FinSet as set;
 ghost use Rattle.dots.specs.Values.{Dot};
 ghost use Rattle.dots.specs.DotSets.{run_count};
-ghost use Rattle.dots.specs.Rows.{dots_of, row_of, rows_of};
-ghost use Rattle.dots.specs.Conditions.{Live, Dead};
+ghost use Rattle.operations.specs.Rows.{dots_of, row_of, rows_of};
+ghost use Rattle.operations.specs.Conditions.{Live, Dead};
 ghost use Rattle.member_orset.specs.CellIds.{dead_among, retired_of};
 ghost use Rattle.member_orset.specs.Members.{CanBeJoined, Conflicts, HasField, HasId};
 ghost use Rattle.member_orset.specs.Members.{IsJoinOf, IsPrepared, IsPresent, IsSet};
@@ -15,7 +15,7 @@ ghost use Rattle.member_orset.specs.Members.{SaysTheSame, cells_joined, most_ret
 ghost use Rattle.member_orset.specs.Members.{condition_of, dot_view_of, joined_at};
 ghost use Rattle.member_orset.specs.LiveDots.{dead_dots_of, live_dots_without};
 ghost use Rattle.member_orset.specs.Refusals.{IsRefusedAssert, IsRefusedJoin, IsRefusedKill};
-ghost use Rattle.dots.specs.Views.{row_view};
+ghost use Rattle.operations.specs.Views.{row_view};
 ghost use Rattle.member_orset.specs.Reads.{cell_read, dots_seen_below};
 
 use crate::agreement::{agrees_with, cells_agree};

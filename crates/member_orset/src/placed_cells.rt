@@ -5,7 +5,7 @@ ghost use Rattle.std.specs.FinSet as set;
 ghost use Rattle.std.specs.List.{AllWithin, insert, remove};
 ghost use Rattle.std.specs.Option.{option_copied};
 ghost use Rattle.std.specs.Ordering.{is_lt};
-ghost use Rattle.dots.specs.Conditions.{FieldsAgree};
+ghost use Rattle.operations.specs.Conditions.{FieldsAgree};
 ghost use Rattle.dots.specs.Orders.{dot_cmp};
 ghost use Rattle.op_arena.specs.Ids.{id_of};
 ghost use Rattle.member_orset.specs.declared.live_dot.LiveDot.{LiveDot as live_dot};

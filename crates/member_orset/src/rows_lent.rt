@@ -3,7 +3,7 @@ ghost use Rattle.std.specs.FinMap as map;
 ghost use Rattle.std.specs.Iterator.{YieldsFirstBy, item_count};
 ghost use Rattle.std.specs.List.{All};
 ghost use Rattle.std.specs.Option.{option_map_or};
-ghost use Rattle.dots.specs.Views.{listed_row_view};
+ghost use Rattle.operations.specs.Views.{listed_row_view};
 ghost use Rattle.member_orset.specs.Index.{Rises, listing};
 ghost use Rattle.member_orset.specs.PlacedStates.{AreHeld, listed_at};
 ghost use Rattle.member_orset.specs.RowWalks.{IsNext, IsReached, interface_before};
@@ -31,7 +31,7 @@ pub struct Rows<'a> {
 
 impl<'a> Model for Rows<'a> {
     ghost use Rattle.std.specs.Prelude.{ℕ, List};
-    ghost use Rattle.dots.specs.Rows.{MemberRow};
+    ghost use Rattle.operations.specs.Rows.{MemberRow};
 
     ghost Value = { List (List ℕ × MemberRow) };
 

@@ -1,7 +1,7 @@
 -- The first offer, row by row.
 use Rattle.std.proofs.Common.{◌≡◌, ℕ, Bool, true, false, ◌&&◌, cond, List, [], ◌∷◌, Option, Some, None, refl, sym, ap, true≢false}
 use Rattle.std.specs.List.{best_of}
-use Rattle.dots.specs.Rows.{MemberRow}
+use Rattle.operations.specs.Rows.{MemberRow}
 use Rattle.offer.specs.declared.offered.Offer.{Offer}
 use Rattle.offer.specs.Offers.{comes_before, may_be_offered, offer_of, offers_of}
 use Rattle.offer.specs.GoingOver.{comes_first, first_with, is_next}

@@ -1,7 +1,7 @@
 -- The first offer so far, while rows are gone over.
 use Rattle.std.specs.Prelude.{ℕ, Bool, true, ◌&&◌, List, Option, Some, None}
 use Rattle.std.specs.List.{best_of}
-use Rattle.dots.specs.Rows.{MemberRow}
+use Rattle.operations.specs.Rows.{MemberRow}
 use Rattle.offer.specs.declared.offered.Offer.{Offer}
 use Rattle.offer.specs.Offers.{comes_before, first_of, may_be_offered, offer_of}
 

@@ -5,7 +5,7 @@ use Rattle.std.specs.List.{list_any, best_of}
 use Rattle.std.specs.Ordering.{is_lt, nat_cmp, on, then_cmp}
 use Rattle.std.specs.declared.cmp.Ordering.{Ordering}
 use Rattle.dots.specs.Orders.{text_cmp}
-use Rattle.dots.specs.Rows.{MemberRow}
+use Rattle.operations.specs.Rows.{MemberRow}
 use Rattle.replica.specs.Queues.{number_of}
 use Rattle.offer.specs.declared.offered.Offer.{Offer}
 

@@ -1,12 +1,13 @@
 //! The first of the offers of a queue's rows.
 ghost use Rattle.std.specs.Prelude.{◌≡◌};
-ghost use Rattle.dots.specs.Views.{row_view};
+ghost use Rattle.operations.specs.Views.{row_view};
 ghost use Rattle.offer.specs.Offers.{first_of, offers_of};
 ghost use Rattle.offer.specs.GoingOver.{comes_first, is_next};
 
 use crate::Offer;
-use dots::{Interface, Row};
+use dots::Interface;
 use member_orset::Rows;
+use operations::Row;
 use std::cmp::Ordering;
 
 // The first of the offers of rows, beside those that were tried.

@@ -6,7 +6,7 @@
 
 ghost use Rattle.std.specs.Prelude.{◌≡◌};
 ghost use Rattle.std.specs.Result.{result_ok};
-ghost use Rattle.dots.specs.Rows.{dot_view, rows_of as rows_read};
+ghost use Rattle.operations.specs.Rows.{dot_view, rows_of as rows_read};
 ghost use Rattle.replica.specs.Site.{rows_of};
 ghost use Rattle.replica.specs.Standing.{StandsFor};
 ghost use Rattle.replica.specs.Steps.{SiteKnowledge};

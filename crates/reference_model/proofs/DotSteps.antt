@@ -11,14 +11,14 @@ use Rattle.std.proofs.lemmas.Map.Made.{is_member-filter}
 use Rattle.dots.specs.declared.member.Member.{Member}
 use Rattle.dots.specs.Values.{Dot}
 use Rattle.dots.specs.Orders.{dot_cmp}
-use Rattle.dots.specs.Operations.{Operation, asserted_by, named_by}
-use Rattle.dots.specs.Knowledge.{Knowledge, is_dot, asserts, names, is_asserted, is_named, all_asserted, member_of, visible_dots}
-use Rattle.dots.specs.SetItems.{in_order}
+use Rattle.operations.specs.Operations.{Operation, asserted_by, named_by}
+use Rattle.operations.specs.Knowledge.{Knowledge, is_dot, asserts, names, is_asserted, is_named, all_asserted, member_of, visible_dots}
+use Rattle.general_lemmas.specs.SetItems.{in_order}
 use Rattle.dots.proofs.DotOrder.{dots_total, dots_exact}
-use Rattle.dots.proofs.ItemOrder.{units, in_order-list}
-use Rattle.dots.proofs.Membership.{some-find}
-use Rattle.dots.proofs.VisibleLaws.{visible-dot}
-use Rattle.dots.proofs.TruthTables.{equal_of, truth}
+use Rattle.general_lemmas.proofs.ItemOrder.{units, in_order-list}
+use Rattle.general_lemmas.proofs.Membership.{some-find}
+use Rattle.operations.proofs.VisibleLaws.{visible-dot}
+use Rattle.general_lemmas.proofs.TruthTables.{equal_of, truth}
 use Rattle.reference_model.proofs.SetSteps.{any_insert, rises, each_itself}
 
 -- ---- one operation

@@ -4,11 +4,11 @@ use Rattle.std.specs.List.{filter_map, cons_option}
 use Rattle.std.specs.Ordering.{is_lt}
 use Rattle.dots.specs.Values.{Dot}
 use Rattle.dots.specs.Orders.{stamp_cmp}
-use Rattle.dots.specs.Registers.{Entry, join_of}
-use Rattle.dots.specs.Operations.{Operation, Field, penalty_field, pause_field, label_field}
-use Rattle.dots.specs.Conditions.{DotFields, fields_in, fields_joined}
-use Rattle.dots.specs.Knowledge.{Knowledge, asserts, field_of, latest_of, settings_of}
-use Rattle.dots.proofs.ConditionLaws.{fields_assoc}
+use Rattle.operations.specs.Registers.{Entry, join_of}
+use Rattle.operations.specs.Operations.{Operation, Field, penalty_field, pause_field, label_field}
+use Rattle.operations.specs.Conditions.{DotFields, fields_in, fields_joined}
+use Rattle.operations.specs.Knowledge.{Knowledge, asserts, field_of, latest_of, settings_of}
+use Rattle.operations.proofs.ConditionLaws.{fields_assoc}
 use Rattle.reference_model.specs.declared.entry.Entry.{Entry as Held}
 use Rattle.reference_model.specs.Views.{entry_of, fields_set, fields_over}
 

@@ -9,12 +9,12 @@ use Rattle.dots.specs.declared.label.Label.{Label}
 use Rattle.dots.specs.declared.member.Member.{Member}
 use Rattle.dots.specs.Values.{Dot, Stamp, PauseState}
 use Rattle.dots.specs.DotSets.{run_count, is_older}
-use Rattle.dots.specs.Operations.{Operation, Setting, Add, Write, asserted_by}
-use Rattle.dots.specs.Knowledge.{Knowledge, is_dot, asserts, names, is_asserted, is_named, visible_dots, known_dots}
+use Rattle.operations.specs.Operations.{Operation, Setting, Add, Write, asserted_by}
+use Rattle.operations.specs.Knowledge.{Knowledge, is_dot, asserts, names, is_asserted, is_named, visible_dots, known_dots}
 use Rattle.dots.proofs.DotOrder.{dots_total, dots_exact}
-use Rattle.dots.proofs.KnownLaws.{known-dot}
-use Rattle.dots.proofs.Membership.{any-map}
-use Rattle.dots.proofs.VisibleLaws.{visible-dot}
+use Rattle.operations.proofs.KnownLaws.{known-dot}
+use Rattle.general_lemmas.proofs.Membership.{any-map}
+use Rattle.operations.proofs.VisibleLaws.{visible-dot}
 use Rattle.replica.specs.declared.refusal.Refusal.TheVariants.{MembersFull, Exhausted, TotalFull}
 use Rattle.replica.specs.Changes.{Meaning, Refused, Makes, add_at, write_at, is_full, is_too_long, is_exhausted, is_past_total, within_limits, where_absent, where_present, time_replaced}
 use Rattle.replica.specs.Promises.{ForeseesOneMore, OlderAreNamed}

@@ -10,11 +10,11 @@ use Rattle.std.specs.Ordering.{eq_by_cmp}
 use Rattle.std.proofs.lemmas.Cmp.{nat_list_cmp_total}
 use Rattle.dots.specs.Values.{Dot}
 use Rattle.dots.specs.Orders.{text_cmp}
-use Rattle.dots.specs.Knowledge.{Knowledge, member_of}
-use Rattle.dots.specs.Rows.{DotView, MemberRow, dot_view, interface_in, interfaces_of, row_of}
-use Rattle.dots.specs.SetItems.{in_order}
-use Rattle.dots.proofs.ItemOrder.{units, in_order-list}
-use Rattle.dots.proofs.TruthTables.{truth}
+use Rattle.operations.specs.Knowledge.{Knowledge, member_of}
+use Rattle.operations.specs.Rows.{DotView, MemberRow, dot_view, interface_in, interfaces_of, row_of}
+use Rattle.general_lemmas.specs.SetItems.{in_order}
+use Rattle.general_lemmas.proofs.ItemOrder.{units, in_order-list}
+use Rattle.general_lemmas.proofs.TruthTables.{truth}
 use Rattle.reference_model.proofs.SetSteps.{any_insert, each_insert, rises}
 
 -- the row of an interface in a queue, with the interface

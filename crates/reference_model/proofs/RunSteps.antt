@@ -14,11 +14,11 @@ use Rattle.std.proofs.lemmas.Map.Made.{is_member-filter}
 use Rattle.dots.specs.Values.{Dot}
 use Rattle.dots.specs.Orders.{dot_cmp}
 use Rattle.dots.specs.DotSets.{next_dot, run_ends, run_count}
-use Rattle.dots.specs.Knowledge.{is_dot}
+use Rattle.operations.specs.Knowledge.{is_dot}
 use Rattle.dots.proofs.DotOrder.{dots_total, dots_exact, same_dot}
 use Rattle.dots.proofs.RunCounts.{contains-run_ends}
 use Rattle.reference_model.specs.NextDots.{goes_on}
-use Rattle.dots.proofs.TruthTables.{equal_of}
+use Rattle.general_lemmas.proofs.TruthTables.{equal_of}
 
 -- ---- the order of dots by tests of their numbers
 less_tests : (a b : Dot) → is_lt (dot_cmp a b) ≡ (nat_lt a.site b.site || (nat_eq a.site b.site && nat_lt a.count b.count))

@@ -2,7 +2,7 @@
 use Rattle.std.proofs.Common.{◌≡◌, ℕ, ◌+◌, ◌<◌, List, ◌∷◌, length, get_or, drop, ap}
 use Rattle.reference_model.specs.declared.operation.Operation.{Operation as Plain}
 use Rattle.reference_model.specs.Plain.{operation_of, knowledge_of}
-use Rattle.dots.proofs.Fronts.{open_at}
+use Rattle.general_lemmas.proofs.Fronts.{open_at}
 
 -- the operation at a place
 pub next_operation : (operations : List Plain) (i : ℕ) (o : Plain) → i < length operations → o ≡ get_or operations i o

@@ -2,7 +2,7 @@
 use Rattle.std.specs.Prelude.{Bool, false, List, [], ◌∷◌}
 use Rattle.dots.specs.Values.{Dot}
 use Rattle.dots.specs.DotSets.{next_dot}
-use Rattle.dots.specs.Knowledge.{is_dot}
+use Rattle.operations.specs.Knowledge.{is_dot}
 
 -- whether the first of the dots is that of the next count
 abbrev pub goes_on : Dot → List Dot → Bool

@@ -1,8 +1,8 @@
 -- The operation of the definitions that a plain value stands for: its lists of dots are sets.
 use Rattle.std.specs.Prelude.{List, map as each}
 use Rattle.std.specs.FinSet as set
-use Rattle.dots.specs.Knowledge.{Knowledge}
-use Rattle.dots.specs.Operations as defined
+use Rattle.operations.specs.Knowledge.{Knowledge}
+use Rattle.operations.specs.Operations as defined
 use Rattle.reference_model.specs.declared.setting.Setting.{Setting}
 use Rattle.reference_model.specs.declared.setting.Setting.TheVariants.{Penalty, Pause, Label}
 use Rattle.reference_model.specs.declared.operation.Operation.{Operation}

@@ -2,7 +2,7 @@
 use Rattle.std.specs.Prelude.{ℕ, ◌≡◌, List, map as each}
 use Rattle.std.specs.FinSet as set
 use Rattle.dots.specs.Values.{Dot}
-use Rattle.dots.specs.Operations.{Operation, asserted_by, named_by}
+use Rattle.operations.specs.Operations.{Operation, asserted_by, named_by}
 use Rattle.replica.specs.Changes as changes
 use Rattle.replica.specs.SiteViews.{SiteView, site_view}
 use Rattle.replica.specs.Steps as steps

@@ -2,10 +2,10 @@
 use Rattle.std.specs.Prelude.{List, Option, Some, None}
 use Rattle.std.specs.List.{filter_map}
 use Rattle.dots.specs.Values.{Dot}
-use Rattle.dots.specs.Conditions.{DotFields}
-use Rattle.dots.specs.Knowledge.{Knowledge, field_of, latest_of}
-use Rattle.dots.specs.Operations.{Operation, penalty_field, pause_field, label_field}
-use Rattle.dots.specs.Registers.{Entry}
+use Rattle.operations.specs.Conditions.{DotFields}
+use Rattle.operations.specs.Knowledge.{Knowledge, field_of, latest_of}
+use Rattle.operations.specs.Operations.{Operation, penalty_field, pause_field, label_field}
+use Rattle.operations.specs.Registers.{Entry}
 use Rattle.reference_model.specs.declared.entry.Entry.{Entry as Held}
 use Rattle.reference_model.specs.declared.fields.Fields.{Fields}
 

@@ -5,7 +5,7 @@ ghost use Rattle.std.specs.List.{list_any};
 ghost use Rattle.std.specs.List.Sorted.{IsStrictlySortedBy};
 ghost use Rattle.dots.specs.DotSets.{run_count};
 ghost use Rattle.dots.specs.Values.{Dot};
-ghost use Rattle.dots.specs.Knowledge.{is_dot, is_asserted, is_named};
+ghost use Rattle.operations.specs.Knowledge.{is_dot, is_asserted, is_named};
 ghost use Rattle.dots.specs.Orders.{dot_cmp};
 ghost use Rattle.reference_model.specs.NextDots.{goes_on};
 ghost use Rattle.reference_model.specs.Plain.{knowledge_of};

@@ -3,11 +3,11 @@ ghost use Rattle.std.specs.Prelude.{◌≡◌, ◌||◌, not, filter, option_map
 ghost use Rattle.std.specs.List.{list_any};
 ghost use Rattle.std.specs.List.Sorted.{IsStrictlySortedBy};
 ghost use Rattle.dots.specs.Values.{Dot};
-ghost use Rattle.dots.specs.Knowledge.{is_dot, asserts, is_asserted, is_named, member_of};
-ghost use Rattle.dots.specs.Knowledge.{visible_dots};
+ghost use Rattle.operations.specs.Knowledge.{is_dot, asserts, is_asserted, is_named, member_of};
+ghost use Rattle.operations.specs.Knowledge.{visible_dots};
 ghost use Rattle.dots.specs.Orders.{dot_cmp};
-ghost use Rattle.dots.specs.Rows.{dot_view, dots_of, is_of};
-ghost use Rattle.dots.specs.SetItems.{in_order};
+ghost use Rattle.operations.specs.Rows.{dot_view, dots_of, is_of};
+ghost use Rattle.general_lemmas.specs.SetItems.{in_order};
 ghost use Rattle.reference_model.specs.Plain.{knowledge_of, operation_of};
 
 use crate::Operation;

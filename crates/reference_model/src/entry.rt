@@ -1,5 +1,5 @@
 ghost use Rattle.std.specs.Prelude.{◌≡◌};
-ghost use Rattle.dots.specs.Registers.{join_of};
+ghost use Rattle.operations.specs.Registers.{join_of};
 ghost use Rattle.reference_model.specs.Views.{entry_of};
 
 use dots::Stamp;

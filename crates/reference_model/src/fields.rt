@@ -1,7 +1,7 @@
 ghost use Rattle.std.specs.Prelude.{◌≡◌, None};
-ghost use Rattle.dots.specs.Conditions.{fields_joined, no_fields};
-ghost use Rattle.dots.specs.Rows.{no_label, not_paused, row_of_fields, value_or};
-ghost use Rattle.dots.specs.Views.{row_view};
+ghost use Rattle.operations.specs.Conditions.{fields_joined, no_fields};
+ghost use Rattle.operations.specs.Rows.{no_label, not_paused, row_of_fields, value_or};
+ghost use Rattle.operations.specs.Views.{row_view};
 ghost use Rattle.reference_model.specs.Views.{entry_of, fields_of};
 
 use crate::entry::{Entry, later};

@@ -1,6 +1,6 @@
 // What is set of the fields of dots.
 ghost use Rattle.std.specs.Prelude.{◌≡◌};
-ghost use Rattle.dots.specs.Conditions.{fields_in};
+ghost use Rattle.operations.specs.Conditions.{fields_in};
 ghost use Rattle.reference_model.specs.Plain.{knowledge_of};
 ghost use Rattle.reference_model.specs.Views.{fields_of, fields_over};
 

@@ -1,11 +1,11 @@
 // What changes mean.
 ghost use Rattle.std.specs.Prelude.{◌≡◌, ◌||◌, ℕ, [], map as each, IfOk};
-ghost use Rattle.dots.specs.Operations as defined;
+ghost use Rattle.operations.specs.Operations as defined;
 ghost use Rattle.replica.specs.Changes.{add_at, count_at, is_full, is_too_long, meaning};
 ghost use Rattle.replica.specs.Changes.{meaning_of_setting, remove_of, where_absent, where_present};
 ghost use Rattle.replica.specs.Changes.{within_limits, write_at};
 ghost use Rattle.replica.specs.SiteViews.{dots_seen, site_view};
-ghost use Rattle.dots.specs.Rows.{dot_view};
+ghost use Rattle.operations.specs.Rows.{dot_view};
 ghost use Rattle.reference_model.specs.Plain.{knowledge_of, setting_of};
 ghost use Rattle.reference_model.specs.Sites.{Touches, buffer_view, change_meant, known_view};
 ghost use Rattle.reference_model.specs.Sites.{meaning_of};

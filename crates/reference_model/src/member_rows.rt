@@ -3,11 +3,11 @@ ghost use Rattle.std.specs.List.{list_any, filter_map};
 ghost use Rattle.std.specs.List.Sorted.{IsStrictlySortedBy};
 ghost use Rattle.std.specs.Option.{option_and_then};
 ghost use Rattle.std.specs.Ordering.{eq_by_cmp};
-ghost use Rattle.dots.specs.Knowledge.{member_of};
+ghost use Rattle.operations.specs.Knowledge.{member_of};
 ghost use Rattle.dots.specs.Orders.{text_cmp};
-ghost use Rattle.dots.specs.Rows.{dot_view, interface_in, interfaces_of, row_of, rows_of};
-ghost use Rattle.dots.specs.SetItems.{in_order};
-ghost use Rattle.dots.specs.Views.{row_view, listed_row_view};
+ghost use Rattle.operations.specs.Rows.{dot_view, interface_in, interfaces_of, row_of, rows_of};
+ghost use Rattle.general_lemmas.specs.SetItems.{in_order};
+ghost use Rattle.operations.specs.Views.{row_view, listed_row_view};
 ghost use Rattle.reference_model.specs.Plain.{knowledge_of};
 
 use crate::Operation;

@@ -1,8 +1,8 @@
 // The visible dots that a change goes over, each with its member.
 ghost use Rattle.std.specs.Prelude.{◌≡◌, map as each, filter_map, IfOk};
-ghost use Rattle.dots.specs.Rows.{dot_view};
-ghost use Rattle.dots.specs.Knowledge.{visible_dots};
-ghost use Rattle.dots.specs.SetItems.{in_order};
+ghost use Rattle.operations.specs.Rows.{dot_view};
+ghost use Rattle.operations.specs.Knowledge.{visible_dots};
+ghost use Rattle.general_lemmas.specs.SetItems.{in_order};
 ghost use Rattle.replica.specs.SiteViews.{dots_seen, with_interface};
 ghost use Rattle.reference_model.specs.Plain.{knowledge_of};
 

@@ -1,9 +1,9 @@
 ghost use Rattle.std.specs.Prelude.{◌≡◌, ◌≤◌, option_map, IfOk};
 ghost use Rattle.std.specs.FinSet as set;
 ghost use Rattle.std.specs.List.{list_any, find};
-ghost use Rattle.dots.specs.Operations.{named_by, asserted_by};
-ghost use Rattle.dots.specs.Knowledge.{is_dot, asserts, names};
-ghost use Rattle.dots.specs.Counts.{count_in};
+ghost use Rattle.operations.specs.Operations.{named_by, asserted_by};
+ghost use Rattle.operations.specs.Knowledge.{is_dot, asserts, names};
+ghost use Rattle.operations.specs.Counts.{count_in};
 ghost use Rattle.replica.specs.SiteViews.{count_used, own_time, time_used};
 ghost use Rattle.reference_model.specs.Plain.{operation_of};
 ghost use Rattle.reference_model.specs.Views.{fields_of, fields_set};

@@ -5,7 +5,7 @@ ghost use Rattle.std.specs.Cmp.Rules.{comparing};
 ghost use Rattle.std.specs.Ordering.{as_partial_cmp};
 ghost use Rattle.dots.specs.Values.{Dot};
 ghost use Rattle.dots.specs.DotSets.{next_dot};
-ghost use Rattle.dots.specs.Knowledge.{is_dot};
+ghost use Rattle.operations.specs.Knowledge.{is_dot};
 ghost use Rattle.dots.specs.Orders.{dot_cmp};
 
 use dots::{Dot, SiteId};

@@ -1,5 +1,5 @@
 ghost use Rattle.std.specs.Prelude.{◌≡◌, ◌≤◌};
-ghost use Rattle.dots.specs.Counts.{site_total, queue_total};
+ghost use Rattle.operations.specs.Counts.{site_total, queue_total};
 ghost use Rattle.status_report.specs.Knowing.{totals_in};
 ghost use Rattle.reference_model.specs.Plain.{knowledge_of};
 

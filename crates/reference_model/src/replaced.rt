@@ -1,6 +1,6 @@
 // The times of what a setting replaces.
 ghost use Rattle.std.specs.Prelude.{◌≡◌, ◌≤◌};
-ghost use Rattle.dots.specs.Rows.{dot_view};
+ghost use Rattle.operations.specs.Rows.{dot_view};
 ghost use Rattle.replica.specs.Changes.{time_of, time_replaced};
 ghost use Rattle.replica.specs.SiteViews.{greatest};
 ghost use Rattle.reference_model.specs.Plain.{knowledge_of, setting_of};

@@ -1,5 +1,5 @@
 ghost use Rattle.std.specs.Prelude.{◌≡◌};
-ghost use Rattle.dots.specs.Operations.{entry_under, set_penalty, set_pause, set_label};
+ghost use Rattle.operations.specs.Operations.{entry_under, set_penalty, set_pause, set_label};
 ghost use Rattle.reference_model.specs.Plain.{setting_of};
 ghost use Rattle.reference_model.specs.Views.{fields_of};
 

@@ -1,5 +1,5 @@
 ghost use Rattle.std.specs.Prelude.{◌≡◌, IfOk};
-ghost use Rattle.dots.specs.Rows.{dot_view, rows_of};
+ghost use Rattle.operations.specs.Rows.{dot_view, rows_of};
 ghost use Rattle.status_report.specs.Knowing.{status_in, totals_in};
 ghost use Rattle.reference_model.specs.Plain.{knowledge_of};
 

@@ -8,12 +8,12 @@ use Rattle.dots.specs.DotSets.{is_older}
 use Rattle.dots.specs.declared.label.Label.{Label}
 use Rattle.dots.specs.declared.member.Member.{Member}
 use Rattle.dots.specs.Values.{Dot}
-use Rattle.dots.specs.Operations.{Operation, Setting, SetPenalty, SetPause, SetLabel, Add, Write, Count}
-use Rattle.dots.specs.Knowledge.{asserted_dots, known_dots, names}
-use Rattle.dots.specs.Rows.{DotView, ShowAlike, dots_of}
-use Rattle.dots.specs.SetItems.{in_order}
-use Rattle.dots.proofs.AlikeViews.{filter_map-same, listed-in, own-visible, same-dots}
-use Rattle.dots.proofs.Membership.{first-in, later-in, cases-in, in-some}
+use Rattle.operations.specs.Operations.{Operation, Setting, SetPenalty, SetPause, SetLabel, Add, Write, Count}
+use Rattle.operations.specs.Knowledge.{asserted_dots, known_dots, names}
+use Rattle.operations.specs.Rows.{DotView, ShowAlike, dots_of}
+use Rattle.general_lemmas.specs.SetItems.{in_order}
+use Rattle.operations.proofs.AlikeViews.{filter_map-same, listed-in, own-visible, same-dots}
+use Rattle.general_lemmas.proofs.Membership.{first-in, later-in, cases-in, in-some}
 use Rattle.replica.specs.declared.refusal.Refusal.TheVariants.{MembersFull, Exhausted, TotalFull}
 use Rattle.replica.specs.Changes.{Change, Meaning, AddMember, RemoveMember, SetField, CountCall, Refused, Makes, time_of, time_replaced, add_at, write_at, remove_of, is_full, is_too_long, is_exhausted, is_past_total, within_limits, in_queue, where_absent, where_present, meaning_of_setting, meaning}
 use Rattle.replica.specs.Promises.{AreAlike, AreAsFull, MeansTheSameAlike}

@@ -10,13 +10,14 @@ use Rattle.dots.specs.declared.calls.Calls.{Calls}
 use Rattle.dots.specs.declared.calls.Calls.TheVariants.{Completed, Abandoned}
 use Rattle.dots.specs.Values.{Dot, Stamp}
 use Rattle.dots.specs.Orders.{stamp_cmp}
-use Rattle.dots.specs.Registers as registers
-use Rattle.dots.specs.Registers.{Entry}
-use Rattle.dots.specs.Conditions.{Condition, ConditionsAgree, Dead, DotFields, FieldsBelow, IsConditionBelow, Live}
-use Rattle.dots.specs.Totals.{greater, key_cmp, no_calls, totals_of}
-use Rattle.dots.proofs.ConditionOrder.{condition_below_self, condition_below_through, conditions_least}
-use Rattle.dots.proofs.RegisterLaws.{stamps_total}
-use Rattle.dots.proofs.TotalsLaws.{totals_at-joined}
+use Rattle.operations.specs.Registers as registers
+use Rattle.operations.specs.Registers.{Entry}
+use Rattle.operations.specs.Conditions.{Condition, ConditionsAgree, Dead, DotFields, FieldsBelow, IsConditionBelow, Live}
+use Rattle.dots.specs.CountedCalls.{no_calls}
+use Rattle.operations.specs.Totals.{greater, key_cmp, totals_of}
+use Rattle.operations.proofs.ConditionOrder.{condition_below_self, condition_below_through, conditions_least}
+use Rattle.operations.proofs.RegisterLaws.{stamps_total}
+use Rattle.operations.proofs.TotalsLaws.{totals_at-joined}
 use Rattle.site_totals.specs.Raising.{number_of}
 use Rattle.member_orset.specs.Members.{condition_at, condition_of}
 use Rattle.delta.specs.DeltaStates as deltas

@@ -3,7 +3,7 @@ use Rattle.std.proofs.Common.{◌≡◌, ◌≤◌, ◌<◌, ◌⊎◌, inl, inr
 use Rattle.std.proofs.lemmas.Bool.Decides.{nat_tests}
 use Rattle.dots.specs.declared.limits.TheConstants.{MOST_LIVE, MOST_RUNS}
 use Rattle.dots.specs.DotSets.{run_count}
-use Rattle.dots.specs.Operations.{Operation}
+use Rattle.operations.specs.Operations.{Operation}
 use Rattle.member_orset.specs.Members.{IsWithinLimits, cells_joined, runs_joined}
 use Rattle.delta.specs.DeltaStates as deltas
 use Rattle.delta.specs.DeltaStates.{DeltaState}

@@ -9,8 +9,8 @@ use Rattle.dots.specs.declared.limits.TheConstants.{MOST_LIVE, MOST_RUNS}
 use Rattle.dots.specs.Values.{Dot}
 use Rattle.dots.specs.Orders.{dot_cmp}
 use Rattle.dots.specs.DotSets.{run_count, run_ends}
-use Rattle.dots.specs.Knowledge.{is_dot}
-use Rattle.dots.proofs.Counting.{positive, within}
+use Rattle.operations.specs.Knowledge.{is_dot}
+use Rattle.general_lemmas.proofs.Counting.{positive, within}
 use Rattle.dots.proofs.DotOrder.{dots_exact, dots_total}
 use Rattle.dots.proofs.RunCounts.{contains-run_ends}
 use Rattle.member_orset.proofs.DotTests.{one_dot, same_itself, same_tied}

@@ -2,9 +2,9 @@
 use Rattle.std.proofs.Common.{◌≡◌, ℕ, Some, None, ap}
 use Rattle.dots.specs.declared.label.Label.{Label}
 use Rattle.dots.specs.Values.{PauseState, Stamp}
-use Rattle.dots.specs.Conditions.{DotFields}
-use Rattle.dots.specs.Operations.{Setting, SetLabel, SetPause, SetPenalty}
-use Rattle.dots.specs.Registers.{Entry}
+use Rattle.operations.specs.Conditions.{DotFields}
+use Rattle.operations.specs.Operations.{Setting, SetLabel, SetPause, SetPenalty}
+use Rattle.operations.specs.Registers.{Entry}
 use Rattle.member_orset.specs.Members.{HasField}
 use Rattle.replica.specs.SetFields.{fields_added, fields_written}
 

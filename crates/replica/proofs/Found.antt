@@ -9,9 +9,9 @@ use Rattle.std.specs.Cmp.{IsTotalOrder}
 use Rattle.std.proofs.lemmas.Bool.{cases_Bool}
 use Rattle.std.proofs.lemmas.List.{get_or_default}
 use Rattle.std.proofs.lemmas.Option.{same_Some}
-use Rattle.dots.proofs.Membership.{cases-in, first-in, later-in, nothing-in}
-use Rattle.dots.proofs.SortedEntries.{find_at}
-use Rattle.dots.proofs.TruthTables.{fact}
+use Rattle.general_lemmas.proofs.Membership.{cases-in, first-in, later-in, nothing-in}
+use Rattle.general_lemmas.proofs.SortedEntries.{find_at}
+use Rattle.general_lemmas.proofs.TruthTables.{fact}
 
 -- ---- in a list
 

@@ -3,7 +3,7 @@ use Rattle.std.proofs.Common.{◌≡◌, ◌≢◌, ◌<◌, ◌≤◌, ℕ, suc
 use Rattle.std.specs.Prelude.{length, nat_lt}
 use Rattle.std.proofs.lemmas.Bool.Decides.{nat_tests}
 use Rattle.dots.specs.declared.limits.TheConstants.{MOST_COUNT, QUEUES}
-use Rattle.dots.specs.Knowledge.{Knowledge}
+use Rattle.operations.specs.Knowledge.{Knowledge}
 use Rattle.delta.specs.DeltaStates.{DeltaState, IsEmpty}
 use Rattle.delta.specs.Standing.{IsDeltaOf}
 use Rattle.delta.proofs.StandingDeltas.{same_stands}

@@ -15,20 +15,20 @@ use Rattle.dots.specs.declared.member.Member.{Member}
 use Rattle.dots.specs.Values.{Dot, Stamp, PauseState}
 use Rattle.dots.specs.Orders.{dot_cmp}
 use Rattle.dots.specs.DotSets.{is_older, next_dot, run_count}
-use Rattle.dots.specs.Conditions.{Condition, DotFields, Live, Dead, condition_joined, fields_in}
-use Rattle.dots.specs.Knowledge.{asserted_dots, asserts, is_dot, known_dots, member_of, names}
+use Rattle.operations.specs.Conditions.{Condition, DotFields, Live, Dead, condition_joined, fields_in}
+use Rattle.operations.specs.Knowledge.{asserted_dots, asserts, is_dot, known_dots, member_of, names}
 use Rattle.dots.specs.declared.calls.Calls.{Calls}
 use Rattle.dots.specs.declared.label.Label.{Label}
-use Rattle.dots.specs.Operations.{Operation, Setting, Add, Write, Count}
+use Rattle.operations.specs.Operations.{Operation, Setting, Add, Write, Count}
 use Rattle.dots.proofs.DotOrder.{dots_exact, dots_total}
-use Rattle.dots.proofs.JoinedKnowledge.{member-some}
-use Rattle.dots.proofs.KnownLaws.{known-dot}
-use Rattle.dots.proofs.VisibleLaws.{asserted-dot}
+use Rattle.operations.proofs.JoinedKnowledge.{member-some}
+use Rattle.operations.proofs.KnownLaws.{known-dot}
+use Rattle.operations.proofs.VisibleLaws.{asserted-dot}
 use Rattle.dots.proofs.KeySets.{len_of_keys}
-use Rattle.dots.proofs.Membership.{any-map, in-any}
+use Rattle.general_lemmas.proofs.Membership.{any-map, in-any}
 use Rattle.dots.proofs.OneMoreDot.{dot_before, run_count-insert}
 use Rattle.dots.proofs.RunCounts.{run_count-runs}
-use Rattle.dots.proofs.TruthTables.{or_swap}
+use Rattle.general_lemmas.proofs.TruthTables.{or_swap}
 use Rattle.dots.proofs.Unions.{union-empty}
 use Rattle.member_orset.specs.LiveDots.{dead_dots, dead_dots_of, live_dots_without}
 use Rattle.member_orset.proofs.Counts.{AreNew, add, contains-add, len-add}

@@ -12,11 +12,12 @@ use Rattle.dots.specs.declared.calls.Calls.TheVariants.{Completed, Abandoned}
 use Rattle.dots.specs.Values.{Dot, Stamp}
 use Rattle.dots.specs.Orders.{dot_cmp}
 use Rattle.dots.specs.DotSets.{IsRunsOf, Run, in_run}
-use Rattle.dots.specs.Registers.{Entry}
-use Rattle.dots.specs.Totals.{Entries, Key, key_cmp, no_calls, totals_of}
+use Rattle.operations.specs.Registers.{Entry}
+use Rattle.dots.specs.CountedCalls.{no_calls}
+use Rattle.operations.specs.Totals.{Entries, Key, key_cmp, totals_of}
 use Rattle.dots.proofs.DotOrder.{dots_total}
-use Rattle.dots.proofs.Membership.{any-in, in-any}
-use Rattle.dots.proofs.TotalsLaws.{keys_total, one_key}
+use Rattle.general_lemmas.proofs.Membership.{any-in, in-any}
+use Rattle.operations.proofs.TotalsLaws.{keys_total, one_key}
 use Rattle.causal_context.specs.Contexts.{IsRun}
 use Rattle.member_orset.specs.Members.{Holding, Members}
 use Rattle.member_orset.proofs.DotTests.{one_dot}

@@ -9,12 +9,12 @@ use Rattle.dots.specs.declared.call_totals.CallTotals.{CallTotals}
 use Rattle.dots.specs.declared.member.Member.{Member}
 use Rattle.dots.specs.Values.{Dot}
 use Rattle.dots.specs.Orders.{dot_cmp, stamp_cmp}
-use Rattle.dots.specs.Registers.{Entry}
-use Rattle.dots.specs.Registers as registers
-use Rattle.dots.specs.Conditions.{Condition, Dead, DotFields, Live, condition_joined, fields_joined}
-use Rattle.dots.specs.Totals.{key_cmp}
+use Rattle.operations.specs.Registers.{Entry}
+use Rattle.operations.specs.Registers as registers
+use Rattle.operations.specs.Conditions.{Condition, Dead, DotFields, Live, condition_joined, fields_joined}
+use Rattle.operations.specs.Totals.{key_cmp}
 use Rattle.dots.proofs.DotOrder.{dots_total}
-use Rattle.dots.proofs.TotalsLaws.{either, get-joined}
+use Rattle.operations.proofs.TotalsLaws.{either, get-joined}
 use Rattle.member_orset.specs.Members.{Holding, condition_at, condition_of}
 use Rattle.delta.specs.DeltaStates as deltas
 use Rattle.delta.specs.DeltaStates.{DeltaState, IsEmpty}

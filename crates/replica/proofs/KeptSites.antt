@@ -3,8 +3,8 @@ use Rattle.std.proofs.Common.{◌≡◌, ◌≤◌, inl, inr, ℕ, List, length,
 use Rattle.std.specs.FinMap as map
 use Rattle.std.specs.FinSet as set
 use Rattle.dots.specs.declared.limits.TheConstants.{MOST_COUNT}
-use Rattle.dots.specs.Conditions.{IsConditionBelow}
-use Rattle.dots.specs.Totals.{totals_of}
+use Rattle.operations.specs.Conditions.{IsConditionBelow}
+use Rattle.operations.specs.Totals.{totals_of}
 use Rattle.site_totals.specs.Raising.{number_of}
 use Rattle.member_orset.specs.Members.{condition_of}
 use Rattle.delta.specs.DeltaStates.{DeltaState, IsEmpty, IsSame, IsUnchanged}

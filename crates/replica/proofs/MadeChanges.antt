@@ -16,16 +16,18 @@ use Rattle.dots.specs.declared.label.Label.{Label}
 use Rattle.dots.specs.declared.member.Member.{Member}
 use Rattle.dots.specs.Values.{Dot, Stamp, PauseState}
 use Rattle.dots.specs.Orders.{dot_cmp}
-use Rattle.dots.specs.Registers.{Entry}
-use Rattle.dots.specs.Conditions.{Condition, DotFields, Live, Dead, condition_in, fields_in, no_fields}
-use Rattle.dots.specs.Counts.{count_in, same_calls, site_total}
-use Rattle.dots.specs.Knowledge.{asserts, field_of, is_dot, known_dots, latest_of, member_of, names}
-use Rattle.dots.specs.Operations.{Operation, Setting, Field, Add, Write, Remove, Count, asserted_by, named_by, label_field, pause_field, penalty_field}
-use Rattle.dots.specs.Totals.{Entries, Key, is_zero, join_of, key_cmp, no_calls, single, totals_of}
+use Rattle.operations.specs.Registers.{Entry}
+use Rattle.operations.specs.Conditions.{Condition, DotFields, Live, Dead, condition_in, fields_in, no_fields}
+use Rattle.dots.specs.CountedCalls.{same_calls}
+use Rattle.operations.specs.Counts.{count_in, site_total}
+use Rattle.operations.specs.Knowledge.{asserts, field_of, is_dot, known_dots, latest_of, member_of, names}
+use Rattle.operations.specs.Operations.{Operation, Setting, Field, Add, Write, Remove, Count, asserted_by, named_by, label_field, pause_field, penalty_field}
+use Rattle.dots.specs.CountedCalls.{is_zero, no_calls}
+use Rattle.operations.specs.Totals.{Entries, Key, join_of, key_cmp, single, totals_of}
 use Rattle.dots.proofs.DotOrder.{dots_exact, dots_total}
-use Rattle.dots.proofs.KnownLaws.{known-dot}
-use Rattle.dots.proofs.Membership.{any-map, in-any, nothing-in, only-in, some-find}
-use Rattle.dots.proofs.TotalsLaws.{by_numbers, get-single_some, is_key, joined_empty, joined_comm}
+use Rattle.operations.proofs.KnownLaws.{known-dot}
+use Rattle.general_lemmas.proofs.Membership.{any-map, in-any, nothing-in, only-in, some-find}
+use Rattle.operations.proofs.TotalsLaws.{by_numbers, get-single_some, is_key, joined_empty, joined_comm}
 use Rattle.dots.proofs.Unions.{union-comm, union-empty}
 use Rattle.member_orset.specs.Members.{Holding, condition_at}
 use Rattle.member_orset.proofs.DotTests.{one_dot}

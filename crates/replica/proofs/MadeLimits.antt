@@ -12,17 +12,18 @@ use Rattle.dots.specs.declared.limits.TheConstants.{MOST_CALLS, QUEUES}
 use Rattle.dots.specs.declared.member.Member.{Member}
 use Rattle.dots.specs.Values.{Dot, IsSite, IsCount, IsName}
 use Rattle.dots.specs.DotSets.{is_older}
-use Rattle.dots.specs.Operations.{Operation, Setting}
-use Rattle.dots.specs.Knowledge.{Knowledge, is_asserted, is_dot, is_named, member_of, visible_dots}
-use Rattle.dots.specs.Rows.{dot_view, dots_of, is_of}
-use Rattle.dots.specs.SetItems.{in_order}
-use Rattle.dots.specs.WithinLimits.{AreAsserted, AreDots, AreWithinLimits, IsDot, IsMember, IsSetting, IsWithinLimits}
+use Rattle.operations.specs.Operations.{Operation, Setting}
+use Rattle.operations.specs.Knowledge.{Knowledge, is_asserted, is_dot, is_named, member_of, visible_dots}
+use Rattle.operations.specs.Rows.{dot_view, dots_of, is_of}
+use Rattle.general_lemmas.specs.SetItems.{in_order}
+use Rattle.dots.specs.WithinLimits.{AreDots, IsDot, IsMember}
+use Rattle.operations.specs.OperationLimits.{AreAsserted, AreWithinLimits, IsSetting, IsWithinLimits}
 use Rattle.dots.proofs.DotOrder.{dots_total}
-use Rattle.dots.proofs.Filters.{filter-in}
-use Rattle.dots.proofs.ItemOrder.{in_order-has}
-use Rattle.dots.proofs.Membership.{any-in, cases-in, first-in, in-any, in-some, later-in, nothing-in}
-use Rattle.dots.proofs.VisibleLaws.{visible-dot}
-use Rattle.dots.proofs.WithinLimitsLaws.{asserted-dot-is, member-of-is, named-dot-is, one-dot}
+use Rattle.general_lemmas.proofs.Filters.{filter-in}
+use Rattle.general_lemmas.proofs.ItemOrder.{in_order-has}
+use Rattle.general_lemmas.proofs.Membership.{any-in, cases-in, first-in, in-any, in-some, later-in, nothing-in}
+use Rattle.operations.proofs.VisibleLaws.{visible-dot}
+use Rattle.operations.proofs.WithinLimitsLaws.{asserted-dot-is, member-of-is, named-dot-is, one-dot}
 use Rattle.replica.specs.declared.refusal.Refusal.TheVariants.{Exhausted, MembersFull, TotalFull}
 use Rattle.replica.specs.Changes.{Meaning, Refused, Makes, AddMember, RemoveMember, SetField, CountCall, add_at, count_at, in_queue, is_exhausted, is_full, is_past_total, is_too_long, is_used_up, meaning_of_setting, remove_of, time_replaced, where_absent, where_present, within_limits, write_at}
 use Rattle.replica.specs.Promises.{MakesWithinLimits}

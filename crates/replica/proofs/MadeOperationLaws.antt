@@ -7,15 +7,15 @@ use Rattle.std.proofs.lemmas.List.Quantifiers.{position-Some}
 use Rattle.dots.specs.declared.member.Member.{Member}
 use Rattle.dots.specs.Values.{Dot}
 use Rattle.dots.specs.Orders.{dot_cmp}
-use Rattle.dots.specs.Operations.{Operation, Setting}
-use Rattle.dots.specs.Knowledge.{Knowledge, is_dot, member_of, visible_dots}
-use Rattle.dots.specs.Rows.{dot_view, dots_of, is_of}
-use Rattle.dots.specs.SetItems.{in_order}
+use Rattle.operations.specs.Operations.{Operation, Setting}
+use Rattle.operations.specs.Knowledge.{Knowledge, is_dot, member_of, visible_dots}
+use Rattle.operations.specs.Rows.{dot_view, dots_of, is_of}
+use Rattle.general_lemmas.specs.SetItems.{in_order}
 use Rattle.dots.proofs.DotOrder.{dots_total}
-use Rattle.dots.proofs.Filters.{filter-in}
-use Rattle.dots.proofs.Membership.{any-in, in-any, in-some, nothing-in, some-in}
-use Rattle.dots.proofs.RowLaws.{dot-of}
-use Rattle.dots.proofs.WithinLimitsLaws.{one-dot}
+use Rattle.general_lemmas.proofs.Filters.{filter-in}
+use Rattle.general_lemmas.proofs.Membership.{any-in, in-any, in-some, nothing-in, some-in}
+use Rattle.operations.proofs.RowLaws.{dot-of}
+use Rattle.operations.proofs.WithinLimitsLaws.{one-dot}
 use Rattle.member_orset.proofs.DotTests.{same_itself}
 use Rattle.replica.specs.Changes.{Change, Meaning, Makes, AddMember, RemoveMember, SetField, CountCall, add_at, count_at, meaning, meaning_of_setting, remove_of, where_absent, within_limits, write_at}
 use Rattle.replica.specs.MadeOperations.{IsMadeAt, IsRemoveAt}

@@ -4,8 +4,8 @@ use Rattle.std.specs.List.{list_any}
 use Rattle.std.proofs.Math.Bool.{or-true}
 use Rattle.std.specs.Ordering.{is_eq}
 use Rattle.std.proofs.lemmas.Cmp.{tied_itself}
-use Rattle.dots.specs.Knowledge.{is_dot}
-use Rattle.dots.proofs.Membership.{any-in}
+use Rattle.operations.specs.Knowledge.{is_dot}
+use Rattle.general_lemmas.proofs.Membership.{any-in}
 use Rattle.std.specs.Prelude.{nat_le}
 use Rattle.std.proofs.lemmas.Bool.{and_parts, false_from_ne_true}
 use Rattle.std.proofs.lemmas.Bool.Decides.{nat_tests}
@@ -16,9 +16,9 @@ use Rattle.dots.specs.declared.limits.TheConstants.{MOST_LIVE, MOST_RUNS}
 use Rattle.dots.specs.declared.member.Member.{Member}
 use Rattle.dots.specs.Values.{Dot, PauseState, Stamp}
 use Rattle.dots.specs.Orders.{dot_cmp}
-use Rattle.dots.specs.Conditions.{IsConditionBelow}
+use Rattle.operations.specs.Conditions.{IsConditionBelow}
 use Rattle.dots.specs.DotSets.{run_count}
-use Rattle.dots.specs.Operations.{Operation, Setting}
+use Rattle.operations.specs.Operations.{Operation, Setting}
 use Rattle.dots.proofs.OneMoreDot.{insert_known}
 use Rattle.dots.proofs.Unions.{union-same}
 use Rattle.dots.proofs.DotOrder.{dots_total}

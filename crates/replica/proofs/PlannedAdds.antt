@@ -12,14 +12,14 @@ use Rattle.dots.specs.declared.member.Member.{Member}
 use Rattle.dots.specs.Values.{Dot, Stamp, IsCount}
 use Rattle.dots.specs.Orders.{dot_cmp, member_cmp}
 use Rattle.dots.specs.DotSets.{run_count}
-use Rattle.dots.specs.Operations.{Operation}
-use Rattle.dots.specs.Rows.{DotView, dots_of, is_of}
-use Rattle.dots.specs.SetItems.{in_order}
+use Rattle.operations.specs.Operations.{Operation}
+use Rattle.operations.specs.Rows.{DotView, dots_of, is_of}
+use Rattle.general_lemmas.specs.SetItems.{in_order}
 use Rattle.dots.proofs.DotOrder.{dots_total}
-use Rattle.dots.proofs.Filters.{filter-has}
-use Rattle.dots.proofs.ItemOrder.{in_order-has}
+use Rattle.general_lemmas.proofs.Filters.{filter-has}
+use Rattle.general_lemmas.proofs.ItemOrder.{in_order-has}
 use Rattle.dots.proofs.MemberOrder.{members_total}
-use Rattle.dots.proofs.Membership.{first-in, in-any, nothing-in}
+use Rattle.general_lemmas.proofs.Membership.{first-in, in-any, nothing-in}
 use Rattle.member_orset.specs.Members.{Holding, IsPresent, IsWithinLimits}
 use Rattle.member_orset.specs.Reads.{dots_seen_below}
 use Rattle.member_orset.proofs.DotTests.{one_dot}

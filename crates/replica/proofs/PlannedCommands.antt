@@ -5,8 +5,8 @@ use Rattle.std.specs.FinMap as map
 use Rattle.std.specs.FinSet as set
 use Rattle.dots.specs.declared.calls.Calls.{Calls}
 use Rattle.dots.specs.declared.limits.TheConstants.{MOST_CALLS}
-use Rattle.dots.specs.Operations.{Operation, Count}
-use Rattle.dots.specs.Totals.{join_of, single, totals_of}
+use Rattle.operations.specs.Operations.{Operation, Count}
+use Rattle.operations.specs.Totals.{join_of, single, totals_of}
 use Rattle.site_totals.specs.Raising.{alone, number_of as number_of_calls}
 use Rattle.member_orset.specs.Members.{IsWithinLimits}
 use Rattle.delta.specs.DeltaStates as deltas

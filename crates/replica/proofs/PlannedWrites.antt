@@ -7,8 +7,8 @@ use Rattle.dots.specs.declared.limits.TheConstants.{MOST_LIVE, MOST_RUNS}
 use Rattle.dots.specs.declared.member.Member.{Member}
 use Rattle.dots.specs.Values.{Dot, Stamp, IsCount}
 use Rattle.dots.specs.DotSets.{run_count}
-use Rattle.dots.specs.Operations.{Operation, Setting}
-use Rattle.dots.proofs.Membership.{cases-in, first-in, later-in}
+use Rattle.operations.specs.Operations.{Operation, Setting}
+use Rattle.general_lemmas.proofs.Membership.{cases-in, first-in, later-in}
 use Rattle.member_orset.specs.Members.{IsWithinLimits}
 use Rattle.member_orset.specs.Reads.{dots_seen_below}
 use Rattle.replica.specs.declared.planned.Planned.{Planned}

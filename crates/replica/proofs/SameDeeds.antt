@@ -2,11 +2,11 @@
 use Rattle.std.proofs.Common.{◌≡◌, ◌≤◌, inl, inr, ℕ, suc, max, length, Result, refl, sym, ap, subst, ◌∙◌}
 use Rattle.std.specs.FinSet as set
 use Rattle.dots.specs.declared.limits.TheConstants.{MOST_LIVE, MOST_RUNS}
-use Rattle.dots.specs.Conditions.{ConditionsAgree, condition_joined}
+use Rattle.operations.specs.Conditions.{ConditionsAgree, condition_joined}
 use Rattle.dots.specs.DotSets.{run_count}
-use Rattle.dots.specs.Operations.{Operation}
-use Rattle.dots.specs.Rows.{rows_of as rows_read}
-use Rattle.dots.specs.Totals.{join_of, sum_of, totals_of}
+use Rattle.operations.specs.Operations.{Operation}
+use Rattle.operations.specs.Rows.{rows_of as rows_read}
+use Rattle.operations.specs.Totals.{join_of, sum_of, totals_of}
 use Rattle.site_totals.specs.Raising.{number_of as number_of_calls}
 use Rattle.member_orset.specs.Members as sets
 use Rattle.member_orset.specs.Members.{cells_joined, condition_of, is_live, joined_dots, runs_joined}

@@ -9,7 +9,7 @@ use Rattle.dots.specs.declared.limits.TheConstants.{MOST_LIVE}
 use Rattle.dots.specs.Values.{Dot}
 use Rattle.dots.specs.Orders.{dot_cmp}
 use Rattle.dots.specs.DotSets.{is_older}
-use Rattle.dots.specs.Knowledge.{is_dot}
+use Rattle.operations.specs.Knowledge.{is_dot}
 use Rattle.dots.proofs.DotOrder.{dots_total}
 use Rattle.member_orset.specs.Members.{Holding, Members}
 use Rattle.member_orset.specs.Reads.{dots_seen_below, seen_dots}

@@ -19,18 +19,18 @@ use Rattle.std.proofs.lemmas.Slice.Eq.{bytes_eq-Decides}
 use Rattle.dots.specs.declared.member.Member.{Member}
 use Rattle.dots.specs.Values.{Dot}
 use Rattle.dots.specs.Orders.{dot_cmp, member_cmp}
-use Rattle.dots.specs.Conditions.{DotFields}
-use Rattle.dots.specs.Knowledge.{is_dot}
-use Rattle.dots.specs.Rows.{DotView, dots_of, is_of}
-use Rattle.dots.specs.SetItems.{in_order}
-use Rattle.dots.proofs.AlikeViews.{listed-in, own-visible}
+use Rattle.operations.specs.Conditions.{DotFields}
+use Rattle.operations.specs.Knowledge.{is_dot}
+use Rattle.operations.specs.Rows.{DotView, dots_of, is_of}
+use Rattle.general_lemmas.specs.SetItems.{in_order}
+use Rattle.operations.proofs.AlikeViews.{listed-in, own-visible}
 use Rattle.dots.proofs.DotOrder.{dots_exact, dots_total}
-use Rattle.dots.proofs.Filters.{filter-has, passes}
-use Rattle.dots.proofs.ItemOrder.{in_order-has, in_order-list, in_order-rises, units}
+use Rattle.general_lemmas.proofs.Filters.{filter-has, passes}
+use Rattle.general_lemmas.proofs.ItemOrder.{in_order-has, in_order-list, in_order-rises, units}
 use Rattle.dots.proofs.MemberOrder.{exact_members, members_total}
-use Rattle.dots.proofs.Membership.{any-in, any-map, cases-in, first-in, in-any, in-some, nothing-in, same-tests, some-in}
-use Rattle.dots.proofs.SortedEntries.{below_first}
-use Rattle.dots.proofs.TruthTables.{equal_of, less_of, truth}
+use Rattle.general_lemmas.proofs.Membership.{any-in, any-map, cases-in, first-in, in-any, in-some, nothing-in, same-tests, some-in}
+use Rattle.general_lemmas.proofs.SortedEntries.{below_first}
+use Rattle.general_lemmas.proofs.TruthTables.{equal_of, less_of, truth}
 use Rattle.member_orset.specs.Members.{Holding, Members, dot_view_of}
 use Rattle.member_orset.proofs.DotTests.{after, one_dot, same_itself}
 use Rattle.replica.specs.DotLists.{DotsRise, dots_below}

@@ -12,13 +12,13 @@ use Rattle.std.proofs.lemmas.Map.Keys.{IsDistinct-cons, IsDistinct-head, IsDisti
 use Rattle.dots.specs.declared.member.Member.{Member}
 use Rattle.dots.specs.Values.{Dot}
 use Rattle.dots.specs.Orders.{dot_cmp}
-use Rattle.dots.specs.Knowledge.{is_dot}
-use Rattle.dots.specs.Rows.{DotView, dots_of, is_of}
-use Rattle.dots.specs.SetItems.{in_order}
-use Rattle.dots.proofs.AlikeViews.{listed-in, own-visible}
+use Rattle.operations.specs.Knowledge.{is_dot}
+use Rattle.operations.specs.Rows.{DotView, dots_of, is_of}
+use Rattle.general_lemmas.specs.SetItems.{in_order}
+use Rattle.operations.proofs.AlikeViews.{listed-in, own-visible}
 use Rattle.dots.proofs.DotOrder.{dots_exact, dots_total}
-use Rattle.dots.proofs.ItemOrder.{in_order-rises, units}
-use Rattle.dots.proofs.Membership.{cases-in, first-in, in-some, later-in, nothing-in}
+use Rattle.general_lemmas.proofs.ItemOrder.{in_order-rises, units}
+use Rattle.general_lemmas.proofs.Membership.{cases-in, first-in, in-some, later-in, nothing-in}
 use Rattle.member_orset.proofs.DotTests.{apart_after}
 use Rattle.delta.specs.DeltaStates.{DeltaState}
 use Rattle.replica.specs.Site.{SiteState, view_of}

@@ -3,10 +3,10 @@ use Rattle.std.proofs.Common.{◌≡◌, ℕ, ap}
 use Rattle.dots.specs.declared.calls.Calls.TheVariants.{Completed, Abandoned}
 use Rattle.dots.specs.declared.limits.TheConstants.{SITES}
 use Rattle.dots.specs.declared.member.Member.{Member}
-use Rattle.dots.specs.Counts.{queue_total}
-use Rattle.dots.specs.Rows.{dot_view, row_of, rows_of}
-use Rattle.dots.specs.Totals.{sum_below}
-use Rattle.dots.proofs.AlikeViews.{same-row, same-rows}
+use Rattle.operations.specs.Counts.{queue_total}
+use Rattle.operations.specs.Rows.{dot_view, row_of, rows_of}
+use Rattle.operations.specs.Totals.{sum_below}
+use Rattle.operations.proofs.AlikeViews.{same-row, same-rows}
 use Rattle.member_orset.specs.Members.{dot_view_of}
 use Rattle.delta.specs.Standing.{IsReadAs}
 use Rattle.delta.proofs.ShownDeltas.{read-as}

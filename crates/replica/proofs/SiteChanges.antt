@@ -11,14 +11,14 @@ use Rattle.dots.specs.declared.limits.TheConstants.{MOST_COUNT}
 use Rattle.dots.specs.declared.member.Member.{Member}
 use Rattle.dots.specs.Values.{Dot, PauseState, Stamp}
 use Rattle.dots.specs.Orders.{dot_cmp}
-use Rattle.dots.specs.Knowledge.{is_dot}
-use Rattle.dots.specs.Totals.{Key, join_of, single}
+use Rattle.operations.specs.Knowledge.{is_dot}
+use Rattle.operations.specs.Totals.{Key, join_of, single}
 use Rattle.std.specs.List.{list_any}
 use Rattle.std.specs.Ordering.{eq_by_cmp, is_eq}
 use Rattle.std.proofs.lemmas.Cmp.{tied_itself}
-use Rattle.dots.specs.Operations.{entry_under}
-use Rattle.dots.specs.Totals.{key_cmp}
-use Rattle.dots.proofs.Membership.{in-any, only-in}
+use Rattle.operations.specs.Operations.{entry_under}
+use Rattle.operations.specs.Totals.{key_cmp}
+use Rattle.general_lemmas.proofs.Membership.{in-any, only-in}
 use Rattle.dots.proofs.DotOrder.{dots_total}
 use Rattle.member_orset.proofs.DotTests.{one_dot}
 use Rattle.site_totals.specs.Raising.{alone}

@@ -3,14 +3,14 @@ use Rattle.std.proofs.Common.{◌≡◌, ℕ, ◌≤◌, Bool, true, false, not,
 use Rattle.std.specs.FinSet as set
 use Rattle.dots.specs.DotSets.{is_older}
 use Rattle.dots.specs.Values.{Dot}
-use Rattle.dots.specs.Operations.{Operation}
-use Rattle.dots.specs.Knowledge.{Knowledge, SameOperations, IsConsistent, asserts, names, is_asserted, is_named, asserted_dots, visible_dots, known_dots}
+use Rattle.operations.specs.Operations.{Operation}
+use Rattle.operations.specs.Knowledge.{Knowledge, SameOperations, IsConsistent, asserts, names, is_asserted, is_named, asserted_dots, visible_dots, known_dots}
 use Rattle.dots.proofs.DotOrder.{dots_total, dots_exact}
-use Rattle.dots.proofs.KnownLaws.{known-dot, dead-dot}
-use Rattle.dots.proofs.Membership.{first-in, later-in, cases-in}
-use Rattle.dots.proofs.VisibleLaws.{asserted-dot, visible-dot, same-any}
-use Rattle.dots.proofs.RowLaws.{same-view}
-use Rattle.dots.proofs.CountLaws.{same-total}
+use Rattle.operations.proofs.KnownLaws.{known-dot, dead-dot}
+use Rattle.general_lemmas.proofs.Membership.{first-in, later-in, cases-in}
+use Rattle.operations.proofs.VisibleLaws.{asserted-dot, visible-dot, same-any}
+use Rattle.operations.proofs.RowLaws.{same-view}
+use Rattle.operations.proofs.CountLaws.{same-total}
 use Rattle.replica.specs.Changes.{meaning}
 use Rattle.replica.specs.Promises.{ForeseesOneMore, OlderAreNamed, MeansTheSame}
 use Rattle.replica.specs.SiteViews.{site_view, greatest, count_used, time_used, is_dead, older_dots, visible_with, known_with}

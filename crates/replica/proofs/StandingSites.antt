@@ -1,12 +1,12 @@
 -- What a replica stands for, through each of its steps.
 use Rattle.std.proofs.Common.{◌≡◌, ◌≤◌, ◌↔◌, inl, inr, ℕ, suc, max, List, [], ◌∷◌, ◌++◌, Result, refl, sym, ap, subst, ◌∙◌, arith}
 use Rattle.std.specs.FinMap as map
-use Rattle.dots.specs.Operations.{Operation}
-use Rattle.dots.specs.Knowledge.{Knowledge}
-use Rattle.dots.specs.Totals.{totals_of}
-use Rattle.dots.specs.Traces.{LeavesTrace, LeaveTraces}
-use Rattle.dots.proofs.Membership.{cases-in, nothing-in}
-use Rattle.dots.proofs.StandingJoins.{represents-none}
+use Rattle.operations.specs.Operations.{Operation}
+use Rattle.operations.specs.Knowledge.{Knowledge}
+use Rattle.operations.specs.Totals.{totals_of}
+use Rattle.operations.specs.Traces.{LeavesTrace, LeaveTraces}
+use Rattle.general_lemmas.proofs.Membership.{cases-in, nothing-in}
+use Rattle.operations.proofs.StandingJoins.{represents-none}
 use Rattle.delta.specs.DeltaStates as deltas
 use Rattle.delta.specs.DeltaStates.{DeltaState, IsEmpty, IsSame}
 use Rattle.delta.specs.Joining.{Agree, IsJoinOf}

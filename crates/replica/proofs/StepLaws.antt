@@ -2,7 +2,7 @@
 use Rattle.std.proofs.Common.{◌≡◌, ℕ, suc, ◌^◌, Bool, true, false, List, [], ◌∷◌, ◌++◌, refl, ap, subst, nat_lt, T, if◌then◌else◌}
 use Rattle.std.specs.FinSet as set
 use Rattle.dots.specs.DotSets.{run_count}
-use Rattle.dots.specs.Knowledge.{Knowledge, visible_dots, known_dots}
+use Rattle.operations.specs.Knowledge.{Knowledge, visible_dots, known_dots}
 use Rattle.replica.specs.Changes.{Meaning, Refused, Makes, meaning}
 use Rattle.replica.specs.Promises.{RefusalsChangeNothing}
 use Rattle.replica.specs.SiteViews.{site_view}

@@ -6,14 +6,14 @@ use Rattle.std.specs.FinSet as set
 use Rattle.std.proofs.lemmas.Bool.Decides.{nat_tests}
 use Rattle.std.proofs.lemmas.List.Elements.{Contains-append_cases, Contains-append_left, Contains-append_right}
 use Rattle.dots.specs.declared.limits.TheConstants.{MOST_LIVE, MOST_RUNS}
-use Rattle.dots.specs.Conditions.{Condition, ConditionsAgree, Dead, Live}
+use Rattle.operations.specs.Conditions.{Condition, ConditionsAgree, Dead, Live}
 use Rattle.dots.specs.DotSets.{run_count}
-use Rattle.dots.specs.Knowledge.{Knowledge, known_dots, visible_dots}
-use Rattle.dots.specs.Operations.{Operation}
-use Rattle.dots.specs.Registers.{Entry}
-use Rattle.dots.proofs.JoinedKnowledge.{known-both}
+use Rattle.operations.specs.Knowledge.{Knowledge, known_dots, visible_dots}
+use Rattle.operations.specs.Operations.{Operation}
+use Rattle.operations.specs.Registers.{Entry}
+use Rattle.operations.proofs.JoinedKnowledge.{known-both}
 use Rattle.dots.proofs.Unions.{union-comm}
-use Rattle.dots.proofs.VisibleLaws.{same-visible}
+use Rattle.operations.proofs.VisibleLaws.{same-visible}
 use Rattle.member_orset.specs.declared.join_fault.JoinFault.{JoinFault}
 use Rattle.member_orset.specs.declared.join_fault.JoinFault.TheVariants as join
 use Rattle.member_orset.specs.Members.{Holding, IsWithinLimits, cells_joined, condition_at, condition_of, runs_joined}

@@ -3,9 +3,9 @@ use Rattle.std.proofs.Common.{◌≡◌, ◌≤◌, ◌<◌, ◌⊎◌, inl, inr
 use Rattle.std.specs.Prelude.{Result, Err, IsErrOf}
 use Rattle.std.specs.FinMap as map
 use Rattle.std.specs.FinSet as set
-use Rattle.dots.specs.Conditions.{condition_joined, ConditionsAgree}
+use Rattle.operations.specs.Conditions.{condition_joined, ConditionsAgree}
 use Rattle.dots.specs.DotSets.{run_count}
-use Rattle.dots.specs.Totals.{join_of}
+use Rattle.operations.specs.Totals.{join_of}
 use Rattle.member_orset.specs.CellIds.{IdsFollow}
 use Rattle.member_orset.specs.Members.{KeepsIds, condition_at, condition_of, cells_joined, is_live, joined_dots, runs_joined}
 use Rattle.delta.specs.DeltaStates.{DeltaState, IsSame, IsUnchanged}

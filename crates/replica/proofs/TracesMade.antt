@@ -7,8 +7,8 @@ use Rattle.std.proofs.lemmas.Cmp.{tied_itself}
 use Rattle.dots.specs.declared.member.Member.{Member}
 use Rattle.dots.specs.Values.{Dot}
 use Rattle.dots.specs.Orders.{dot_cmp}
-use Rattle.dots.specs.Operations.{Operation, Setting}
-use Rattle.dots.specs.Traces.{LeavesTrace}
+use Rattle.operations.specs.Operations.{Operation, Setting}
+use Rattle.operations.specs.Traces.{LeavesTrace}
 use Rattle.dots.proofs.DotOrder.{dots_total}
 use Rattle.replica.specs.Changes.{Meaning, Makes, AddMember, RemoveMember, SetField, CountCall, add_at, count_at, meaning_of_setting, remove_of, where_present, within_limits, write_at}
 use Rattle.replica.specs.Promises.{MakesTraces}

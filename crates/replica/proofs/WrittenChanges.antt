@@ -12,11 +12,11 @@ use Rattle.dots.specs.declared.limits.TheConstants.{MOST_COUNT}
 use Rattle.dots.specs.declared.member.Member.{Member}
 use Rattle.dots.specs.Values.{Dot, Stamp}
 use Rattle.dots.specs.Orders.{stamp_cmp}
-use Rattle.dots.specs.Registers.{Entry}
-use Rattle.dots.specs.Conditions.{DotFields, Live}
-use Rattle.dots.specs.Knowledge.{is_dot}
-use Rattle.dots.specs.Operations.{Setting, SetPenalty, SetPause, SetLabel, entry_under, set_penalty, set_pause, set_label}
-use Rattle.dots.proofs.Membership.{any-map, cases-in, first-in, in-any, in-find, later-in, nothing-in}
+use Rattle.operations.specs.Registers.{Entry}
+use Rattle.operations.specs.Conditions.{DotFields, Live}
+use Rattle.operations.specs.Knowledge.{is_dot}
+use Rattle.operations.specs.Operations.{Setting, SetPenalty, SetPause, SetLabel, entry_under, set_penalty, set_pause, set_label}
+use Rattle.general_lemmas.proofs.Membership.{any-map, cases-in, first-in, in-any, in-find, later-in, nothing-in}
 use Rattle.member_orset.specs.Members.{Holding, IsWithinLimits, condition_of}
 use Rattle.member_orset.specs.Reads.{dots_seen_below}
 use Rattle.member_orset.proofs.DotTests.{one_dot}

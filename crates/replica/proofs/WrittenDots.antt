@@ -15,13 +15,13 @@ use Rattle.std.proofs.Math.Bool.{or-false}
 use Rattle.dots.specs.declared.member.Member.{Member}
 use Rattle.dots.specs.Values.{Dot}
 use Rattle.dots.specs.Orders.{dot_cmp}
-use Rattle.dots.specs.Conditions.{DotFields}
-use Rattle.dots.specs.Knowledge.{is_dot}
+use Rattle.operations.specs.Conditions.{DotFields}
+use Rattle.operations.specs.Knowledge.{is_dot}
 use Rattle.dots.proofs.DotOrder.{dots_total}
-use Rattle.dots.proofs.ItemOrder.{units}
+use Rattle.general_lemmas.proofs.ItemOrder.{units}
 use Rattle.dots.proofs.KeySets.{len_of_keys}
-use Rattle.dots.proofs.Membership.{first-in, in-any, later-in}
-use Rattle.dots.proofs.TruthTables.{less_of}
+use Rattle.general_lemmas.proofs.Membership.{first-in, in-any, later-in}
+use Rattle.general_lemmas.proofs.TruthTables.{less_of}
 use Rattle.member_orset.specs.Members.{Holding, Members}
 use Rattle.member_orset.proofs.DotTests.{one_dot}
 use Rattle.replica.specs.DotLists.{DotsRise}

@@ -6,13 +6,13 @@ use Rattle.dots.specs.declared.limits.TheConstants.{MOST_CALLS, MOST_COUNT, MOST
 use Rattle.dots.specs.declared.label.Label.{Label}
 use Rattle.dots.specs.declared.member.Member.{Member}
 use Rattle.dots.specs.Values.{Dot}
-use Rattle.dots.specs.Registers.{Entry}
+use Rattle.operations.specs.Registers.{Entry}
 use Rattle.dots.specs.declared.calls.Calls.{Calls}
 use Rattle.dots.specs.declared.calls.Calls.TheVariants.{Completed, Abandoned}
-use Rattle.dots.specs.Operations.{Operation, Setting, Add, Write, Remove, Count, SetPenalty, SetPause, SetLabel}
-use Rattle.dots.specs.Knowledge.{known_dots}
+use Rattle.operations.specs.Operations.{Operation, Setting, Add, Write, Remove, Count, SetPenalty, SetPause, SetLabel}
+use Rattle.operations.specs.Knowledge.{known_dots}
 use Rattle.dots.specs.DotSets.{run_count}
-use Rattle.dots.specs.Rows.{DotView}
+use Rattle.operations.specs.Rows.{DotView}
 use Rattle.replica.specs.declared.command.Command.{Command}
 use Rattle.replica.specs.declared.command.Command.TheVariants as command
 use Rattle.replica.specs.declared.refusal.Refusal.{Refusal}

@@ -5,9 +5,9 @@ use Rattle.std.specs.declared.cmp.Ordering.TheVariants.{Less}
 use Rattle.dots.specs.declared.limits.TheConstants.{MOST_COUNT}
 use Rattle.dots.specs.declared.member.Member.{Member}
 use Rattle.dots.specs.Values.{Dot}
-use Rattle.dots.specs.Conditions.{Condition, DotFields, Live}
+use Rattle.operations.specs.Conditions.{Condition, DotFields, Live}
 use Rattle.dots.specs.Orders.{stamp_cmp}
-use Rattle.dots.specs.Registers.{Entry}
+use Rattle.operations.specs.Registers.{Entry}
 use Rattle.member_orset.specs.Members.{condition_of}
 use Rattle.delta.specs.DeltaStates.{DeltaState}
 use Rattle.replica.specs.Keeping.{AreInQueues, HasOwnStamps}

@@ -3,7 +3,7 @@ use Rattle.std.specs.Prelude.{⊤, ℕ, ◌≡◌, ◌⊎◌, max, Bool, true, O
 use Rattle.dots.specs.declared.label.Label.{Label}
 use Rattle.dots.specs.declared.member.Member.{Member}
 use Rattle.dots.specs.Values.{Dot}
-use Rattle.dots.specs.Operations.{Operation, Setting}
+use Rattle.operations.specs.Operations.{Operation, Setting}
 use Rattle.member_orset.specs.Members.{KeepsIds}
 use Rattle.delta.specs.DeltaStates.{DeltaState}
 use Rattle.delta.specs.Joining.{Agree, IsJoinOf}

@@ -2,8 +2,8 @@
 use Rattle.std.specs.Prelude.{ℕ, zero, suc, List, [], ◌++◌, map as each}
 use Rattle.dots.specs.Values.{Dot}
 use Rattle.dots.specs.Orders.{dot_cmp}
-use Rattle.dots.specs.Rows.{DotView, dots_of}
-use Rattle.dots.specs.SortedEntries.{IsRising}
+use Rattle.operations.specs.Rows.{DotView, dots_of}
+use Rattle.general_lemmas.specs.SortedEntries.{IsRising}
 
 -- the dots rise: none comes twice, and the lesser before the greater
 abbrev pub DotsRise : List Dot → Type 0

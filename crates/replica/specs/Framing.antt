@@ -1,6 +1,6 @@
 -- What a site is once it has made a frame, and what a frame says.
 use Rattle.std.specs.Prelude.{suc, ⊤, ◌≡◌, Option, Some, None, Result, Ok, Err}
-use Rattle.dots.specs.Knowledge.{Knowledge}
+use Rattle.operations.specs.Knowledge.{Knowledge}
 use Rattle.delta.specs.DeltaStates.{IsEmpty, IsSame}
 use Rattle.delta.specs.Standing.{IsDeltaOf}
 use Rattle.delta.specs.declared.frame.Frame.{Frame}

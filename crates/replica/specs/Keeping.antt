@@ -6,9 +6,9 @@ use Rattle.dots.specs.declared.call_totals.CallTotals.{CallTotals}
 use Rattle.dots.specs.declared.calls.Calls.{Calls}
 use Rattle.dots.specs.declared.limits.TheConstants.{MOST_COUNT}
 use Rattle.dots.specs.Values.{Dot}
-use Rattle.dots.specs.Registers.{Entry}
-use Rattle.dots.specs.Conditions.{DotFields, IsConditionBelow}
-use Rattle.dots.specs.Totals.{Key, totals_of}
+use Rattle.operations.specs.Registers.{Entry}
+use Rattle.operations.specs.Conditions.{DotFields, IsConditionBelow}
+use Rattle.operations.specs.Totals.{Key, totals_of}
 use Rattle.member_orset.specs.Members.{Holding, condition_of}
 use Rattle.site_totals.specs.Raising.{number_of}
 use Rattle.delta.specs.DeltaStates.{DeltaState}

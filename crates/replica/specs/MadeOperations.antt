@@ -7,9 +7,9 @@ use Rattle.dots.specs.declared.member.Member.{Member}
 use Rattle.dots.specs.Values.{Dot, Stamp}
 use Rattle.dots.specs.Orders.{dot_cmp}
 use Rattle.dots.specs.DotSets.{is_older}
-use Rattle.dots.specs.Operations.{Operation, Add, Write, Remove, Count}
-use Rattle.dots.specs.Knowledge.{Knowledge, is_named, member_of, visible_dots}
-use Rattle.dots.specs.Counts.{site_total}
+use Rattle.operations.specs.Operations.{Operation, Add, Write, Remove, Count}
+use Rattle.operations.specs.Knowledge.{Knowledge, is_named, member_of, visible_dots}
+use Rattle.operations.specs.Counts.{site_total}
 use Rattle.replica.specs.SiteViews.{count_used, greatest, time_used}
 
 -- An add that a site of this number, with these queues, may make of what it knows: its next dot and its next time, a member of a queue in the list that isn't

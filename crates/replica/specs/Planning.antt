@@ -1,6 +1,6 @@
 -- What is to be made of a command before anything is changed.
 use Rattle.std.specs.Prelude.{◌≡◌, ◌⊎◌, max, false, Result, Ok, Err, [], ◌∷◌}
-use Rattle.dots.specs.Operations.{Operation}
+use Rattle.operations.specs.Operations.{Operation}
 use Rattle.member_orset.specs.Members.{IsWithinLimits}
 use Rattle.delta.specs.Standing.{IsDeltaOf}
 use Rattle.replica.specs.declared.planned.Planned.{Planned}

@@ -4,11 +4,12 @@ use Rattle.std.specs.FinSet as set
 use Rattle.dots.specs.DotSets.{is_older}
 use Rattle.dots.specs.Values.{Dot, IsSite, IsPenalty, IsName}
 use Rattle.dots.specs.declared.calls.Calls.{Calls}
-use Rattle.dots.specs.Operations.{Operation}
-use Rattle.dots.specs.Knowledge.{Knowledge, SameOperations, IsConsistent, is_named, visible_dots, known_dots}
-use Rattle.dots.specs.Rows.{ShowAlike}
-use Rattle.dots.specs.Traces.{LeavesTrace}
-use Rattle.dots.specs.WithinLimits.{AreWithinLimits, IsLabel, IsSetting, IsWithinLimits}
+use Rattle.operations.specs.Operations.{Operation}
+use Rattle.operations.specs.Knowledge.{Knowledge, SameOperations, IsConsistent, is_named, visible_dots, known_dots}
+use Rattle.operations.specs.Rows.{ShowAlike}
+use Rattle.operations.specs.Traces.{LeavesTrace}
+use Rattle.dots.specs.WithinLimits.{IsLabel}
+use Rattle.operations.specs.OperationLimits.{AreWithinLimits, IsSetting, IsWithinLimits}
 use Rattle.replica.specs.declared.refusal.Refusal.{Refusal}
 use Rattle.replica.specs.Changes.{Change, AddMember, RemoveMember, SetField, CountCall, Makes, meaning}
 use Rattle.replica.specs.Queues.{AreQueues}

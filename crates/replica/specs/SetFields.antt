@@ -2,8 +2,8 @@
 use Rattle.std.specs.Prelude.{ℕ, Some}
 use Rattle.dots.specs.declared.label.Label.{Label}
 use Rattle.dots.specs.Values.{PauseState, Stamp}
-use Rattle.dots.specs.Conditions.{DotFields}
-use Rattle.dots.specs.Operations.{Setting, entry_under, set_penalty, set_pause, set_label}
+use Rattle.operations.specs.Conditions.{DotFields}
+use Rattle.operations.specs.Operations.{Setting, entry_under, set_penalty, set_pause, set_label}
 
 -- the fields of an add
 abbrev pub fields_added : Stamp → ℕ → PauseState → Label → DotFields

@@ -1,7 +1,7 @@
 -- What a setting that a command makes means.
 use Rattle.std.specs.Prelude.{ℕ}
-use Rattle.dots.specs.Conditions.{DotFields}
-use Rattle.dots.specs.Operations.{Setting, SetLabel, SetPause, SetPenalty}
+use Rattle.operations.specs.Conditions.{DotFields}
+use Rattle.operations.specs.Operations.{Setting, SetLabel, SetPause, SetPenalty}
 use Rattle.replica.specs.declared.setting.Setting.{Setting as SettingMade}
 use Rattle.replica.specs.declared.setting.Setting.TheVariants.{Penalty, Pause}
 use Rattle.replica.specs.Changes.{time_of}

@@ -3,8 +3,8 @@
 use Rattle.std.specs.Prelude.{ℕ, ◌≡◌, List, refl}
 use Rattle.std.specs.Coded.{Coded, code_by, coded×, coded_ℕ, coded_list}
 use Rattle.dots.specs.declared.call_totals.CallTotals.{CallTotals}
-use Rattle.dots.specs.Rows.{MemberRow, rows_of as rows_read}
-use Rattle.dots.specs.Totals.{sum_of, totals_of}
+use Rattle.operations.specs.Rows.{MemberRow, rows_of as rows_read}
+use Rattle.operations.specs.Totals.{sum_of, totals_of}
 use Rattle.member_orset.specs.Members.{dot_view_of}
 use Rattle.site_totals.specs.Raising.{number_of as number_of_calls}
 use Rattle.delta.specs.DeltaStates as deltas

@@ -10,11 +10,11 @@ use Rattle.dots.specs.Values.{Dot, Stamp}
 use Rattle.dots.specs.Orders.{dot_cmp}
 use Rattle.dots.specs.DotSets.{is_older, run_count}
 use Rattle.dots.specs.declared.calls.Calls.{Calls}
-use Rattle.dots.specs.Operations.{Operation, Add, Write, Remove, Count}
-use Rattle.dots.specs.Knowledge.{Knowledge, known_dots, asserted_dots, names}
-use Rattle.dots.specs.SetItems.{in_order}
-use Rattle.dots.specs.Rows.{DotView, dot_view, dots_of}
-use Rattle.dots.specs.Counts.{site_total}
+use Rattle.operations.specs.Operations.{Operation, Add, Write, Remove, Count}
+use Rattle.operations.specs.Knowledge.{Knowledge, known_dots, asserted_dots, names}
+use Rattle.general_lemmas.specs.SetItems.{in_order}
+use Rattle.operations.specs.Rows.{DotView, dot_view, dots_of}
+use Rattle.operations.specs.Counts.{site_total}
 
 -- the dots that are read and those that are known at all, the totals of each site, queue and kind of calls, and the greatest
 -- count and time that the site has used for an operation of its own; 0 where it has used none

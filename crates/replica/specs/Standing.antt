@@ -1,6 +1,6 @@
 -- What a replica stands for: what a site knows, what of its own it has put in no frame yet, and its last numbers.
 use Rattle.std.specs.Prelude.{◌≡◌, ◌⊎◌, Result, Ok, Err}
-use Rattle.dots.specs.Traces.{LeaveTraces}
+use Rattle.operations.specs.Traces.{LeaveTraces}
 use Rattle.delta.specs.Standing.{IsDeltaOf}
 use Rattle.replica.specs.declared.refusal.Refusal.{Refusal}
 use Rattle.replica.specs.declared.refusal.Refusal.TheVariants.{Memory}

@@ -4,7 +4,7 @@ use Rattle.std.specs.Prelude.{ℕ, suc, nat_lt, List, [], ◌∷◌, ◌++◌, i
 use Rattle.std.specs.FinSet as set
 use Rattle.dots.specs.declared.limits.TheConstants.{MOST_COUNT, MOST_LIVE, MOST_RUNS}
 use Rattle.dots.specs.DotSets.{run_count}
-use Rattle.dots.specs.Knowledge.{Knowledge, visible_dots, known_dots}
+use Rattle.operations.specs.Knowledge.{Knowledge, visible_dots, known_dots}
 use Rattle.replica.specs.declared.refusal.Refusal.{Refusal}
 use Rattle.replica.specs.Changes.{Change, Meaning, Refused, Makes, meaning}
 use Rattle.replica.specs.SiteViews.{site_view}

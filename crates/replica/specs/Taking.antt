@@ -7,10 +7,10 @@ use Rattle.dots.specs.declared.calls.Calls.{Calls}
 use Rattle.dots.specs.declared.limits.TheConstants.{MOST_LIVE, MOST_RUNS}
 use Rattle.dots.specs.Values.{Dot}
 use Rattle.dots.specs.Orders.{dot_cmp}
-use Rattle.dots.specs.Registers.{Entry}
-use Rattle.dots.specs.Conditions.{DotFields}
-use Rattle.dots.specs.Knowledge.{Knowledge}
-use Rattle.dots.specs.Totals.{Entries, Key, totals_of}
+use Rattle.operations.specs.Registers.{Entry}
+use Rattle.operations.specs.Conditions.{DotFields}
+use Rattle.operations.specs.Knowledge.{Knowledge}
+use Rattle.operations.specs.Totals.{Entries, Key, totals_of}
 use Rattle.member_orset.specs.Members.{Holding, KeepsIds, Members, cells_joined, runs_joined}
 use Rattle.member_orset.specs.declared.join_fault.JoinFault.{JoinFault}
 use Rattle.member_orset.specs.declared.join_fault.JoinFault.TheVariants as join

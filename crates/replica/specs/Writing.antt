@@ -4,8 +4,8 @@ use Rattle.std.specs.List.{list_any}
 use Rattle.std.specs.Option.{option_map}
 use Rattle.std.specs.FinMap as map
 use Rattle.dots.specs.Values.{Dot}
-use Rattle.dots.specs.Conditions.{DotFields}
-use Rattle.dots.specs.Knowledge.{is_dot}
+use Rattle.operations.specs.Conditions.{DotFields}
+use Rattle.operations.specs.Knowledge.{is_dot}
 use Rattle.member_orset.specs.Members.{Holding, Members}
 
 -- of each of these dots that is live in a set its member there, with these fields; nothing of the others

@@ -1,7 +1,7 @@
 //! Frames: what a site sends to others, and what it takes of them.
 ghost use Rattle.std.specs.Prelude.{◌≡◌, ◌↔◌, Err, IfErr, IfOk, IfSome, IsOk, None, Ok, OnErr};
 ghost use Rattle.std.specs.Prelude.{OnOk};
-ghost use Rattle.dots.specs.Knowledge.{Knowledge};
+ghost use Rattle.operations.specs.Knowledge.{Knowledge};
 ghost use Rattle.delta.specs.DeltaStates.{IsEmpty};
 ghost use Rattle.delta.specs.Joining.{IsPrepared};
 ghost use Rattle.delta.specs.Standing.{IsDeltaOf};

@@ -1,8 +1,8 @@
 //! What the definitions of commands and steps promise, and of what stands for them. The functions have no body: their contracts are the laws.
 ghost use Rattle.std.specs.Prelude.{◌≡◌, ◌<◌, ◌≤◌, ℕ, List, Result, suc};
 ghost use Rattle.dots.specs.declared.limits.TheConstants.{MOST_COUNT, MOST_LIVE, MOST_RUNS};
-ghost use Rattle.dots.specs.Operations.{Operation};
-ghost use Rattle.dots.specs.Knowledge.{Knowledge};
+ghost use Rattle.operations.specs.Operations.{Operation};
+ghost use Rattle.operations.specs.Knowledge.{Knowledge};
 ghost use Rattle.member_orset.specs.Members.{cells_joined, runs_joined};
 ghost use Rattle.delta.specs.declared.frame.Frame.{Frame};
 ghost use Rattle.delta.specs.DeltaStates.{DeltaState, IsEmpty, IsSame};

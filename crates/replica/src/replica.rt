@@ -1,8 +1,8 @@
 ghost use Rattle.std.specs.Prelude.{◌≡◌, ◌≤◌, IfOk, length, option_map};
 ghost use Rattle.dots.specs.declared.calls.Calls.TheVariants.{Completed, Abandoned};
-ghost use Rattle.dots.specs.Counts.{queue_total};
-ghost use Rattle.dots.specs.Rows.{dot_view, row_of, rows_of as rows_read};
-ghost use Rattle.dots.specs.Views.{row_view};
+ghost use Rattle.operations.specs.Counts.{queue_total};
+ghost use Rattle.operations.specs.Rows.{dot_view, row_of, rows_of as rows_read};
+ghost use Rattle.operations.specs.Views.{row_view};
 ghost use Rattle.member_orset.specs.Members.{dot_view_of};
 ghost use Rattle.delta.specs.DeltaStates.{IsEmpty};
 ghost use Rattle.replica.specs.Changing.{IsChangeOf};

@@ -3,7 +3,7 @@ ghost use Rattle.std.specs.Prelude.{◌≡◌, ◌≢◌, ◌<◌, [], ◌++◌,
 ghost use Rattle.std.specs.Prelude.{map as each};
 ghost use Rattle.std.specs.FinMap as map;
 ghost use Rattle.dots.specs.Values.{Dot};
-ghost use Rattle.dots.specs.Rows.{dots_of};
+ghost use Rattle.operations.specs.Rows.{dots_of};
 ghost use Rattle.member_orset.specs.Members.{Holding, dot_view_of};
 ghost use Rattle.replica.specs.DotLists.{dots_below};
 ghost use Rattle.replica.specs.SiteViews.{dots_seen};

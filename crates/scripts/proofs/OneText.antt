@@ -3,7 +3,7 @@ use Rattle.std.proofs.Common.{◌≡◌, ℕ, ◌+◌, List, [], ◌∷◌, ◌+
 use mathlib.Core.List.{head-eq_of_cons-eq}
 use Rattle.ami_text.specs.MessageFields.{NameAndValue}
 use Rattle.ami_text.specs.Stream.{Ending, Rest, Reads}
-use Rattle.dots.specs.Knowledge.{Knowledge}
+use Rattle.operations.specs.Knowledge.{Knowledge}
 use Rattle.delta.specs.DeltaStates.{DeltaState, IsSame}
 use Rattle.delta.specs.Standing.{IsDeltaOf}
 use Rattle.delta.specs.declared.frame.Frame.{Frame}

@@ -6,7 +6,7 @@ use Rattle.delta.specs.declared.frame.Frame.{Frame}
 use Rattle.delta_codec.specs.Frames.{Spells}
 use Rattle.dots.specs.declared.calls.Calls.{Calls}
 use Rattle.dots.specs.declared.calls.Calls.TheVariants.{Completed, Abandoned}
-use Rattle.dots.specs.Rows.{dot_view, rows_of}
+use Rattle.operations.specs.Rows.{dot_view, rows_of}
 use Rattle.offer.specs.Offers.{offered}
 use Rattle.replica.specs.declared.command.Command.TheVariants as command
 use Rattle.replica.specs.declared.refusal.Refusal.TheVariants.{NoSuchQueue}

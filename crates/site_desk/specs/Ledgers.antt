@@ -3,10 +3,10 @@ use Rattle.std.specs.Prelude.{ℕ, ◌≡◌, List, [], Option, Some, None, refl
 use Rattle.std.specs.Coded.{Coded, Coded-set, code_by, coded×, coded_ℕ, coded_list, coded_option}
 use Rattle.std.specs.FinMap as map
 use Rattle.std.specs.FinSet as set
-use Rattle.dots.specs.Codes.{fields_code, member_code}
-use Rattle.dots.specs.Conditions.{Condition, Dead, DotFields, Live}
+use Rattle.operations.specs.Codes.{fields_code, member_code}
+use Rattle.operations.specs.Conditions.{Condition, Dead, DotFields, Live}
 use Rattle.dots.specs.DotSets.{dot_code}
-use Rattle.dots.specs.Totals.{entries_code}
+use Rattle.operations.specs.Totals.{entries_code}
 use Rattle.dots.specs.declared.member.Member.{Member}
 use Rattle.delta.specs.DeltaStates.{DeltaState, IsSame}
 use Rattle.member_orset.specs.Members.{condition_of}

@@ -11,11 +11,12 @@ use Rattle.dots.specs.declared.limits.TheConstants.{MOST_CALLS, QUEUES}
 use Rattle.dots.specs.declared.call_totals.CallTotals.{CallTotals}
 use Rattle.dots.specs.declared.calls.Calls.{Calls}
 use Rattle.dots.specs.declared.calls.Calls.TheVariants.{Completed, Abandoned}
-use Rattle.dots.specs.SortedEntries.{IsRising}
-use Rattle.dots.specs.Totals.{Key, key_cmp, Entries, no_calls, greater, totals_at, join_of, single, is_zero, count_missing, IsTotal, InLimits}
-use Rattle.dots.proofs.SortedEntries.{find_at}
-use Rattle.dots.proofs.TruthTables.{fact, truth}
-use Rattle.dots.proofs.TotalsLaws.{keys_total, joined_single, joined_limits, count_missing-single, same_totals, is_key, one_key, totals_at_limit}
+use Rattle.general_lemmas.specs.SortedEntries.{IsRising}
+use Rattle.dots.specs.CountedCalls.{no_calls, is_zero}
+use Rattle.operations.specs.Totals.{Key, key_cmp, Entries, greater, totals_at, join_of, single, count_missing, IsTotal, InLimits}
+use Rattle.general_lemmas.proofs.SortedEntries.{find_at}
+use Rattle.general_lemmas.proofs.TruthTables.{fact, truth}
+use Rattle.operations.proofs.TotalsLaws.{keys_total, joined_single, joined_limits, count_missing-single, same_totals, is_key, one_key, totals_at_limit}
 use Rattle.dots.specs.Values.{IsSite}
 use Rattle.site_totals.specs.Raising.{number_of, one_more, raised_totals}
 use Rattle.site_totals.specs.TotalLists.{Row, IsKept, row_totals, entries_of}

@@ -4,10 +4,11 @@ use Rattle.std.specs.List.{count_by}
 use Rattle.std.specs.FinMap as map
 use Rattle.std.proofs.lemmas.List.Sums.{sum_by-cons}
 use Rattle.dots.specs.declared.call_totals.CallTotals.{CallTotals}
-use Rattle.dots.specs.SortedEntries.{IsRising}
-use Rattle.dots.specs.Totals.{Entries, count_missing, is_zero, join_of, key_cmp, single}
-use Rattle.dots.proofs.SortedEntries.{find_below, rising_head, rising_tail}
-use Rattle.dots.proofs.TotalsLaws.{count_missing-single, either, either_none, get-joined, get-single_some, is_key, keys_total, none_either, one_key, same_totals}
+use Rattle.general_lemmas.specs.SortedEntries.{IsRising}
+use Rattle.dots.specs.CountedCalls.{is_zero}
+use Rattle.operations.specs.Totals.{Entries, count_missing, join_of, key_cmp, single}
+use Rattle.general_lemmas.proofs.SortedEntries.{find_below, rising_head, rising_tail}
+use Rattle.operations.proofs.TotalsLaws.{count_missing-single, either, either_none, get-joined, get-single_some, is_key, keys_total, none_either, one_key, same_totals}
 use Rattle.site_totals.specs.TotalLists.{Row, entries_of}
 use Rattle.site_totals.proofs.EntryLemmas.{count_missing_is, get_is}
 

@@ -8,12 +8,12 @@ use Rattle.std.specs.FinMap.Entries.{below_all, by_order}
 use Rattle.std.proofs.lemmas.Bool.{and_from, and_parts}
 use Rattle.std.proofs.lemmas.List.Sums.{sum_by-cons}
 use Rattle.dots.specs.declared.call_totals.CallTotals.{CallTotals}
-use Rattle.dots.specs.SortedEntries.{IsRising}
-use Rattle.dots.specs.Totals.{Key, key_cmp, greater, join_of, count_missing, InLimits}
-use Rattle.dots.proofs.Fronts.{open_at}
-use Rattle.dots.proofs.SortedEntries.{less_back, greater_back, rising_head, rising_tail, below_first, find_below}
-use Rattle.dots.proofs.TotalsLaws.{keys_total, exact_keys, is_key, one_key, either, either_none, none_either, get-joined, same_totals, joined_limits}
-use Rattle.dots.proofs.TruthTables.{less_of}
+use Rattle.general_lemmas.specs.SortedEntries.{IsRising}
+use Rattle.operations.specs.Totals.{Key, key_cmp, greater, join_of, count_missing, InLimits}
+use Rattle.general_lemmas.proofs.Fronts.{open_at}
+use Rattle.general_lemmas.proofs.SortedEntries.{less_back, greater_back, rising_head, rising_tail, below_first, find_below}
+use Rattle.operations.proofs.TotalsLaws.{keys_total, exact_keys, is_key, one_key, either, either_none, none_either, get-joined, same_totals, joined_limits}
+use Rattle.general_lemmas.proofs.TruthTables.{less_of}
 use Rattle.site_totals.specs.TotalLists.{Row, IsKept, entries_of, joined_rows, next_order}
 use Rattle.site_totals.proofs.EntryLemmas.{get_is, count_missing_in}
 

@@ -4,7 +4,7 @@ use Rattle.std.specs.FinMap as map
 use Rattle.dots.specs.declared.call_totals.CallTotals.{CallTotals}
 use Rattle.dots.specs.declared.calls.Calls.{Calls}
 use Rattle.dots.specs.declared.calls.Calls.TheVariants.{Completed, Abandoned}
-use Rattle.dots.specs.Totals.{Key, Entries, totals_at}
+use Rattle.operations.specs.Totals.{Key, Entries, totals_at}
 
 -- how many of these calls are counted
 abbrev pub number_of : Calls → CallTotals → ℕ

@@ -1,7 +1,7 @@
 -- What contracts see of `Totals`.
 use Rattle.std.specs.Prelude.{ℕ, ◌≤◌, refl}
 use Rattle.std.specs.Coded.{Coded, code_by, coded×, coded_ℕ}
-use Rattle.dots.specs.Totals.{Entries, entries_code, count_missing}
+use Rattle.operations.specs.Totals.{Entries, entries_code, count_missing}
 
 -- the totals, and for how many more entries room is reserved
 pub record Tally : Type 0 where

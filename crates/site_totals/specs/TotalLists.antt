@@ -6,9 +6,10 @@ use Rattle.std.specs.declared.cmp.Ordering.{Ordering}
 use Rattle.std.specs.FinMap as map
 use Rattle.std.specs.FinMap.Entries.{by_order}
 use Rattle.dots.specs.declared.call_totals.CallTotals.{CallTotals}
-use Rattle.dots.specs.Fronts.{next_by}
-use Rattle.dots.specs.SortedEntries.{IsRising}
-use Rattle.dots.specs.Totals.{Key, key_cmp, Entries, InLimits, greater, no_calls}
+use Rattle.general_lemmas.specs.Fronts.{next_by}
+use Rattle.general_lemmas.specs.SortedEntries.{IsRising}
+use Rattle.dots.specs.CountedCalls.{no_calls}
+use Rattle.operations.specs.Totals.{Key, key_cmp, Entries, InLimits, greater}
 
 -- an entry: a key with its totals
 abbrev pub Row : Type 0

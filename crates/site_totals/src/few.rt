@@ -2,8 +2,8 @@
 ghost use Rattle.std.specs.Prelude.{◌≡◌, ◌-◌, ◌≤◌, is_none};
 ghost use Rattle.std.specs.Vec.{vec_capacity, vec_len};
 ghost use Rattle.std.specs.FinMap as map;
-ghost use Rattle.dots.specs.SortedEntries.{IsRising};
-ghost use Rattle.dots.specs.Totals.{count_missing, join_of, key_cmp};
+ghost use Rattle.general_lemmas.specs.SortedEntries.{IsRising};
+ghost use Rattle.operations.specs.Totals.{count_missing, join_of, key_cmp};
 ghost use Rattle.site_totals.specs.TotalLists.{IsKept, entries_of};
 
 use crate::TotalKey;

@@ -14,7 +14,7 @@ pub struct Iter<'a> {
 impl<'a> Model for Iter<'a> {
     ghost use Rattle.std.specs.Prelude.{List};
     ghost use Rattle.dots.specs.declared.call_totals.CallTotals.{CallTotals};
-    ghost use Rattle.dots.specs.Totals.{Key};
+    ghost use Rattle.operations.specs.Totals.{Key};
 
     ghost Value = { List (Key × CallTotals) };
 

@@ -1,8 +1,8 @@
 // The join of two lists of entries: few others are searched for; else both are walked once, in the order of their keys.
 ghost use Rattle.std.specs.Prelude.{◌≡◌, ◌+◌, ◌-◌, ◌<◌, ◌≤◌, ◌∷◌, length, drop};
 ghost use Rattle.std.specs.Vec.{vec_capacity, vec_len};
-ghost use Rattle.dots.specs.SortedEntries.{IsRising};
-ghost use Rattle.dots.specs.Totals.{count_missing, join_of, key_cmp};
+ghost use Rattle.general_lemmas.specs.SortedEntries.{IsRising};
+ghost use Rattle.operations.specs.Totals.{count_missing, join_of, key_cmp};
 ghost use Rattle.site_totals.specs.TotalLists.{IsKept, entries_of, joined_rows, next_order};
 
 use crate::few::{FEW_ROWS, absorb_searched, searched_count};

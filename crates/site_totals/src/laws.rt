@@ -1,9 +1,9 @@
 //! What holds of every join, whatever the totals. The functions have no body: their contracts are the laws.
 ghost use Rattle.std.specs.Prelude.{◌≡◌, ◌+◌, ℕ};
 ghost use Rattle.dots.specs.declared.calls.Calls.{Calls};
-ghost use Rattle.dots.specs.Joins.{IsJoin};
-ghost use Rattle.dots.specs.Totals.{Entries, InLimits, Key, join_of, single, totals_at, totals_of};
-ghost use Rattle.dots.specs.Totals.{greater};
+ghost use Rattle.general_lemmas.specs.Joins.{IsJoin};
+ghost use Rattle.operations.specs.Totals.{Entries, InLimits, Key, join_of, single, totals_at, totals_of};
+ghost use Rattle.operations.specs.Totals.{greater};
 ghost use Rattle.site_totals.specs.Raising.{alone, number_of, raised_totals};
 
 /// Totals are joined in any order (RR-7506's grow-only counter). Each two agree.

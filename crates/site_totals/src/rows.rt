@@ -4,9 +4,9 @@ ghost use Rattle.std.specs.Prelude.{IfErr, OnOk, OnErr};
 ghost use Rattle.std.specs.Vec.{vec_capacity, vec_len};
 ghost use Rattle.std.specs.FinMap as map;
 ghost use Rattle.dots.specs.Values.{IsSite};
-ghost use Rattle.dots.specs.SortedEntries.{IsRising, IsAt, IsGapFor};
-ghost use Rattle.dots.specs.Totals.{InLimits, key_cmp, greater, totals_at, join_of, single};
-ghost use Rattle.dots.specs.Totals.{count_missing};
+ghost use Rattle.general_lemmas.specs.SortedEntries.{IsRising, IsAt, IsGapFor};
+ghost use Rattle.operations.specs.Totals.{InLimits, key_cmp, greater, totals_at, join_of, single};
+ghost use Rattle.operations.specs.Totals.{count_missing};
 ghost use Rattle.site_totals.specs.TotalLists.{IsKept, row_totals, entries_of};
 ghost use Rattle.site_totals.specs.Raising.{number_of, raised_totals};
 

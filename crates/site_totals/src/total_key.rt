@@ -4,7 +4,7 @@ ghost use Rattle.std.specs.Cmp.{partial_order_from_own_ties};
 ghost use Rattle.std.specs.Cmp.Rules.{comparing};
 ghost use Rattle.std.specs.Ordering.{as_partial_cmp};
 ghost use Rattle.dots.specs.Values.{IsSite};
-ghost use Rattle.dots.specs.Totals.{key_cmp};
+ghost use Rattle.operations.specs.Totals.{key_cmp};
 
 use dots::SiteId;
 use std::cmp::Ordering;
@@ -19,7 +19,7 @@ pub struct TotalKey {
 }
 
 impl Model for TotalKey {
-    ghost use Rattle.dots.specs.Totals.{Key};
+    ghost use Rattle.operations.specs.Totals.{Key};
 
     ghost Value = { Key };
 

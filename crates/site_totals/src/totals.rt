@@ -1,7 +1,7 @@
 ghost use Rattle.std.specs.Prelude.{◌≡◌, ◌↔◌, ◌+◌, ◌*◌, ◌<◌, ◌≤◌, All, None, IsTrue, IsOk, IfOk};
 ghost use Rattle.std.specs.Prelude.{OnOk, OnErr, IsErrOf};
 ghost use Rattle.std.specs.FinMap as map;
-ghost use Rattle.dots.specs.Totals.{InLimits, IsTotal, totals_of, sum_of, join_of, single};
+ghost use Rattle.operations.specs.Totals.{InLimits, IsTotal, totals_of, sum_of, join_of, single};
 ghost use Rattle.site_totals.specs.Tally.{HasRoomFor};
 ghost use Rattle.site_totals.specs.Raising.{number_of, raised_totals};
 

@@ -10,14 +10,14 @@ use Rattle.dots.specs.declared.member.Member.{Member}
 use Rattle.dots.specs.Values.{Dot}
 use Rattle.dots.specs.DotSets.{is_older}
 use Rattle.dots.specs.Orders.{dot_cmp}
-use Rattle.dots.specs.Operations.{Operation, asserted_by}
-use Rattle.dots.specs.Knowledge.{Knowledge, all_asserted, asserts, is_asserted, is_dot, is_named, member_of, visible_dots}
+use Rattle.operations.specs.Operations.{Operation, asserted_by}
+use Rattle.operations.specs.Knowledge.{Knowledge, all_asserted, asserts, is_asserted, is_dot, is_named, member_of, visible_dots}
 use Rattle.dots.proofs.DotOrder.{dots_exact, dots_total}
-use Rattle.dots.proofs.FieldLaws.{found_pair}
-use Rattle.dots.proofs.JoinedKnowledge.{member-some}
-use Rattle.dots.proofs.Membership.{any-in, in-any, in-part, part-in}
-use Rattle.dots.proofs.TruthTables.{equal_of}
-use Rattle.dots.proofs.VisibleLaws.{visible-dot}
+use Rattle.operations.proofs.FieldLaws.{found_pair}
+use Rattle.operations.proofs.JoinedKnowledge.{member-some}
+use Rattle.general_lemmas.proofs.Membership.{any-in, in-any, in-part, part-in}
+use Rattle.general_lemmas.proofs.TruthTables.{equal_of}
+use Rattle.operations.proofs.VisibleLaws.{visible-dot}
 use Rattle.sites_world.proofs.Lists.{none-some, one-some}
 
 -- ---- what is asserted

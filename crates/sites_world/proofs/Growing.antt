@@ -5,7 +5,7 @@ use Rattle.std.proofs.lemmas.List.{length-set}
 use Rattle.std.proofs.lemmas.Option.{slice_get_within}
 use Rattle.dots.specs.declared.limits.TheConstants.{MOST_COUNT, MOST_LIVE, MOST_RUNS}
 use Rattle.dots.specs.DotSets.{run_count}
-use Rattle.dots.specs.Knowledge.{Knowledge, known_dots, visible_dots}
+use Rattle.operations.specs.Knowledge.{Knowledge, known_dots, visible_dots}
 use Rattle.replica.specs.Changes.{Makes, Meaning, Refused, change_of, meaning}
 use Rattle.replica.specs.SiteViews.{site_view}
 use Rattle.replica.specs.Steps.{SiteKnowledge, after_frame, after_meaning, cut, take}

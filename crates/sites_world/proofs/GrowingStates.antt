@@ -7,13 +7,13 @@ use Rattle.std.proofs.lemmas.Option.{slice_get_within}
 use Rattle.dots.specs.declared.calls.Calls.{Calls}
 use Rattle.dots.specs.declared.calls.Calls.TheVariants.{Abandoned, Completed}
 use Rattle.dots.specs.declared.call_totals.CallTotals.{CallTotals}
-use Rattle.dots.specs.Conditions.{IsConditionBelow}
-use Rattle.dots.specs.Operations.{Operation}
-use Rattle.dots.specs.Totals.{greater, totals_of}
+use Rattle.operations.specs.Conditions.{IsConditionBelow}
+use Rattle.operations.specs.Operations.{Operation}
+use Rattle.operations.specs.Totals.{greater, totals_of}
 use Rattle.dots.specs.Values.{Dot}
-use Rattle.dots.proofs.ConditionOrder.{condition_below_self, condition_below_through, conditions_least}
+use Rattle.operations.proofs.ConditionOrder.{condition_below_self, condition_below_through, conditions_least}
 use Rattle.dots.proofs.DotOrder.{dots_total}
-use Rattle.dots.proofs.TotalsLaws.{totals_at-joined}
+use Rattle.operations.proofs.TotalsLaws.{totals_at-joined}
 use Rattle.site_totals.specs.Raising.{number_of}
 use Rattle.member_orset.specs.Members.{condition_at, condition_of}
 use Rattle.delta.specs.DeltaStates as deltas

@@ -6,9 +6,9 @@ use Rattle.std.proofs.lemmas.List.Elements.{Contains-append_cases}
 use Rattle.dots.specs.declared.calls.Calls.{Calls}
 use Rattle.dots.specs.declared.member.Member.{Member}
 use Rattle.dots.specs.Values.{Dot, Stamp}
-use Rattle.dots.specs.Operations.{Operation, Add, Write, Remove, Count, asserted_by}
-use Rattle.dots.specs.Knowledge.{Knowledge, all_asserted, is_named, known_dots, names}
-use Rattle.dots.proofs.Membership.{cases-in, first-in, later-in, part-in}
+use Rattle.operations.specs.Operations.{Operation, Add, Write, Remove, Count, asserted_by}
+use Rattle.operations.specs.Knowledge.{Knowledge, all_asserted, is_named, known_dots, names}
+use Rattle.general_lemmas.proofs.Membership.{cases-in, first-in, later-in, part-in}
 use Rattle.sites_world.specs.Histories.{IsHistory, IsOf, Makes, WasMade, stamp_of}
 use Rattle.sites_world.proofs.Dots.{is-asserted, pair-of}
 use Rattle.sites_world.proofs.Parts.{known-asserted, known-cases, known-named}

@@ -8,15 +8,15 @@ use Rattle.std.proofs.lemmas.Option.{slice_get_within}
 use Rattle.dots.specs.declared.member.Member.{Member}
 use Rattle.dots.specs.Values.{Dot}
 use Rattle.dots.specs.Orders.{member_cmp}
-use Rattle.dots.specs.Knowledge.{Knowledge, member_of, visible_dots}
-use Rattle.dots.specs.Rows.{DotView, ShowAlike, dot_view, dots_of, is_of}
-use Rattle.dots.specs.SetItems.{in_order}
-use Rattle.dots.proofs.AlikeViews.{filter_map-same, own-visible, same-dots}
-use Rattle.dots.proofs.Counting.{of-item}
+use Rattle.operations.specs.Knowledge.{Knowledge, member_of, visible_dots}
+use Rattle.operations.specs.Rows.{DotView, ShowAlike, dot_view, dots_of, is_of}
+use Rattle.general_lemmas.specs.SetItems.{in_order}
+use Rattle.operations.proofs.AlikeViews.{filter_map-same, own-visible, same-dots}
+use Rattle.general_lemmas.proofs.Counting.{of-item}
 use Rattle.dots.proofs.DotOrder.{dots_exact, dots_total}
-use Rattle.dots.proofs.Filters.{passes}
+use Rattle.general_lemmas.proofs.Filters.{passes}
 use Rattle.dots.proofs.MemberOrder.{exact_members}
-use Rattle.dots.proofs.TruthTables.{equal_of}
+use Rattle.general_lemmas.proofs.TruthTables.{equal_of}
 use Rattle.member_orset.specs.Members.{dot_view_of}
 use Rattle.delta.specs.DeltaStates.{DeltaState}
 use Rattle.delta.specs.Standing.{IsDeltaOf}

@@ -2,9 +2,9 @@
 use Rattle.std.proofs.Common.{◌≡◌, ◌<◌, ◌⊎◌, inl, inr, ℕ, List, [], ◌∷◌, ◌++◌, Contains, length, refl, sym, ap, subst, ◌∙◌, true≢false, arith}
 use Rattle.dots.specs.declared.member.Member.{Member}
 use Rattle.dots.specs.Values.{Dot}
-use Rattle.dots.specs.Operations.{Operation, asserted_by}
-use Rattle.dots.specs.Knowledge.{IsConsistent, Knowledge, names}
-use Rattle.dots.proofs.Membership.{any-in, in-part, part-in}
+use Rattle.operations.specs.Operations.{Operation, asserted_by}
+use Rattle.operations.specs.Knowledge.{IsConsistent, Knowledge, names}
+use Rattle.general_lemmas.proofs.Membership.{any-in, in-part, part-in}
 use Rattle.sites_world.specs.declared.event.Event.{Event}
 use Rattle.sites_world.specs.Histories.{HasHistory, IsHistory, IsHistoryOf, IsIn, IsOf, IsPartOf, Makes, Buffered, Carried, Known}
 use Rattle.sites_world.specs.Promises.{IsVisibleDotOf, RunsInParts}

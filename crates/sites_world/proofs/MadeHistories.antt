@@ -8,9 +8,9 @@ use Rattle.dots.specs.declared.member.Member.{Member}
 use Rattle.dots.specs.Values.{Dot, Stamp, PauseState}
 use Rattle.dots.specs.Orders.{dot_cmp}
 use Rattle.dots.specs.DotSets.{is_older}
-use Rattle.dots.specs.Operations.{Operation, Setting, Add, Write, Remove, Count, asserted_by}
-use Rattle.dots.specs.Knowledge.{Knowledge, all_asserted, is_named, known_dots, member_of, names}
-use Rattle.dots.proofs.Membership.{any-in, cases-in, first-in, in-part, nothing-in, only-in, part-in}
+use Rattle.operations.specs.Operations.{Operation, Setting, Add, Write, Remove, Count, asserted_by}
+use Rattle.operations.specs.Knowledge.{Knowledge, all_asserted, is_named, known_dots, member_of, names}
+use Rattle.general_lemmas.proofs.Membership.{any-in, cases-in, first-in, in-part, nothing-in, only-in, part-in}
 use Rattle.replica.specs.SiteViews.{count_used, greatest, time_used}
 use Rattle.replica.specs.Steps.{SiteKnowledge}
 use Rattle.replica.specs.MadeOperations.{IsAddAt, IsMadeAt, IsWriteAt}

@@ -9,15 +9,17 @@ use Rattle.dots.specs.declared.calls.Calls.{Calls}
 use Rattle.dots.specs.declared.calls.Calls.TheVariants.{Completed, Abandoned}
 use Rattle.dots.specs.declared.member.Member.{Member}
 use Rattle.dots.specs.Values.{Dot, Stamp}
-use Rattle.dots.specs.Conditions.{Dead, DotFields, Live, condition_in, fields_in}
-use Rattle.dots.specs.Counts.{count_in, same_calls, site_total}
-use Rattle.dots.specs.Operations.{Operation, Field, Add, Write, Remove, Count, asserted_by, label_field, pause_field, penalty_field}
-use Rattle.dots.specs.Registers.{Entry}
-use Rattle.dots.specs.Knowledge.{Knowledge, field_of, is_named, known_dots, member_of}
-use Rattle.dots.specs.Totals.{is_zero, no_calls, totals_of}
-use Rattle.dots.proofs.FieldLaws.{field-is}
-use Rattle.dots.proofs.Membership.{first-in, later-in, part-in}
-use Rattle.dots.proofs.ShownLaws.{is-greatest}
+use Rattle.operations.specs.Conditions.{Dead, DotFields, Live, condition_in, fields_in}
+use Rattle.dots.specs.CountedCalls.{same_calls}
+use Rattle.operations.specs.Counts.{count_in, site_total}
+use Rattle.operations.specs.Operations.{Operation, Field, Add, Write, Remove, Count, asserted_by, label_field, pause_field, penalty_field}
+use Rattle.operations.specs.Registers.{Entry}
+use Rattle.operations.specs.Knowledge.{Knowledge, field_of, is_named, known_dots, member_of}
+use Rattle.dots.specs.CountedCalls.{is_zero, no_calls}
+use Rattle.operations.specs.Totals.{totals_of}
+use Rattle.operations.proofs.FieldLaws.{field-is}
+use Rattle.general_lemmas.proofs.Membership.{first-in, later-in, part-in}
+use Rattle.operations.proofs.ShownLaws.{is-greatest}
 use Rattle.site_totals.specs.Raising.{number_of}
 use Rattle.member_orset.specs.Members.{Holding, condition_at}
 use Rattle.member_orset.proofs.Agreeing.{sets_apart}

@@ -9,8 +9,8 @@ use Rattle.dots.specs.declared.limits.TheConstants.{MOST_COUNT, MOST_LIVE, MOST_
 use Rattle.dots.specs.declared.member.Member.{Member}
 use Rattle.dots.specs.Values.{Dot}
 use Rattle.dots.specs.DotSets.{run_count}
-use Rattle.dots.specs.Operations.{Operation}
-use Rattle.dots.specs.Knowledge.{Knowledge, known_dots, visible_dots}
+use Rattle.operations.specs.Operations.{Operation}
+use Rattle.operations.specs.Knowledge.{Knowledge, known_dots, visible_dots}
 use Rattle.replica.specs.declared.cut_fault.CutFault.TheVariants.{Exhausted}
 use Rattle.replica.specs.declared.refusal.Refusal.TheVariants as refusal
 use Rattle.replica.specs.Changes.{AddMember, Change, CountCall, Makes, Meaning, Refused as refused_meaning, RemoveMember, SetField, change_of, in_queue, is_exhausted, is_full, is_past_total, is_too_long, meaning, meaning_of_setting, where_absent, where_present, within_limits, add_at, count_at, remove_of, write_at}

@@ -6,11 +6,11 @@ use Rattle.std.proofs.Math.Bool.{or-true}
 use Rattle.std.proofs.lemmas.List.Elements.{Contains-append_cases, Contains-append_left, Contains-append_right}
 use Rattle.dots.specs.declared.member.Member.{Member}
 use Rattle.dots.specs.Values.{Dot, Stamp}
-use Rattle.dots.specs.Registers.{Entry}
-use Rattle.dots.specs.Operations.{Operation, Field, Add, Write, Remove, Count, asserted_by, entry_under, penalty_field, pause_field, label_field, set_label, set_pause, set_penalty}
-use Rattle.dots.specs.Knowledge.{IsConsistent, Knowledge, OneValue, all_asserted, asserts, is_asserted, is_named, known_dots, names, settings_of}
-use Rattle.dots.proofs.KnownLaws.{known-dot}
-use Rattle.dots.proofs.Membership.{any-in, in-any, in-part, in-some, only-in, part-in}
+use Rattle.operations.specs.Registers.{Entry}
+use Rattle.operations.specs.Operations.{Operation, Field, Add, Write, Remove, Count, asserted_by, entry_under, penalty_field, pause_field, label_field, set_label, set_pause, set_penalty}
+use Rattle.operations.specs.Knowledge.{IsConsistent, Knowledge, OneValue, all_asserted, asserts, is_asserted, is_named, known_dots, names, settings_of}
+use Rattle.operations.proofs.KnownLaws.{known-dot}
+use Rattle.general_lemmas.proofs.Membership.{any-in, in-any, in-part, in-some, only-in, part-in}
 use Rattle.sites_world.specs.Histories.{IsHistory, IsPartOf, stamp_of}
 use Rattle.sites_world.proofs.Lists.{none-some, one-some}
 

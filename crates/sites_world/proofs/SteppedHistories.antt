@@ -7,10 +7,10 @@ use Rattle.std.proofs.lemmas.Option.{slice_get_within}
 use Rattle.dots.specs.declared.limits.TheConstants.{MOST_COUNT, MOST_LIVE, MOST_RUNS}
 use Rattle.dots.specs.Values.{Dot}
 use Rattle.dots.specs.DotSets.{run_count}
-use Rattle.dots.specs.Operations.{Operation, Add, Write, Remove, Count}
-use Rattle.dots.specs.Knowledge.{Knowledge, known_dots, visible_dots}
-use Rattle.dots.proofs.KnownLaws.{known-dot}
-use Rattle.dots.proofs.Membership.{cases-in, first-in, later-in, nothing-in, only-in}
+use Rattle.operations.specs.Operations.{Operation, Add, Write, Remove, Count}
+use Rattle.operations.specs.Knowledge.{Knowledge, known_dots, visible_dots}
+use Rattle.operations.proofs.KnownLaws.{known-dot}
+use Rattle.general_lemmas.proofs.Membership.{cases-in, first-in, later-in, nothing-in, only-in}
 use Rattle.replica.specs.Changes.{Change, Makes as makes_operation, Meaning, Refused, change_of, meaning}
 use Rattle.replica.specs.SiteViews.{site_view}
 use Rattle.replica.specs.Steps as steps

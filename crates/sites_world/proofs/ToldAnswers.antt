@@ -19,7 +19,7 @@ use Rattle.replica.specs.Steps.{Framed, SiteKnowledge, Take, after_meaning, step
 use Rattle.replica.specs.Taking.{IsMeantFault, IsNotMine, SpeaksOfStrangeQueue}
 use Rattle.replica.proofs.StandingSites.{unchanged-stands}
 use Rattle.replica.proofs.StepLaws.{refusals-change-nothing}
-use Rattle.dots.specs.Knowledge.{Knowledge}
+use Rattle.operations.specs.Knowledge.{Knowledge}
 use Rattle.status_report.specs.declared.asks.Answer.{Answer}
 use Rattle.status_report.specs.declared.asks.Answer.TheVariants.{Done, Refused, Report}
 use Rattle.status_report.specs.declared.asks.Ask.{Ask}

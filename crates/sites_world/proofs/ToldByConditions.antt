@@ -1,7 +1,7 @@
 -- What comes of events is told by conditions alone.
 use Rattle.std.proofs.Common.{◌≡◌, ◌<◌, ◌≤◌, inl, inr, ℕ, List, [], ◌∷◌, ◌++◌, append-nil, length, slice_get, slice_set, Option, Some, None, Result, Ok, Err, refl, sym, ap, subst, ◌∙◌, arith}
 use Rattle.dots.specs.declared.limits.TheConstants.{MOST_COUNT}
-use Rattle.dots.specs.Knowledge.{Knowledge}
+use Rattle.operations.specs.Knowledge.{Knowledge}
 use Rattle.delta.specs.DeltaStates.{DeltaState}
 use Rattle.delta.specs.Frames.{IsInRanges}
 use Rattle.delta.specs.Standing.{IsDeltaOf}

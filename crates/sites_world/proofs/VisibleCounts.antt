@@ -11,13 +11,13 @@ use Rattle.std.proofs.lemmas.List.Elements.{Contains-append_left, Contains-appen
 use Rattle.dots.specs.declared.member.Member.{Member}
 use Rattle.dots.specs.Values.{Dot}
 use Rattle.dots.specs.Orders.{dot_cmp, member_cmp}
-use Rattle.dots.specs.Knowledge.{Knowledge, member_of, visible_dots}
-use Rattle.dots.proofs.Counting.{item-of, kept-parts, of-item, tied-in}
+use Rattle.operations.specs.Knowledge.{Knowledge, member_of, visible_dots}
+use Rattle.general_lemmas.proofs.Counting.{item-of, kept-parts, of-item, tied-in}
 use Rattle.dots.proofs.DotOrder.{dots_exact, dots_total}
-use Rattle.dots.proofs.JoinedKnowledge.{member-some}
+use Rattle.operations.proofs.JoinedKnowledge.{member-some}
 use Rattle.dots.proofs.MemberOrder.{exact_members, members_total}
-use Rattle.dots.proofs.Membership.{any-in, cases-in, first-in, in-any, later-in, nothing-in, some-in}
-use Rattle.dots.proofs.TruthTables.{equal_of}
+use Rattle.general_lemmas.proofs.Membership.{any-in, cases-in, first-in, in-any, later-in, nothing-in, some-in}
+use Rattle.general_lemmas.proofs.TruthTables.{equal_of}
 use Rattle.sites_world.specs.Promises.{IsVisibleDotOf, members_seen, visible_members}
 use Rattle.sites_world.proofs.Dots.{visible-parts}
 

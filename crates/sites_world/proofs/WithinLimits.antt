@@ -8,10 +8,10 @@ use Rattle.std.proofs.lemmas.Option.{slice_get_within}
 use Rattle.dots.specs.declared.limits.TheConstants.{MOST_COUNT, MOST_LIVE, MOST_RUNS, SITES}
 use Rattle.dots.specs.Values.{IsSite}
 use Rattle.dots.specs.DotSets.{run_count}
-use Rattle.dots.specs.Operations.{Operation}
-use Rattle.dots.specs.Knowledge.{Knowledge, known_dots, visible_dots}
-use Rattle.dots.specs.WithinLimits.{AreWithinLimits, IsWithinLimits}
-use Rattle.dots.proofs.Membership.{cases-in, nothing-in, only-in}
+use Rattle.operations.specs.Operations.{Operation}
+use Rattle.operations.specs.Knowledge.{Knowledge, known_dots, visible_dots}
+use Rattle.operations.specs.OperationLimits.{AreWithinLimits, IsWithinLimits}
+use Rattle.general_lemmas.proofs.Membership.{cases-in, nothing-in, only-in}
 use Rattle.replica.specs.Changes.{Makes, Meaning, Refused, change_of, meaning}
 use Rattle.replica.specs.Queues.{AreQueues}
 use Rattle.replica.specs.SiteViews.{site_view}

@@ -4,8 +4,8 @@ use Rattle.std.specs.FinSet as set
 use Rattle.dots.specs.declared.calls.Calls.{Calls}
 use Rattle.dots.specs.declared.member.Member.{Member}
 use Rattle.dots.specs.Values.{Dot, Stamp}
-use Rattle.dots.specs.Operations.{Operation, Add, Write, Remove, Count, asserted_by}
-use Rattle.dots.specs.Knowledge.{Knowledge, all_asserted, known_dots, names}
+use Rattle.operations.specs.Operations.{Operation, Add, Write, Remove, Count, asserted_by}
+use Rattle.operations.specs.Knowledge.{Knowledge, all_asserted, known_dots, names}
 use Rattle.replica.specs.Steps.{SiteKnowledge}
 use Rattle.sites_world.specs.Worlds.{Entry, World}
 

@@ -4,12 +4,12 @@ use Rattle.std.specs.FinMap as map
 use Rattle.std.specs.FinSet as set
 use Rattle.dots.specs.declared.calls.Calls.{Calls}
 use Rattle.dots.specs.declared.member.Member.{Member}
-use Rattle.dots.specs.Conditions.{IsConditionBelow}
-use Rattle.dots.specs.Rows.{dots_of}
-use Rattle.dots.specs.Totals.{totals_of}
+use Rattle.operations.specs.Conditions.{IsConditionBelow}
+use Rattle.operations.specs.Rows.{dots_of}
+use Rattle.operations.specs.Totals.{totals_of}
 use Rattle.dots.specs.Values.{Dot}
-use Rattle.dots.specs.Knowledge.{Knowledge}
-use Rattle.dots.specs.WithinLimits.{AreWithinLimits}
+use Rattle.operations.specs.Knowledge.{Knowledge}
+use Rattle.operations.specs.OperationLimits.{AreWithinLimits}
 use Rattle.site_totals.specs.Raising.{number_of}
 use Rattle.member_orset.specs.Members.{condition_of, dot_view_of}
 use Rattle.delta.specs.DeltaStates.{DeltaState}

@@ -11,9 +11,9 @@ use Rattle.replica.specs.Queues.{AreQueues}
 use Rattle.dots.specs.declared.member.Member.{Member}
 use Rattle.dots.specs.Orders.{member_cmp}
 use Rattle.dots.specs.Values.{Dot}
-use Rattle.dots.specs.Operations.{Operation}
-use Rattle.dots.specs.Rows.{DotView, dot_view}
-use Rattle.dots.specs.Knowledge.{IsConsistent, Knowledge, SameOperations, member_of, visible_dots}
+use Rattle.operations.specs.Operations.{Operation}
+use Rattle.operations.specs.Rows.{DotView, dot_view}
+use Rattle.operations.specs.Knowledge.{IsConsistent, Knowledge, SameOperations, member_of, visible_dots}
 use Rattle.delta.specs.DeltaStates.{DeltaState, IsSame}
 use Rattle.delta.specs.Joining.{Agree, IsJoinOf}
 use Rattle.delta.specs.Standing.{IsDeltaOf}

@@ -2,7 +2,7 @@
 use Rattle.sites_world.specs.declared.event.Event.{Event}
 use Rattle.sites_world.specs.declared.event.Event.TheVariants as event
 use Rattle.std.specs.Prelude.{ℕ, ◌≡◌, ◌⊎◌, true, List, [], ◌∷◌, ◌++◌, length, Err, ⊤, ◌<◌}
-use Rattle.dots.specs.Knowledge.{Knowledge}
+use Rattle.operations.specs.Knowledge.{Knowledge}
 use Rattle.delta.specs.DeltaStates.{DeltaState}
 use Rattle.delta.specs.Joining.{Disagree}
 use Rattle.delta.specs.Standing.{IsDeltaOf}

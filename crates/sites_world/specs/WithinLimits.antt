@@ -1,7 +1,7 @@
 -- Events and worlds whose values are within the limits of operations.
 use Rattle.std.specs.Prelude.{⊤}
-use Rattle.dots.specs.Knowledge.{Knowledge}
-use Rattle.dots.specs.WithinLimits.{AreWithinLimits}
+use Rattle.operations.specs.Knowledge.{Knowledge}
+use Rattle.operations.specs.OperationLimits.{AreWithinLimits}
 use Rattle.replica.specs.Changes.{change_of}
 use Rattle.replica.specs.Promises.{IsChange}
 use Rattle.status_report.specs.declared.asks.Ask.TheVariants.{Command as asked_command}

@@ -1,7 +1,7 @@
 -- The world of operations: what each site knows, and the frames that were made. A frame that is lost is one that is never taken, and each may be
 -- taken again and in any order (RR-7506: a replica is changed at its source, and merges what it is sent, whenever that comes).
 use Rattle.std.specs.Prelude.{ℕ, ◌≡◌, Bool, true, false, List, [], ◌∷◌, ◌++◌, length, replicate, slice_get, slice_set, Option, Some, None, Result, Ok, Err, if◌then◌else◌, ◌&&◌, is_some}
-use Rattle.dots.specs.Knowledge.{Knowledge}
+use Rattle.operations.specs.Knowledge.{Knowledge}
 use Rattle.replica.specs.declared.cut_fault.CutFault.{CutFault}
 use Rattle.replica.specs.declared.cut_fault.CutFault.TheVariants.{Exhausted}
 use Rattle.replica.specs.declared.take_fault.TakeFault.{TakeFault}

@@ -3,7 +3,7 @@ ghost use Rattle.std.specs.Prelude.{◌≡◌, ◌<◌, ◌≤◌, ◌+◌, ◌+
 ghost use Rattle.std.specs.Prelude.{IfOk, true};
 ghost use Rattle.std.specs.Prelude.{length, option_map, slice_get, vec_len, vec_capacity};
 ghost use Rattle.dots.specs.declared.limits.TheConstants.{MOST_COUNT};
-ghost use Rattle.dots.specs.Knowledge.{Knowledge};
+ghost use Rattle.operations.specs.Knowledge.{Knowledge};
 ghost use Rattle.delta.specs.Standing.{IsDeltaOf};
 ghost use Rattle.replica.specs.Site.{IsUnchanged};
 ghost use Rattle.replica.specs.Standing.{StandsFor};

@@ -1,7 +1,7 @@
 -- The answer to an ask is what a site that knows the same answers.
 use Rattle.std.proofs.Common.{◌≡◌, ℕ, Result, Ok, Err, IfOk, sym, ap, inl, inr}
-use Rattle.dots.specs.Rows.{rows_of as rows_read}
-use Rattle.dots.specs.Totals.{sum_of}
+use Rattle.operations.specs.Rows.{rows_of as rows_read}
+use Rattle.operations.specs.Totals.{sum_of}
 use Rattle.member_orset.specs.Members.{view_of}
 use Rattle.delta.proofs.Sameness.{says_the_same}
 use Rattle.replica.specs.declared.refusal.Refusal.{Refusal}

@@ -1,7 +1,7 @@
 -- The status text of a knowledge depends on what it contains alone, and an answer is one step of a site.
 use Rattle.std.proofs.Common.{inl, inr, refl}
 use Rattle.dots.specs.declared.calls.Calls.TheVariants.{Completed, Abandoned}
-use Rattle.dots.proofs.RowLaws.{show-the-same}
+use Rattle.operations.proofs.RowLaws.{show-the-same}
 use Rattle.replica.specs.Site.{SiteState}
 use Rattle.replica.specs.Standing.{StandsFor}
 use Rattle.replica.specs.Steps.{SiteKnowledge}

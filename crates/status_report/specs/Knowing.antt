@@ -3,9 +3,9 @@
 use Rattle.std.specs.Prelude.{ℕ, ◌≡◌, ◌⊎◌, List}
 use Rattle.dots.specs.declared.call_totals.CallTotals.{CallTotals}
 use Rattle.dots.specs.declared.calls.Calls.TheVariants.{Completed, Abandoned}
-use Rattle.dots.specs.Knowledge.{Knowledge, SameOperations, IsConsistent}
-use Rattle.dots.specs.Rows.{dot_view, rows_of}
-use Rattle.dots.specs.Counts.{queue_total}
+use Rattle.operations.specs.Knowledge.{Knowledge, SameOperations, IsConsistent}
+use Rattle.operations.specs.Rows.{dot_view, rows_of}
+use Rattle.operations.specs.Counts.{queue_total}
 use Rattle.replica.specs.Changes.{change_of}
 use Rattle.replica.specs.Site.{SiteState, IsUnchanged}
 use Rattle.replica.specs.Standing.{StandsFor, result_of}

@@ -3,7 +3,7 @@
 use Rattle.std.specs.Prelude.{ℕ, ◌+◌, Bool, true, if◌then◌else◌, ◌||◌, List, [], ◌∷◌, ◌++◌, length, map as each, filter, Option, None, Some, codes, decimal, bytes_eq}
 use Rattle.std.specs.List.{concat}
 use Rattle.dots.specs.declared.call_totals.CallTotals.{CallTotals}
-use Rattle.dots.specs.Rows.{MemberRow}
+use Rattle.operations.specs.Rows.{MemberRow}
 use Rattle.replica.specs.Site.{SiteState, rows_of, sums_of}
 use Rattle.status_report.specs.declared.request.StatusRequest.{StatusRequest}
 use Rattle.status_report.specs.WrittenLines.{field, action_id_line}

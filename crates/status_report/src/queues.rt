@@ -1,6 +1,6 @@
 ghost use Rattle.std.specs.Prelude.{◌≡◌, ℕ, List, map as each, IfOk};
 ghost use Rattle.dots.specs.declared.call_totals.CallTotals.{CallTotals};
-ghost use Rattle.dots.specs.Views.{listed_row_view};
+ghost use Rattle.operations.specs.Views.{listed_row_view};
 ghost use Rattle.replica.specs.Site.{rows_of, sums_of};
 ghost use Rattle.status_report.specs.Status.{Row as ShownRow};
 

@@ -1,7 +1,7 @@
 ghost use Rattle.std.specs.Prelude.{◌≡◌, ◌≤◌, ◌+◌, ◌++◌, length, map as each, slice_get, IfOk};
 ghost use Rattle.std.specs.Prelude.{OnOk};
 ghost use Rattle.std.specs.List.{concat};
-ghost use Rattle.dots.specs.Views.{row_view, listed_row_view};
+ghost use Rattle.operations.specs.Views.{row_view, listed_row_view};
 ghost use Rattle.replica.specs.Standing.{StandsFor};
 ghost use Rattle.replica.specs.Steps.{SiteKnowledge};
 ghost use Rattle.status_report.specs.Knowing.{status_in};

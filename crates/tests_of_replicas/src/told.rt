@@ -1,5 +1,6 @@
 //! Values, told as words.
-use dots::{Dot, Interface, Label, Member, Penalty, QueueName, Row, SiteId, Text80};
+use dots::{Dot, Interface, Label, Member, Penalty, QueueName, SiteId, Text80};
+use operations::Row;
 use replica::QueueList;
 use std::alloc::Global;
 use std::process::Abort;

@@ -3,7 +3,7 @@ use Rattle.std.proofs.lemmas.Grind.{common_steps}
 use Rattle.std.specs.FinSet as sets
 use Rattle.dots.specs.DotSets.{IsRunsOf, set_of}
 use Rattle.dots.proofs.Runs.{set_of-runs}
-use Rattle.dots.proofs.Fronts.{turned, written_back}
+use Rattle.general_lemmas.proofs.Fronts.{turned, written_back}
 use Rattle.causal_context.specs.Contexts.{IsContext}
 use Rattle.causal_context.proofs.Merging.{context_of, union-none}
 use Rattle.causal_context.proofs.merge.absorb_walked.Goals as goal

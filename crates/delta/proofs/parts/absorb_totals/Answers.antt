@@ -1,6 +1,6 @@
 use Rattle.std.proofs.Common.{sym, ap, ◌∙◌}
-use Rattle.dots.specs.Totals.{join_of}
-use Rattle.dots.proofs.TotalsLaws.{joined_empty}
+use Rattle.operations.specs.Totals.{join_of}
+use Rattle.operations.proofs.TotalsLaws.{joined_empty}
 use Rattle.delta.proofs.parts.absorb_totals.Goals as goal
 
 pub returns-else-not-is_empty : goal.returns-else-not-is_empty

@@ -1,4 +1,4 @@
-use Rattle.dots.proofs.ConditionLaws.{fields_comm, fields_assoc, fields_self, fields_agree}
+use Rattle.operations.proofs.ConditionLaws.{fields_comm, fields_assoc, fields_self, fields_agree}
 use Rattle.lww_registers.proofs.laws.fields_are_joined.Goals as goal
 
 pub returns-clause-join : goal.returns-clause-join

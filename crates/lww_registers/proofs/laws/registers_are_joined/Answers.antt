@@ -1,5 +1,5 @@
-use Rattle.dots.proofs.ConditionOrder.{registers_ordered, registers_least}
-use Rattle.dots.proofs.RegisterLaws.{joined_comm, joined_assoc, joined_self, joined_agrees}
+use Rattle.operations.proofs.ConditionOrder.{registers_ordered, registers_least}
+use Rattle.operations.proofs.RegisterLaws.{joined_comm, joined_assoc, joined_self, joined_agrees}
 use Rattle.lww_registers.proofs.laws.registers_are_joined.Goals as goal
 
 pub returns-clause-join : goal.returns-clause-join

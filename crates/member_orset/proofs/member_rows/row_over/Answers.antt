@@ -1,7 +1,7 @@
 use Rattle.std.proofs.Common.{Some, ap, ◌∙◌}
 use Rattle.std.specs.Option.{option_map}
-use Rattle.dots.specs.Rows.{row_of_fields}
-use Rattle.dots.specs.Views.{row_view}
+use Rattle.operations.specs.Rows.{row_of_fields}
+use Rattle.operations.specs.Views.{row_view}
 use Rattle.member_orset.proofs.member_rows.row_over.Goals as goal
 
 pub returns-in_err-latest : goal.returns-in_err-latest

@@ -3,7 +3,7 @@ use Rattle.std.specs.List.{All}
 use Rattle.std.specs.FinMap as map
 use Rattle.std.proofs.lemmas.List.Elements.{All-cons}
 use Rattle.dots.specs.Values.{Dot}
-use Rattle.dots.proofs.Membership.{first-in, later-in}
+use Rattle.general_lemmas.proofs.Membership.{first-in, later-in}
 use Rattle.member_orset.specs.Members.{Holding}
 use Rattle.member_orset.specs.Reads.{cell_read}
 use Rattle.member_orset.proofs.MapEntries.{entry_in, entry_is}

@@ -2,7 +2,7 @@ use Rattle.std.proofs.Common.{◌≡◌, true, sym, ap, ◌∙◌}
 use Rattle.std.specs.FinSet as set
 use Rattle.dots.specs.Orders.{dot_cmp}
 use Rattle.dots.proofs.DotOrder.{dots_exact, dots_total}
-use Rattle.dots.proofs.Membership.{same-tests}
+use Rattle.general_lemmas.proofs.Membership.{same-tests}
 use Rattle.member_orset.proofs.sameness.is_same_context.Goals as goal
 
 one_way : (a b : set.FinSet dot_cmp) → a ≡ b → set.is_subset a b ≡ true

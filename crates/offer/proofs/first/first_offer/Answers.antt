@@ -1,5 +1,5 @@
 use Rattle.std.proofs.Common.{Some, sym, ◌∙◌, ap}
-use Rattle.dots.specs.Views.{listed_row_view}
+use Rattle.operations.specs.Views.{listed_row_view}
 use Rattle.offer.specs.Offers.{first_of, offers_of}
 use Rattle.offer.specs.GoingOver.{first_with}
 use Rattle.offer.proofs.FirstOffers.{first-alone, row-left, row-taken}

@@ -4,7 +4,7 @@ use Rattle.std.proofs.lemmas.List.{take_all, drop_all, length-drop}
 use Rattle.dots.specs.DotSets.{run_count}
 use Rattle.reference_model.specs.NextDots.{goes_on}
 use Rattle.reference_model.proofs.RunSteps.{counts_ends, run_count-empty, sorted-drop}
-use Rattle.dots.proofs.Fronts.{open_at}
+use Rattle.general_lemmas.proofs.Fronts.{open_at}
 use Rattle.reference_model.proofs.dot_sets.count_ends.Goals as goal
 use Rattle.reference_model.proofs.dot_sets.count_ends.Goals.{then-not-goes_on, else-not-goes_on}
 

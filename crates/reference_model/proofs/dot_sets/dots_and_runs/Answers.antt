@@ -1,7 +1,7 @@
 use Rattle.std.proofs.Common.{not, ◌&&◌, ◌||◌, sym, ap, ◌∙◌}
 use Rattle.std.specs.List.{list_any}
 use Rattle.dots.specs.DotSets.{run_count}
-use Rattle.dots.specs.Knowledge.{is_dot}
+use Rattle.operations.specs.Knowledge.{is_dot}
 use Rattle.reference_model.proofs.RunSteps.{len-missing, set_is}
 use Rattle.reference_model.proofs.dot_sets.dots_and_runs.Goals as goal
 

@@ -1,9 +1,9 @@
 use Rattle.std.proofs.Common.{◌+◌, drop, ap}
 use Rattle.std.specs.List.{list_any}
-use Rattle.dots.specs.Knowledge.{is_dot}
+use Rattle.operations.specs.Knowledge.{is_dot}
 use Rattle.reference_model.proofs.DotSteps.{one_dot_more}
 use Rattle.reference_model.proofs.SetSteps.{adds_first}
-use Rattle.dots.proofs.Fronts.{open_at}
+use Rattle.general_lemmas.proofs.Fronts.{open_at}
 use Rattle.reference_model.proofs.dot_sets.insert_plain.Goals as goal
 
 pub loop-dot-preserved : goal.loop-dot-preserved

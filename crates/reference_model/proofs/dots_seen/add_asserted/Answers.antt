@@ -1,7 +1,7 @@
 use Rattle.std.proofs.Common.{◌||◌, ap, sym, ◌∙◌}
 use Rattle.std.specs.List.{list_any}
 use Rattle.std.proofs.Math.Bool.{or-false}
-use Rattle.dots.specs.Knowledge.{is_dot, asserts}
+use Rattle.operations.specs.Knowledge.{is_dot, asserts}
 use Rattle.reference_model.specs.Plain.{operation_of}
 use Rattle.reference_model.proofs.DotSteps.{one_dot_more}
 use Rattle.reference_model.proofs.dots_seen.add_asserted.Goals as goal

@@ -2,10 +2,10 @@ use Rattle.std.proofs.Common.{Bool, ◌+◌, drop, ap}
 use Rattle.std.specs.List.{list_any}
 use Rattle.dots.specs.declared.member.Member.{Member}
 use Rattle.dots.specs.Values.{Dot}
-use Rattle.dots.specs.Knowledge.{is_dot}
+use Rattle.operations.specs.Knowledge.{is_dot}
 use Rattle.reference_model.proofs.DotSteps.{one_dot_more}
 use Rattle.reference_model.proofs.SetSteps.{adds_first}
-use Rattle.dots.proofs.Fronts.{open_at}
+use Rattle.general_lemmas.proofs.Fronts.{open_at}
 use Rattle.reference_model.proofs.dots_seen.add_dots.Goals as goal
 
 pub loop-dot-preserved : goal.loop-dot-preserved

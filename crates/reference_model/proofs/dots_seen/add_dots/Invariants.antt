@@ -1,7 +1,7 @@
 use Rattle.std.proofs.Common.{◌≡◌, ◌||◌, drop}
 use Rattle.std.specs.List.{list_any}
 use Rattle.dots.specs.Values.{Dot}
-use Rattle.dots.specs.Knowledge.{is_dot}
+use Rattle.operations.specs.Knowledge.{is_dot}
 use Rattle.reference_model.proofs.dots_seen.add_dots.Given as goal
 
 -- what is held, and what is left, are what was held and all that came

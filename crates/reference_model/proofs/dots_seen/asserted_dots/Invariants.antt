@@ -1,7 +1,7 @@
 use Rattle.std.proofs.Common.{◌≡◌, ◌||◌, drop}
 use Rattle.std.specs.List.{list_any}
 use Rattle.dots.specs.Values.{Dot}
-use Rattle.dots.specs.Knowledge.{is_dot, is_asserted}
+use Rattle.operations.specs.Knowledge.{is_dot, is_asserted}
 use Rattle.reference_model.specs.Plain.{knowledge_of}
 use Rattle.reference_model.proofs.dots_seen.asserted_dots.Given as goal
 

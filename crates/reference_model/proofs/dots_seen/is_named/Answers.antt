@@ -1,8 +1,8 @@
 use Rattle.std.proofs.Common.{◌∙◌, sym, rules, tests}
 use Rattle.std.proofs.lemmas.Iterator.{YieldsList-from_slice}
 use Rattle.std.proofs.lemmas.Iterator.Search.{any_from_yields_List}
-use Rattle.dots.specs.Knowledge.{names}
-use Rattle.dots.proofs.Membership.{any-map}
+use Rattle.operations.specs.Knowledge.{names}
+use Rattle.general_lemmas.proofs.Membership.{any-map}
 use Rattle.reference_model.specs.declared.operation.Operation.{Operation}
 use Rattle.reference_model.specs.Plain.{operation_of}
 use Rattle.reference_model.proofs.dots_seen.is_named.Goals as goal

@@ -1,5 +1,5 @@
 use Rattle.std.proofs.Common.{◌+◌, drop, ap, sym, ◌∙◌}
-use Rattle.dots.specs.Knowledge.{member_of}
+use Rattle.operations.specs.Knowledge.{member_of}
 use Rattle.reference_model.specs.Plain.{operation_of, knowledge_of}
 use Rattle.reference_model.proofs.DotSteps.{member_first, member_later}
 use Rattle.reference_model.proofs.Steps.{next_operation}

@@ -1,5 +1,5 @@
 use Rattle.std.proofs.Common.{◌≡◌, drop}
-use Rattle.dots.specs.Knowledge.{member_of}
+use Rattle.operations.specs.Knowledge.{member_of}
 use Rattle.reference_model.specs.Plain.{knowledge_of}
 use Rattle.reference_model.proofs.dots_seen.member_of.Given as goal
 

@@ -1,6 +1,6 @@
 use Rattle.std.proofs.Common.{◌||◌, ◌+◌, drop, ap, ◌∙◌}
 use Rattle.std.specs.List.{list_any}
-use Rattle.dots.specs.Knowledge.{is_dot, is_named, names}
+use Rattle.operations.specs.Knowledge.{is_dot, is_named, names}
 use Rattle.reference_model.specs.Plain.{operation_of, knowledge_of}
 use Rattle.reference_model.proofs.DotSteps.{names_is}
 use Rattle.reference_model.proofs.SetSteps.{adds_first}

@@ -1,7 +1,7 @@
 use Rattle.std.proofs.Common.{◌≡◌, not, filter, Vec, Global}
 use Rattle.std.proofs.lemmas.Result.{IfOk-weaker}
 use Rattle.dots.specs.Values.{Dot}
-use Rattle.dots.specs.Knowledge.{is_named}
+use Rattle.operations.specs.Knowledge.{is_named}
 use Rattle.reference_model.specs.Plain.{knowledge_of}
 use Rattle.reference_model.proofs.DotSteps.{visible_list}
 use Rattle.reference_model.proofs.dots_seen.visible_dots.Goals as goal

@@ -1,5 +1,5 @@
 use Rattle.std.proofs.Common.{◌+◌, drop, ap, sym, ◌∙◌}
-use Rattle.dots.specs.Conditions.{fields_in, fields_joined}
+use Rattle.operations.specs.Conditions.{fields_in, fields_joined}
 use Rattle.reference_model.specs.Plain.{operation_of, knowledge_of}
 use Rattle.reference_model.specs.Views.{fields_of, fields_set}
 use Rattle.reference_model.proofs.FieldSteps.{fields_asserted, fields_passed, joins_first}

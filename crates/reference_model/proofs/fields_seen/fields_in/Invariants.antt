@@ -1,5 +1,5 @@
 use Rattle.std.proofs.Common.{◌≡◌, drop}
-use Rattle.dots.specs.Conditions.{fields_in, fields_joined}
+use Rattle.operations.specs.Conditions.{fields_in, fields_joined}
 use Rattle.reference_model.specs.Plain.{knowledge_of}
 use Rattle.reference_model.specs.Views.{fields_of}
 use Rattle.reference_model.proofs.fields_seen.fields_in.Given as goal

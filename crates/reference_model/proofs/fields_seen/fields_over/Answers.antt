@@ -1,9 +1,9 @@
 use Rattle.std.proofs.Common.{◌+◌, drop, ap, ◌∙◌}
-use Rattle.dots.specs.Conditions.{fields_in, fields_joined}
+use Rattle.operations.specs.Conditions.{fields_in, fields_joined}
 use Rattle.reference_model.specs.Plain.{knowledge_of}
 use Rattle.reference_model.specs.Views.{fields_of, fields_over}
 use Rattle.reference_model.proofs.FieldSteps.{fields_over_more, joins_first}
-use Rattle.dots.proofs.Fronts.{open_at}
+use Rattle.general_lemmas.proofs.Fronts.{open_at}
 use Rattle.reference_model.proofs.fields_seen.fields_over.Goals as goal
 
 pub loop-dot-preserved : goal.loop-dot-preserved

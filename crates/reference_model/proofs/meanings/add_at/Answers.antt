@@ -1,6 +1,6 @@
 use Rattle.std.proofs.Common.{◌≡◌, ◌+◌, suc, ◌||◌, [], ◌∷◌, refl, sym, ap, ◌∙◌, arith}
 use Rattle.std.specs.FinSet as set
-use Rattle.dots.specs.Operations.{Operation}
+use Rattle.operations.specs.Operations.{Operation}
 use Rattle.replica.specs.Changes.{is_full, is_too_long}
 use Rattle.replica.specs.SiteViews.{greatest, count_used, time_used, older_dots, site_view}
 use Rattle.reference_model.specs.Plain.{knowledge_of}

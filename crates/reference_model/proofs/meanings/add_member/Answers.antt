@@ -1,6 +1,6 @@
 use Rattle.std.proofs.Common.{◌≡◌, ◌∙◌, sym, Some}
 use Rattle.std.proofs.lemmas.Result.{IfOk-weaker}
-use Rattle.dots.specs.Rows.{dot_view}
+use Rattle.operations.specs.Rows.{dot_view}
 use Rattle.replica.specs.Changes.{add_at, within_limits}
 use Rattle.replica.specs.SiteViews.{dots_seen}
 use Rattle.reference_model.specs.declared.meaning.Meaning.{Meaning}

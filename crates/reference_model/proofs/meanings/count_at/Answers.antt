@@ -1,6 +1,6 @@
 use Rattle.std.proofs.Common.{◌≡◌, ◌+◌, suc, [], refl, sym, ap, ◌∙◌, nat_lt, arith}
-use Rattle.dots.specs.Counts.{site_total}
-use Rattle.dots.specs.Operations.{Count}
+use Rattle.operations.specs.Counts.{site_total}
+use Rattle.operations.specs.Operations.{Count}
 use Rattle.replica.specs.Changes.{Makes, count_at}
 use Rattle.reference_model.specs.Plain.{knowledge_of}
 use Rattle.reference_model.specs.Sites.{Touches, known_view, buffer_view}

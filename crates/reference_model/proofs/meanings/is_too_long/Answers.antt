@@ -1,5 +1,5 @@
 use Rattle.std.proofs.Common.{nat_lt, [], ◌∷◌, ap}
-use Rattle.dots.specs.Knowledge.{known_dots}
+use Rattle.operations.specs.Knowledge.{known_dots}
 use Rattle.reference_model.proofs.LimitSteps.{known_alone}
 use Rattle.reference_model.proofs.meanings.is_too_long.Goals as goal
 

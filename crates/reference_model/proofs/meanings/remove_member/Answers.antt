@@ -2,7 +2,7 @@ use Rattle.std.proofs.Common.{◌≡◌, ℕ, ◌∙◌, Some, List}
 use Rattle.std.proofs.lemmas.Result.{IfOk-weaker}
 use Rattle.dots.specs.declared.member.Member.{Member}
 use Rattle.dots.specs.Values.{Dot}
-use Rattle.dots.specs.Rows.{dot_view}
+use Rattle.operations.specs.Rows.{dot_view}
 use Rattle.replica.specs.Changes.{remove_of, within_limits}
 use Rattle.replica.specs.SiteViews.{dots_seen}
 use Rattle.reference_model.specs.declared.meaning.Meaning.{Meaning}

@@ -1,6 +1,6 @@
 use Rattle.std.proofs.Common.{[], refl, sym, ap, ◌∙◌}
 use Rattle.std.specs.FinSet as set
-use Rattle.dots.specs.Operations.{Remove}
+use Rattle.operations.specs.Operations.{Remove}
 use Rattle.replica.specs.Changes.{Makes, remove_of}
 use Rattle.reference_model.specs.Sites.{Touches, known_view, buffer_view}
 use Rattle.reference_model.proofs.LimitSteps.{means-full, means-made}

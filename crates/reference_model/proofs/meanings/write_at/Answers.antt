@@ -2,8 +2,8 @@ use Rattle.std.proofs.Common.{◌≡◌, ℕ, ◌+◌, suc, max, ◌||◌, List,
 use Rattle.std.specs.FinSet as set
 use Rattle.dots.specs.declared.member.Member.{Member}
 use Rattle.dots.specs.Values.{Dot}
-use Rattle.dots.specs.Operations.{Operation}
-use Rattle.dots.specs.Rows.{dot_view}
+use Rattle.operations.specs.Operations.{Operation}
+use Rattle.operations.specs.Rows.{dot_view}
 use Rattle.replica.specs.Changes.{is_full, is_too_long, time_replaced}
 use Rattle.replica.specs.SiteViews.{greatest, time_used, older_dots, site_view}
 use Rattle.reference_model.specs.Plain.{knowledge_of, setting_of}

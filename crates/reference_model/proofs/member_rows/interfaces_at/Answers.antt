@@ -5,7 +5,7 @@ use Rattle.dots.specs.Orders.{text_cmp}
 use Rattle.reference_model.specs.Plain.{knowledge_of}
 use Rattle.reference_model.proofs.RowSteps.{interface_at, interface_first, interface_absent, one_interface_more}
 use Rattle.reference_model.proofs.SetSteps.{adds_first}
-use Rattle.dots.proofs.Fronts.{open_at}
+use Rattle.general_lemmas.proofs.Fronts.{open_at}
 use Rattle.reference_model.proofs.member_rows.interfaces_at.Goals as goal
 use Rattle.reference_model.proofs.member_rows.interfaces_at.Goals.{in-Some+in_ok-insert, in_default}
 

@@ -3,7 +3,7 @@ use Rattle.std.specs.List.{list_any, filter_map}
 use Rattle.std.specs.Ordering.{eq_by_cmp}
 use Rattle.std.proofs.lemmas.Result.{IfOk-weaker}
 use Rattle.dots.specs.Orders.{text_cmp}
-use Rattle.dots.specs.Rows.{dot_view}
+use Rattle.operations.specs.Rows.{dot_view}
 use Rattle.reference_model.specs.Plain.{knowledge_of}
 use Rattle.reference_model.proofs.RowSteps.{interface_at, interface_list}
 use Rattle.reference_model.proofs.member_rows.interfaces_of.Goals as goal

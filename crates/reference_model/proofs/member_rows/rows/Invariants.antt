@@ -1,6 +1,6 @@
 use Rattle.std.proofs.Common.{◌≡◌, ◌++◌, drop, map as each}
 use Rattle.std.specs.List.{filter_map}
-use Rattle.dots.specs.Views.{listed_row_view}
+use Rattle.operations.specs.Views.{listed_row_view}
 use Rattle.reference_model.specs.Plain.{knowledge_of}
 use Rattle.reference_model.proofs.RowSteps.{row_at}
 use Rattle.reference_model.proofs.member_rows.rows.Given as goal

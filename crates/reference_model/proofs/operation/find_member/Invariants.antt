@@ -1,6 +1,6 @@
 use Rattle.std.proofs.Common.{◌≡◌, drop, option_map}
 use Rattle.std.specs.List.{find}
-use Rattle.dots.specs.Knowledge.{is_dot}
+use Rattle.operations.specs.Knowledge.{is_dot}
 use Rattle.reference_model.proofs.operation.find_member.Given as goal
 
 -- what is left has the member that all have

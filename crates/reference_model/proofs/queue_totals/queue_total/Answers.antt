@@ -1,8 +1,8 @@
 use Rattle.std.proofs.Common.{ℕ, refl, arith}
-use Rattle.dots.specs.Totals.{sum_below}
-use Rattle.dots.specs.Counts.{site_total}
+use Rattle.operations.specs.Totals.{sum_below}
+use Rattle.operations.specs.Counts.{site_total}
 use Rattle.reference_model.specs.Plain.{knowledge_of}
-use Rattle.dots.proofs.TotalsLaws.{sum_below-more}
+use Rattle.operations.proofs.TotalsLaws.{sum_below-more}
 use Rattle.reference_model.proofs.queue_totals.queue_total.Goals as goal
 
 pub loop-site-init : goal.loop-site-init

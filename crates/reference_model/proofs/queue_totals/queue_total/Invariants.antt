@@ -1,6 +1,6 @@
 use Rattle.std.proofs.Common.{◌≡◌, ◌*◌, ◌≤◌}
-use Rattle.dots.specs.Totals.{sum_below}
-use Rattle.dots.specs.Counts.{site_total}
+use Rattle.operations.specs.Totals.{sum_below}
+use Rattle.operations.specs.Counts.{site_total}
 use Rattle.reference_model.specs.Plain.{knowledge_of}
 use Rattle.reference_model.proofs.queue_totals.queue_total.Given as goal
 

@@ -1,5 +1,5 @@
 use Rattle.std.proofs.Common.{◌≡◌, ◌≤◌, max, drop}
-use Rattle.dots.specs.Counts.{site_total}
+use Rattle.operations.specs.Counts.{site_total}
 use Rattle.reference_model.specs.Plain.{knowledge_of}
 use Rattle.reference_model.proofs.queue_totals.site_total.Given as goal
 

@@ -1,5 +1,5 @@
 use Rattle.std.proofs.Common.{◌≡◌, ◌≤◌, ◌^◌, max, drop}
-use Rattle.dots.specs.Rows.{dot_view}
+use Rattle.operations.specs.Rows.{dot_view}
 use Rattle.replica.specs.Changes.{time_replaced}
 use Rattle.replica.specs.SiteViews.{greatest}
 use Rattle.reference_model.specs.Plain.{knowledge_of, setting_of}

@@ -1,6 +1,6 @@
 use Rattle.std.proofs.Common.{◌≡◌, ◌++◌, true, false, ap, refl, ◌∙◌}
 use Rattle.dots.specs.DotSets.{run_count}
-use Rattle.dots.specs.Knowledge.{visible_dots, known_dots}
+use Rattle.operations.specs.Knowledge.{visible_dots, known_dots}
 use Rattle.replica.specs.Steps.{Taken, CellsFull, RunsFull}
 use Rattle.reference_model.specs.Plain.{knowledge_of}
 use Rattle.reference_model.specs.Sites.{site_of}

@@ -3,7 +3,7 @@ use Rattle.std.specs.Prelude.{IsTrue}
 use Rattle.std.specs.FinMap as map
 use Rattle.std.specs.List.{Any}
 use Rattle.dots.specs.declared.call_totals.CallTotals.{CallTotals}
-use Rattle.dots.specs.Totals.{Key}
+use Rattle.operations.specs.Totals.{Key}
 use Rattle.dots.specs.Values.{Dot}
 use Rattle.member_orset.specs.Members.{Holding, Members}
 use Rattle.site_totals.specs.Tally.{Tally}

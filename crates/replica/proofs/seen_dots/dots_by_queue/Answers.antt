@@ -1,6 +1,6 @@
 use Rattle.std.proofs.Common.{◌≡◌, List, ◌++◌, ℕ, suc, ◌+◌, ap, ◌∙◌, arith}
 use Rattle.dots.specs.declared.member.Member.{Member}
-use Rattle.dots.specs.Rows.{dots_of}
+use Rattle.operations.specs.Rows.{dots_of}
 use Rattle.member_orset.specs.Members.{dot_view_of}
 use Rattle.replica.specs.DotLists.{dots_below}
 use Rattle.replica.proofs.SeenLists.{none-of-them, of-error}

@@ -1,6 +1,6 @@
 use Rattle.std.proofs.Common.{ℕ, List, ◌++◌, sym, ◌∙◌}
 use Rattle.dots.specs.declared.member.Member.{Member}
-use Rattle.dots.specs.Rows.{dots_of}
+use Rattle.operations.specs.Rows.{dots_of}
 use Rattle.member_orset.specs.Members.{dot_view_of}
 use Rattle.replica.proofs.SeenOnce.{dots-paired}
 use Rattle.replica.proofs.seen_dots.dots_of_member.Goals as goal

@@ -1,5 +1,5 @@
 use Rattle.std.proofs.Common.{◌≡◌, ◌≤◌, ◌++◌, length}
-use Rattle.dots.specs.Rows.{dots_of}
+use Rattle.operations.specs.Rows.{dots_of}
 use Rattle.member_orset.specs.Members.{dot_view_of}
 use Rattle.replica.proofs.seen_dots.push_dots.Given as goal
 

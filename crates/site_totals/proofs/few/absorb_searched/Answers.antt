@@ -2,10 +2,11 @@ use Rattle.std.proofs.Common.{◌≡◌, ◌+◌, ◌-◌, ◌≤◌, ◌∷◌,
 use Rattle.std.specs.Prelude.{IsOk, OnOk}
 use Rattle.std.specs.Vec.{vec_capacity, vec_len}
 use Rattle.std.proofs.lemmas.List.{drop_all}
-use Rattle.dots.specs.SortedEntries.{IsRising}
-use Rattle.dots.specs.Totals.{IsTotal, count_missing, is_zero, join_of, key_cmp, single}
-use Rattle.dots.proofs.Fronts.{open_at}
-use Rattle.dots.proofs.TotalsLaws.{counted_not_zero, joined_assoc, joined_empty, single_limits}
+use Rattle.general_lemmas.specs.SortedEntries.{IsRising}
+use Rattle.dots.specs.CountedCalls.{is_zero}
+use Rattle.operations.specs.Totals.{IsTotal, count_missing, join_of, key_cmp, single}
+use Rattle.general_lemmas.proofs.Fronts.{open_at}
+use Rattle.operations.proofs.TotalsLaws.{counted_not_zero, joined_assoc, joined_empty, single_limits}
 use Rattle.site_totals.specs.TotalLists.{Row, entries_of}
 use Rattle.site_totals.proofs.EntryLemmas.{entries_none, limits_at}
 use Rattle.site_totals.proofs.FewRows.{front_joined, front_missing, rising_drop}

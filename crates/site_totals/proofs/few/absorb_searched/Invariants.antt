@@ -1,7 +1,7 @@
 -- With those that are left joined in, it is what it is to be; and there is room for what is missing of these.
 use Rattle.std.proofs.Common.{◌≡◌, ◌-◌, ◌≤◌, drop}
 use Rattle.std.specs.Vec.{vec_capacity, vec_len}
-use Rattle.dots.specs.Totals.{count_missing, join_of}
+use Rattle.operations.specs.Totals.{count_missing, join_of}
 use Rattle.site_totals.specs.TotalLists.{IsKept, entries_of}
 use Rattle.site_totals.proofs.few.absorb_searched.Given as goal
 

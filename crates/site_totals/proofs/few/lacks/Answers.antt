@@ -1,7 +1,7 @@
 use Rattle.std.proofs.Common.{is_none, sym, ap}
-use Rattle.dots.specs.Totals.{key_cmp}
-use Rattle.dots.proofs.SortedEntries.{find_at, find_in_gap}
-use Rattle.dots.proofs.TotalsLaws.{keys_total}
+use Rattle.operations.specs.Totals.{key_cmp}
+use Rattle.general_lemmas.proofs.SortedEntries.{find_at, find_in_gap}
+use Rattle.operations.proofs.TotalsLaws.{keys_total}
 use Rattle.site_totals.proofs.few.lacks.Goals as goal
 
 pub returns-in-Ok : goal.returns-in-Ok

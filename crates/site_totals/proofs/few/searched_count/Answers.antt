@@ -3,7 +3,7 @@ use Rattle.std.specs.List.{count_by}
 use Rattle.std.specs.FinMap as map
 use Rattle.std.proofs.lemmas.List.{take_all}
 use Rattle.std.proofs.lemmas.List.Sums.{count_by_more_no, count_by_more_yes}
-use Rattle.dots.specs.Totals.{key_cmp}
+use Rattle.operations.specs.Totals.{key_cmp}
 use Rattle.site_totals.specs.TotalLists.{Row}
 use Rattle.site_totals.proofs.EntryLemmas.{count_missing_in}
 use Rattle.site_totals.proofs.few.searched_count.Goals as goal

@@ -2,7 +2,7 @@
 use Rattle.std.proofs.Common.{◌≡◌, is_none, take}
 use Rattle.std.specs.List.{count_by}
 use Rattle.std.specs.FinMap as map
-use Rattle.dots.specs.Totals.{key_cmp}
+use Rattle.operations.specs.Totals.{key_cmp}
 use Rattle.site_totals.specs.TotalLists.{Row}
 use Rattle.site_totals.proofs.few.searched_count.Given as goal
 

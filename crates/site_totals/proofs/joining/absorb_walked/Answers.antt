@@ -1,7 +1,7 @@
 use Rattle.std.proofs.Common.{◌≡◌, ◌++◌, length, drop, take, arith, rules, sym, ap, subst, ◌∙◌}
 use Rattle.std.proofs.lemmas.Grind.{common_steps}
 use Rattle.std.proofs.lemmas.List.{length-take-le, take_at}
-use Rattle.dots.proofs.Fronts.{turned}
+use Rattle.general_lemmas.proofs.Fronts.{turned}
 use Rattle.site_totals.specs.TotalLists.{IsKept, entries_of, joined_rows}
 use Rattle.site_totals.proofs.JoinedRows.{joined_rows_are, kept_joined}
 use Rattle.site_totals.proofs.joining.absorb_walked.Goals as goal

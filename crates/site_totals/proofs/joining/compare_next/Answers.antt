@@ -1,7 +1,7 @@
 use Rattle.std.proofs.Common.{arith}
 use Rattle.std.specs.Ordering.{on}
-use Rattle.dots.specs.Totals.{key_cmp}
-use Rattle.dots.proofs.Fronts.{none_there}
+use Rattle.operations.specs.Totals.{key_cmp}
+use Rattle.general_lemmas.proofs.Fronts.{none_there}
 use Rattle.site_totals.proofs.joining.compare_next.Goals as goal
 
 -- the others are at their end

@@ -1,7 +1,7 @@
 use Rattle.std.proofs.Common.{drop, arith}
 use Rattle.std.specs.Ordering.{on}
-use Rattle.dots.specs.Totals.{key_cmp}
-use Rattle.dots.proofs.Fronts.{greater_within}
+use Rattle.operations.specs.Totals.{key_cmp}
+use Rattle.general_lemmas.proofs.Fronts.{greater_within}
 use Rattle.site_totals.proofs.JoinedRows.{greater_at}
 use Rattle.site_totals.proofs.joining.next_row.Goals as goal
 

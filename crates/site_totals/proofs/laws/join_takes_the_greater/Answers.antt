@@ -1,4 +1,4 @@
-use Rattle.dots.proofs.TotalsLaws.{totals_at-joined}
+use Rattle.operations.proofs.TotalsLaws.{totals_at-joined}
 use Rattle.site_totals.proofs.laws.join_takes_the_greater.Goals as goal
 
 pub returns : goal.returns

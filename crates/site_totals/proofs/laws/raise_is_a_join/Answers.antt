@@ -4,8 +4,9 @@ use Rattle.std.proofs.lemmas.Bool.Decides.{nat_tests}
 use Rattle.dots.specs.declared.call_totals.CallTotals.{CallTotals}
 use Rattle.dots.specs.declared.calls.Calls.{Calls}
 use Rattle.dots.specs.declared.calls.Calls.TheVariants.{Completed, Abandoned}
-use Rattle.dots.specs.Totals.{greater, totals_at, is_zero}
-use Rattle.dots.proofs.TotalsLaws.{by_numbers, joined_single}
+use Rattle.dots.specs.CountedCalls.{is_zero}
+use Rattle.operations.specs.Totals.{greater, totals_at}
+use Rattle.operations.proofs.TotalsLaws.{by_numbers, joined_single}
 use Rattle.site_totals.specs.Raising.{number_of, one_more, alone}
 use Rattle.site_totals.proofs.laws.raise_is_a_join.Goals as goal
 

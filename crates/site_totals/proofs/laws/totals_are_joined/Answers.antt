@@ -1,4 +1,4 @@
-use Rattle.dots.proofs.TotalsLaws.{joined_comm, joined_assoc, joined_self}
+use Rattle.operations.proofs.TotalsLaws.{joined_comm, joined_assoc, joined_self}
 use Rattle.site_totals.proofs.laws.totals_are_joined.Goals as goal
 
 pub returns : goal.returns

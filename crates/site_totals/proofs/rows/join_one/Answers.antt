@@ -3,8 +3,8 @@ use Rattle.std.specs.Vec.{vec_capacity, vec_len}
 use Rattle.std.specs.FinMap as map
 use Rattle.std.proofs.lemmas.Bool.{false≢true}
 use Rattle.dots.specs.declared.call_totals.CallTotals.{CallTotals}
-use Rattle.dots.specs.Totals.{key_cmp, greater}
-use Rattle.dots.proofs.TotalsLaws.{joined_zero}
+use Rattle.operations.specs.Totals.{key_cmp, greater}
+use Rattle.operations.proofs.TotalsLaws.{joined_zero}
 use Rattle.site_totals.specs.TotalLists.{IsKept, row_totals, entries_of}
 use Rattle.site_totals.proofs.EntryLemmas.{joined_by_put, kept_by_put, missing_one, length-put}
 use Rattle.site_totals.proofs.rows.join_one.Goals as goal

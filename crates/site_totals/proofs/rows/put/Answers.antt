@@ -1,7 +1,7 @@
 use Rattle.std.proofs.Common.{arith}
-use Rattle.dots.specs.Totals.{key_cmp}
-use Rattle.dots.proofs.SortedEntries.{put_at, put_in_gap, find_in_gap}
-use Rattle.dots.proofs.TotalsLaws.{keys_total}
+use Rattle.operations.specs.Totals.{key_cmp}
+use Rattle.general_lemmas.proofs.SortedEntries.{put_at, put_in_gap, find_in_gap}
+use Rattle.operations.proofs.TotalsLaws.{keys_total}
 use Rattle.site_totals.proofs.rows.put.Goals as goal
 
 -- memory is wanted only for a key that is not there

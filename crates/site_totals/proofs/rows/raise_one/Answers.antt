@@ -4,8 +4,8 @@ use Rattle.std.specs.FinMap as map
 use Rattle.std.proofs.lemmas.Bool.{cases_lt, false≢true}
 use Rattle.dots.specs.declared.limits.TheConstants.{MOST_CALLS}
 use Rattle.dots.specs.declared.call_totals.CallTotals.{CallTotals}
-use Rattle.dots.specs.Totals.{key_cmp, totals_at}
-use Rattle.dots.proofs.TotalsLaws.{totals_at_limit}
+use Rattle.operations.specs.Totals.{key_cmp, totals_at}
+use Rattle.operations.proofs.TotalsLaws.{totals_at_limit}
 use Rattle.site_totals.specs.Raising.{number_of, one_more}
 use Rattle.site_totals.specs.TotalLists.{IsKept, row_totals, entries_of}
 use Rattle.site_totals.proofs.EntryLemmas.{totals_read, get_is, kept_by_raise, raised_by_put, number_limit, number_of-one_more}

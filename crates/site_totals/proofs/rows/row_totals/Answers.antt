@@ -1,8 +1,9 @@
 use Rattle.std.proofs.Common.{sym, ap, ◌∙◌}
 use Rattle.std.specs.Option.{unwrap_or}
-use Rattle.dots.specs.Totals.{key_cmp, no_calls}
-use Rattle.dots.proofs.SortedEntries.{find_at, find_in_gap}
-use Rattle.dots.proofs.TotalsLaws.{keys_total}
+use Rattle.dots.specs.CountedCalls.{no_calls}
+use Rattle.operations.specs.Totals.{key_cmp}
+use Rattle.general_lemmas.proofs.SortedEntries.{find_at, find_in_gap}
+use Rattle.operations.proofs.TotalsLaws.{keys_total}
 use Rattle.site_totals.proofs.rows.row_totals.Goals as goal
 
 -- the entry at the place is the one that the key finds

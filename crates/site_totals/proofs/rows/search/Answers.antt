@@ -1,8 +1,8 @@
 use Rattle.std.proofs.Common.{rules}
 use Rattle.std.proofs.lemmas.List.Sorted.{answers_always}
-use Rattle.dots.specs.Totals.{key_cmp}
-use Rattle.dots.proofs.SortedEntries.{searched_at, searched_gap}
-use Rattle.dots.proofs.TotalsLaws.{keys_total, exact_keys}
+use Rattle.operations.specs.Totals.{key_cmp}
+use Rattle.general_lemmas.proofs.SortedEntries.{searched_at, searched_gap}
+use Rattle.operations.proofs.TotalsLaws.{keys_total, exact_keys}
 use Rattle.site_totals.proofs.rows.search.Goals as goal
 
 pub returns-clause-found : goal.returns-clause-found

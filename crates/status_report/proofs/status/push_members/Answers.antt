@@ -1,7 +1,7 @@
 use Rattle.std.proofs.Common.{◌+◌, ◌++◌, length, drop, map as each, ap, arith, sym, ◌∙◌}
 use Rattle.std.specs.List.{concat}
 use Rattle.std.proofs.lemmas.List.{drop_all}
-use Rattle.dots.specs.Views.{listed_row_view}
+use Rattle.operations.specs.Views.{listed_row_view}
 use Rattle.status_report.specs.Status.{member_blocks}
 use Rattle.status_report.proofs.BlockLemmas.{next_element, hidden_first, shown_text, shown_count, shown_few, none_text, none_count}
 use Rattle.status_report.proofs.status.push_members.Goals as goal

@@ -1,6 +1,6 @@
 use Rattle.std.proofs.Common.{◌≡◌, ◌≤◌, ◌+◌, ◌++◌, length, drop, map as each}
 use Rattle.std.specs.List.{concat}
-use Rattle.dots.specs.Views.{listed_row_view}
+use Rattle.operations.specs.Views.{listed_row_view}
 use Rattle.status_report.specs.Status.{member_blocks}
 use Rattle.status_report.proofs.status.push_members.Given as goal
 

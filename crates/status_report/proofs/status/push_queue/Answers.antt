@@ -1,5 +1,5 @@
 use Rattle.std.proofs.Common.{slice_get, map as each, ap, sym, ◌∙◌}
-use Rattle.dots.specs.Views.{listed_row_view}
+use Rattle.operations.specs.Views.{listed_row_view}
 use Rattle.status_report.proofs.BlockLemmas.{whole_queue}
 use Rattle.status_report.proofs.status.push_queue.Goals as goal
 

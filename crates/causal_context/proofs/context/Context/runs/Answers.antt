@@ -7,7 +7,7 @@ use Rattle.dots.specs.DotSets.{Run, in_run, set_of}
 use Rattle.dots.specs.Orders.{dot_cmp}
 use Rattle.dots.specs.Values.{Dot, IsSite}
 use Rattle.dots.specs.WithinLimits.{AreDots, IsDot}
-use Rattle.dots.proofs.Membership.{in-any}
+use Rattle.general_lemmas.proofs.Membership.{in-any}
 use Rattle.dots.proofs.RunCounts.{run_count-runs}
 use Rattle.dots.proofs.Runs.{contains-set_of}
 use Rattle.causal_context.specs.Contexts.{IsRun}

@@ -1,5 +1,5 @@
 use Rattle.std.proofs.Common.{ap, ◌∙◌}
-use Rattle.dots.specs.Rows.{rows_of}
+use Rattle.operations.specs.Rows.{rows_of}
 use Rattle.member_orset.specs.Members.{view_of}
 use Rattle.member_orset.specs.PlacedStates.{cells_of, listed_at}
 use Rattle.member_orset.proofs.LiveMaps.{rise}

@@ -1,7 +1,7 @@
 use Rattle.std.proofs.Common.{lit<, sym, ap, subst, ◌∙◌}
 use Rattle.std.specs.FinMap as map
 use Rattle.op_arena.specs.Ids.{id_of}
-use Rattle.dots.specs.Conditions.{FieldsAgree}
+use Rattle.operations.specs.Conditions.{FieldsAgree}
 use Rattle.member_orset.specs.declared.placed.Placed.{Placed}
 use Rattle.member_orset.specs.LiveLists.{live_of}
 use Rattle.member_orset.specs.LiveStates.{HasTaken}

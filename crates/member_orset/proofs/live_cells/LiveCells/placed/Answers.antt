@@ -1,7 +1,7 @@
 use Rattle.std.proofs.Common.{sym, ap, ◌∙◌}
 use Rattle.std.specs.FinMap as map
 use Rattle.dots.specs.Orders.{dot_cmp}
-use Rattle.dots.proofs.TruthTables.{truth}
+use Rattle.general_lemmas.proofs.TruthTables.{truth}
 use Rattle.member_orset.specs.PlacedLists.{id_entries}
 use Rattle.member_orset.proofs.live_cells.LiveCells.placed.Goals as goal
 

@@ -1,5 +1,5 @@
 use Rattle.std.proofs.Common.{ap, ◌∙◌}
-use Rattle.dots.specs.Rows.{row_of}
+use Rattle.operations.specs.Rows.{row_of}
 use Rattle.member_orset.specs.Members.{view_of}
 use Rattle.member_orset.proofs.live_cells.LiveCells.row.Goals as goal
 

@@ -2,7 +2,7 @@ use Rattle.std.proofs.Common.{◌≤◌, refl, sym, ap, subst, ◌∙◌, arith}
 use Rattle.std.specs.FinMap as map
 use Rattle.std.specs.FinSet as set
 use Rattle.dots.specs.declared.limits.TheConstants.{MOST_LIVE, MOST_RUNS}
-use Rattle.dots.specs.Conditions.{Live}
+use Rattle.operations.specs.Conditions.{Live}
 use Rattle.dots.specs.DotSets.{run_count}
 use Rattle.member_orset.specs.CellIds.{IdsFollow}
 use Rattle.member_orset.specs.LiveLists.{HoldingsAgree, HoldingsConflict}

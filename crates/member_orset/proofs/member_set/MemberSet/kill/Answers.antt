@@ -1,7 +1,7 @@
 use Rattle.std.proofs.Common.{sym, subst, ◌∙◌}
 use Rattle.std.specs.FinMap as map
 use Rattle.std.specs.FinSet as set
-use Rattle.dots.specs.Conditions.{Dead}
+use Rattle.operations.specs.Conditions.{Dead}
 use Rattle.member_orset.specs.CellIds.{IdMap, IdSet, IdsFollow}
 use Rattle.member_orset.specs.LiveStates.{spent_with}
 use Rattle.member_orset.specs.Members.{Members, condition_at, joined_at}

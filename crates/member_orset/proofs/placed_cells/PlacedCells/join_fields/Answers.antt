@@ -1,6 +1,6 @@
 use Rattle.std.proofs.Common.{◌<◌, [], length, get_or, set, lit<, sym, ap, subst, ◌∙◌}
 use Rattle.std.specs.FinMap as map
-use Rattle.dots.specs.Conditions.{FieldsAgree}
+use Rattle.operations.specs.Conditions.{FieldsAgree}
 use Rattle.std.proofs.lemmas.List.{get_or_default}
 use Rattle.member_orset.specs.declared.live_dot.LiveDot.{LiveDot}
 use Rattle.member_orset.specs.PlacedStates.{ArePlaced, cells_at, cells_of, ids_of, joined_with}

@@ -1,6 +1,6 @@
 use Rattle.std.proofs.Common.{◌≡◌, ◌<◌, [], length, sym, ap, subst, ◌∙◌, arith, refl}
 use Rattle.std.specs.Iterator.{YieldsFirstBy}
-use Rattle.dots.specs.Views.{listed_row_view, row_view}
+use Rattle.operations.specs.Views.{listed_row_view, row_view}
 use Rattle.member_orset.specs.Index.{listing}
 use Rattle.member_orset.specs.PlacedStates.{listed_at}
 use Rattle.member_orset.proofs.ListedIds.{as_long}

@@ -1,7 +1,7 @@
 use Rattle.std.proofs.Common.{◌≡◌, ◌≤◌, ◌<◌, ◌+◌, refl, sym, ap, subst, inl, inr, ◌∙◌}
 use Rattle.std.proofs.lemmas.Option.{slice_get_within}
 use Rattle.dots.specs.declared.limits.TheConstants.{MOST_CALLS}
-use Rattle.dots.specs.Totals.{totals_of}
+use Rattle.operations.specs.Totals.{totals_of}
 use Rattle.site_totals.specs.Raising.{number_of}
 use Rattle.replica.specs.Changes.{CountCall, Refused}
 use Rattle.replica.specs.declared.refusal.Refusal.TheVariants.{TotalFull}

@@ -1,5 +1,5 @@
 use Rattle.std.proofs.Common.{ap, ◌∙◌}
-use Rattle.dots.specs.Rows.{rows_of}
+use Rattle.operations.specs.Rows.{rows_of}
 use Rattle.member_orset.specs.Members.{dot_view_of}
 use Rattle.replica.proofs.ShownSites.{rows-shown}
 use Rattle.replica.proofs.replica.Replica.rows.Goals as goal

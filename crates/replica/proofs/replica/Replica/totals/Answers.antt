@@ -1,5 +1,5 @@
 use Rattle.std.proofs.Common.{ap, ◌∙◌}
-use Rattle.dots.specs.Totals.{sum_of}
+use Rattle.operations.specs.Totals.{sum_of}
 use Rattle.replica.proofs.ShownSites.{completed-shown, abandoned-shown}
 use Rattle.replica.proofs.replica.Replica.totals.Goals as goal
 

@@ -2,7 +2,7 @@ use Rattle.std.proofs.Common.{◌≡◌, length, sym, ap, ◌∙◌, arith}
 use Rattle.std.proofs.lemmas.Bool.Decides.{nat_tests}
 use Rattle.std.specs.FinMap as map
 use Rattle.std.proofs.lemmas.List.{nil_from_length}
-use Rattle.dots.proofs.TotalsLaws.{entries_empty}
+use Rattle.operations.proofs.TotalsLaws.{entries_empty}
 use Rattle.site_totals.specs.TotalLists.{entries_of}
 use Rattle.site_totals.specs.Tally.{Tally}
 use Rattle.site_totals.proofs.EntryLemmas.{entries_are, entries_none}

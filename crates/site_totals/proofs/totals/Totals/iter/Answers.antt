@@ -1,7 +1,7 @@
 use Rattle.std.proofs.Common.{sym, ap, ◌∙◌, subst}
 use Rattle.std.specs.List.{All}
 use Rattle.std.specs.FinMap as map
-use Rattle.dots.specs.Totals.{IsTotal}
+use Rattle.operations.specs.Totals.{IsTotal}
 use Rattle.site_totals.specs.TotalLists.{Row}
 use Rattle.site_totals.specs.Tally.{Tally}
 use Rattle.site_totals.proofs.EntryLemmas.{entries_are, all_limits}

@@ -1,6 +1,6 @@
 use Rattle.std.proofs.Common.{refl, sym, ap, ◌∙◌, subst}
-use Rattle.dots.specs.Totals.{InLimits}
-use Rattle.dots.proofs.TotalsLaws.{empty_limits}
+use Rattle.operations.specs.Totals.{InLimits}
+use Rattle.operations.proofs.TotalsLaws.{empty_limits}
 use Rattle.site_totals.specs.TotalLists.{IsKept, entries_of}
 use Rattle.site_totals.proofs.EntryLemmas.{entries_none}
 use Rattle.site_totals.proofs.totals.Totals.new.Goals as goal

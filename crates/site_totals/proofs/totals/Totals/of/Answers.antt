@@ -1,8 +1,8 @@
 use Rattle.std.proofs.Common.{◌≡◌, ◌≤◌, sym, ap, ◌∙◌, subst}
 use Rattle.dots.specs.declared.limits.TheConstants.{MOST_CALLS}
 use Rattle.dots.specs.declared.call_totals.CallTotals.{CallTotals}
-use Rattle.dots.specs.Totals.{totals_at, totals_of}
-use Rattle.dots.proofs.TotalsLaws.{totals_at_limit}
+use Rattle.operations.specs.Totals.{totals_at, totals_of}
+use Rattle.operations.proofs.TotalsLaws.{totals_at_limit}
 use Rattle.site_totals.specs.TotalLists.{row_totals, entries_of}
 use Rattle.site_totals.specs.Tally.{Tally}
 use Rattle.site_totals.proofs.EntryLemmas.{totals_read}

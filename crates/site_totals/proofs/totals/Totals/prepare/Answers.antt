@@ -1,6 +1,6 @@
 use Rattle.std.proofs.Common.{◌≡◌, ◌-◌, ◌≤◌, sym, ap, ◌∙◌, subst, arith}
 use Rattle.std.specs.Vec.{vec_len, vec_capacity}
-use Rattle.dots.specs.Totals.{count_missing}
+use Rattle.operations.specs.Totals.{count_missing}
 use Rattle.site_totals.specs.TotalLists.{entries_of}
 use Rattle.site_totals.specs.Tally.{Tally, HasRoomFor}
 use Rattle.site_totals.proofs.totals.Totals.prepare.Goals as goal

@@ -1,7 +1,7 @@
 use Rattle.std.proofs.Common.{◌<◌, sym, subst}
 use Rattle.dots.specs.declared.limits.TheConstants.{QUEUES}
-use Rattle.dots.specs.Totals.{Key, single}
-use Rattle.dots.proofs.TotalsLaws.{single_limits, counted_of}
+use Rattle.operations.specs.Totals.{Key, single}
+use Rattle.operations.proofs.TotalsLaws.{single_limits, counted_of}
 use Rattle.site_totals.specs.Tally.{Tally, HasRoomFor}
 use Rattle.site_totals.proofs.totals.Totals.reach.Goals as goal
 

@@ -1,7 +1,7 @@
 use Rattle.std.proofs.Common.{◌≡◌, ◌+◌, sym, ap, ◌∙◌, arith}
 use Rattle.dots.specs.declared.call_totals.CallTotals.{CallTotals}
-use Rattle.dots.specs.Totals.{totals_of}
-use Rattle.dots.proofs.TotalsLaws.{sum_below-zero, sum_below-more}
+use Rattle.operations.specs.Totals.{totals_of}
+use Rattle.operations.proofs.TotalsLaws.{sum_below-zero, sum_below-more}
 use Rattle.site_totals.proofs.totals.Totals.sum.Goals as goal
 use Rattle.site_totals.proofs.totals.Totals.sum.Goals.{in-Some, in_default}
 

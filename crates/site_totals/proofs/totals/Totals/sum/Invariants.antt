@@ -1,6 +1,6 @@
 use Rattle.std.proofs.Common.{◌≡◌, ◌*◌, ◌≤◌}
 use Rattle.dots.specs.declared.limits.TheConstants.{MOST_CALLS}
-use Rattle.dots.specs.Totals.{sum_below, totals_of}
+use Rattle.operations.specs.Totals.{sum_below, totals_of}
 use Rattle.site_totals.proofs.totals.Totals.sum.Given as goal
 
 -- the sums over the sites that were seen

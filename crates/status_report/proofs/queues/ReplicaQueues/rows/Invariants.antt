@@ -1,5 +1,5 @@
 use Rattle.std.proofs.Common.{◌≡◌, ◌++◌, map as each}
-use Rattle.dots.specs.Views.{listed_row_view}
+use Rattle.operations.specs.Views.{listed_row_view}
 use Rattle.replica.specs.Site.{rows_of}
 use Rattle.status_report.proofs.queues.ReplicaQueues.rows.Given as goal
 

@@ -1,5 +1,0 @@
-use Rattle.dots.proofs.VisibleLaws.{dead-for-good}
-use Rattle.dots.proofs.laws.a_named_dot_is_dead_for_good.Goals as goal
-
-pub returns : goal.returns
-returns c = dead-for-good

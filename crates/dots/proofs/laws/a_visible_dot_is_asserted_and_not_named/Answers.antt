@@ -1,5 +1,0 @@
-use Rattle.dots.proofs.VisibleLaws.{visible-is}
-use Rattle.dots.proofs.laws.a_visible_dot_is_asserted_and_not_named.Goals as goal
-
-pub returns : goal.returns
-returns c = visible-is

@@ -1,5 +1,0 @@
-use Rattle.dots.proofs.RowLaws.{show-the-same}
-use Rattle.dots.proofs.laws.knowledges_of_the_same_operations_show_the_same.Goals as goal
-
-pub returns : goal.returns
-returns c = show-the-same

@@ -1,8 +1,0 @@
-use Rattle.dots.proofs.AlikeViews.{same-row, same-rows}
-use Rattle.dots.proofs.laws.views_that_show_alike_have_the_same_rows.Goals as goal
-
-pub returns-clause-row : goal.returns-clause-row
-returns-clause-row c = same-row
-
-pub returns-clause-rows : goal.returns-clause-rows
-returns-clause-rows c = same-rows

@@ -1,5 +1,0 @@
-use Rattle.dots.proofs.StandingLaws.{represents_one}
-use Rattle.dots.proofs.laws.what_stands_for_a_knowledge_is_one.Goals as goal
-
-pub returns : goal.returns
-returns c = represents_one

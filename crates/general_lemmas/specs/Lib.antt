@@ -1,0 +1,4 @@
+pub mod Fronts
+pub mod Joins
+pub mod SetItems
+pub mod SortedEntries

@@ -1,0 +1,16 @@
+pub mod AlikeViews
+pub mod ConditionLaws
+pub mod ConditionOrder
+pub mod CountLaws
+pub mod FieldLaws
+pub mod JoinedKnowledge
+pub mod KnownLaws
+pub mod RegisterLaws
+pub mod RowLaws
+pub mod ShownLaws
+pub mod StandingJoins
+pub mod StandingLaws
+pub mod TotalsLaws
+pub mod TraceLaws
+pub mod VisibleLaws
+pub mod WithinLimitsLaws

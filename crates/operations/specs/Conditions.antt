@@ -1,0 +1,100 @@
+-- The condition of a dot: unknown, below live with its fields, below dead. A delta has one for each dot that it has heard of.
+use Rattle.std.specs.Prelude.{ℕ, ◌≡◌, ◌⊎◌, false, Option, Some, None, if◌then◌else◌}
+use Rattle.std.specs.Option.{option_map}
+use Rattle.std.specs.FinMap as map
+use Rattle.std.specs.FinSet as set
+use Rattle.dots.specs.declared.call_totals.CallTotals.{CallTotals}
+use Rattle.dots.specs.declared.calls.Calls.TheVariants.{Completed, Abandoned}
+use Rattle.dots.specs.declared.label.Label.{Label}
+use Rattle.dots.specs.declared.member.Member.{Member}
+use Rattle.dots.specs.Values.{Dot, PauseState}
+use Rattle.dots.specs.Orders.{dot_cmp}
+use Rattle.operations.specs.Registers.{Entry, Agree, InConflict, IsBelow, join_of}
+use Rattle.dots.specs.CountedCalls.{is_zero}
+use Rattle.operations.specs.Totals.{Key, Entries, totals_of}
+use Rattle.operations.specs.Operations.{penalty_field, pause_field, label_field}
+use Rattle.operations.specs.Knowledge.{Knowledge, is_named, known_dots, member_of, field_of}
+use Rattle.operations.specs.Counts.{site_total}
+
+-- the fields of a live dot, each a register
+pub record DotFields : Type 0 where
+  pub penalty : Option (Entry ℕ)
+  pub pause : Option (Entry PauseState)
+  pub label : Option (Entry Label)
+
+-- no field is set
+abbrev pub no_fields : DotFields
+no_fields = record { penalty = None; pause = None; label = None }
+
+-- what is known of a dot: it is live, with its member and fields, or dead. Of an unknown dot there is no condition.
+pub data Condition : Type 0 where
+  Live : (member : Member) (fields : DotFields) → Condition
+  Dead : Condition
+
+-- the fields of a dot in a knowledge
+abbrev pub fields_in : Knowledge → Dot → DotFields
+fields_in k dot = record { penalty = field_of penalty_field k dot; pause = field_of pause_field k dot; label = field_of label_field k dot }
+
+-- the condition of a dot in a knowledge: dead if it is named, else live if it is asserted, else unknown
+abbrev pub condition_in : Knowledge → Dot → Option Condition
+condition_in k dot = if is_named k dot then Some Dead else option_map (λ member. Live member (fields_in k dot)) (member_of k dot)
+
+-- fields agree where each of them has one value under one stamp
+pub record FieldsAgree (x y : DotFields) : Type 0 where
+  pub penalty : Agree x.penalty y.penalty
+  pub pause : Agree x.pause y.pause
+  pub label : Agree x.label y.label
+
+-- some field has one stamp and two values
+abbrev pub FieldsInConflict : DotFields → DotFields → Type 0
+FieldsInConflict x y = InConflict x.penalty y.penalty ⊎ InConflict x.pause y.pause ⊎ InConflict x.label y.label
+
+-- two live conditions agree in member and fields; all others agree
+abbrev pub ConditionsAgree : Option Condition → Option Condition → Type 0
+ConditionsAgree (Some (Live m f)) (Some (Live n g)) = (m ≡ n) × FieldsAgree f g
+ConditionsAgree (Some (Live m f)) (Some Dead) = Unit {0}
+ConditionsAgree (Some (Live m f)) None = Unit {0}
+ConditionsAgree (Some Dead) y = Unit {0}
+ConditionsAgree None y = Unit {0}
+
+-- field by field the greater stamp
+abbrev pub fields_joined : DotFields → DotFields → DotFields
+fields_joined x y = record { penalty = join_of x.penalty y.penalty; pause = join_of x.pause y.pause; label = join_of x.label y.label }
+
+-- the least upper bound of two conditions: dead wins, live is above unknown, and two live ones join their fields
+abbrev pub condition_joined : Option Condition → Option Condition → Option Condition
+condition_joined None y = y
+condition_joined (Some Dead) y = Some Dead
+condition_joined (Some (Live m f)) None = Some (Live m f)
+condition_joined (Some (Live m f)) (Some Dead) = Some Dead
+condition_joined (Some (Live m f)) (Some (Live n g)) = Some (Live m (fields_joined f g))
+
+-- fields are below others where each of them is
+pub record FieldsBelow (x y : DotFields) : Type 0 where
+  pub penalty : IsBelow x.penalty y.penalty
+  pub pause : IsBelow x.pause y.pause
+  pub label : IsBelow x.label y.label
+
+-- the order of conditions: unknown, below live, which is below live with later fields of the same member, below dead
+abbrev pub IsConditionBelow : Option Condition → Option Condition → Type 0
+IsConditionBelow None y = Unit {0}
+IsConditionBelow (Some (Live m f)) None = ⊥
+IsConditionBelow (Some (Live m f)) (Some (Live n g)) = (m ≡ n) × FieldsBelow f g
+IsConditionBelow (Some (Live m f)) (Some Dead) = Unit {0}
+IsConditionBelow (Some Dead) None = ⊥
+IsConditionBelow (Some Dead) (Some (Live n g)) = ⊥
+IsConditionBelow (Some Dead) (Some Dead) = Unit {0}
+
+-- The conditions of dots, the dots that are known, and totals stand for a knowledge: they say of each dot and total what it says,
+-- know the dots that it knows, and have no entry of two zeros.
+pub record Represents (condition : Dot → Option Condition) (known : set.FinSet dot_cmp) (counts : Entries) (k : Knowledge) : Type 0 where
+  pub conditions : (dot : Dot) → condition dot ≡ condition_in k dot
+  pub dots : known ≡ known_dots k
+  pub totals : (site queue : ℕ) → totals_of counts site queue ≡ record { completed = site_total k site queue Completed; abandoned = site_total k site queue Abandoned }
+  pub no_zeros : (key : Key) (totals : CallTotals) → map.get counts key ≡ Some totals → is_zero totals ≡ false
+
+-- what stands for one knowledge is one
+pub record IsOne (c d : Dot → Option Condition) (known heard : set.FinSet dot_cmp) (counts totals : Entries) : Type 0 where
+  pub conditions : (dot : Dot) → c dot ≡ d dot
+  pub dots : known ≡ heard
+  pub totals_are : counts ≡ totals

@@ -1,0 +1,12 @@
+pub mod Codes
+pub mod Conditions
+pub mod Counts
+pub mod Knowledge
+pub mod OperationLimits
+pub mod Operations
+pub mod Registers
+pub mod Rows
+pub mod Shown
+pub mod Totals
+pub mod Traces
+pub mod Views

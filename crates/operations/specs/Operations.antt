@@ -1,0 +1,87 @@
+-- Operations: the changes that sites make, each of which is made once (RR-7506). An add makes a new dot, and a remove
+-- names the dots that its site sees (RR-8083's observed-remove set).
+use Rattle.std.specs.Prelude.{ℕ, List, [], ◌∷◌, Option, Some, None}
+use Rattle.std.specs.FinSet as set
+use Rattle.dots.specs.declared.calls.Calls.{Calls}
+use Rattle.dots.specs.declared.label.Label.{Label}
+use Rattle.dots.specs.declared.member.Member.{Member}
+use Rattle.dots.specs.Values.{Dot, Stamp, PauseState}
+use Rattle.dots.specs.Orders.{dot_cmp}
+use Rattle.operations.specs.Registers.{Entry}
+
+-- a value for one field of a member; a field more is a constructor more
+pub data Setting : Type 0 where
+  SetPenalty : ℕ → Setting
+  SetPause : PauseState → Setting
+  SetLabel : Label → Setting
+
+-- An Add makes a dot of a member and sets its three fields under one stamp. A Write sets one field on dots that its site
+-- sees. Both also name older dots that are dead at their site. A Remove names the dots that its site sees. A Count says
+-- how many calls a site has counted in a queue so far.
+pub data Operation : Type 0 where
+  Add : (dot : Dot) (member : Member) (stamp : Stamp) (penalty : ℕ) (pause : PauseState) (label : Label) (older : set.FinSet dot_cmp) → Operation
+  Write : (dots : List (Dot × Member)) (setting : Setting) (stamp : Stamp) (older : set.FinSet dot_cmp) → Operation
+  Remove : (dots : set.FinSet dot_cmp) → Operation
+  Count : (site queue : ℕ) (calls : Calls) (total : ℕ) → Operation
+
+-- the dots that an operation asserts, each with its member
+abbrev pub asserted_by : Operation → List (Dot × Member)
+asserted_by (Add dot member stamp penalty pause label older) = (dot, member) ∷ []
+asserted_by (Write dots setting stamp older) = dots
+asserted_by (Remove dots) = []
+asserted_by (Count site queue calls total) = []
+
+-- the dots that it names: they are dead from then on
+abbrev pub named_by : Operation → set.FinSet dot_cmp
+named_by (Add dot member stamp penalty pause label older) = older
+named_by (Write dots setting stamp older) = older
+named_by (Remove dots) = dots
+named_by (Count site queue calls total) = set.empty
+
+-- A field, by what an operation sets of it on the dots that it asserts: a value and its stamp, or nothing.
+abbrev pub Field : Type 0 → Type 0
+Field T = Operation → Option (Entry T)
+
+-- the penalty that is set, if it is one
+abbrev pub set_penalty : Setting → Option ℕ
+set_penalty (SetPenalty n) = Some n
+set_penalty (SetPause p) = None
+set_penalty (SetLabel l) = None
+
+-- the pause that is set, if it is one
+abbrev pub set_pause : Setting → Option PauseState
+set_pause (SetPenalty n) = None
+set_pause (SetPause p) = Some p
+set_pause (SetLabel l) = None
+
+-- the label that is set, if it is one
+abbrev pub set_label : Setting → Option Label
+set_label (SetPenalty n) = None
+set_label (SetPause p) = None
+set_label (SetLabel l) = Some l
+
+-- a value under a stamp, where there is a value
+abbrev pub entry_under : {T : Type 0} → Stamp → Option T → Option (Entry T)
+entry_under stamp None = None
+entry_under stamp (Some value) = Some (record { stamp = stamp; value = value })
+
+-- the penalty that an operation sets
+abbrev pub penalty_field : Field ℕ
+penalty_field (Add dot member stamp penalty pause label older) = entry_under stamp (Some penalty)
+penalty_field (Write dots setting stamp older) = entry_under stamp (set_penalty setting)
+penalty_field (Remove dots) = None
+penalty_field (Count site queue calls total) = None
+
+-- the pause that it sets
+abbrev pub pause_field : Field PauseState
+pause_field (Add dot member stamp penalty pause label older) = entry_under stamp (Some pause)
+pause_field (Write dots setting stamp older) = entry_under stamp (set_pause setting)
+pause_field (Remove dots) = None
+pause_field (Count site queue calls total) = None
+
+-- the label that it sets
+abbrev pub label_field : Field Label
+label_field (Add dot member stamp penalty pause label older) = entry_under stamp (Some label)
+label_field (Write dots setting stamp older) = entry_under stamp (set_label setting)
+label_field (Remove dots) = None
+label_field (Count site queue calls total) = None

@@ -1,0 +1,13 @@
+-- Rows as readers are given them, seen without where their bytes lie in memory.
+use Rattle.std.specs.Prelude.{ℕ, List}
+use Rattle.std.specs.Borrow.{Bor}
+use Rattle.operations.specs.Rows.{MemberRow}
+use Rattle.operations.specs.declared.row.Row.{Row}
+
+-- the row that a reader is given
+abbrev pub row_view : Row → MemberRow
+row_view row = record { penalty = row.penalty; paused = row.paused; reason = row.reason.now; name = row.name.now; state = row.state.now }
+
+-- an interface and its row, as a reader is given them
+abbrev pub listed_row_view : Bor (List ℕ) × Row → List ℕ × MemberRow
+listed_row_view item = (item.0.now, row_view item.1)
