@@ -7,8 +7,8 @@ use crate::{Failed, Sink};
 use std::alloc::Global;
 use std::marker::Model;
 
-/// A sink that keeps what it takes in memory, at most so many bytes a write, and may fail at one of
-/// its writes.
+/// A sink that keeps what it takes in memory, at most a given number of bytes a write, and may fail at
+/// one of its writes.
 #[derive(Drop)]
 pub struct MemorySink {
     bytes: Vec<u8>,
@@ -43,7 +43,7 @@ impl MemorySink {
         }
     }
 
-    /// The same, where so many writes succeed, as far as memory goes, and the next one fails.
+    /// The same, where `writes` writes succeed, as far as memory goes, and the next one fails.
     pub fn failing(alloc: Global, most: usize, writes: u64) -> Self
         ensures { result
             ≡ record { taken = []; most = most; writes_left = Some writes; failed = false } }

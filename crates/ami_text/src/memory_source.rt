@@ -6,8 +6,8 @@ use crate::calls_left::count_down;
 use crate::{Failed, Source};
 use std::marker::Model;
 
-/// A source over bytes in memory, that gives at most so many bytes a read and may fail at one of
-/// its reads.
+/// A source over bytes in memory, that gives at most a given number of bytes a read, and may fail at
+/// one of its reads.
 #[derive(Drop)]
 pub struct MemorySource<'a> {
     left: &'a [u8],
@@ -51,7 +51,7 @@ impl<'a> MemorySource<'a> {
         }
     }
 
-    /// The same, where so many reads succeed and the next one fails.
+    /// The same, where `reads` reads succeed and the next one fails.
     pub fn failing(bytes: &'a [u8], most: usize, reads: u64) -> Self
         requires { 0 < most }
         ensures bytes { result.left ≡ bytes.now }

@@ -1,5 +1,5 @@
 //! Workloads to be timed. `bench TIMES WORD..` reads frames from standard input, one behind the other, and does what each
-//! word says with all of them, so often. For each word it prints the word and a checksum of what was computed, the same on
+//! word says with all of them, as often as the number says. For each word it prints the word and a checksum of what was computed, the same on
 //! each run: `bench 100 copy join`. A word that can't be done says why.
 //!
 //! The stored run does each word twice, with three frames that are seen by hand. Site 0 knows its dots 1 to 3, of which 1 and 3 are

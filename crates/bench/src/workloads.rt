@@ -122,7 +122,7 @@ fn checksum(
     }
 }
 
-/// The sum of the checksums of what a word says, done so often with these frames, which are spelled by these bytes.
+/// The sum of the checksums of what a word says, done `times` times with these frames, which are spelled by these bytes.
 pub fn sum_of_checksums(
     alloc: Global,
     word: &str,

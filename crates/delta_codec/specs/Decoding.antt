@@ -43,7 +43,7 @@ pub record IsFrontFrame (bytes : List ℕ) (result : Result (Frame × ℕ) Decod
   pub found : (frame : Frame) (n : ℕ) → n ≤ length bytes → Spells frame (take n bytes)
       → UnlessMemory result (IsOkAnd result (λ x. IsSameFrame x.0 frame × (x.1 ≡ n)))
 
--- A frame has begun: a length within its limits, so many bytes behind it, and at the front of these the magic, the version and a
+-- A frame has begun: a length within its limits, as many bytes behind it, and at the front of these the magic, the version and a
 -- heading.
 pub record HasOpening (bytes : List ℕ) : Type 0 where
   pub heading : Heading

@@ -160,7 +160,7 @@ TotalFails fault before bytes =
     Lacks (λ total. IsTotal total.0 total.1) total_bytes BadRange fault bytes
     ⊎ After (λ total. IsTotal total.0 total.1) total_bytes (λ total _. ¬ Follows is_total_before before total × (fault ≡ BadOrder)) bytes
 
--- Of so many elements some stand there in order, and the next is at fault.
+-- Of `count` elements some stand there in order, and the next is at fault.
 pub record ElementsFail {A : Type 0} (IsGood : List A → Type 0) (spell : A → List ℕ) (NextFails : List A → List ℕ → Type 0) (count : ℕ) (bytes : List ℕ) : Type 0 where
   pub before : List A
   pub rest : List ℕ
@@ -216,7 +216,7 @@ ContentFails fault bytes =
     ⊎ After AreTotals (list_bytes total_bytes) (λ _ rest.
     (rest ≢ []) × (fault ≡ BadRange)) totals) cells) runs) heading) version) bytes
 
--- Bytes have a fault: the length is missing; or it is too great, or too small; or fewer bytes follow; or what follows, so many bytes of it, is at fault.
+-- Bytes have a fault: the length is missing; or it is too great, or too small; or fewer bytes follow; or the bytes of that length that follow are at fault.
 abbrev pub HasFault : List ℕ → DecodeFault → Type 0
 HasFault bytes fault =
     Lacks IsNumber4 number4 Truncated fault bytes

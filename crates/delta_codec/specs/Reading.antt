@@ -95,14 +95,14 @@ flags_at bytes = tested (λ n. nat_le 1 n && nat_le n 7) BadRange (byte_at bytes
 
 -- ---- texts
 
--- so many bytes that make a text
+-- `len` bytes that make a text
 unfoldable pub text_of : ℕ → List ℕ → Read (List ℕ)
 text_of len rest =
     if nat_lt (length rest) len then Err BadRange
     else if list_any is_bad_byte (take len rest) then Err BadText
     else Ok (take len rest, drop len rest)
 
--- a text of at least so many bytes
+-- a text of at least `least` bytes
 unfoldable pub text_at : ℕ → List ℕ → Read (List ℕ)
 text_at least bytes = tested (λ len. nat_le least len && nat_le len TEXT_BYTES) BadText (byte_at bytes) >>= λ len. text_of len.0 len.1
 
@@ -232,12 +232,12 @@ total_elements = record { at = total_at; key = λ total. total.0; fault_of = ord
 abbrev pub next_at : {A K : Type 0} → Elements A K → Option K → List ℕ → Read A
 next_at e last bytes = e.at bytes >>= λ x. accepted (e.fault_of last (e.key x.0)) x
 
--- so many elements, each behind the one before
+-- a given number of elements, each behind the one before
 unfoldable pub elements_at : {A K : Type 0} → Elements A K → ℕ → Option K → List ℕ → Read (List A)
 elements_at e zero last bytes = Ok ([], bytes)
 elements_at e (suc n) last bytes = next_at e last bytes >>= λ x. elements_at e n (Some (e.key x.0)) x.1 >>= λ xs. Ok (x.0 ∷ xs.0, xs.1)
 
--- how many, at most so many
+-- how many elements a list has, at most `most`
 unfoldable pub size_at : ℕ → List ℕ → Read ℕ
 size_at most bytes = tested (λ n. nat_le n most) TooLarge (number_at w32 bytes)
 

@@ -12,7 +12,7 @@ use crate::reader::Reader;
 use dots::{Interface, Label, Pause, Penalty, Stamp, TEXT_BYTES, Text80};
 use lww_registers::{Fields, Register};
 
-// A text of at least so many bytes.
+// A text of at least `least` bytes.
 #[tactic(auto, unfolding(crate::specs::Reading::text_at))]
 fn read_text(least: u8, reader: &mut Reader<'_>) -> Result<Text80, DecodeFault>
     ensures value { Gives (λ x. (x, reader.new)) result (text_at least reader.old) }

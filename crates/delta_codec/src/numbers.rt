@@ -112,7 +112,7 @@ pub(crate) fn read_flags(reader: &mut Reader<'_>) -> Result<u8, DecodeFault>
     Ok(number)
 }
 
-// How many elements a list has, at most so many.
+// How many elements a list has, at most `most`.
 #[tactic(auto, unfolding(crate::specs::Reading::size_at))]
 pub(crate) fn read_size(most: usize, reader: &mut Reader<'_>) -> Result<u32, DecodeFault>
     ensures value { Gives (λ x. (x, reader.new)) result (size_at most reader.old) }

@@ -42,7 +42,7 @@ pub record AreToName (known : set.FinSet dot_cmp) (live : Dot → Bool) (given :
 unfoldable pub part_before : set.FinSet dot_cmp → ℕ → ℕ → set.FinSet dot_cmp
 part_before dots site count = set.retain dots (λ d. nat_lt d.site site || (nat_eq d.site site && nat_lt d.count count))
 
--- what was gathered: so many runs, and a context of the dots, unless it failed; it is full only where there are too many runs
+-- what was gathered: how many runs, and a context of the dots, unless it failed; it is full only where there are too many runs
 pub record IsGathered (g : Gathered) (dots : set.FinSet dot_cmp) : Type 0 where
   pub counted : g.runs ≡ run_count dots
   pub kept : g.fault ≡ None → g.context.dots ≡ dots

@@ -103,6 +103,6 @@ pub record AreUnlisted (s : PlacedState) (members : List Id) (capacity : ℕ) : 
   pub empty : members ≡ []
   pub room : length s.dots ≤ capacity
 
--- what contracts see of them, where the index has room for so many ids
+-- what contracts see of them, where the index has room for `capacity` ids
 abbrev pub live_state : PlacedState → ℕ → LiveState
 live_state s capacity = record { live = live_of (cells_of s); ids = maps.from_sorted (id_entries s.dots); spent = s.spent; room = min s.room capacity }

@@ -149,7 +149,7 @@ pub(crate) fn take_all(
     }
 }
 
-// Makes room for the runs of another context, and for so many more live dots. Nothing else changes.
+// Makes room for the runs of another context, and for `more` more live dots. Nothing else changes.
 pub(crate) fn make_room(
     context: &mut Context,
     cells: &mut LiveCells<LAST_GENERATION>,

@@ -161,7 +161,7 @@ impl<const LAST: u32> LiveCells<LAST> {
         row_in(&self.placed, &self.members, member)
     }
 
-    // Makes room for so many more live dots. `Full` exactly where there can't be so many places, and then nothing has grown.
+    // Makes room for `more` more live dots. `Full` exactly where there can't be as many places, and then nothing has grown.
     pub(crate) fn reserve(&mut self, more: usize) -> Result<(), ArenaFault>
         ensures room { OnOk result (map.len self.old.live + more ≤ self.new.room) }
         ensures full { (result ≡ Err ArenaFault.Full)

@@ -173,7 +173,7 @@ impl<const LAST: u32> PlacedCells<LAST> {
         self.cells.get(id)
     }
 
-    // Makes room for so many more dots. `Full` exactly where there can't be so many places, and then nothing has grown.
+    // Makes room for `more` more dots. `Full` exactly where there can't be as many places, and then nothing has grown.
     pub(crate) fn reserve(&mut self, more: usize) -> Result<(), ArenaFault>
         ensures room { OnOk result (length self.old.dots + more ≤ self.new.room) }
         ensures full { (result ≡ Err ArenaFault.Full)

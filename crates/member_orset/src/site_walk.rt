@@ -22,7 +22,7 @@ use crate::placed_lists::place;
 use causal_context::Run;
 use dots::{Dot, MOST_COUNT, SiteId};
 
-// Whether a dot is given, and how far this is so of the counts from its own on.
+// Whether a dot is given; and up to which count, `last` at most, the dots from it on are as it is.
 fn given_piece(given: &[Dot], from: Dot, last: u64) -> Piece
     requires { from.count ≤ last }
     ensures { IsPiece (λ n. is_given given.now (record { site = from.site; count = n }))
@@ -123,7 +123,7 @@ fn dots_passed(dots: &[Placed], known: usize, dot: Dot) -> usize
     place(dots, dot)
 }
 
-// Whether a dot is in runs, of which so many end before it, and how far this is so of the counts from its own on.
+// Whether a dot is in the runs, the first `place` of which end before it; and up to which count, `last` at most, the dots from it on are as it is.
 fn known_piece(runs: &[Run], place: usize, from: Dot, last: u64) -> Piece
     requires apart { AreApart runs.now }
     requires within { place ≤ length runs.now }
@@ -158,7 +158,7 @@ fn known_piece(runs: &[Run], place: usize, from: Dot, last: u64) -> Piece
     }
 }
 
-// Whether a dot is live, and how far this is so of the counts from its own on. So many live dots lie before it.
+// Whether a dot is live, where the first `below` live dots lie before it; and up to which count the dots from it on are as it is.
 fn live_piece(dots: &[Placed], below: usize, from: Dot, last: u64) -> Piece
     requires rise { AreRising dots.now }
     requires within { below ≤ length dots.now }
@@ -197,8 +197,8 @@ fn live_piece(dots: &[Placed], below: usize, from: Dot, last: u64) -> Piece
     }
 }
 
-// Whether a dot is given or dead, and how far this is so of the counts from its own on. So many runs end before it, and
-// so many live dots lie before it.
+// Whether a dot is given or dead, where the first `run` runs end before it and the first `live` live dots lie before it; and up to which
+// count the dots from it on are as it is.
 fn piece_at(
     runs: &[Run],
     run: usize,

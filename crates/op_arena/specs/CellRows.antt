@@ -20,7 +20,7 @@ values [] = []
 values (None ∷ places) = values places
 values (Some value ∷ places) = value ∷ values places
 
--- of so many places the first `len` hold values, and the others are empty
+-- of `capacity` places the first `len` hold values, and the others are empty
 pub record IsFilled {X : Type 0} (places : List (Option X)) (len capacity : ℕ) : Type 0 where
   pub laid : places ≡ map Some (values places) ++ replicate (capacity - len) None
   pub count : len ≡ length (values places)
@@ -38,7 +38,7 @@ module _ (R : RattleType) where
   owns_row b at [] = ftrue
   owns_row b at (place ∷ rest) = fsep (owns_place b at place) (owns_row b (at + type_size R) rest)
 
-  -- so many places take fewer than 2 ^ 63 bytes
+  -- the places take fewer than 2 ^ 63 bytes together
   abbrev pub below_limit : List (Option R.Denot) → Fml
   below_limit places = flt (length places * type_size R) (2 ^ 63)
 
@@ -62,6 +62,6 @@ module _ (R : RattleType) where
   lends_places null_ptr places = said ffalse
   lends_places (block_ptr b at) places = beside (said (below_limit places)) (lends_row b at places)
 
-  -- the allocator's token for the memory of so many places
+  -- the allocator's token for the memory of `count` places
   abbrev pub owns_lease : (Ty → Ptr → Fml) → Ptr → ℕ → Fml
   owns_lease token first count = token (raw (ty_array (lone R.mir) count)) first

@@ -8,7 +8,7 @@ pub record Column (X : Type 0) : Type 0 where
   pub capacity : ℕ
 
 module _ {X : Type 0} where
-  -- a column of these values, with memory for so many
+  -- a column of the values xs, with memory for n of them
   abbrev pub column : List X → ℕ → Column X
   column xs n = record { items = xs; capacity = n }
 

@@ -7,7 +7,7 @@ abbrev pub size : ℕ → ℕ
 size zero = 1
 size (suc chunk) = 2 ^ chunk
 
--- how many values so many chunks hold together
+-- how many values the first `chunks` chunks hold together
 abbrev pub total : ℕ → ℕ
 total zero = 0
 total (suc chunks) = 2 ^ chunks
@@ -22,7 +22,7 @@ module _ {X : Type 0} where
   all_items [] = []
   all_items (c ∷ cs) = c.items ++ all_items cs
 
-  -- from this chunk on, so many values fill one chunk after another
+  -- n values fill one chunk after another, from this chunk on
   abbrev pub IsLaid : ℕ → ℕ → List (Column X) → Type 0
   IsLaid chunk n [] = n ≡ 0
   IsLaid chunk n (c ∷ cs) = (c.capacity ≡ size chunk) × (length c.items ≡ min (size chunk) n) × IsLaid (suc chunk) (n - size chunk) cs

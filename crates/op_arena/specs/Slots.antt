@@ -79,7 +79,7 @@ module _ {T : Type 0} where
   unfoldable pub spent_in : List (Slot T) → set.FinSet id_cmp
   spent_in slots = set.from_list (spent_from 0 slots)
 
-  -- from this one on, so many free cells each name the next, and the last names none
+  -- n free cells, of which this is the first: each names the next, and the last names none
   abbrev pub IsFreeList : List (Slot T) → ℕ → Option ℕ → Type 0
   IsFreeList slots zero first = first ≡ None
   IsFreeList slots (suc n) first = (i : ℕ) × (g : ℕ) × (next : Option ℕ) × (first ≡ Some i) × (slice_get slots i ≡ Some (slot g (Free next))) × IsFreeList slots n next
@@ -90,7 +90,7 @@ module _ {T : Type 0} where
   KeepsLast last g (Held value) = g ≤ last
   KeepsLast last g Retired = g ≡ last
 
-  -- The cells of an arena: so many hold a value, so many are retired, and the others are linked as free; there is memory for them all, and no generation is past the last one.
+  -- The cells of an arena: `held` of them hold a value, `retired` are retired, and the others are linked as free; there is memory for them all, and no generation is past the last one.
   pub record IsArena (last : ℕ) (slots : List (Slot T)) (capacity : ℕ) (first : Option ℕ) (held retired : ℕ) : Type 0 where
     pub counts_held : held ≡ count is_held slots
     pub counts_retired : retired ≡ count is_retired slots

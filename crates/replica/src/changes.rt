@@ -170,7 +170,7 @@ fn calls_alone(calls: Calls, total: u64) -> CallTotals
     }
 }
 
-// The change of a count: the site has counted so many of these calls in the queue.
+// The change of a count: the site has now counted `total` of these calls in the queue.
 pub(crate) fn counted(
     alloc: Global,
     site: SiteId,

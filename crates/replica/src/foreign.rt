@@ -25,14 +25,14 @@ fn has_strange_member(members: &MemberSet, queues: u16) -> bool
     false
 }
 
-// Whether some total is of such a queue.
+// Whether some total is of a queue whose number isn't below this one.
 fn has_strange_total(totals: &Totals, queues: u16) -> bool
     ensures { IsTrue result ↔ Any (λ e. queues ≤ e.0.queue) (map.entries totals.now.entries) }
 {
     totals.iter().any(|(key, _)| key.queue() >= queues)
 }
 
-// Whether a delta speaks of such a queue.
+// Whether a delta has a live dot or a total in a queue whose number isn't below this one.
 fn speaks_of_strange_queue(delta: &Delta, queues: u16) -> bool
     ensures { IsTrue result ↔ SpeaksOfStrangeQueue queues delta.now }
 {
@@ -46,14 +46,14 @@ fn is_run_past(run: Run, site: SiteId, last: u64) -> bool
     run.site == site && run.last > last
 }
 
-// Whether one of some runs has.
+// Whether one of these runs has a dot of this site of a count past this one.
 fn has_run_past(runs: &[Run], site: SiteId, last: u64) -> bool
     ensures { IsTrue result ↔ Any (λ r. (r.site ≡ site) × (last < r.last)) runs.now }
 {
     runs.iter().any(|run| is_run_past(*run, site, last))
 }
 
-// Whether a context has such a dot.
+// Whether a context has a dot of this site of a count past this one.
 fn has_dot_past(context: &Context, site: SiteId, last: u64) -> bool
     ensures { IsTrue result ↔ HasDotPast site last context.now.dots }
 {
@@ -67,7 +67,7 @@ fn is_stamp_past(stamp: Stamp, site: SiteId, last: u64) -> bool
     stamp.site() == site && stamp.time() > last
 }
 
-// Whether a register was written under such a stamp.
+// Whether a register was written under a stamp of this site and of a time past this one.
 fn is_written_past<T>(register: &Register<T>, site: SiteId, last: u64) -> bool
     ensures { IsTrue result ↔ IsWrittenPast site last register.now }
 {
@@ -77,7 +77,7 @@ fn is_written_past<T>(register: &Register<T>, site: SiteId, last: u64) -> bool
     }
 }
 
-// Whether one of a dot's fields was.
+// Whether one of a dot's fields was written under a stamp of this site and of a time past this one.
 fn has_field_past(fields: &Fields, site: SiteId, last: u64) -> bool
     ensures { IsTrue result ↔ HasFieldPast site last fields.now }
 {
@@ -86,7 +86,7 @@ fn has_field_past(fields: &Fields, site: SiteId, last: u64) -> bool
         || is_written_past(&fields.label, site, last)
 }
 
-// Whether a field of some live dot was.
+// Whether a field of some live dot was written under a stamp of this site and of a time past this one.
 fn has_stamp_past(members: &MemberSet, site: SiteId, last: u64) -> bool
     ensures { IsTrue result
         ↔ Any (λ e. HasFieldPast site last e.1.1) (map.entries members.now.live) }
@@ -99,7 +99,7 @@ fn has_stamp_past(members: &MemberSet, site: SiteId, last: u64) -> bool
     false
 }
 
-// Whether a set of members has such a dot, or a live dot with such a field.
+// Whether a set of members has a dot of this site of a count past `count`, or a live dot with a field that was written later at this site than `time`.
 fn has_member_past(members: &MemberSet, site: SiteId, count: u64, time: u64) -> bool
     ensures { IsTrue result ↔ HasMemberPast site count time members.now }
 {
@@ -120,7 +120,7 @@ fn is_entry_past(key: TotalKey, totals: CallTotals, own: &Totals, site: SiteId) 
     key.site() == site && counts_more(totals, own.of(site, key.queue()))
 }
 
-// Whether some entry has.
+// Whether some entry has a total of this site that is greater than the site's own.
 fn has_total_past(totals: &Totals, own: &Totals, site: SiteId) -> bool
     ensures { IsTrue result
         ↔ Any (λ e. IsEntryPast site own.now.entries e.0 e.1) (map.entries totals.now.entries) }

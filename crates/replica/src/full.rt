@@ -7,7 +7,7 @@ use causal_context::Context;
 use delta::Delta;
 use dots::{MOST_COUNT, MOST_LIVE, MOST_RUNS, SiteId};
 
-// Whether a delta has too many live dots or runs, once the dots of a context are dead there, so many others are live, and one
+// Whether a delta has too many live dots or runs, once the dots of a context are dead there, `more` others are live, and one
 // dot of a site is known besides.
 pub(crate) fn is_full_with(
     delta: &Delta,

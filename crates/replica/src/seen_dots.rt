@@ -48,7 +48,7 @@ fn dots_by_queue(
     Ok(list)
 }
 
-// The live dots of an interface in all queues, of which there are so many, in their order.
+// The live dots of an interface in all `queues` queues, in their order.
 fn dots_of_interface(
     alloc: Global,
     members: &MemberSet,

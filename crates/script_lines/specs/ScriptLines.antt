@@ -45,7 +45,7 @@ behind [] bytes = Some bytes
 behind (f ∷ front) [] = None
 behind (f ∷ front) (b ∷ bytes) = if b == f then behind front bytes else None
 
--- the number of at least one and at most so many decimal digits
+-- the number that 1 to `most` decimal digits spell
 abbrev pub number_in : ℕ → List ℕ → Option ℕ
 number_in most [] = None
 number_in most (d ∷ ds) =
@@ -55,7 +55,7 @@ number_in most (d ∷ ds) =
 abbrev pub entry_in : List ℕ → Option ℕ
 entry_in word = number_in 9 word
 
--- the number of one of so many sites
+-- the number of a site, where there are `sites` of them
 abbrev pub one_of : ℕ → ℕ → Option ℕ
 one_of sites site = if nat_lt site sites then Some site else None
 
@@ -107,7 +107,7 @@ abbrev pub site_sense : Option ℕ → Option (List ℕ) → Sense
 site_sense (Some site) (Some words) = words_sense site words
 site_sense site words = Unknown
 
--- what a line asks of one of so many sites, or of the pool
+-- what a line asks of one of `sites` sites, or of the pool
 abbrev pub asked_in : ℕ → List ℕ → Option (List ℕ) → Sense
 asked_in sites line (Some word) = entry_sense Show (entry_in word)
 asked_in sites line None = site_sense (site_in sites (before_blank line)) (behind_blank line)

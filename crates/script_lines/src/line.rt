@@ -56,7 +56,7 @@ fn without_cr(line: &[u8]) -> &[u8]
     }
 }
 
-/// What a line asks of one of so many sites, or of the pool, seen without its end.
+/// What a line asks of one of `sites` sites, or of the pool. The line is without its end.
 pub fn read_line(sites: SiteCount, line: &[u8]) -> Line<'_>
     ensures { sense result ≡ sense_of sites line.now }
 {

@@ -6,7 +6,7 @@ use crate::site_count::SiteCount;
 use ami_session::{are_digits, number_of};
 use dots::SiteId;
 
-/// The site that a word names among so many, by one digit or two; `None` where it names none.
+/// The site that a word names by one digit or two; `None` where that is none of the `sites` sites.
 pub fn site_of(sites: SiteCount, word: &[u8]) -> Option<SiteId>
     ensures { result ≡ site_in sites word.now }
 {
@@ -26,7 +26,7 @@ pub fn entry_of(word: &[u8]) -> Option<usize>
     Some(number as usize)
 }
 
-// The number of at least one and at most so many digits, at most nine.
+// The number that 1 to `most` decimal digits spell; `most` is at most nine.
 fn number_in(most: usize, word: &[u8]) -> Option<u32>
     requires { most ≤ 9 }
     ensures { result ≡ number_in most word.now }

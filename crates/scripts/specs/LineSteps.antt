@@ -12,7 +12,7 @@ use Rattle.script_lines.specs.ScriptLines.{Sense}
 use Rattle.scripts.specs.Answers.{unknown_text}
 use Rattle.scripts.specs.Script.{Place, Given, Gives, LineGives}
 
--- so many sites, each with these queues
+-- the sites 0 to `sites` less 1, each with the queues of these names
 abbrev pub listed_place : ℕ → List (List ℕ) → Place
 listed_place sites names = record { sites = sites; names = names }
 

@@ -144,7 +144,7 @@ AreBegun place w number (line ∷ lines) text =
     ⊎ ((given : Given) × LineGives place w number line given
     × (IsFront text given.text ⊎ ((more : List ℕ) × AreBegun place given.after (number + 1) lines more × (text ≡ given.text ++ more))))
 
--- a device has taken the text of a script's lines, of which so many aren't understood
+-- a device has taken the text of a script's lines, of which `unknown` aren't understood
 pub record HasWritten (place : Place) (w : World) (script : List ℕ) (before after : Option (List ℕ)) (unknown : ℕ) : Type 0 where
   pub text : List ℕ
   pub is_text : AreGiven place w 1 (lines_of script) text unknown

@@ -32,7 +32,7 @@ pub struct Output {
     pub(crate) understood: bool,
 }
 
-/// Runs a script over so many sites that know nothing yet, each with these queues: reads the reader to its end in pieces of at
+/// Runs a script over new sites, `sites` in number, each with these queues: reads the reader to its end in pieces of at
 /// most 1,024 bytes, runs the lines in their order, and writes what each gives. It answers how many lines were not understood;
 /// each of them gives `line N: not understood`, N counting all lines from 1 (this project's own).
 ///
@@ -53,7 +53,7 @@ pub fn run_script<S: Source, W: Sink>(
     ensures whole { IsErrOf result ScriptFault.Write
         → HasEnded (S.ended reader.new) (S.left reader.new) }
 
-    // The script's text was written, and so many lines were not understood.
+    // The script's text was written; `unknown` tells how many of its lines were not understood.
     ensures text { IfOk result (λ unknown. IsRun (listed_place sites list.now)
         (S.left reader.old) (S.left reader.new)
         (W.taken writer.old) (W.taken writer.new) unknown) }

@@ -8,7 +8,7 @@ use Rattle.std.specs.declared.net.ipv4_addr.Ipv4Addr.{Ipv4Addr}
 abbrev pub listening_line : Ipv4Addr → ℕ → List ℕ
 listening_line address port = codes "listening " ++ (ipv4_text (ipv4_octets address) ++ (codes ":" ++ (decimal port ++ codes "\n")))
 
--- the lines of so many sites, from this port on
+-- the lines of `sites` sites, from this port on
 abbrev pub listening_lines : Ipv4Addr → ℕ → ℕ → List ℕ
 listening_lines address port zero = []
 listening_lines address port (suc sites) = listening_lines address port sites ++ listening_line address (port + sites)

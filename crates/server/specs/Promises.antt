@@ -7,6 +7,6 @@ pub record IsPromised (names : List (List ℕ)) (site : ℕ) (promise : JournalO
   pub site_is : promise.site ≡ site
   pub names_are : promise.list.value ≡ names
 
--- the thread at this place promises the journal of its site, where the threads of so many sites stand from the last site down
+-- the thread at this place promises the journal of its site, where the threads of all sites stand from the last site down
 abbrev pub IsPromisedAt : List (List ℕ) → ℕ → ℕ → JournalOf → Type 0
 IsPromisedAt names sites k promise = (site : ℕ) → site + k + 1 ≡ sites → IsPromised names site promise

@@ -10,7 +10,7 @@ use dots::Memory;
 use std::alloc::Global;
 use std::net::{Ipv4Addr, Net, SocketAddr, TcpListener, TcpStream};
 
-// Listens for so many sites, at this port and those behind it. Faults: `CannotListen`, with the first port that isn't to be had; `Memory`.
+// Listens for `sites` sites, at this port and those behind it. Faults: `CannotListen`, with the first port that isn't to be had; `Memory`.
 pub(crate) fn listen<R: Net<Listener = TcpListener, Stream = TcpStream>>(
     rt: &R,
     alloc: Global,
@@ -42,7 +42,7 @@ fn line_of(alloc: Global, address: Ipv4Addr, port: u16) -> Result<String, Memory
     format!(in alloc; "listening {address}:{port}\n")
 }
 
-// Tells of so many sites, which all listen at this port and those behind it. Faults: `Write`, `Memory`.
+// Tells of `sites` sites, which all listen at this port and those behind it. Faults: `Write`, `Memory`.
 pub(crate) fn tell_listening<W: Sink>(
     alloc: Global,
     log: &mut W,

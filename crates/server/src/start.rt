@@ -16,7 +16,7 @@ pub(crate) struct Start {
 }
 
 impl Start {
-    // The start of so many sites.
+    // The start of `sites` sites.
     pub fn new(sites: u32) -> Start {
         Start {
             ready: Mutex::new(Ready {

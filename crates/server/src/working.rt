@@ -146,7 +146,7 @@ pub(crate) fn start_workers<
     Ok(())
 }
 
-// Joins so many of the last threads, and puts their passes behind the others.
+// Joins a number of the last threads, and puts their passes behind the others.
 pub(crate) fn join_workers<L: SiteLedger, R: Threads>(
     rt: &R,
     workers: &mut Workers<L>,

@@ -19,7 +19,7 @@ pub record IsSiteAt (journals : List JournalState) (events : List Event) (site n
   pub is : IsSiteOf (names_in journals) site state s
   pub leads : LeadAll state (drop n j.steps) j.replica
 
--- these events have given each site so many steps
+-- these events have given each site the first steps of its journal, as many as `at` has for it
 pub record IsAt (journals : List JournalState) (at : List ℕ) (events : List Event) : Type 0 where
   pub places : length at ≡ length journals
   pub sites : All (λ e. site_of e < length journals) events

@@ -73,7 +73,7 @@ pub record HasPut (old new : Replay) (site : ℕ) (e : Event) (deed : StepDeed) 
   pub events : new.events.items ≡ old.events.items ++ e ∷ []
   pub found : HasFound old.pool new.pool (made_by deed)
 
--- nothing is played yet of so many journals
+-- nothing is played yet of any of `sites` journals
 pub record IsBegun (r : Replay) (sites : ℕ) : Type 0 where
   pub count : length r.at.items ≡ sites
   pub at : (site n : ℕ) → slice_get r.at.items site ≡ Some n → n ≡ 0

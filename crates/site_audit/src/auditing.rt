@@ -71,7 +71,7 @@ fn first_stale(journals: &[Journaled]) -> Option<usize>
     None
 }
 
-// The least site that has steps left, of sites that were given so many.
+// The least site whose journal has steps left, where the first `at` of each have been given.
 fn least_left(journals: &[Journaled], at: &[usize]) -> Option<usize>
     requires count { length at.now ≡ length journals.now }
     requires within { (site n : ℕ) (j : JournalState) → slice_get journals.now site ≡ Some j

@@ -24,7 +24,7 @@ pub(crate) struct Replay<'a> {
 }
 
 impl<'a> Replay<'a> {
-    // Nothing is played yet of so many journals.
+    // Nothing is played yet of any of `sites` journals.
     pub(crate) fn begin(alloc: Global, sites: usize) -> Result<Replay<'a>, Memory>
         ensures { IfOk result (λ replay. IsBegun replay sites) }
     {

@@ -51,7 +51,7 @@ abbrev pub TellsTruly : PassState → DeskFault → Type 0
 TellsTruly pass (Rewound len) = len < pass.seen
 TellsTruly pass other = ⊤
 
--- the passes of a new desk: so many, with the numbers 0, 1, .., none of which has done anything
+-- the passes of a new desk: `number` of them, with the numbers 0, 1, .., none of which has done anything
 pub record AreFresh (number : ℕ) (passes : List PassState) : Type 0 where
   pub count : length passes ≡ number
   pub each : (k : ℕ) (none : PassState) → k < number → slice_index_or passes k none ≡ fresh_pass k
@@ -60,7 +60,7 @@ pub record AreFresh (number : ℕ) (passes : List PassState) : Type 0 where
 abbrev pub shares_of : List PassState → ℕ
 shares_of = sum_by (λ (pass : PassState). pass.share)
 
--- the passes of a desk with so many, each once: they are so many, and no number is missing, so none is doubled
+-- all passes of a desk that has `number` of them, each once: their count is right and no number is missing, so none is doubled
 pub record AreAll (number : ℕ) (passes : List PassState) : Type 0 where
   pub count : length passes ≡ number
   pub each : (ordinal : ℕ) → ordinal < number → Any (λ (pass : PassState). pass.ordinal ≡ ordinal) passes

@@ -16,7 +16,7 @@ fn has_ordinal<L: Ledger>(passes: &[Pass<L>], ordinal: u32) -> bool
     passes.iter().any(|pass| pass.ordinal() == ordinal)
 }
 
-// Whether these are the passes of a desk with so many.
+// Whether these are all passes of a desk that has `number` of them.
 fn are_all<L: Ledger>(passes: &[Pass<L>], number: u32) -> bool
     ensures { IsTrue result ↔ AreAll number passes.now }
 {

@@ -180,7 +180,7 @@ impl<L: SiteLedger> SiteDesk<L> {
         self.lock.lock(rt).checkpoint()
     }
 
-    /// Drops the steps of the journal where they keep more than so many bytes beside themselves, and tells whether it did. The one fault
+    /// Drops the steps of the journal where they keep more than `bytes` bytes beside themselves, and tells whether it did. The one fault
     /// is want of memory.
     pub fn checkpoint_above<R: Wait>(&self, rt: &R, bytes: u64) -> Result<bool, Memory> {
         self.lock.lock(rt).checkpoint_above(bytes)

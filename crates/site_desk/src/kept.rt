@@ -191,7 +191,7 @@ impl<L: SiteLedger> Kept<L> {
         journal.checkpoint()
     }
 
-    // Drops the journal's steps where they keep more than so many bytes, and tells whether it did. The one fault is want of memory.
+    // Drops the journal's steps where they keep more than `bytes` bytes, and tells whether it did. The one fault is want of memory.
     pub fn checkpoint_above(&mut self, bytes: u64) -> Result<bool, Memory>
         ensures above { IfOk result (λ dropped. IsTrue dropped
             ↔ (bytes < min (kept_by_steps self.old.journal.steps) (2 ^ 64 - 1))) }

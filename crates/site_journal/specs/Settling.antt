@@ -26,7 +26,7 @@ pub record IsFirstThatDiffers (steps : List Step) (lists : List (List Receipt)) 
   pub before : (earlier : ℕ) → earlier < pass → list_of lists earlier ≡ receipts_of earlier 0 steps
   pub differs : list_of lists pass ≡ receipts_of pass 0 steps → ⊥
 
--- why receipts don't settle a journal of which so many steps were dropped
+-- why receipts don't settle a journal of which the first `start` steps were dropped
 abbrev pub IsUnsettled : SettleFault → ℕ → List Step → List (List Receipt) → Type 0
 IsUnsettled Checkpointed start steps lists = start ≢ 0
 IsUnsettled (Differs pass) start steps lists = (start ≡ 0) × IsFirstThatDiffers steps lists pass

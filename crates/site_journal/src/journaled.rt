@@ -143,8 +143,8 @@ fn take_fault(fault: TakeFault) -> DeskFault
 }
 
 /// What a site did: the replica that its journal began from, the steps since with what came of each, and the replica. The steps lead
-/// from the one to the other, each by its meaning there; at most so many of them stand in it, and of 2^40 in all (this project's
-/// own).
+/// from the one to the other, each by its meaning there; at most its limit of them stand in it, and 2^40 are done in all (this
+/// project's own).
 #[derive(Drop)]
 pub struct Journaled {
     base: Replica,
@@ -184,7 +184,7 @@ impl Model for Journaled {
 }
 
 impl Journaled {
-    /// A journal of a replica, without a step, in which at most so many steps may stand, 1 to 1,000,000. Where memory is wanting the
+    /// A journal of a replica, without a step, in which at most `limit` steps may stand, 1 to 1,000,000. Where memory is wanting the
     /// replica comes back.
     pub fn new(alloc: Global, replica: Replica, limit: u32) -> Result<Journaled, (Memory, Replica)>
         requires some { 1 ≤ limit }

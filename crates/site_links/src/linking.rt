@@ -48,7 +48,7 @@ fn link_to(
     Ok(from)
 }
 
-/// A link from each of so many sites to each other, which holds 64 items. The one fault is want of memory (this project's own).
+/// A link from each of `sites` sites to each other, which holds 64 items. The one fault is want of memory (this project's own).
 pub fn link_all(alloc: Global, sites: usize) -> Result<SiteLinks, Memory>
     ensures to { IfOk result (λ links. vec_len links.to ≡ sites) }
     ensures from { IfOk result (λ links. vec_len links.from ≡ sites) }

@@ -7,7 +7,7 @@ use crossbeam_channel::bounded_with;
 use dots::{Bytes, Memory};
 use std::alloc::Global;
 
-/// Both ends of a new link, which holds at most so many items, 1 to 1,024. The one fault is want of memory.
+/// Both ends of a new link, which holds at most `capacity` items, 1 to 1,024. The one fault is want of memory.
 pub fn pair(alloc: Global, capacity: usize) -> Result<(LinkSender, LinkReceiver), Memory>
     requires some { 1 ≤ capacity }
     requires most { capacity ≤ MOST_CAPACITY }

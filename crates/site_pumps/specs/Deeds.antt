@@ -29,15 +29,15 @@ abbrev pub whole_frames : List Receipt → List (List ℕ)
 whole_frames [] = []
 whole_frames (r ∷ rs) = whole_frame r.deed ++ whole_frames rs
 
--- so many cuts
+-- n cuts
 abbrev pub AreCuts : ℕ → List Receipt → Type 0
 AreCuts n rs = (cuts : List (Option (List ℕ))) × (length cuts ≡ n) × (map (λ (r : Receipt). r.deed) rs ≡ map Cut cuts)
 
--- so many cuts, and then a frame of all
+-- n cuts, and then a frame of all
 abbrev pub AreCutsAndWhole : ℕ → List Receipt → Type 0
 AreCutsAndWhole n rs = (cuts : List (Option (List ℕ))) × (last : List ℕ) × (length cuts ≡ n) × (map (λ (r : Receipt). r.deed) rs ≡ map Cut cuts ++ Whole last ∷ [])
 
--- a cut for each of so many rings, but perhaps for the last, or one more; and then perhaps a frame of all
+-- a cut for each of `rung` rings, but perhaps for the last, or one more; and then perhaps a frame of all
 abbrev pub AreCutsFor : ℕ → List Receipt → Type 0
 AreCutsFor rung rs = (n : ℕ) × (n ≤ rung + 1) × (rung ≤ n + 1) × (AreCuts n rs ⊎ AreCutsAndWhole n rs)
 

@@ -7,7 +7,7 @@ use Rattle.site_pumps.specs.Carried.{Begins, Carries, EachLink}
 use Rattle.site_pumps.specs.Deeds.{cut_frames, whole_frames}
 use Rattle.site_pumps.specs.Plans.{held_from, planned, sent_from}
 
--- the frames that were cut so far were sent as the plan says: so many deeds were used, and these frames are held
+-- the frames that were cut so far were sent as the plan says: `used` deeds of it were used, and the frames `held` are held
 pub record IsUnderWay (plan : List Deed) (receipts : List Receipt) (used : ℕ) (held : List (List ℕ)) (start links : List Sending) : Type 0 where
   pub used_is : used ≡ length (cut_frames receipts)
   pub held_is : held ≡ held_from plan 0 [] (cut_frames receipts)

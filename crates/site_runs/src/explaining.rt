@@ -50,7 +50,7 @@ pub(crate) fn explained(alloc: Global, journals: &[Journaled]) -> Result<Vec<Eve
     Ok(events)
 }
 
-// Lets the events that explain the journals of so many sites happen in a new world, whose sites then report as the journals do. Answers
+// Lets the events that explain the journals of `sites` sites happen in a new world, whose sites then report as the journals do. Answers
 // how many events there are.
 pub(crate) fn replay(alloc: Global, sites: u16, journals: &[Journaled]) -> Result<u64, RunsFault> {
     let events = explained(alloc, journals)?;

@@ -1,7 +1,7 @@
 //! Lets sites work on what is drawn by lot, the same on each run, and tries whether all that they told fits together: for tests, and to
 //! be timed.
 //!
-//! `site_runs journals SITES STEPS`: so many sites, 1 to 8, do so many steps each, 1 to 1,000,000, in one thread. A site is asked
+//! `site_runs journals SITES STEPS`: SITES sites, 1 to 8, do STEPS steps each, 1 to 1,000,000, in one thread. A site is asked
 //! something, cuts, makes a whole or takes one of the latest frames of all sites, its own too. The receipts of its steps settle its
 //! journal. Standard output tells how many steps there are.
 //!
@@ -11,7 +11,7 @@
 //! `site_runs world SITES STEPS`: these events happen in a new world, in which each site then reports what it does by its journal.
 //! Standard output tells how many there are.
 //!
-//! `site_runs threads RUNS SITES ASKS`: so often so many sites run as threads and are asked so much each, while their frames are lost,
+//! `site_runs threads RUNS SITES ASKS`: RUNS times SITES sites run as threads and are asked ASKS times each, while their frames are lost,
 //! doubled and held back. No site has a fault, all fits together as in such a world, and all sites report the same at their end. Standard
 //! output tells how often they have run, since nothing else is the same each time.
 //!
@@ -47,7 +47,7 @@ const MOST_SITES: u32 = 8;
 
 const MOST_RUNS: u32 = 1_000_000;
 
-// So many sites that do so many steps each.
+// How many sites there are, and how many steps each does.
 #[derive(Clone, Copy)]
 struct Work {
     sites: u16,

@@ -17,7 +17,7 @@ const FRAMES: u32 = 1;
 
 const TAKES: u32 = 2;
 
-// A frame is taken while it is one of the last so many; so it is late, repeated or lost, as it happens.
+// A frame is taken while it is one of the last of this number; so it is late, repeated or lost, as it happens.
 const LATEST: usize = 64;
 
 // A site with its journal, and the receipts of each of its passes.
@@ -48,7 +48,7 @@ fn some_frame<'a>(numbers: &mut Numbers, frames: &'a [Bytes]) -> Option<&'a Byte
 }
 
 impl Site {
-    // A site that knows nothing, which is to do so many steps.
+    // A site that knows nothing, which is to do `steps` steps.
     pub(crate) fn new(alloc: Global, number: u16, steps: u32) -> Result<Site, RunsFault>
         requires some { 1 ≤ steps }
         requires most { steps ≤ MOST_STEPS }

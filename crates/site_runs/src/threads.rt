@@ -99,7 +99,7 @@ fn compare(alloc: Global, journals: &[Journaled]) -> Result<(), RunsFault> {
     Ok(())
 }
 
-// Lets so many sites run once, each of which is asked so often.
+// Lets `sites` sites run once, each of which is asked `asks` times.
 fn run_once<R: AllocGlobal + Threads + Wait + Sync>(
     rt: &R,
     numbers: &mut Numbers,
@@ -118,7 +118,7 @@ fn run_once<R: AllocGlobal + Threads + Wait + Sync>(
     Ok(())
 }
 
-// Lets so many sites run so often, each time on other asks and plans.
+// Lets `sites` sites run `runs` times, each time on other asks and plans.
 pub(crate) fn run_often<R: AllocGlobal + Threads + Wait + Sync>(
     rt: &R,
     runs: u32,

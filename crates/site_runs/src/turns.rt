@@ -8,7 +8,7 @@ use crate::site::Site;
 use site_journal::Journaled;
 use std::alloc::Global;
 
-// The journals of so many sites that have done so many steps each, in turn, as the receipts of their steps have settled them.
+// The journals of `sites` sites that have done `steps` steps each, in turn, as the receipts of their steps have settled them.
 pub(crate) fn work_in_turn(
     alloc: Global,
     sites: u16,

@@ -84,7 +84,7 @@ pub(crate) fn count_missing(rows: &[Row], others: &[Row]) -> usize
     joined_count(rows, others) - rows.len()
 }
 
-// Joins others into entries in place: so many of the first places are spare, one for each key that is missing. Walks
+// Joins others into entries in place: the first `spare` places are spare, one for each key that is missing. Walks
 // both once.
 fn merge(rows: &mut [Row], spare: usize, others: &[Row])
     requires within { spare ≤ length rows.old }

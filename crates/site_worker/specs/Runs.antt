@@ -25,14 +25,14 @@ pub record HavePumped (lists : List (List Receipt)) (fault : Option DeskFault) :
   pub sent : HaveSent (list_of lists 1) fault
   pub took : (pass : ℕ) → 2 ≤ pass → HaveTaken (list_of lists pass)
 
--- so many threads of a site have given back these passes, lists of receipts and fault
+-- `number` threads of a site have given back these passes, lists of receipts and fault
 pub record IsGathered (site : ℕ) (names : List (List ℕ)) (number : ℕ) (asks : List Ask) (passes : List PassState) (lists : List (List Receipt)) (fault : Option DeskFault) : Type 0 where
   pub count : length passes ≡ number
   pub worked : HaveWorked site names 0 passes lists
   pub answered : HasAnswered site names asks lists fault
   pub pumped : HavePumped lists fault
 
--- a site has run with so many passes: it ends with a list of receipts for each, which are as many as its journal has steps
+-- a site has run with `number` passes: it ends with a list of receipts for each, which are as many as its journal has steps
 pub record HasRun (site : ℕ) (names : List (List ℕ)) (number : ℕ) (asks : List Ask) (journal : JournalState) (lists : List (List Receipt)) (fault : Option DeskFault) : Type 0 where
   pub own_site : IsOfSite site names journal
   pub begun : HasBegun journal

@@ -21,7 +21,7 @@ pub(crate) struct Gathered<L: SiteLedger> {
 }
 
 impl<L: SiteLedger> Gathered<L> {
-    // Nothing yet, with room for so many passes.
+    // Nothing yet, with room for `passes` passes.
     pub fn new(alloc: Global, passes: usize) -> Result<Gathered<L>, Memory>
         ensures none { IfOk result (λ all.
             (all.passes.items ≡ []) × (all.receipts.items ≡ []) × (all.fault ≡ None)) }

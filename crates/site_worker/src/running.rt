@@ -26,7 +26,7 @@ use std::thread::{Promise, PromisedHandle, Scope, Threads};
 /// How many sites may run at once.
 pub const MOST_RUN_SITES: usize = 8;
 
-// A site with so many passes comes to its end, with these queues, these asks and this gate; or a fault keeps it from that.
+// How a site comes to its end, with these queues, these asks and this gate; or a fault keeps it from that.
 #[derive(Drop)]
 pub(crate) struct EndOf<G> {
     site: SiteId,

@@ -36,7 +36,7 @@ ComesOfAsk old (asked_command command) NoMemory new = IsUnchanged old new × May
 ComesOfAsk old (Status request) NoMemory new = IsUnchanged old new
 ComesOfAsk old asked other new = ⊥
 
--- of a cut, with so many entries in the pool, and which frames this gets
+-- of a cut, where the pool had `entries` entries, and which frames this gets
 abbrev pub ComesOfCut : ℕ → SiteState → Outcome → SiteState → List Frame → Type 0
 ComesOfCut entries old (Cut (Ok None)) new added = IsEmpty old.pending × (new ≡ old) × (added ≡ [])
 ComesOfCut entries old (Cut (Ok (Some place))) new added = (place ≡ entries) × (frame : Frame) × (added ≡ frame ∷ []) × IsCutDeed old frame new

@@ -41,7 +41,7 @@ pub record WasMade (h : Knowledge) (dot : Dot) : Type 0 where
   pub makes : Makes dot add
   pub at_site : IsOf dot.site add
 
--- A history, made at so many sites with the queues of these names.
+-- A history, made at `sites` sites with the queues of these names.
 pub record IsHistory (names_of_queues : List (List ℕ)) (sites : ℕ) (h : Knowledge) : Type 0 where
   -- a stamp belongs to one operation
   pub stamps : (o p : Operation) (stamp : Stamp) → Contains h o → Contains h p → stamp_of o ≡ Some stamp → stamp_of p ≡ Some stamp → o ≡ p

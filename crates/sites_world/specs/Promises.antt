@@ -98,7 +98,7 @@ abbrev pub HaveFewVisibleDots : Type 0
 HaveFewVisibleDots = (names : List (List ℕ)) (sites : ℕ) (w : World) (k : Knowledge) → IsReached names sites w → IsIn w k
     → set.len (visible_dots k) ≤ set.len (visible_members k) * length w.sites
 
--- and so many live dots in what stands for a knowledge
+-- and at most as many live dots, in what stands for a knowledge, as its visible members times the sites
 abbrev pub HaveFewLiveDots : Type 0
 HaveFewLiveDots = (names : List (List ℕ)) (sites : ℕ) (w : World) (k : Knowledge) (x : DeltaState) → IsReached names sites w → IsIn w k → IsDeltaOf x k
     → map.len x.members.live ≤ set.len (visible_members k) * length w.sites
@@ -149,7 +149,7 @@ pub record HaveOutcomes (names : List (List ℕ)) (w : World) (events : List Eve
 
 -- ---- limits
 
--- an event of values within their limits keeps what is known in a world within limits, of at most so many sites as there may be
+-- an event of values within their limits keeps what is known in a world within limits, where there are at most as many sites as there may be
 abbrev pub EventsKeepLimits : Type 0
 EventsKeepLimits = (names : List (List ℕ)) (w : World) (e : Event) → AreQueues names → length w.sites ≤ SITES → HasValuesWithinLimits e → KnowsWithinLimits w
     → KnowsWithinLimits (happens names w e).0

@@ -26,7 +26,7 @@ pub record World : Type 0 where
   pub sites : List SiteKnowledge
   pub pool : List Entry
 
--- so many sites that know nothing yet, and no frame
+-- `sites` sites that know nothing yet, and no frame
 abbrev pub new_world : ℕ → World
 new_world sites = record { sites = replicate sites new_site; pool = [] }
 
@@ -45,13 +45,13 @@ abbrev pub entries_of : ℕ → steps.Outcome → List Entry
 entries_of maker (Framed number carried) = record { maker = maker; number = number; carried = carried } ∷ []
 entries_of maker other = []
 
--- how it is told that a frame was asked for: by its place behind so many entries, or by why there is none
+-- how it is told that a frame was asked for: by its place behind the `entries` that stood, or by why there is none
 abbrev pub frame_told : ℕ → steps.Outcome → Result (Option ℕ) CutFault
 frame_told entries (Framed number carried) = Ok (Some entries)
 frame_told entries NoNumber = Err Exhausted
 frame_told entries other = Ok None
 
--- a frame was asked for, with so many entries in the pool
+-- a frame was asked for, where the pool had `entries` entries
 abbrev pub framed : ℕ → ℕ → SiteKnowledge × steps.Outcome → Happening
 framed maker entries after = record { site = after.0; added = entries_of maker after.1; outcome = outcome.Cut (frame_told entries after.1) }
 

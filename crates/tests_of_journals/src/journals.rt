@@ -7,7 +7,7 @@ use status_report::{Answer, Ask, StatusRequest, report};
 use std::alloc::Global;
 use std::process::Abort;
 
-// The journal of a site that knows nothing, of the queue `sales`, in which so many steps may stand.
+// The journal of a site that knows nothing, of the queue `sales`, in which `limit` steps may stand.
 fn journal(rt: &impl Abort, alloc: Global, site: u16, limit: u32) -> Journaled {
     let name = QueueName::new(b"sales").expect(rt, "a name");
     let list = QueueList::new(alloc, &[name]).expect(rt, "a list");

@@ -20,8 +20,7 @@ fn of_dot(rt: &impl Abort, alloc: Global, number: u16, count: u64) -> Context {
     context
 }
 
-// The counts of the first site from a first one on, each second one, as often as wanted: so many
-// runs.
+// Every second count of the first site from a first one on, `runs` of them: as many runs.
 fn every_second(rt: &impl Abort, alloc: Global, first: u64, runs: u64) -> Context
     requires few { runs ≤ 65536 }
     requires start { first ≤ 2 }

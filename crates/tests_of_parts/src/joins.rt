@@ -8,7 +8,7 @@ use std::alloc::Global;
 use std::io::Print;
 use std::process::Abort;
 
-// Lets so many dots of a site be dead, every second one from the first count on.
+// Lets every second dot of a site be dead from the first count on, `dots` in all.
 fn kill_dots(rt: &impl Abort, set: &mut MemberSet, site: u16, dots: u64)
     requires { dots ≤ 65536 }
 {
@@ -17,7 +17,7 @@ fn kill_dots(rt: &impl Abort, set: &mut MemberSet, site: u16, dots: u64)
     }
 }
 
-// Lets so many dots of a site be live, from the first count on.
+// Lets the first `dots` dots of a site be live.
 fn put_dots(rt: &impl Abort, set: &mut MemberSet, site: u16, dots: u64)
     requires { dots ≤ 65536 }
 {
@@ -57,7 +57,7 @@ fn join_if_it_can(rt: &(impl Abort + Print), set: &mut MemberSet, other: MemberS
     drop(other_before);
 }
 
-// A set of so many live dots of a site, and of so many dead dots of another one.
+// A set of live dots of one site, and dead dots of another: each is told by the site and by how many there are.
 fn live_and_dead(rt: &impl Abort, alloc: Global, live: (u16, u64), dead: (u16, u64)) -> MemberSet
     requires live { live.1 ≤ 65536 }
     requires dead { dead.1 ≤ 65536 }

@@ -4,7 +4,7 @@ use crate::model_lines::{Names, assert_lines};
 use dots::Penalty;
 use reference_model::Total;
 
-// A report of so many items: what stands between its first message and its last, with a bar between
+// A report of a number of items: what stands between its first message and its last, with a bar between
 // lines.
 macro_rules! report {
     ($items:literal, $blocks:literal) => {

@@ -78,7 +78,7 @@ const LOGOFF_AND_MORE: Exchange = (
     GOODBYE,
 );
 
-// Whether so many sessions in turn read all that is due to them.
+// Whether a number of sessions, one after another, read all that is due to them.
 fn all_read<R: Net<Listener = TcpListener, Stream = TcpStream>>(
     rt: &R,
     port: u16,

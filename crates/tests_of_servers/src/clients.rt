@@ -75,7 +75,7 @@ pub fn settings(rt: &impl Abort, sites: u16, port: u16) -> ServerSettings {
     }
 }
 
-/// Serves so many sessions of each site, and sets the flag once that is over.
+/// Serves a number of sessions of each site, and sets the flag once that is over.
 pub fn served<R>(
     rt: &R,
     alloc: Global,
@@ -184,7 +184,7 @@ pub fn session<R: Net<Listener = TcpListener, Stream = TcpStream>>(
     }
 }
 
-/// Whether a flag is seen within so many thousand turns.
+/// Whether a flag is seen within `thousands` thousand turns.
 pub fn sees(flag: &AtomicBool, thousands: u32) -> bool {
     for _ in 0..thousands {
         for _ in 0..1_000u32 {

@@ -16,7 +16,7 @@ use std::process::Abort;
 use std::sync::Wait;
 use std::sync::ledger::Blank;
 
-// The journal of site 0 that knows nothing, in which so many steps may stand.
+// The journal of site 0 that knows nothing, in which `limit` steps may stand.
 fn journal(rt: &impl Abort, alloc: Global, limit: u32) -> Journaled
     ensures begun { result.count ≡ 0 }
     ensures site { IsOfSite result.base.site result.base.names result }
@@ -71,7 +71,7 @@ fn closed<L: SiteLedger>(
     close(desk, passes).ok().expect(rt, "a journal")
 }
 
-// Asks so many times, and is answered by a report each time.
+// Asks a number of times, and is answered by a report each time.
 fn assert_answers<L: SiteLedger, R: Abort + Wait>(
     rt: &R,
     alloc: Global,
@@ -106,7 +106,7 @@ fn a_full_journal_is_dropped_and_goes_on(rt: HostRuntime) {
     drop(journal);
 }
 
-// A status, then the steps are dropped if they keep more than so many bytes. Whether they were.
+// A status, then the steps are dropped if they keep more than a number of bytes. Whether they were.
 fn dropped_above<L: SiteLedger, R: Abort + Wait>(
     rt: &R,
     alloc: Global,

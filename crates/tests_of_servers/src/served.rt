@@ -71,7 +71,7 @@ fn a_port_that_is_taken(rt: HostRuntime) {
     drop(taken);
 }
 
-// Serves two sites at 127.0.0.2 that take no client, over a log that fails at the write behind so many. How that ends, and what the log
+// Serves two sites at 127.0.0.2 that take no client, over a log that fails behind a number of writes. How that ends, and what the log
 // has taken.
 fn served_without_clients<R>(
     rt: &R,

@@ -8,7 +8,7 @@ use scripts::{ScriptFault, SiteCount, run_script};
 use std::alloc::Global;
 use std::process::Abort;
 
-// A script: a comment of so many bytes, and what stands behind it.
+// A script: a comment of `length` bytes, and what stands behind it.
 fn script(rt: &impl Abort, alloc: Global, length: usize, behind: &str) -> Vec<u8> {
     let mut script = vec![in alloc; b'#'; length].expect(rt, "memory");
     script

@@ -66,7 +66,7 @@ fn is_front(given: &[u8], texts: &[&str]) -> bool {
     rest.is_empty()
 }
 
-// A desk that gives so many answers.
+// A desk that gives a number of answers, and then none.
 #[derive(Drop)]
 struct TiredDesk {
     desk: ReplicaDesk,
@@ -87,8 +87,8 @@ impl Desk<()> for TiredDesk {
     }
 }
 
-// How a session upon this stream ends whose reader gives a byte a read, and fails at the read behind so many; whose writer takes so
-// many bytes a write, and fails at the write behind so many; and whose desk gives so many answers. How many bytes were written is
+// How a session upon this stream ends whose reader gives a byte a read, and fails behind a number of reads; whose writer takes a number
+// of bytes a write, and fails behind a number of writes; and whose desk gives a number of answers. How many bytes were written is
 // answered too: they are a front of the texts.
 fn end_of_failing(
     rt: &impl Abort,
@@ -232,7 +232,7 @@ impl<'a> Source for SeeingSource<'a> {
     }
 }
 
-// How many bytes are due once so many of the session's were read: the greeting, and a reply for each message that has come.
+// How many bytes are due once `read` of the session's were read: the greeting, and a reply for each message that has come.
 fn due(read: usize) -> usize {
     let mut written = 0;
     for (from, bytes) in [(0, 32), (46, 87), (93, 143), (114, 495)] {
@@ -243,7 +243,7 @@ fn due(read: usize) -> usize {
     written
 }
 
-// Whether a session is served in pieces of so many bytes by at most so many reads, and all that is due is written before each of them.
+// Whether a session is served in pieces of `most` bytes by at most `reads` reads, and all that is due is written before each of them.
 fn is_prompt(rt: &impl Abort, alloc: Global, most: usize, reads: u64) -> bool {
     let taken = Cell::new(0);
     let mut reader = SeeingSource {

@@ -84,7 +84,7 @@ fn assert_outcome(rt: &impl Abort, outcome: &Outcome, wanted: Came) {
     }
 }
 
-// A world of so many sites with the queue `sales`, or why there is none.
+// A world of `sites` sites with the queue `sales`, or why there is none.
 fn new_world(rt: &impl Abort, alloc: Global, sites: u16) -> Result<World, WorldFault> {
     World::new(alloc, sites, &list(rt, alloc, &["sales"]))
 }

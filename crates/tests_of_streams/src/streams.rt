@@ -227,7 +227,7 @@ fn a_sink_sends_what_its_writer_holds_back(rt: HostRuntime) {
     assert_bytes(&rt, writer.get_ref().as_slice(), b"abc");
 }
 
-// A device that answers so many errors of a kind, to reads and writes or to flushes, and else moves a byte.
+// A device that first answers a number of errors of a kind, to reads and writes or to flushes, and else moves a byte.
 #[derive(Drop)]
 struct Faulty {
     errors: u32,

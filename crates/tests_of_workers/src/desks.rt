@@ -26,7 +26,7 @@ fn replica(rt: &impl Abort, alloc: Global, site: u16) -> Replica {
     Replica::new(alloc, site, list(rt, alloc))
 }
 
-// The journal of a site, in which so many steps may stand.
+// The journal of a site, in which `limit` steps may stand.
 fn journal(rt: &impl Abort, alloc: Global, replica: Replica, limit: u32) -> Journaled
     ensures begun { result.count ≡ 0 }
     ensures site { IsOfSite result.base.site result.base.names result }
@@ -239,7 +239,7 @@ fn two_threads_find_what_they_have_added(rt: HostRuntime) {
     assert_adds::<Brand, HostRuntime>(&rt, rt.alloc(), Blank::new(2), journal);
 }
 
-// Says that it is called, and then looks so often whether the other thread has done its call.
+// Says that it is called, and then looks a number of times whether the other thread has done its call.
 #[derive(Drop)]
 struct LookingGate<'a> {
     called: &'a AtomicBool,

@@ -5,7 +5,7 @@ use std::alloc::Global;
 use std::process::Abort;
 use std::sync::Wait;
 
-// Both ends of a link that holds so many items.
+// Both ends of a link that holds `capacity` items.
 fn link(rt: &impl Abort, alloc: Global, capacity: usize) -> (LinkSender, LinkReceiver)
     requires some { 1 ≤ capacity }
     requires most { capacity ≤ 1024 }

@@ -1,4 +1,4 @@
-//! Pumps, over a port that hands out numbered frames, and a bell that rings so often and adds one to the number each time.
+//! Pumps, over a port that hands out numbered frames, and a bell that rings a number of times and adds one to the frame's number each time.
 ghost use Rattle.std.specs.Prelude.{◌≡◌, ◌+◌, ◌≤◌, IfErr, IfOk, None, Some};
 
 use dots::Bytes;
@@ -105,7 +105,7 @@ impl<'a, R> Port<R> for NumberedPort<'a> {
     }
 }
 
-// A bell that rings so often, and adds one to a number before each ring and before its end.
+// A bell that rings a number of times, and adds one to a number before each ring and before its end.
 #[derive(Drop)]
 struct AddingBell<'a> {
     number: &'a Cell<u8>,
@@ -157,7 +157,7 @@ fn assert_items<R: Abort + Wait>(rt: &R, receiver: &mut LinkReceiver, items: &[u
     assert!(rt; receiver.recv(rt).is_none());
 }
 
-// Asserts what is sent on two links, where the bell rings so often.
+// Asserts what is sent on two links, where the bell rings `rings` times.
 fn assert_sent<R: Abort + Wait>(rt: &R, alloc: Global, plan: &[Deed], rings: u8, items: &[u8]) {
     let (first, mut one) = link(rt, alloc);
     let (second, mut other) = link(rt, alloc);

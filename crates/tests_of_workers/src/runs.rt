@@ -16,7 +16,7 @@ use std::sync::atomic::{AtomicBool, Ordering};
 use std::thread;
 use std::thread::Threads;
 
-// Says at the first ask that it is called, and then waits for the other gate's word for at most so many turns.
+// Says at the first ask that it is called, and then waits for the other gate's word for at most a number of turns.
 #[derive(Drop)]
 struct MeetingGate<'a> {
     mine: &'a AtomicBool,
@@ -25,7 +25,7 @@ struct MeetingGate<'a> {
     saw: bool,
 }
 
-// Whether a word comes within so many turns.
+// Whether a word comes within `turns` turns.
 fn comes(word: &AtomicBool, turns: u32) -> bool {
     for _ in 0..turns {
         if word.load(Ordering::SeqCst) {
@@ -225,7 +225,7 @@ fn sites_come_to_the_same_whatever_is_lost(rt: HostRuntime) {
     drop(journals);
 }
 
-// What comes of so many works without asks.
+// What comes of a number of works without asks.
 fn fault_of<R: Abort + Threads + Wait + Sync>(
     rt: &R,
     alloc: Global,

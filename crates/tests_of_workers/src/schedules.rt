@@ -180,7 +180,7 @@ fn journal(rt: &impl Abort, alloc: Global) -> Journaled
     }
 }
 
-// Asserts what is sent, as the places of its cuts, where so many items must have come before the first ring, before the second and so on,
+// Asserts what is sent, as the places of its cuts, where a number of items must have come before the first ring, before the second and so on,
 // and before the end.
 fn assert_scheduled<L: SiteLedger + Send + Sync, R: Abort + Threads + Wait + Sync>(
     rt: &R,

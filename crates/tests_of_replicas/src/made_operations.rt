@@ -52,7 +52,7 @@ fn members(rt: &impl Abort, alloc: Global, words: &mut Words<'_>) -> Vec<(Dot, M
     dots
 }
 
-// The first odd counts of a site, so many.
+// The first `count` odd counts of a site.
 fn odd(rt: &impl Abort, alloc: Global, of: SiteId, count: u32) -> Vec<Dot> {
     let mut dots = Vec::new(alloc);
     for place in 0..count {
@@ -62,7 +62,7 @@ fn odd(rt: &impl Abort, alloc: Global, of: SiteId, count: u32) -> Vec<Dot> {
     dots
 }
 
-// The first dots of a site, so many, all of SIP/1 in the first queue.
+// The first `count` dots of a site, all of SIP/1 in the first queue.
 fn many(rt: &impl Abort, alloc: Global, of: SiteId, count: u32) -> Vec<(Dot, Member)> {
     let mut dots = Vec::new(alloc);
     for place in 0..count {
