@@ -6,12 +6,12 @@ use Rattle.ami_text.specs.Stream.{IsRest}
 use Rattle.ami_text.proofs.Outcome.{content_bounds}
 
 -- each line has at most 1,024 bytes, a CR and a LF
-pub length-lines_text : (lines : List (List ℕ)) → All IsFullLine lines → length (lines_text lines) ≤ 1026 * length lines
-length-lines_text [] each = omega arith
-length-lines_text (line ∷ lines) each =
+pub length_lines_text : (lines : List (List ℕ)) → All IsFullLine lines → length (lines_text lines) ≤ 1026 * length lines
+length_lines_text [] each = omega arith
+length_lines_text (line ∷ lines) each =
     omega (
       arith,
-      length-lines_text lines (All-tail IsFullLine line lines each),
+      length_lines_text lines (All-tail IsFullLine line lines each),
       (content_bounds line).1,
       (All-head IsFullLine line lines each).fits,
       length-append (line ++ 10 ∷ []) (lines_text lines),
@@ -19,13 +19,13 @@ length-lines_text (line ∷ lines) each =
     )
 
 -- 128 lines, and a part with at most 1,024 bytes and a CR
-pub length-rest : (bytes : List ℕ) → IsRest bytes → length bytes ≤ 132353
-length-rest bytes r =
+pub length_rest : (bytes : List ℕ) → IsRest bytes → length bytes ≤ 132353
+length_rest bytes r =
     omega (
       arith,
       ap length r.whole,
       length-append (lines_text r.lines) r.part,
-      length-lines_text r.lines r.each_full,
+      length_lines_text r.lines r.each_full,
       r.within,
       (content_bounds r.part).1,
       r.fits,

@@ -9,8 +9,8 @@ use Rattle.ami_text.specs.MessageFields.{NameAndValue, fields_of}
 use Rattle.ami_text.specs.Lines.{HasNoLf, content, IsEmptyLine, IsFullLine, lines_text}
 use Rattle.ami_text.specs.Stream.{FirstMessage, Gives, HasFault, IsRest, Ending, Rest, Fault, Reads}
 use Rattle.ami_text.proofs.Outcome.{last_part, no_line, rebuilt}
-use Rattle.ami_text.proofs.Outcomes.{gives-none}
-use Rattle.ami_text.proofs.Scanning.{lines_text-push}
+use Rattle.ami_text.proofs.Outcomes.{gives_none}
+use Rattle.ami_text.proofs.Scanning.{lines_text_push}
 use Rattle.ami_text.proofs.WholeLines.{onto, whole_lines}
 
 no_lf_onto : (b : ℕ) (lines : List (List ℕ)) → b ≢ 10 → All HasNoLf lines → All HasNoLf (onto b lines)
@@ -107,7 +107,7 @@ shows (line ∷ lines) empties [] last bytes each_empty each_full within no_lf n
     (λ (none : length (content line) ≡ 0).
     shows lines (empties ++ line ∷ []) [] last bytes
     (All-push IsEmptyLine empties line each_empty (record { no_lf = here; empty = none })) each_full within later no_lf_last
-    (at ∙ sym (lines_text-push empties line (lines_text lines ++ last))))
+    (at ∙ sym (lines_text_push empties line (lines_text lines ++ last))))
     (λ (some : length (content line) ≡ 0 → ⊥).
     shows lines empties (line ∷ []) last bytes each_empty
     (All-cons IsFullLine line [] (record { no_lf = here; some = omega (arith, some); fits = fits }) each_full) (omega arith) later no_lf_last
@@ -151,7 +151,7 @@ shows (line ∷ lines) empties (first ∷ seen) last bytes each_empty each_full 
     shows lines empties ((first ∷ seen) ++ line ∷ []) last bytes each_empty
     (All-push IsFullLine (first ∷ seen) line each_full full)
     (omega (arith, few, length-append (first ∷ seen) (line ∷ []))) later no_lf_last
-    (at ∙ ap (λ ys. lines_text empties ++ ys) (sym (lines_text-push (first ∷ seen) line (lines_text lines ++ last)))))
+    (at ∙ ap (λ ys. lines_text empties ++ ys) (sym (lines_text_push (first ∷ seen) line (lines_text lines ++ last)))))
     (λ (many : 128 ≤ length (first ∷ seen)). inr (inr (
       TooManyFields,
       record {
@@ -194,7 +194,7 @@ reads_within zero bytes le =
     (λ (m : (message : List NameAndValue) × (rest : List ℕ) × FirstMessage bytes message rest). absurd (omega (arith, le, rest_shorter bytes m.1 m.0 m.2)))
     (λ (other : ((rest : List ℕ) × Gives bytes [] rest × IsRest rest) ⊎ ((fault : FeedFault) × HasFault fault bytes)). ⊎_elim
     (λ (r : (rest : List ℕ) × Gives bytes [] rest × IsRest rest). ([], Rest r.0, (r.1, r.2)))
-    (λ (f : (fault : FeedFault) × HasFault fault bytes). ([], Fault f.0, (bytes, gives-none bytes, f.1)))
+    (λ (f : (fault : FeedFault) × HasFault fault bytes). ([], Fault f.0, (bytes, gives_none bytes, f.1)))
     other)
     (shows_first bytes)
 reads_within (suc n) bytes le =
@@ -204,7 +204,7 @@ reads_within (suc n) bytes le =
     (m.0 ∷ later.0, later.1, reads_cons bytes m.1 m.0 later.0 later.1 m.2 later.2))
     (λ (other : ((rest : List ℕ) × Gives bytes [] rest × IsRest rest) ⊎ ((fault : FeedFault) × HasFault fault bytes)). ⊎_elim
     (λ (r : (rest : List ℕ) × Gives bytes [] rest × IsRest rest). ([], Rest r.0, (r.1, r.2)))
-    (λ (f : (fault : FeedFault) × HasFault fault bytes). ([], Fault f.0, (bytes, gives-none bytes, f.1)))
+    (λ (f : (fault : FeedFault) × HasFault fault bytes). ([], Fault f.0, (bytes, gives_none bytes, f.1)))
     other)
     (shows_first bytes)
 

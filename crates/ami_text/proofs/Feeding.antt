@@ -10,7 +10,7 @@ use Rattle.ami_text.specs.Found.{EndsMessage, EndsInRest}
 use Rattle.ami_text.specs.Lines.{HasNoLf, content, IsEmptyLine, IsFullLine, lines_text}
 use Rattle.ami_text.specs.Progress.{IsReached}
 use Rattle.ami_text.specs.Stream.{Begins, FirstMessage, Gives, HasFault, IsRest}
-use Rattle.ami_text.proofs.Outcome.{Whole, Partial, first_of, outcome-found, outcome-rest}
+use Rattle.ami_text.proofs.Outcome.{Whole, Partial, first_of, outcome_found, outcome_rest}
 
 -- nothing was looked at
 pub reached_start : (held : List ℕ) → IsReached held (record { line = 0; lines = 0; looked = 0 })
@@ -49,11 +49,11 @@ reached_fed held piece progress true r = reached_more held piece progress r
 reached_fed held piece progress false r = r
 
 -- empty lines are no fields
-pub fields_of-empties : (empties : List (List ℕ)) → All IsEmptyLine empties → fields_of empties ≡ []
-fields_of-empties [] each = refl
-fields_of-empties (line ∷ lines) each =
+pub fields_of_empties : (empties : List (List ℕ)) → All IsEmptyLine empties → fields_of empties ≡ []
+fields_of_empties [] each = refl
+fields_of_empties (line ∷ lines) each =
     let nil : content line ≡ [] = nil_from_length (content line) (All-head IsEmptyLine line lines each).empty in
-    rw (nil, fields_of-empties lines (All-tail IsEmptyLine line lines each)) refl
+    rw (nil, fields_of_empties lines (All-tail IsEmptyLine line lines each)) refl
 
 -- the message that was found, made of its lines
 pub message_given : (bytes view : List ℕ) (head end next : ℕ) (message : List NameAndValue)
@@ -81,7 +81,7 @@ message_given bytes view head end next message is found parsed =
       is_empty = m.is_empty;
       fields = parsed (m.begins.empties ++ m.lines) no_lf lines
           ∙ filter_map-append (λ l. field_of (content l)) m.begins.empties m.lines
-          ∙ ap (λ fs. fs ++ fields_of m.lines) (fields_of-empties m.begins.empties m.begins.each_empty);
+          ∙ ap (λ fs. fs ++ fields_of m.lines) (fields_of_empties m.begins.empties m.begins.each_empty);
     }
 
 -- the rest that was found
@@ -103,7 +103,7 @@ pub outcome_of_message : (bytes view : List ℕ) (head end next : ℕ) → drop 
 outcome_of_message bytes view head end next is found =
     let P : List ℕ → Type 0 = λ ys. EndsMessage ys end next in
     let m : P view = subst P (take_rest bytes head ∙ is) found in
-    (fields_of m.lines, drop next view, outcome-found view end next m)
+    (fields_of m.lines, drop next view, outcome_found view end next m)
 
 -- a rest
 pub outcome_of_rest : (bytes view : List ℕ) (head empty : ℕ) (progress : Progress) → drop head bytes ≡ view
@@ -111,7 +111,7 @@ pub outcome_of_rest : (bytes view : List ℕ) (head empty : ℕ) (progress : Pro
     → first_of view ≡ Partial (drop (head + empty) bytes)
 outcome_of_rest bytes view head empty progress is found =
     let r = rest_given bytes view head empty progress is found in
-    outcome-rest view r.0.0 (drop (head + empty) bytes) r.0.1 r.0.2 r.1
+    outcome_rest view r.0.0 (drop (head + empty) bytes) r.0.1 r.0.2 r.1
 
 -- a fault
 pub fault_given : (bytes view : List ℕ) (head : ℕ) (fault : FeedFault) → drop head bytes ≡ view

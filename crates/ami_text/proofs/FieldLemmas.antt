@@ -10,17 +10,17 @@ use Rattle.ami_text.specs.Field.{pair_of}
 use Rattle.ami_text.specs.MessageFields.{first_value, same_name}
 
 -- a test of two names gives what the definition does
-pub same_name-tested : (a b : List ℕ) (r : Bool) → Decides r (map to_ascii_lowercase a ≡ map to_ascii_lowercase b) → same_name a b ≡ r
-same_name-tested a b r test = same_from_decides (same_name a b) r (bytes_eq-Decides (map to_ascii_lowercase a) (map to_ascii_lowercase b)) test
+pub same_name_tested : (a b : List ℕ) (r : Bool) → Decides r (map to_ascii_lowercase a ≡ map to_ascii_lowercase b) → same_name a b ≡ r
+same_name_tested a b r test = same_from_decides (same_name a b) r (bytes_eq-Decides (map to_ascii_lowercase a) (map to_ascii_lowercase b)) test
 
 -- the first of these fields has the name
-pub first_value-found : (name : List ℕ) (fields : List Field) (k : ℕ) (field : Field) → k < length fields → field ≡ get_or fields k field
+pub first_value_found : (name : List ℕ) (fields : List Field) (k : ℕ) (field : Field) → k < length fields → field ≡ get_or fields k field
     → same_name field.name.items name ≡ true
     → first_value name (map pair_of (drop k fields)) ≡ Some field.value.items
-first_value-found name fields k field lt is e = rw (drop_more fields k field lt, ← is, e) refl
+first_value_found name fields k field lt is e = rw (drop_more fields k field lt, ← is, e) refl
 
 -- the first of these fields has another name
-pub first_value-passed : (name : List ℕ) (fields : List Field) (k : ℕ) (field : Field) → k < length fields → field ≡ get_or fields k field
+pub first_value_passed : (name : List ℕ) (fields : List Field) (k : ℕ) (field : Field) → k < length fields → field ≡ get_or fields k field
     → same_name field.name.items name ≡ false
     → first_value name (map pair_of (drop k fields)) ≡ first_value name (map pair_of (drop (k + 1) fields))
-first_value-passed name fields k field lt is e = rw (drop_more fields k field lt, ← is, e) refl
+first_value_passed name fields k field lt is e = rw (drop_more fields k field lt, ← is, e) refl

@@ -9,7 +9,7 @@ use Rattle.ami_text.specs.MessageFields.{NameAndValue, fields_of}
 use Rattle.ami_text.specs.Found.{EndsMessage}
 use Rattle.ami_text.specs.Lines.{HasNoLf, content, IsEmptyLine, IsFullLine, lines_text}
 use Rattle.ami_text.specs.Stream.{Begins, FirstMessage, HasFault, IsRest}
-use Rattle.ami_text.proofs.WholeLines.{onto, whole_lines, whole_lines-line, whole_lines-part, whole_lines-lines_text}
+use Rattle.ami_text.proofs.WholeLines.{onto, whole_lines, whole_lines_line, whole_lines_part, whole_lines_lines_text}
 
 -- whether there is no line
 abbrev pub no_line : List (List ℕ) → Bool
@@ -21,26 +21,26 @@ abbrev pub last_part : List ℕ → List ℕ
 last_part [] = []
 last_part (b ∷ bytes) = cond (b == 10) (last_part bytes) (cond (no_line (whole_lines bytes)) (b ∷ last_part bytes) (last_part bytes))
 
-pub last_part-line : (line rest : List ℕ) → HasNoLf line → last_part (line ++ 10 ∷ rest) ≡ last_part rest
-last_part-line [] rest none = refl
-last_part-line (b ∷ line) rest none =
+pub last_part_line : (line rest : List ℕ) → HasNoLf line → last_part (line ++ 10 ∷ rest) ≡ last_part rest
+last_part_line [] rest none = refl
+last_part_line (b ∷ line) rest none =
     let other : (b == 10) ≡ false = ne_eqb b 10 (All-head (λ x. x ≢ 10) b line none) in
     let tail = All-tail (λ x. x ≢ 10) b line none in
-    rw (other, whole_lines-line line rest tail) (last_part-line line rest tail)
+    rw (other, whole_lines_line line rest tail) (last_part_line line rest tail)
 
-pub last_part-part : (part : List ℕ) → HasNoLf part → last_part part ≡ part
-last_part-part [] none = refl
-last_part-part (b ∷ part) none =
+pub last_part_part : (part : List ℕ) → HasNoLf part → last_part part ≡ part
+last_part_part [] none = refl
+last_part_part (b ∷ part) none =
     let other : (b == 10) ≡ false = ne_eqb b 10 (All-head (λ x. x ≢ 10) b part none) in
     let tail = All-tail (λ x. x ≢ 10) b part none in
-    rw (other, whole_lines-part part tail) (ap (λ ys. b ∷ ys) (last_part-part part tail))
+    rw (other, whole_lines_part part tail) (ap (λ ys. b ∷ ys) (last_part_part part tail))
 
-pub last_part-lines_text : (lines : List (List ℕ)) (rest : List ℕ) → All HasNoLf lines → last_part (lines_text lines ++ rest) ≡ last_part rest
-last_part-lines_text [] rest none = refl
-last_part-lines_text (line ∷ lines) rest none =
+pub last_part_lines_text : (lines : List (List ℕ)) (rest : List ℕ) → All HasNoLf lines → last_part (lines_text lines ++ rest) ≡ last_part rest
+last_part_lines_text [] rest none = refl
+last_part_lines_text (line ∷ lines) rest none =
     rw (append_assoc (line ++ 10 ∷ []) (lines_text lines) rest, append_assoc line (10 ∷ []) (lines_text lines ++ rest))
-    (last_part-line line (lines_text lines ++ rest) (All-head HasNoLf line lines none)
-    ∙ last_part-lines_text lines rest (All-tail HasNoLf line lines none))
+    (last_part_line line (lines_text lines ++ rest) (All-head HasNoLf line lines none)
+    ∙ last_part_lines_text lines rest (All-tail HasNoLf line lines none))
 
 rebuilt_more : (b : ℕ) (is : Bool) (lines : List (List ℕ)) (last bytes : List ℕ) → (b == 10) ≡ is → lines_text lines ++ last ≡ bytes
     → lines_text (cond is ([] ∷ lines) (onto b lines)) ++ cond is last (cond (no_line lines) (b ∷ last) last) ≡ b ∷ bytes
@@ -67,23 +67,23 @@ glued_nil [] = refl
 glued_nil (line ∷ lines) = refl
 
 -- the whole lines of bytes without LF and more
-pub whole_lines-glued : (part more : List ℕ) → HasNoLf part → whole_lines (part ++ more) ≡ glued part (whole_lines more)
-whole_lines-glued [] more none = glued_nil (whole_lines more)
-whole_lines-glued (b ∷ part) more none =
+pub whole_lines_glued : (part more : List ℕ) → HasNoLf part → whole_lines (part ++ more) ≡ glued part (whole_lines more)
+whole_lines_glued [] more none = glued_nil (whole_lines more)
+whole_lines_glued (b ∷ part) more none =
     let other : (b == 10) ≡ false = ne_eqb b 10 (All-head (λ x. x ≢ 10) b part none) in
-    rw (other, whole_lines-glued part more (All-tail (λ x. x ≢ 10) b part none)) (onto_glued b part (whole_lines more))
+    rw (other, whole_lines_glued part more (All-tail (λ x. x ≢ 10) b part none)) (onto_glued b part (whole_lines more))
 
-no_line-glued : (part : List ℕ) (lines : List (List ℕ)) → no_line (glued part lines) ≡ no_line lines
-no_line-glued part [] = refl
-no_line-glued part (line ∷ lines) = refl
+no_line_glued : (part : List ℕ) (lines : List (List ℕ)) → no_line (glued part lines) ≡ no_line lines
+no_line_glued part [] = refl
+no_line_glued part (line ∷ lines) = refl
 
 -- what follows their last LF, where there is none
-pub last_part-glued : (part more : List ℕ) → HasNoLf part → whole_lines more ≡ [] → last_part (part ++ more) ≡ part ++ last_part more
-last_part-glued [] more none nil = refl
-last_part-glued (b ∷ part) more none nil =
+pub last_part_glued : (part more : List ℕ) → HasNoLf part → whole_lines more ≡ [] → last_part (part ++ more) ≡ part ++ last_part more
+last_part_glued [] more none nil = refl
+last_part_glued (b ∷ part) more none nil =
     let other : (b == 10) ≡ false = ne_eqb b 10 (All-head (λ x. x ≢ 10) b part none) in
     let tail = All-tail (λ x. x ≢ 10) b part none in
-    rw (other, whole_lines-glued part more tail, nil) (ap (λ ys. b ∷ ys) (last_part-glued part more tail nil))
+    rw (other, whole_lines_glued part more tail, nil) (ap (λ ys. b ∷ ys) (last_part_glued part more tail nil))
 
 -- a content is its line, or one byte shorter
 pub content_bounds : (line : List ℕ) → (length (content line) ≤ length line) × (length line ≤ length (content line) + 1)
@@ -121,91 +121,91 @@ walk seen (line ∷ lines) last =
 abbrev pub first_of : List ℕ → Outcome
 first_of bytes = walk [] (whole_lines bytes) (last_part bytes)
 
-pub walk-empties : (empties lines : List (List ℕ)) (last : List ℕ) → All IsEmptyLine empties → walk [] (empties ++ lines) last ≡ walk [] lines last
-walk-empties [] lines last each = refl
-walk-empties (line ∷ empties) lines last each =
+pub walk_empties : (empties lines : List (List ℕ)) (last : List ℕ) → All IsEmptyLine empties → walk [] (empties ++ lines) last ≡ walk [] lines last
+walk_empties [] lines last each = refl
+walk_empties (line ∷ empties) lines last each =
     let none : length (content line) ≡ 0 = (All-head IsEmptyLine line empties each).empty in
-    rw none (walk-empties empties lines last (All-tail IsEmptyLine line empties each))
+    rw none (walk_empties empties lines last (All-tail IsEmptyLine line empties each))
 
-pub walk-full : (seen lines : List (List ℕ)) (line last : List ℕ) → IsFullLine line → length seen < 128
+pub walk_full : (seen lines : List (List ℕ)) (line last : List ℕ) → IsFullLine line → length seen < 128
     → walk seen (line ∷ lines) last ≡ walk (seen ++ line ∷ []) lines last
-walk-full seen lines line last full lt =
+walk_full seen lines line last full lt =
     let fits : nat_lt 1024 (length (content line)) ≡ false = le-ltb 1024 (length (content line)) full.fits in
     let some : (length (content line) == 0) ≡ false = ne_eqb (length (content line)) 0 (λ e. absurd (omega (arith, e, full.some))) in
     let few : nat_lt (length seen) 128 ≡ true = lt-ltb (length seen) 128 lt in
     rw (fits, some, few) refl
 
-pub walk-fulls : (seen fulls lines : List (List ℕ)) (last : List ℕ) → All IsFullLine fulls → length seen + length fulls ≤ 128
+pub walk_fulls : (seen fulls lines : List (List ℕ)) (last : List ℕ) → All IsFullLine fulls → length seen + length fulls ≤ 128
     → walk seen (fulls ++ lines) last ≡ walk (seen ++ fulls) lines last
-walk-fulls seen [] lines last each within = ap (λ ls. walk ls lines last) (sym (append-nil seen))
-walk-fulls seen (line ∷ fulls) lines last each within =
+walk_fulls seen [] lines last each within = ap (λ ls. walk ls lines last) (sym (append-nil seen))
+walk_fulls seen (line ∷ fulls) lines last each within =
     let lt : length seen < 128 = omega arith in
     let more : length (seen ++ line ∷ []) + length fulls ≤ 128 = omega (arith, length-append seen (line ∷ [])) in
-    walk-full seen (fulls ++ lines) line last (All-head IsFullLine line fulls each) lt
-    ∙ walk-fulls (seen ++ line ∷ []) fulls lines last (All-tail IsFullLine line fulls each) more
+    walk_full seen (fulls ++ lines) line last (All-head IsFullLine line fulls each) lt
+    ∙ walk_fulls (seen ++ line ∷ []) fulls lines last (All-tail IsFullLine line fulls each) more
     ∙ ap (λ ls. walk ls lines last) (append_assoc seen (line ∷ []) fulls)
 
 -- after empty lines and lines of a message
-pub first_of-begins : (bytes : List ℕ) (lines : List (List ℕ)) (more : List ℕ) → Begins bytes lines more
+pub first_of_begins : (bytes : List ℕ) (lines : List (List ℕ)) (more : List ℕ) → Begins bytes lines more
     → first_of bytes ≡ walk lines (whole_lines more) (last_part more)
-first_of-begins bytes lines more b =
+first_of_begins bytes lines more b =
     let none_empty : All HasNoLf b.empties = All-weaker IsEmptyLine HasNoLf (λ l e. e.no_lf) b.empties b.each_empty in
     let none_full : All HasNoLf lines = All-weaker IsFullLine HasNoLf (λ l e. e.no_lf) lines b.each_full in
     let whole : whole_lines bytes ≡ b.empties ++ (lines ++ whole_lines more) =
-    ap whole_lines b.whole ∙ whole_lines-lines_text b.empties (lines_text lines ++ more) none_empty
-    ∙ ap (λ ls. b.empties ++ ls) (whole_lines-lines_text lines more none_full) in
+    ap whole_lines b.whole ∙ whole_lines_lines_text b.empties (lines_text lines ++ more) none_empty
+    ∙ ap (λ ls. b.empties ++ ls) (whole_lines_lines_text lines more none_full) in
     let last : last_part bytes ≡ last_part more =
-    ap last_part b.whole ∙ last_part-lines_text b.empties (lines_text lines ++ more) none_empty ∙ last_part-lines_text lines more none_full in
+    ap last_part b.whole ∙ last_part_lines_text b.empties (lines_text lines ++ more) none_empty ∙ last_part_lines_text lines more none_full in
     let within : 0 + length lines ≤ 128 = omega (arith, b.within) in
     rw (whole, last)
-    (walk-empties b.empties (lines ++ whole_lines more) (last_part more) b.each_empty
-    ∙ walk-fulls [] lines (whole_lines more) (last_part more) b.each_full within)
+    (walk_empties b.empties (lines ++ whole_lines more) (last_part more) b.each_empty
+    ∙ walk_fulls [] lines (whole_lines more) (last_part more) b.each_full within)
 
-pub outcome-message : (bytes : List ℕ) (message : List NameAndValue) (rest : List ℕ) → FirstMessage bytes message rest → first_of bytes ≡ Whole message rest
-outcome-message bytes message rest m =
+pub outcome_message : (bytes : List ℕ) (message : List NameAndValue) (rest : List ℕ) → FirstMessage bytes message rest → first_of bytes ≡ Whole message rest
+outcome_message bytes message rest m =
     let none : length (content m.last) ≡ 0 = m.is_empty.empty in
     let some : (length m.lines == 0) ≡ false = ne_eqb (length m.lines) 0 (λ e. absurd (omega (arith, e, m.some))) in
-    first_of-begins bytes m.lines (m.last ++ 10 ∷ rest) m.begins
-    ∙ rw (whole_lines-line m.last rest m.is_empty.no_lf, last_part-line m.last rest m.is_empty.no_lf, none, some, rebuilt rest, m.fields) refl
+    first_of_begins bytes m.lines (m.last ++ 10 ∷ rest) m.begins
+    ∙ rw (whole_lines_line m.last rest m.is_empty.no_lf, last_part_line m.last rest m.is_empty.no_lf, none, some, rebuilt rest, m.fields) refl
 
-pub outcome-rest : (bytes : List ℕ) (empties : List (List ℕ)) (rest : List ℕ) → All IsEmptyLine empties → bytes ≡ lines_text empties ++ rest → IsRest rest
+pub outcome_rest : (bytes : List ℕ) (empties : List (List ℕ)) (rest : List ℕ) → All IsEmptyLine empties → bytes ≡ lines_text empties ++ rest → IsRest rest
     → first_of bytes ≡ Partial rest
-outcome-rest bytes empties rest each is r =
+outcome_rest bytes empties rest each is r =
     let fits : nat_le (length (content r.part)) 1024 ≡ true = le-leb (length (content r.part)) 1024 r.fits in
-    first_of-begins bytes r.lines r.part (record {
+    first_of_begins bytes r.lines r.part (record {
       empties = empties;
       each_empty = each;
       each_full = r.each_full;
       within = r.within;
       whole = is ∙ ap (λ ys. lines_text empties ++ ys) r.whole;
     })
-    ∙ rw (whole_lines-part r.part r.no_lf, last_part-part r.part r.no_lf, fits, r.whole) refl
+    ∙ rw (whole_lines_part r.part r.no_lf, last_part_part r.part r.no_lf, fits, r.whole) refl
 
-walk-long : (seen : List (List ℕ)) (part more : List ℕ) (lines : List (List ℕ)) → whole_lines more ≡ lines → HasNoLf part → 1024 < length (content part)
+walk_long : (seen : List (List ℕ)) (part more : List ℕ) (lines : List (List ℕ)) → whole_lines more ≡ lines → HasNoLf part → 1024 < length (content part)
     → walk seen (whole_lines (part ++ more)) (last_part (part ++ more)) ≡ Bad LineTooLong
-walk-long seen part more [] is none long =
+walk_long seen part more [] is none long =
     let over : nat_le (length (content (part ++ last_part more))) 1024 ≡ false =
     lt-leb (length (content (part ++ last_part more))) 1024 (too_long_more part (last_part more) long) in
-    rw (whole_lines-glued part more none, last_part-glued part more none is, is, over) refl
-walk-long seen part more (line ∷ lines) is none long =
+    rw (whole_lines_glued part more none, last_part_glued part more none is, is, over) refl
+walk_long seen part more (line ∷ lines) is none long =
     let over : nat_lt 1024 (length (content (part ++ line))) ≡ true =
     lt-ltb 1024 (length (content (part ++ line))) (too_long_more part line long) in
-    rw (whole_lines-glued part more none, is, over) refl
+    rw (whole_lines_glued part more none, is, over) refl
 
-pub outcome-fault : (fault : FeedFault) (bytes : List ℕ) → HasFault fault bytes → first_of bytes ≡ Bad fault
-outcome-fault LineTooLong bytes l =
-    first_of-begins bytes l.lines (l.part ++ l.more) l.begins ∙ walk-long l.lines l.part l.more (whole_lines l.more) refl l.no_lf l.too_long
-outcome-fault TooManyFields bytes l =
+pub outcome_fault : (fault : FeedFault) (bytes : List ℕ) → HasFault fault bytes → first_of bytes ≡ Bad fault
+outcome_fault LineTooLong bytes l =
+    first_of_begins bytes l.lines (l.part ++ l.more) l.begins ∙ walk_long l.lines l.part l.more (whole_lines l.more) refl l.no_lf l.too_long
+outcome_fault TooManyFields bytes l =
     let fits : nat_lt 1024 (length (content l.line)) ≡ false = le-ltb 1024 (length (content l.line)) l.is_full.fits in
     let some : (length (content l.line) == 0) ≡ false = ne_eqb (length (content l.line)) 0 (λ e. absurd (omega (arith, e, l.is_full.some))) in
     let many : nat_lt (length l.lines) 128 ≡ false = le-ltb (length l.lines) 128 (omega (arith, l.all)) in
-    first_of-begins bytes l.lines (l.line ++ 10 ∷ l.more) l.begins
-    ∙ rw (whole_lines-line l.line l.more l.is_full.no_lf, fits, some, many) refl
-outcome-fault Memory bytes none = absurd none
+    first_of_begins bytes l.lines (l.line ++ 10 ∷ l.more) l.begins
+    ∙ rw (whole_lines_line l.line l.more l.is_full.no_lf, fits, some, many) refl
+outcome_fault Memory bytes none = absurd none
 
 -- the same of what a scan found
-pub outcome-found : (held : List ℕ) (end next : ℕ) (f : EndsMessage held end next) → first_of held ≡ Whole (fields_of f.lines) (drop next held)
-outcome-found held end next f = outcome-message held (fields_of f.lines) (drop next held) (record {
+pub outcome_found : (held : List ℕ) (end next : ℕ) (f : EndsMessage held end next) → first_of held ≡ Whole (fields_of f.lines) (drop next held)
+outcome_found held end next f = outcome_message held (fields_of f.lines) (drop next held) (record {
   lines = f.lines;
   last = f.last;
   begins = f.begins;

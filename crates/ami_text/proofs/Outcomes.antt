@@ -7,10 +7,10 @@ use Rattle.ami_text.specs.declared.feed_fault.FeedFault.TheVariants.{LineTooLong
 use Rattle.ami_text.specs.MessageFields.{NameAndValue}
 use Rattle.ami_text.specs.Lines.{IsEmptyLine, lines_text}
 use Rattle.ami_text.specs.Stream.{Begins, FirstMessage, HasFault, Gives, Ending, Rest, Fault, Reads}
-use Rattle.ami_text.proofs.Outcome.{Outcome, Whole, Partial, Bad, first_of, outcome-message, outcome-rest, outcome-fault}
+use Rattle.ami_text.proofs.Outcome.{Outcome, Whole, Partial, Bad, first_of, outcome_message, outcome_rest, outcome_fault}
 
-begins-more : (bytes more : List ℕ) (lines : List (List ℕ)) (behind : List ℕ) → Begins bytes lines behind → Begins (bytes ++ more) lines (behind ++ more)
-begins-more bytes more lines behind b = record {
+begins_more : (bytes more : List ℕ) (lines : List (List ℕ)) (behind : List ℕ) → Begins bytes lines behind → Begins (bytes ++ more) lines (behind ++ more)
+begins_more bytes more lines behind b = record {
   empties = b.empties;
   each_empty = b.each_empty;
   each_full = b.each_full;
@@ -19,9 +19,9 @@ begins-more bytes more lines behind b = record {
       ∙ ap (λ ys. lines_text b.empties ++ ys) (append_assoc (lines_text lines) behind more);
 }
 
-first_message-more : (bytes more : List ℕ) (message : List NameAndValue) (rest : List ℕ) → FirstMessage bytes message rest
+first_message_more : (bytes more : List ℕ) (message : List NameAndValue) (rest : List ℕ) → FirstMessage bytes message rest
     → FirstMessage (bytes ++ more) message (rest ++ more)
-first_message-more bytes more message rest m =
+first_message_more bytes more message rest m =
     let P : List ℕ → Type 0 = λ ys. Begins (bytes ++ more) m.lines ys in
     record {
       lines = m.lines;
@@ -29,12 +29,12 @@ first_message-more bytes more message rest m =
       some = m.some;
       is_empty = m.is_empty;
       fields = m.fields;
-      begins = subst P (append_assoc m.last (10 ∷ rest) more) (begins-more bytes more m.lines (m.last ++ 10 ∷ rest) m.begins);
+      begins = subst P (append_assoc m.last (10 ∷ rest) more) (begins_more bytes more m.lines (m.last ++ 10 ∷ rest) m.begins);
     }
 
 -- a fault stays, whatever follows
-pub fault-more : (fault : FeedFault) (bytes more : List ℕ) → HasFault fault bytes → HasFault fault (bytes ++ more)
-fault-more LineTooLong bytes more l =
+pub fault_more : (fault : FeedFault) (bytes more : List ℕ) → HasFault fault bytes → HasFault fault (bytes ++ more)
+fault_more LineTooLong bytes more l =
     let P : List ℕ → Type 0 = λ ys. Begins (bytes ++ more) l.lines ys in
     record {
       lines = l.lines;
@@ -42,9 +42,9 @@ fault-more LineTooLong bytes more l =
       more = l.more ++ more;
       no_lf = l.no_lf;
       too_long = l.too_long;
-      begins = subst P (append_assoc l.part l.more more) (begins-more bytes more l.lines (l.part ++ l.more) l.begins);
+      begins = subst P (append_assoc l.part l.more more) (begins_more bytes more l.lines (l.part ++ l.more) l.begins);
     }
-fault-more TooManyFields bytes more l =
+fault_more TooManyFields bytes more l =
     let P : List ℕ → Type 0 = λ ys. Begins (bytes ++ more) l.lines ys in
     record {
       lines = l.lines;
@@ -52,19 +52,19 @@ fault-more TooManyFields bytes more l =
       more = l.more ++ more;
       all = l.all;
       is_full = l.is_full;
-      begins = subst P (append_assoc l.line (10 ∷ l.more) more) (begins-more bytes more l.lines (l.line ++ 10 ∷ l.more) l.begins);
+      begins = subst P (append_assoc l.line (10 ∷ l.more) more) (begins_more bytes more l.lines (l.line ++ 10 ∷ l.more) l.begins);
     }
-fault-more Memory bytes more none = absurd none
+fault_more Memory bytes more none = absurd none
 
 -- messages stay, whatever follows
-pub gives-more : (messages : List (List NameAndValue)) (bytes more rest : List ℕ) → Gives bytes messages rest → Gives (bytes ++ more) messages (rest ++ more)
-gives-more [] bytes more rest g = (g.0, g.1, ap (λ ys. ys ++ more) g.2 ∙ append_assoc (lines_text g.0) rest more)
-gives-more (message ∷ messages) bytes more rest g =
-    (g.0 ++ more, first_message-more bytes more message g.0 g.1, gives-more messages g.0 more rest g.2)
+pub gives_more : (messages : List (List NameAndValue)) (bytes more rest : List ℕ) → Gives bytes messages rest → Gives (bytes ++ more) messages (rest ++ more)
+gives_more [] bytes more rest g = (g.0, g.1, ap (λ ys. ys ++ more) g.2 ∙ append_assoc (lines_text g.0) rest more)
+gives_more (message ∷ messages) bytes more rest g =
+    (g.0 ++ more, first_message_more bytes more message g.0 g.1, gives_more messages g.0 more rest g.2)
 
-begins-after : (empties : List (List ℕ)) (bytes : List ℕ) (lines : List (List ℕ)) (more : List ℕ) → All IsEmptyLine empties → Begins bytes lines more
+begins_after : (empties : List (List ℕ)) (bytes : List ℕ) (lines : List (List ℕ)) (more : List ℕ) → All IsEmptyLine empties → Begins bytes lines more
     → Begins (lines_text empties ++ bytes) lines more
-begins-after empties bytes lines more each b = record {
+begins_after empties bytes lines more each b = record {
   empties = empties ++ b.empties;
   each_empty = All-append IsEmptyLine empties b.empties each b.each_empty;
   each_full = b.each_full;
@@ -74,36 +74,36 @@ begins-after empties bytes lines more each b = record {
 }
 
 -- empty lines before a fault are nothing
-pub fault-after : (fault : FeedFault) (empties : List (List ℕ)) (bytes : List ℕ) → All IsEmptyLine empties → HasFault fault bytes
+pub fault_after : (fault : FeedFault) (empties : List (List ℕ)) (bytes : List ℕ) → All IsEmptyLine empties → HasFault fault bytes
     → HasFault fault (lines_text empties ++ bytes)
-fault-after LineTooLong empties bytes each l = record {
+fault_after LineTooLong empties bytes each l = record {
   lines = l.lines;
   part = l.part;
   more = l.more;
   no_lf = l.no_lf;
   too_long = l.too_long;
-  begins = begins-after empties bytes l.lines (l.part ++ l.more) each l.begins;
+  begins = begins_after empties bytes l.lines (l.part ++ l.more) each l.begins;
 }
-fault-after TooManyFields empties bytes each l = record {
+fault_after TooManyFields empties bytes each l = record {
   lines = l.lines;
   line = l.line;
   more = l.more;
   all = l.all;
   is_full = l.is_full;
-  begins = begins-after empties bytes l.lines (l.line ++ 10 ∷ l.more) each l.begins;
+  begins = begins_after empties bytes l.lines (l.line ++ 10 ∷ l.more) each l.begins;
 }
-fault-after Memory empties bytes each none = absurd none
+fault_after Memory empties bytes each none = absurd none
 
 -- nor are they before messages
-pub gives-after : (empties : List (List ℕ)) (messages : List (List NameAndValue)) (bytes rest : List ℕ) → All IsEmptyLine empties → Gives bytes messages rest
+pub gives_after : (empties : List (List ℕ)) (messages : List (List NameAndValue)) (bytes rest : List ℕ) → All IsEmptyLine empties → Gives bytes messages rest
     → Gives (lines_text empties ++ bytes) messages rest
-gives-after empties [] bytes rest each g = (
+gives_after empties [] bytes rest each g = (
   empties ++ g.0,
   All-append IsEmptyLine empties g.0 each g.1,
   ap (λ ys. lines_text empties ++ ys) g.2 ∙ sym (append_assoc (lines_text empties) (lines_text g.0) rest)
       ∙ ap (λ ys. ys ++ rest) (sym (flat_map-append (λ l. l ++ 10 ∷ []) empties g.0)),
 )
-gives-after empties (message ∷ messages) bytes rest each g = (
+gives_after empties (message ∷ messages) bytes rest each g = (
   g.0,
   record {
     lines = g.1.lines;
@@ -111,39 +111,39 @@ gives-after empties (message ∷ messages) bytes rest each g = (
     some = g.1.some;
     is_empty = g.1.is_empty;
     fields = g.1.fields;
-    begins = begins-after empties bytes g.1.lines (g.1.last ++ 10 ∷ g.0) each g.1.begins;
+    begins = begins_after empties bytes g.1.lines (g.1.last ++ 10 ∷ g.0) each g.1.begins;
   },
   g.2,
 )
 
 -- messages, and then those of the rest
-pub gives-then : (messages more : List (List NameAndValue)) (bytes held rest : List ℕ) → Gives bytes messages held → Gives held more rest
+pub gives_then : (messages more : List (List NameAndValue)) (bytes held rest : List ℕ) → Gives bytes messages held → Gives held more rest
     → Gives bytes (messages ++ more) rest
-gives-then [] more bytes held rest g h =
+gives_then [] more bytes held rest g h =
     let P : List ℕ → Type 0 = λ ys. Gives ys more rest in
-    subst P (sym g.2) (gives-after g.0 more held rest g.1 h)
-gives-then (message ∷ messages) more bytes held rest g h = (g.0, g.1, gives-then messages more g.0 held rest g.2 h)
+    subst P (sym g.2) (gives_after g.0 more held rest g.1 h)
+gives_then (message ∷ messages) more bytes held rest g h = (g.0, g.1, gives_then messages more g.0 held rest g.2 h)
 
 -- two pieces
-pub reads-then : (messages more : List (List NameAndValue)) (bytes held : List ℕ) (ending : Ending) → Gives bytes messages held → Reads held more ending
+pub reads_then : (messages more : List (List NameAndValue)) (bytes held : List ℕ) (ending : Ending) → Gives bytes messages held → Reads held more ending
     → Reads bytes (messages ++ more) ending
-reads-then messages more bytes held (Rest rest) g r = (gives-then messages more bytes held rest g r.0, r.1)
-reads-then messages more bytes held (Fault fault) g r = (r.0, gives-then messages more bytes held r.0 g r.1, r.2)
+reads_then messages more bytes held (Rest rest) g r = (gives_then messages more bytes held rest g r.0, r.1)
+reads_then messages more bytes held (Fault fault) g r = (r.0, gives_then messages more bytes held r.0 g r.1, r.2)
 
 -- how the outcome ends a stream
 abbrev pub ended_by : Ending → Outcome
 ended_by (Rest rest) = Partial rest
 ended_by (Fault fault) = Bad fault
 
-first_of-none : (bytes : List ℕ) (ending : Ending) → Reads bytes [] ending → first_of bytes ≡ ended_by ending
-first_of-none bytes (Rest rest) r = outcome-rest bytes r.0.0 rest r.0.1 r.0.2 r.1
-first_of-none bytes (Fault fault) r =
-    ap first_of r.1.2 ∙ outcome-fault fault (lines_text r.1.0 ++ r.0) (fault-after fault r.1.0 r.0 r.1.1 r.2)
+first_of_none : (bytes : List ℕ) (ending : Ending) → Reads bytes [] ending → first_of bytes ≡ ended_by ending
+first_of_none bytes (Rest rest) r = outcome_rest bytes r.0.0 rest r.0.1 r.0.2 r.1
+first_of_none bytes (Fault fault) r =
+    ap first_of r.1.2 ∙ outcome_fault fault (lines_text r.1.0 ++ r.0) (fault_after fault r.1.0 r.0 r.1.1 r.2)
 
-first_of-some : (bytes : List ℕ) (message : List NameAndValue) (messages : List (List NameAndValue)) (ending : Ending) → Reads bytes (message ∷ messages) ending
+first_of_some : (bytes : List ℕ) (message : List NameAndValue) (messages : List (List NameAndValue)) (ending : Ending) → Reads bytes (message ∷ messages) ending
     → (after : List ℕ) × (first_of bytes ≡ Whole message after) × Reads after messages ending
-first_of-some bytes message messages (Rest rest) r = (r.0.0, outcome-message bytes message r.0.0 r.0.1, (r.0.2, r.1))
-first_of-some bytes message messages (Fault fault) r = (r.1.0, outcome-message bytes message r.1.0 r.1.1, (r.0, r.1.2, r.2))
+first_of_some bytes message messages (Rest rest) r = (r.0.0, outcome_message bytes message r.0.0 r.0.1, (r.0.2, r.1))
+first_of_some bytes message messages (Fault fault) r = (r.1.0, outcome_message bytes message r.1.0 r.1.1, (r.0, r.1.2, r.2))
 
 same_ending : (ending other : Ending) → ended_by ending ≡ ended_by other → ending ≡ other
 same_ending (Rest a) (Rest b) e = cc
@@ -159,16 +159,16 @@ not_ended (Fault a) message rest e = cc
 pub one_outcome : (messages others : List (List NameAndValue)) (bytes : List ℕ) (ending other : Ending) → Reads bytes messages ending → Reads bytes others other
     → (messages ≡ others) × (ending ≡ other)
 one_outcome [] [] bytes ending other r s =
-    (refl, same_ending ending other (sym (first_of-none bytes ending r) ∙ first_of-none bytes other s))
+    (refl, same_ending ending other (sym (first_of_none bytes ending r) ∙ first_of_none bytes other s))
 one_outcome [] (n ∷ others) bytes ending other r s =
-    let t = first_of-some bytes n others other s in
-    absurd (not_ended ending n t.0 (sym (first_of-none bytes ending r) ∙ t.1))
+    let t = first_of_some bytes n others other s in
+    absurd (not_ended ending n t.0 (sym (first_of_none bytes ending r) ∙ t.1))
 one_outcome (m ∷ messages) [] bytes ending other r s =
-    let t = first_of-some bytes m messages ending r in
-    absurd (not_ended other m t.0 (sym (first_of-none bytes other s) ∙ t.1))
+    let t = first_of_some bytes m messages ending r in
+    absurd (not_ended other m t.0 (sym (first_of_none bytes other s) ∙ t.1))
 one_outcome (m ∷ messages) (n ∷ others) bytes ending other r s =
-    let t = first_of-some bytes m messages ending r in
-    let u = first_of-some bytes n others other s in
+    let t = first_of_some bytes m messages ending r in
+    let u = first_of_some bytes n others other s in
     let same : Whole m t.0 ≡ Whole n u.0 = sym t.1 ∙ u.1 in
     let head : m ≡ n = cc in
     let after : u.0 ≡ t.0 = cc in
@@ -177,9 +177,9 @@ one_outcome (m ∷ messages) (n ∷ others) bytes ending other r s =
     (cc (head, later.0), later.1)
 
 -- nothing has been given of any bytes
-pub gives-none : (bytes : List ℕ) → Gives bytes [] bytes
-gives-none bytes = ([], All-nil IsEmptyLine, refl)
+pub gives_none : (bytes : List ℕ) → Gives bytes [] bytes
+gives_none bytes = ([], All-nil IsEmptyLine, refl)
 
 -- a first message is one message
-pub gives-one : (bytes rest : List ℕ) (message : List NameAndValue) → FirstMessage bytes message rest → Gives bytes (message ∷ []) rest
-gives-one bytes rest message first = (rest, first, gives-none rest)
+pub gives_one : (bytes rest : List ℕ) (message : List NameAndValue) → FirstMessage bytes message rest → Gives bytes (message ∷ []) rest
+gives_one bytes rest message first = (rest, first, gives_none rest)

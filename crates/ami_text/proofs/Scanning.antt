@@ -12,7 +12,7 @@ use Rattle.ami_text.specs.Found.{EndsMessage, EndsInRest}
 use Rattle.ami_text.specs.Lines.{HasNoLf, content, IsEmptyLine, IsFullLine, lines_text}
 use Rattle.ami_text.specs.Progress.{IsReached}
 use Rattle.ami_text.specs.Stream.{ShowsLongLine, EndsTooManyLines}
-use Rattle.ami_text.proofs.ByteSearch.{HasNoLf-take, HasNoLf-all, around_lf}
+use Rattle.ami_text.proofs.ByteSearch.{HasNoLf_take, HasNoLf_all, around_lf}
 
 -- empty lines up to `empty`, lines of a message up to `line`, bytes without LF up to `looked`, and then what lies ahead
 pub record Scanned (held : List ℕ) (empty line lines looked : ℕ) : Type 0 where
@@ -86,16 +86,16 @@ scanned_bounds held empty line lines looked s =
     (omega (arith, s.line_at), omega (arith, s.looked_at), omega (arith, e, f, g, h, s.empty_at, s.line_at, s.looked_at))
 
 -- the bytes of lines and one more
-pub lines_text-push : (lines : List (List ℕ)) (line after : List ℕ) → lines_text (lines ++ line ∷ []) ++ after ≡ lines_text lines ++ (line ++ 10 ∷ after)
-lines_text-push lines line after =
+pub lines_text_push : (lines : List (List ℕ)) (line after : List ℕ) → lines_text (lines ++ line ∷ []) ++ after ≡ lines_text lines ++ (line ++ 10 ∷ after)
+lines_text_push lines line after =
     ap (λ ys. ys ++ after) (flat_map-append (λ l. l ++ 10 ∷ []) lines (line ∷ []))
     ∙ append_assoc (lines_text lines) ((line ++ 10 ∷ []) ++ []) after
     ∙ ap (λ ys. lines_text lines ++ ys) (ap (λ ys. ys ++ after) (append-nil (line ++ 10 ∷ [])) ∙ append_assoc line (10 ∷ []) after)
 
 -- how many they are
-pub length-lines_text-push : (lines : List (List ℕ)) (line : List ℕ) → length (lines_text (lines ++ line ∷ [])) ≡ length (lines_text lines) + (length line + 1)
-length-lines_text-push lines line =
-    let e = ap length (sym (append-nil (lines_text (lines ++ line ∷ []))) ∙ lines_text-push lines line []) in
+pub length_lines_text_push : (lines : List (List ℕ)) (line : List ℕ) → length (lines_text (lines ++ line ∷ [])) ≡ length (lines_text lines) + (length line + 1)
+length_lines_text_push lines line =
+    let e = ap length (sym (append-nil (lines_text (lines ++ line ∷ []))) ∙ lines_text_push lines line []) in
     omega (arith, e, length-append (lines_text lines) (line ++ 10 ∷ []), length-append line (10 ∷ []))
 
 -- the next LF
@@ -117,7 +117,7 @@ line_found held empty line lines looked n s found =
       each_full = s.each_full;
       count = s.count;
       within = s.within;
-      no_lf = All-append (λ b. b ≢ 10) s.part (take n s.ahead) s.no_lf (HasNoLf-take s.ahead n within at.0.before);
+      no_lf = All-append (λ b. b ≢ 10) s.part (take n s.ahead) s.no_lf (HasNoLf_take s.ahead n within at.0.before);
       empty_at = s.empty_at;
       line_at = s.line_at;
       end_at = omega (arith, s.looked_at, length-append s.part (take n s.ahead), length-take-le n s.ahead within);
@@ -162,9 +162,9 @@ next_full held empty line lines end f full lt = record {
   within = omega (arith, lt);
   no_lf = All-nil (λ b. b ≢ 10);
   empty_at = f.empty_at;
-  line_at = omega (arith, f.line_at, f.end_at, length-lines_text-push f.read f.text);
+  line_at = omega (arith, f.line_at, f.end_at, length_lines_text_push f.read f.text);
   looked_at = omega arith;
-  whole = f.whole ∙ ap (λ ys. lines_text f.empties ++ ys) (sym (lines_text-push f.read f.text f.after));
+  whole = f.whole ∙ ap (λ ys. lines_text f.empties ++ ys) (sym (lines_text_push f.read f.text f.after));
 }
 
 -- one more empty line before a message
@@ -183,10 +183,10 @@ next_empty held empty line lines end f is_empty none =
       count = sym none;
       within = f.within;
       no_lf = All-nil (λ b. b ≢ 10);
-      empty_at = omega (arith, f.empty_at, f.line_at, f.end_at, none_read, length-lines_text-push f.empties f.text);
+      empty_at = omega (arith, f.empty_at, f.line_at, f.end_at, none_read, length_lines_text_push f.empties f.text);
       line_at = omega arith;
       looked_at = omega arith;
-      whole = f.whole ∙ ap (λ ls. lines_text f.empties ++ (lines_text ls ++ (f.text ++ 10 ∷ f.after))) nil ∙ sym (lines_text-push f.empties f.text f.after);
+      whole = f.whole ∙ ap (λ ls. lines_text f.empties ++ (lines_text ls ++ (f.text ++ 10 ∷ f.after))) nil ∙ sym (lines_text_push f.empties f.text f.after);
     }
 
 -- the empty line that ends a message
@@ -243,7 +243,7 @@ pub no_lf_ahead : (held : List ℕ) (empty line lines looked : ℕ) (s : Scanned
 no_lf_ahead held empty line lines looked s none =
     let is : take (length held - looked) (drop looked held) ≡ s.ahead = take_rest held looked ∙ ahead_is held empty line lines looked s in
     let P : List ℕ → Type 0 = λ ys. Nowhere (Passes (is_byte 10) ys) 0 (length ys) in
-    All-append (λ b. b ≢ 10) s.part s.ahead s.no_lf (HasNoLf-all s.ahead (subst P is none))
+    All-append (λ b. b ≢ 10) s.part s.ahead s.no_lf (HasNoLf_all s.ahead (subst P is none))
 
 -- the last part of what is held
 pub part_is : (held : List ℕ) (empty line lines looked : ℕ) (s : Scanned held empty line lines looked)

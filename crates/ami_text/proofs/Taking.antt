@@ -4,35 +4,35 @@ use Rattle.std.proofs.lemmas.List.{take-append-drop, take_rest}
 use Rattle.std.specs.Io.KnownBytes.{Appends, Consumes}
 
 -- a sink has taken nothing
-pub taken-none : (known : Option (List ℕ)) → Appends known known []
-taken-none None = tt
-taken-none (Some held) = sym (append-nil held)
+pub taken_none : (known : Option (List ℕ)) → Appends known known []
+taken_none None = tt
+taken_none (Some held) = sym (append-nil held)
 
 -- it has taken a front, and then a piece
-pub taken-grows : (before now after : Option (List ℕ)) (front piece : List ℕ) → Appends before now front → Appends now after piece
+pub taken_grows : (before now after : Option (List ℕ)) (front piece : List ℕ) → Appends before now front → Appends now after piece
     → Appends before after (front ++ piece)
-taken-grows None now after front piece first then = tt
-taken-grows (Some held) (Some more) (Some all) front piece first then =
+taken_grows None now after front piece first then = tt
+taken_grows (Some held) (Some more) (Some all) front piece first then =
     then ∙ ap (λ t. t ++ piece) first ∙ append_assoc held front piece
-taken-grows (Some held) (Some more) None front piece first then = absurd then
-taken-grows (Some held) None after front piece first then = absurd first
+taken_grows (Some held) (Some more) None front piece first then = absurd then
+taken_grows (Some held) None after front piece first then = absurd first
 
 -- a source has given nothing
-pub given-none : (known : Option (List ℕ)) → Consumes known known []
-given-none None = tt
-given-none (Some left) = refl
+pub given_none : (known : Option (List ℕ)) → Consumes known known []
+given_none None = tt
+given_none (Some left) = refl
 
 -- it has given a front, and then a piece
-pub given-grows : (before now after : Option (List ℕ)) (front piece : List ℕ) → Consumes before now front → Consumes now after piece
+pub given_grows : (before now after : Option (List ℕ)) (front piece : List ℕ) → Consumes before now front → Consumes now after piece
     → Consumes before after (front ++ piece)
-given-grows None now after front piece first then = tt
-given-grows (Some all) (Some more) (Some left) front piece first then =
+given_grows None now after front piece first then = tt
+given_grows (Some all) (Some more) (Some left) front piece first then =
     first ∙ ap (λ t. front ++ t) then ∙ sym (append_assoc front piece left)
-given-grows (Some all) (Some more) None front piece first then = absurd then
-given-grows (Some all) None after front piece first then = absurd first
+given_grows (Some all) (Some more) None front piece first then = absurd then
+given_grows (Some all) None after front piece first then = absurd first
 
 -- a front of bytes grows by what comes next
-pub front-grows : (bytes front rest : List ℕ) (n : ℕ) → bytes ≡ front ++ rest → bytes ≡ (front ++ take n rest) ++ take (length rest - n) (drop n rest)
-front-grows bytes front rest n is =
+pub front_grows : (bytes front rest : List ℕ) (n : ℕ) → bytes ≡ front ++ rest → bytes ≡ (front ++ take n rest) ++ take (length rest - n) (drop n rest)
+front_grows bytes front rest n is =
     is ∙ ap (λ t. front ++ t) (sym (take-append-drop n rest)) ∙ sym (append_assoc front (take n rest) (drop n rest))
     ∙ ap (λ t. (front ++ take n rest) ++ t) (sym (take_rest rest n))

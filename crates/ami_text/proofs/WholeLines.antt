@@ -15,23 +15,23 @@ whole_lines [] = []
 whole_lines (b ∷ bytes) = cond (b == 10) ([] ∷ whole_lines bytes) (onto b (whole_lines bytes))
 
 -- a line, and then others
-pub whole_lines-line : (line rest : List ℕ) → HasNoLf line → whole_lines (line ++ 10 ∷ rest) ≡ line ∷ whole_lines rest
-whole_lines-line [] rest none = refl
-whole_lines-line (b ∷ line) rest none =
+pub whole_lines_line : (line rest : List ℕ) → HasNoLf line → whole_lines (line ++ 10 ∷ rest) ≡ line ∷ whole_lines rest
+whole_lines_line [] rest none = refl
+whole_lines_line (b ∷ line) rest none =
     let other : (b == 10) ≡ false = ne_eqb b 10 (All-head (λ x. x ≢ 10) b line none) in
-    rw (other, whole_lines-line line rest (All-tail (λ x. x ≢ 10) b line none)) refl
+    rw (other, whole_lines_line line rest (All-tail (λ x. x ≢ 10) b line none)) refl
 
 -- bytes without LF have no whole line
-pub whole_lines-part : (part : List ℕ) → HasNoLf part → whole_lines part ≡ []
-whole_lines-part [] none = refl
-whole_lines-part (b ∷ part) none =
+pub whole_lines_part : (part : List ℕ) → HasNoLf part → whole_lines part ≡ []
+whole_lines_part [] none = refl
+whole_lines_part (b ∷ part) none =
     let other : (b == 10) ≡ false = ne_eqb b 10 (All-head (λ x. x ≢ 10) b part none) in
-    rw (other, whole_lines-part part (All-tail (λ x. x ≢ 10) b part none)) refl
+    rw (other, whole_lines_part part (All-tail (λ x. x ≢ 10) b part none)) refl
 
 -- lines, and then others
-pub whole_lines-lines_text : (lines : List (List ℕ)) (rest : List ℕ) → All HasNoLf lines → whole_lines (lines_text lines ++ rest) ≡ lines ++ whole_lines rest
-whole_lines-lines_text [] rest none = refl
-whole_lines-lines_text (line ∷ lines) rest none =
+pub whole_lines_lines_text : (lines : List (List ℕ)) (rest : List ℕ) → All HasNoLf lines → whole_lines (lines_text lines ++ rest) ≡ lines ++ whole_lines rest
+whole_lines_lines_text [] rest none = refl
+whole_lines_lines_text (line ∷ lines) rest none =
     rw (append_assoc (line ++ 10 ∷ []) (lines_text lines) rest, append_assoc line (10 ∷ []) (lines_text lines ++ rest))
-    (whole_lines-line line (lines_text lines ++ rest) (All-head HasNoLf line lines none)
-    ∙ ap (λ ls. line ∷ ls) (whole_lines-lines_text lines rest (All-tail HasNoLf line lines none)))
+    (whole_lines_line line (lines_text lines ++ rest) (All-head HasNoLf line lines none)
+    ∙ ap (λ ls. line ∷ ls) (whole_lines_lines_text lines rest (All-tail HasNoLf line lines none)))

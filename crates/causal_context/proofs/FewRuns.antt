@@ -12,9 +12,9 @@ use Rattle.dots.specs.Values.{Dot}
 use Rattle.dots.specs.Orders.{dot_cmp}
 use Rattle.dots.specs.DotSets.{Run, in_run, in_runs, is_apart, AreApart, next_dot, run_count, set_of}
 use Rattle.dots.proofs.DotOrder.{dots_total, dots_exact, same_dot}
-use Rattle.dots.proofs.OneMoreDot.{dot_before, insert_known, run_count-insert}
-use Rattle.dots.proofs.Runs.{contains-set_of, runs_of_set}
-use Rattle.dots.proofs.RunCounts.{run_count-runs}
+use Rattle.dots.proofs.OneMoreDot.{dot_before, insert_known, run_count_insert}
+use Rattle.dots.proofs.Runs.{contains_set_of, runs_of_set}
+use Rattle.dots.proofs.RunCounts.{run_count_runs}
 use Rattle.general_lemmas.proofs.TruthTables.{or_swap}
 
 abbrev Dots : Type 0
@@ -29,7 +29,7 @@ one_dot_more : (s t : Dots) (d : Dot) → 1 ≤ d.count → sets.contains s d �
     → sets.contains s (dot_before d) ≡ sets.contains t (dot_before d) → run_count (sets.insert s d) + run_count t ≡ run_count (sets.insert t d) + run_count s
 one_dot_more s t d l here next before = elim (cases_Bool (sets.contains t d)) [
   | inl y ↦ let a = ap run_count (insert_known s d (here ∙ y)) in let b = ap run_count (insert_known t d y) in omega (arith, a, b)
-  | inr n ↦ let a = run_count-insert s d l (here ∙ n) in let b = run_count-insert t d l n in
+  | inr n ↦ let a = run_count_insert s d l (here ∙ n) in let b = run_count_insert t d l n in
       let e : one_if (sets.contains s (next_dot d)) ≡ one_if (sets.contains t (next_dot d)) = ap one_if next in
       let f : one_if (sets.contains s (dot_before d)) ≡ one_if (sets.contains t (dot_before d)) = ap one_if before in
       omega (arith, a, b, e, f)
@@ -44,8 +44,8 @@ grown s site first (suc n) = sets.insert (grown s site first n) (record { site =
 abbrev is_among : ℕ → ℕ → ℕ → Dot → Bool
 is_among site first n q = nat_eq site q.site && (nat_le first q.count && nat_lt q.count (first + n))
 
-contains-grown : (s : Dots) (site first n : ℕ) (q : Dot) → sets.contains (grown s site first n) q ≡ (sets.contains s q || is_among site first n q)
-contains-grown s site first zero q = sym (none (sets.contains s q) (nat_eq site q.site) _ (no_count q.count first))
+contains_grown : (s : Dots) (site first n : ℕ) (q : Dot) → sets.contains (grown s site first n) q ≡ (sets.contains s q || is_among site first n q)
+contains_grown s site first zero q = sym (none (sets.contains s q) (nat_eq site q.site) _ (no_count q.count first))
   where
     no_count : (k first : ℕ) → (nat_le first k && nat_lt k (first + 0)) ≡ false
     no_count k first = grind (arith, nat_tests)
@@ -53,9 +53,9 @@ contains-grown s site first zero q = sym (none (sets.contains s q) (nat_eq site 
     none : (c a x : Bool) → x ≡ false → (c || (a && x)) ≡ c
     none c true x h = ap (λ b. c || b) h ∙ or-false c
     none c false x h = or-false c
-contains-grown s site first (suc n) q =
+contains_grown s site first (suc n) q =
     sets.contains-insert dots_total (grown s site first n) (record { site = site; count = first + n }) q
-    ∙ (λ i. same_dot q (record { site = site; count = first + n }) i || contains-grown s site first n q i)
+    ∙ (λ i. same_dot q (record { site = site; count = first + n }) i || contains_grown s site first n q i)
     ∙ shape (sets.contains s q) (nat_eq site q.site) _ _ _ (one_count q.count first n)
   where
     one_count : (k first n : ℕ) → (nat_eq (first + n) k || (nat_le first k && nat_lt k (first + n))) ≡ (nat_le first k && nat_lt k (first + suc n))
@@ -68,9 +68,9 @@ contains-grown s site first (suc n) q =
 -- a set with all dots of a run
 with_run : (s : Dots) (r : Run) → r.first ≤ r.last → grown s r.site r.first (suc r.last - r.first) ≡ sets.union s (set_of (r ∷ []))
 with_run s r w = sets.same_set dots_total dots_exact _ _ (λ q.
-    contains-grown s r.site r.first (suc r.last - r.first) q
+    contains_grown s r.site r.first (suc r.last - r.first) q
     ∙ ap (λ b. sets.contains s q || (nat_eq r.site q.site && b)) (bounds q.count r.first r.last w)
-    ∙ ap (λ b. sets.contains s q || b) (sym (contains-set_of (r ∷ []) q ∙ or-false (in_run q r)))
+    ∙ ap (λ b. sets.contains s q || b) (sym (contains_set_of (r ∷ []) q ∙ or-false (in_run q r)))
     ∙ sym (sets.contains-union dots_total s (set_of (r ∷ [])) q))
   where
     bounds : (k first last : ℕ) → first ≤ last → (nat_le first k && nat_lt k (first + (suc last - first))) ≡ (nat_le first k && nat_le k last)
@@ -81,9 +81,9 @@ module _ (s t : Dots) (r : Run) (counted : 1 ≤ r.first) (whole : r.first ≤ r
     (same : (n : ℕ) → r.first ≤ suc n → sets.contains s (record { site = r.site; count = n }) ≡ sets.contains t (record { site = r.site; count = n })) where
   same_grown : (m n : ℕ) → r.first ≤ suc n → sets.contains (grown s r.site r.first m) (record { site = r.site; count = n }) ≡ sets.contains (grown t r.site r.first m) (record { site = r.site; count = n })
   same_grown m n l =
-      contains-grown s r.site r.first m (record { site = r.site; count = n })
+      contains_grown s r.site r.first m (record { site = r.site; count = n })
       ∙ ap (λ b. b || is_among r.site r.first m (record { site = r.site; count = n })) (same n l)
-      ∙ sym (contains-grown t r.site r.first m (record { site = r.site; count = n }))
+      ∙ sym (contains_grown t r.site r.first m (record { site = r.site; count = n }))
 
   grown_alike : (m : ℕ) → run_count (grown s r.site r.first m) + run_count t ≡ run_count (grown t r.site r.first m) + run_count s
   grown_alike zero = omega arith
@@ -119,16 +119,16 @@ pub union_with : (s : Dots) (xs : List Run) (i : ℕ) (x : Run) → i < length x
     → sets.union s (set_of (take (i + 1) xs)) ≡ sets.union (sets.union s (set_of (take i xs))) (set_of (x ∷ []))
 union_with s xs i x l e = sets.same_set dots_total dots_exact _ _ (λ q.
     sets.contains-union dots_total s (set_of (take (i + 1) xs)) q
-    ∙ ap (λ b. sets.contains s q || b) (contains-set_of (take (i + 1) xs) q ∙ runs_with xs i x q l e)
+    ∙ ap (λ b. sets.contains s q || b) (contains_set_of (take (i + 1) xs) q ∙ runs_with xs i x q l e)
     ∙ sym (or_assoc (sets.contains s q) (in_runs (take i xs) q) (in_run q x))
-    ∙ (λ j. (sets.contains s q || sym (contains-set_of (take i xs) q) j) || sym (contains-set_of (x ∷ []) q ∙ or-false (in_run q x)) j)
+    ∙ (λ j. (sets.contains s q || sym (contains_set_of (take i xs) q) j) || sym (contains_set_of (x ∷ []) q ∙ or-false (in_run q x)) j)
     ∙ ap (λ b. b || sets.contains (set_of (x ∷ [])) q) (sym (sets.contains-union dots_total s (set_of (take i xs)) q))
     ∙ sym (sets.contains-union dots_total (sets.union s (set_of (take i xs))) (set_of (x ∷ [])) q))
 
 -- with none, and with all of them
 pub union_start : (s : Dots) (xs : List Run) → sets.union s (set_of (take 0 xs)) ≡ s
 union_start s xs = sets.same_set dots_total dots_exact _ _ (λ q.
-    sets.contains-union dots_total s (set_of (take 0 xs)) q ∙ ap (λ b. sets.contains s q || b) (contains-set_of (take 0 xs) q ∙ none xs q) ∙ or-false (sets.contains s q))
+    sets.contains-union dots_total s (set_of (take 0 xs)) q ∙ ap (λ b. sets.contains s q || b) (contains_set_of (take 0 xs) q ∙ none xs q) ∙ or-false (sets.contains s q))
   where
     none : (xs : List Run) (q : Dot) → in_runs (take 0 xs) q ≡ false
     none [] q = refl
@@ -142,11 +142,11 @@ pub count_with_more : (rs xs : List Run) (i : ℕ) (x : Run) → AreApart rs →
     → run_count (sets.union (set_of rs) (set_of (take (i + 1) xs))) + length rs
     ≡ run_count (sets.union (set_of rs) (set_of (x ∷ []))) + run_count (sets.union (set_of rs) (set_of (take i xs)))
 count_with_more rs xs i x a b l e counted whole =
-    let own = run_count-runs rs (set_of rs) (runs_of_set rs a) in
+    let own = run_count_runs rs (set_of rs) (runs_of_set rs a) in
     let grows = ap run_count (union_with (set_of rs) xs i x l e) in
     let alike = one_run_alike (sets.union (set_of rs) (set_of (take i xs))) (set_of rs) x counted whole (λ n h.
     sets.contains-union dots_total (set_of rs) (set_of (take i xs)) (record { site = x.site; count = n })
-    ∙ ap (λ p. sets.contains (set_of rs) (record { site = x.site; count = n }) || p) (contains-set_of (take i xs) (record { site = x.site; count = n }) ∙ missed n h)
+    ∙ ap (λ p. sets.contains (set_of rs) (record { site = x.site; count = n }) || p) (contains_set_of (take i xs) (record { site = x.site; count = n }) ∙ missed n h)
     ∙ or-false (sets.contains (set_of rs) (record { site = x.site; count = n }))) in
     omega (arith, own, grows, alike)
   where

@@ -15,8 +15,8 @@ use Rattle.dots.specs.Orders.{dot_cmp}
 use Rattle.dots.specs.DotSets.{Run, in_run, in_runs, is_apart, AreApart, IsRunsOf, run_count, set_of}
 use Rattle.dots.proofs.DotOrder.{dots_total, dots_exact}
 use Rattle.dots.proofs.Apart.{apart_trans}
-use Rattle.dots.proofs.RunCounts.{run_count-runs}
-use Rattle.dots.proofs.Runs.{contains-set_of}
+use Rattle.dots.proofs.RunCounts.{run_count_runs}
+use Rattle.dots.proofs.Runs.{contains_set_of}
 use Rattle.causal_context.specs.Contexts.{IsContext, IsRun}
 use Rattle.general_lemmas.proofs.TruthTables.{or_swap}
 use Rattle.general_lemmas.proofs.Fronts.{open_at}
@@ -189,7 +189,7 @@ pub merging_ends : (written : List Run) (current : Run) (runs xs : List Run) →
 merging_ends written current runs xs m = record {
   apart = m.apart;
   same = λ d.
-      sets.contains-union dots_total (set_of runs) (set_of xs) d ∙ (λ i. contains-set_of runs d i || contains-set_of xs d i)
+      sets.contains-union dots_total (set_of runs) (set_of xs) d ∙ (λ i. contains_set_of runs d i || contains_set_of xs d i)
       ∙ sym (m.same d) ∙ or-false (in_runs (written ++ current ∷ []) d);
 }
 
@@ -286,11 +286,11 @@ counting_grows count current next grown ours others ours' others' runs xs k n h 
 
 pub counting_ends : (count : ℕ) (current : Run) (ours others runs xs : List Run) → IsCounting count current ours others runs xs → ours ≡ [] → others ≡ [] → count ≡ run_count (sets.union (set_of runs) (set_of xs))
 counting_ends count current ours others runs xs k a b =
-    k.counted ∙ sym (length-append k.written (current ∷ [])) ∙ sym (run_count-runs (k.written ++ current ∷ []) _ (ended_merging k.written current ours others runs xs k.merging a b))
+    k.counted ∙ sym (length-append k.written (current ∷ [])) ∙ sym (run_count_runs (k.written ++ current ∷ []) _ (ended_merging k.written current ours others runs xs k.merging a b))
 
 -- two empty lists have no runs
 pub counting_none : (runs xs : List Run) → length runs ≡ 0 → length xs ≡ 0 → 0 ≡ run_count (sets.union (set_of runs) (set_of xs))
-counting_none [] [] a b = sym (run_count-runs [] _ (record { apart = tt; same = λ d. sets.contains-union dots_total (set_of []) (set_of []) d ∙ (λ i. contains-set_of [] d i || contains-set_of [] d i) }))
+counting_none [] [] a b = sym (run_count_runs [] _ (record { apart = tt; same = λ d. sets.contains-union dots_total (set_of []) (set_of []) d ∙ (λ i. contains_set_of [] d i || contains_set_of [] d i) }))
 counting_none (r ∷ rs) xs a b = absurd (omega (arith, a))
 counting_none [] (x ∷ xs) a b = absurd (omega (arith, b))
 
@@ -303,9 +303,9 @@ last_merging ys k current ours others runs xs l m a b =
 
 -- a list of runs within the limits is a context's
 pub context_of : (rs : List Run) (dots : sets.FinSet dot_cmp) → IsRunsOf rs dots → All IsRun rs → run_count dots ≤ MOST_RUNS → IsContext rs
-context_of rs dots is limits few = record { apart = is.apart; limits = limits; few = omega (arith, run_count-runs rs dots is, few) }
+context_of rs dots is limits few = record { apart = is.apart; limits = limits; few = omega (arith, run_count_runs rs dots is, few) }
 
 -- no others are no change
-pub union-none : (rs xs : List Run) → length xs ≡ 0 → set_of rs ≡ sets.union (set_of rs) (set_of xs)
-union-none rs [] e = sets.same_set dots_total dots_exact _ _ (λ q. sym (sets.contains-union dots_total (set_of rs) (set_of []) q ∙ ap (λ b. sets.contains (set_of rs) q || b) (contains-set_of [] q) ∙ or-false (sets.contains (set_of rs) q)))
-union-none rs (x ∷ xs) e = absurd (omega (arith, e))
+pub union_none : (rs xs : List Run) → length xs ≡ 0 → set_of rs ≡ sets.union (set_of rs) (set_of xs)
+union_none rs [] e = sets.same_set dots_total dots_exact _ _ (λ q. sym (sets.contains-union dots_total (set_of rs) (set_of []) q ∙ ap (λ b. sets.contains (set_of rs) q || b) (contains_set_of [] q) ∙ or-false (sets.contains (set_of rs) q)))
+union_none rs (x ∷ xs) e = absurd (omega (arith, e))

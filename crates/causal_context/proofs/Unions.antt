@@ -4,7 +4,7 @@ use Rattle.std.specs.FinSet as sets
 use Rattle.dots.specs.Values.{Dot}
 use Rattle.dots.specs.Orders.{dot_cmp}
 use Rattle.dots.proofs.DotOrder.{dots_total, dots_exact}
-use Rattle.general_lemmas.proofs.Membership.{same-tests}
+use Rattle.general_lemmas.proofs.Membership.{same_tests}
 
 abbrev Dots : Type 0
 Dots = sets.FinSet dot_cmp
@@ -13,7 +13,7 @@ pub subset_members : (a b : Dots) → (sets.is_subset a b ≡ true → (d : Dot)
 subset_members a b = (sets.is_subset-contains dots_total a b, sets.contains-is_subset dots_total a b)
 
 pub subset_antisymm : (a b : Dots) → sets.is_subset a b ≡ true → sets.is_subset b a ≡ true → a ≡ b
-subset_antisymm a b h k = sets.same_set dots_total dots_exact _ _ (λ q. same-tests _ _ (sets.is_subset-contains dots_total a b h q) (sets.is_subset-contains dots_total b a k q))
+subset_antisymm a b h k = sets.same_set dots_total dots_exact _ _ (λ q. same_tests _ _ (sets.is_subset-contains dots_total a b h q) (sets.is_subset-contains dots_total b a k q))
 
 pub subset_trans : (a b c : Dots) → sets.is_subset a b ≡ true → sets.is_subset b c ≡ true → sets.is_subset a c ≡ true
 subset_trans a b c h k = sets.contains-is_subset dots_total a c (λ q i. sets.is_subset-contains dots_total b c k q (sets.is_subset-contains dots_total a b h q i))

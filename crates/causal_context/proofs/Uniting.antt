@@ -12,7 +12,7 @@ use Rattle.dots.specs.Values.{Dot}
 use Rattle.dots.specs.DotSets.{Run, in_run, in_runs, is_apart, AreApart, IsRunsOf, set_of}
 use Rattle.dots.proofs.DotOrder.{dots_total}
 use Rattle.dots.proofs.Apart.{apart_trans}
-use Rattle.dots.proofs.Runs.{contains-set_of, set_of-runs}
+use Rattle.dots.proofs.Runs.{contains_set_of, set_of_runs}
 use Rattle.general_lemmas.proofs.Fronts.{open_at}
 use Rattle.causal_context.specs.RunLists.{run_over}
 use Rattle.causal_context.proofs.Places.{apart_drop}
@@ -119,7 +119,7 @@ united_runs : (before : List Run) (united : Run) (rest : List Run) (run : Run) (
 united_runs before united rest run runs u p = record {
   apart = apart_join before united rest u.whole u.apart_before u.all_before p u.apart_rest;
   same = λ d.
-      sets.contains-union dots_total (set_of runs) (set_of (run ∷ [])) d ∙ (λ i. contains-set_of runs d i || contains-set_of (run ∷ []) d i)
+      sets.contains-union dots_total (set_of runs) (set_of (run ∷ [])) d ∙ (λ i. contains_set_of runs d i || contains_set_of (run ∷ []) d i)
       ∙ ap (λ b. in_runs runs d || b) (or-false (in_run d run))
       ∙ sym (list_any-append (in_run d) before (united ∷ rest) ∙ u.same d);
 }
@@ -163,4 +163,4 @@ pub set_replaced : (seen old new : List Run) (start end : ℕ) (united run : Run
     → IsRunsOf (take start seen ++ united ∷ drop end seen) (sets.union (set_of seen) (set_of (run ∷ [])))
     → new ≡ take start old ++ united ∷ drop end old → set_of new ≡ sets.union (set_of old) (set_of (run ∷ []))
 set_replaced seen old new start end united run e is n =
-    ap set_of n ∙ set_of-runs _ _ (subst (λ xs. IsRunsOf (take start xs ++ united ∷ drop end xs) (sets.union (set_of xs) (set_of (run ∷ [])))) e is)
+    ap set_of n ∙ set_of_runs _ _ (subst (λ xs. IsRunsOf (take start xs ++ united ∷ drop end xs) (sets.union (set_of xs) (set_of (run ∷ [])))) e is)

@@ -9,9 +9,9 @@ use Rattle.dots.specs.Values.{Dot}
 use Rattle.dots.specs.Orders.{dot_cmp}
 use Rattle.dots.specs.DotSets.{Run, in_run, in_runs, AreApart, IsRunsOf, IsPrefix, run_count, set_of, next_dot}
 use Rattle.dots.proofs.DotOrder.{dots_total, dots_exact, same_dot}
-use Rattle.dots.proofs.OneMoreDot.{dot_before, run_count-insert}
-use Rattle.dots.proofs.RunCounts.{run_count-runs}
-use Rattle.dots.proofs.Runs.{runs_of_set, contains-set_of}
+use Rattle.dots.proofs.OneMoreDot.{dot_before, run_count_insert}
+use Rattle.dots.proofs.RunCounts.{run_count_runs}
+use Rattle.dots.proofs.Runs.{runs_of_set, contains_set_of}
 use Rattle.causal_context.proofs.Members.{has_of_run, misses_past_run}
 
 pub is_runs : (rs : List Run) (dots : sets.FinSet dot_cmp) → set_of rs ≡ dots → AreApart rs → IsRunsOf rs dots
@@ -43,9 +43,9 @@ prefix_of_none rs dots site is h = record {
 }
 
 -- one dot is the run of its count alone
-pub union-one : (seen dots : sets.FinSet dot_cmp) (d : Dot) (r : Run) → seen ≡ dots → r.site ≡ d.site → r.first ≡ d.count → r.last ≡ d.count → sets.union seen (set_of (r ∷ [])) ≡ sets.insert dots d
-union-one seen dots d r e s f l = sets.same_set dots_total dots_exact _ _ (λ q.
-    sets.contains-union dots_total seen (set_of (r ∷ [])) q ∙ (λ i. sets.contains (e i) q || contains-set_of (r ∷ []) q i)
+pub union_one : (seen dots : sets.FinSet dot_cmp) (d : Dot) (r : Run) → seen ≡ dots → r.site ≡ d.site → r.first ≡ d.count → r.last ≡ d.count → sets.union seen (set_of (r ∷ [])) ≡ sets.insert dots d
+union_one seen dots d r e s f l = sets.same_set dots_total dots_exact _ _ (λ q.
+    sets.contains-union dots_total seen (set_of (r ∷ [])) q ∙ (λ i. sets.contains (e i) q || contains_set_of (r ∷ []) q i)
     ∙ swap (sets.contains dots q) (in_run q r)
     ∙ ap (λ b. b || sets.contains dots q) (numbers q r d s f l ∙ sym (same_dot q d))
     ∙ sym (sets.contains-insert dots_total dots d q))
@@ -61,7 +61,7 @@ union-one seen dots d r e s f l = sets.same_set dots_total dots_exact _ _ (λ q.
 
 -- how many runs a context has
 pub count_of : (rs : List Run) (dots : sets.FinSet dot_cmp) → set_of rs ≡ dots → AreApart rs → run_count dots ≡ length rs
-count_of rs dots e a = run_count-runs rs dots (is_runs rs dots e a)
+count_of rs dots e a = run_count_runs rs dots (is_runs rs dots e a)
 
 -- how many the union of two has, as it was counted
 pub count_united : (n : ℕ) (seen seen' rs xs : List Run) (s t : sets.FinSet dot_cmp) → n ≡ run_count (sets.union (set_of seen) (set_of seen')) → seen ≡ rs → seen' ≡ xs → set_of rs ≡ s → set_of xs ≡ t → n ≡ run_count (sets.union s t)
@@ -82,7 +82,7 @@ with_new n a b dots site count p q e l new f g h k =
     let d : Dot = record { site = site; count = count } in
     let next : cond (sets.contains dots (next_dot d)) 1 0 ≡ a = ap (λ m. cond (sets.contains dots (record { site = site; count = m })) 1 0) (sym (add-one count)) ∙ ap (λ x. cond x 1 0) (sym f) ∙ byte p ∙ sym h in
     let before : cond (sets.contains dots (dot_before d)) 1 0 ≡ b = ap (λ x. cond x 1 0) (sym g) ∙ byte q ∙ sym k in
-    let counted = run_count-insert dots d l new in
+    let counted = run_count_insert dots d l new in
     (omega (arith, counted, next, before, e), omega (arith, counted, next, before, e))
   where
     byte : (x : Bool) → cond x 1 0 ≡ bool_byte x

@@ -10,7 +10,7 @@ use Rattle.operations.specs.Conditions.{Condition, Live, Dead, ConditionsAgree, 
 use Rattle.operations.proofs.ConditionLaws.{unknown_is_neutral}
 use Rattle.dots.proofs.DotOrder.{dots_exact}
 use Rattle.dots.proofs.KeySets.{len_of_keys}
-use Rattle.dots.proofs.Unions.{union-empty}
+use Rattle.dots.proofs.Unions.{union_empty}
 use Rattle.member_orset.specs.declared.join_fault.JoinFault.{JoinFault}
 use Rattle.member_orset.specs.Members.{Members, Holding, IsWithinLimits, CanBeJoined, Conflicts, ConditionsConflict, both_joined, cells_joined, condition_at, condition_of, is_live, joined_dots, runs_joined}
 use Rattle.member_orset.specs.Refusals.{IsRefusedJoin}
@@ -37,7 +37,7 @@ module _ (t : Members) (within : IsWithinLimits t) (nothing : t.known ≡ set.em
 
   module _ (s : Members) (limits : IsWithinLimits s) where
     pub union_is : set.union s.known t.known ≡ s.known
-    union_is = ap (set.union s.known) nothing ∙ union-empty s.known
+    union_is = ap (set.union s.known) nothing ∙ union_empty s.known
 
     -- the other joined with it stays as it is, and knows the same dots
     pub joined_nothing : (q : Dot) → condition_of s q ≡ both_joined s t q

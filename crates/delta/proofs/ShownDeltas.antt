@@ -13,36 +13,36 @@ use Rattle.operations.specs.Knowledge.{Knowledge, is_named, member_of, visible_d
 use Rattle.operations.specs.Rows.{ShowAlike, dot_view}
 use Rattle.operations.specs.Totals.{totals_of}
 use Rattle.dots.proofs.DotOrder.{dots_exact, dots_total}
-use Rattle.operations.proofs.JoinedKnowledge.{member-some}
-use Rattle.operations.proofs.VisibleLaws.{visible-dot}
+use Rattle.operations.proofs.JoinedKnowledge.{member_some}
+use Rattle.operations.proofs.VisibleLaws.{visible_dot}
 use Rattle.site_totals.specs.Raising.{number_of}
 use Rattle.member_orset.specs.Members.{Holding, Members, condition_at, dot_view_of}
 use Rattle.delta.specs.DeltaStates.{DeltaState}
 use Rattle.delta.specs.Standing.{IsDeltaOf, IsReadAs}
 
 -- the visible dots of a set are the live ones
-visible-live : (s : Members) (dot : Dot) → set.contains (dot_view_of s).visible dot ≡ is_some (map.get s.live dot)
-visible-live s dot = set.contains-from_list dots_total (map.keys s.live) dot ∙ sym (map.contains_key-keys s.live dot)
+visible_live : (s : Members) (dot : Dot) → set.contains (dot_view_of s).visible dot ≡ is_some (map.get s.live dot)
+visible_live s dot = set.contains-from_list dots_total (map.keys s.live) dot ∙ sym (map.contains_key-keys s.live dot)
 
 module _ (d : DeltaState) (k : Knowledge) (is : IsDeltaOf d k) where
   -- what is live of a dot, by whether it is named and its member in the knowledge
-  live-by : (g : Option Holding) (known n : Bool) (m : Option Member) (f : DotFields) → condition_at g known ≡ (if n then Some Dead else option_map (λ x. Live x f) m)
+  live_by : (g : Option Holding) (known n : Bool) (m : Option Member) (f : DotFields) → condition_at g known ≡ (if n then Some Dead else option_map (λ x. Live x f) m)
       → g ≡ (if n then None else option_map (λ x. (x, f)) m)
-  live-by (Some h) known true m f e = absurd (cc)
-  live-by (Some h) known false None f e = absurd (cc)
-  live-by (Some h) known false (Some x) f e = let a : h.0 ≡ x = cc in let b : h.1 ≡ f = cc in λ i. Some (a i, b i)
-  live-by None known true m f e = refl
-  live-by None true false (Some x) f e = absurd (cc)
-  live-by None false false (Some x) f e = absurd (cc)
-  live-by None known false None f e = refl
+  live_by (Some h) known true m f e = absurd (cc)
+  live_by (Some h) known false None f e = absurd (cc)
+  live_by (Some h) known false (Some x) f e = let a : h.0 ≡ x = cc in let b : h.1 ≡ f = cc in λ i. Some (a i, b i)
+  live_by None known true m f e = refl
+  live_by None true false (Some x) f e = absurd (cc)
+  live_by None false false (Some x) f e = absurd (cc)
+  live_by None known false None f e = refl
 
-  live-is : (dot : Dot) → map.get d.members.live dot ≡ (if is_named k dot then None else option_map (λ x. (x, fields_in k dot)) (member_of k dot))
-  live-is dot = live-by (map.get d.members.live dot) (set.contains d.members.known dot) (is_named k dot) (member_of k dot) (fields_in k dot) (is.conditions dot)
+  live_is : (dot : Dot) → map.get d.members.live dot ≡ (if is_named k dot then None else option_map (λ x. (x, fields_in k dot)) (member_of k dot))
+  live_is dot = live_by (map.get d.members.live dot) (set.contains d.members.known dot) (is_named k dot) (member_of k dot) (fields_in k dot) (is.conditions dot)
 
-  visible-is : (dot_view_of d.members).visible ≡ visible_dots k
-  visible-is = set.same_set dots_total dots_exact _ _ (λ dot.
-      visible-live d.members dot ∙ ap is_some (live-is dot) ∙ by (is_named k dot) (member_of k dot) (fields_in k dot)
-      ∙ ap (λ b. b && not (is_named k dot)) (member-some k dot) ∙ sym (visible-dot k dot))
+  visible_is : (dot_view_of d.members).visible ≡ visible_dots k
+  visible_is = set.same_set dots_total dots_exact _ _ (λ dot.
+      visible_live d.members dot ∙ ap is_some (live_is dot) ∙ by (is_named k dot) (member_of k dot) (fields_in k dot)
+      ∙ ap (λ b. b && not (is_named k dot)) (member_some k dot) ∙ sym (visible_dot k dot))
     where
       by : (n : Bool) (m : Option Member) (f : DotFields) → is_some (if n then None else option_map (λ (x : Member). let p : Holding = (x, f) in p) m) ≡ (is_some m && not n)
       by true None f = refl
@@ -51,8 +51,8 @@ module _ (d : DeltaState) (k : Knowledge) (is : IsDeltaOf d k) where
       by false (Some x) f = refl
 
   -- of a visible dot member and fields are live
-  seen-live : (dot : Dot) → set.contains (dot_view_of d.members).visible dot ≡ true → (member : Member) × (map.get d.members.live dot ≡ Some (member, fields_in k dot)) × (member_of k dot ≡ Some member)
-  seen-live dot h = by (is_named k dot) (member_of k dot) refl (live-is dot) (sym (visible-live d.members dot) ∙ h)
+  seen_live : (dot : Dot) → set.contains (dot_view_of d.members).visible dot ≡ true → (member : Member) × (map.get d.members.live dot ≡ Some (member, fields_in k dot)) × (member_of k dot ≡ Some member)
+  seen_live dot h = by (is_named k dot) (member_of k dot) refl (live_is dot) (sym (visible_live d.members dot) ∙ h)
     where
       by : (n : Bool) (m : Option Member) → member_of k dot ≡ m → map.get d.members.live dot ≡ (if n then None else option_map (λ x. (x, fields_in k dot)) m) → is_some (map.get d.members.live dot) ≡ true
           → (member : Member) × (map.get d.members.live dot ≡ Some (member, fields_in k dot)) × (member_of k dot ≡ Some member)
@@ -60,18 +60,18 @@ module _ (d : DeltaState) (k : Knowledge) (is : IsDeltaOf d k) where
       by false None e l s = absurd (let no = sym (ap is_some l) ∙ s in cc)
       by false (Some x) e l s = (x, l, e)
 
-  shows-alike : ShowAlike (dot_view_of d.members) (dot_view k)
-  shows-alike = record {
-    visible = visible-is;
-    member = λ dot h. let s = seen-live dot h in ap (option_map (λ x. x.0)) s.1 ∙ sym s.2;
-    penalty = λ dot h. let s = seen-live dot h in ap (option_and_then (λ x. x.1.penalty)) s.1;
-    pause = λ dot h. let s = seen-live dot h in ap (option_and_then (λ x. x.1.pause)) s.1;
-    label = λ dot h. let s = seen-live dot h in ap (option_and_then (λ x. x.1.label)) s.1;
+  shows_alike : ShowAlike (dot_view_of d.members) (dot_view k)
+  shows_alike = record {
+    visible = visible_is;
+    member = λ dot h. let s = seen_live dot h in ap (option_map (λ x. x.0)) s.1 ∙ sym s.2;
+    penalty = λ dot h. let s = seen_live dot h in ap (option_and_then (λ x. x.1.penalty)) s.1;
+    pause = λ dot h. let s = seen_live dot h in ap (option_and_then (λ x. x.1.pause)) s.1;
+    label = λ dot h. let s = seen_live dot h in ap (option_and_then (λ x. x.1.label)) s.1;
   }
 
-  totals-alike : (site queue : ℕ) (calls : Calls) → number_of calls (totals_of d.totals.entries site queue) ≡ site_total k site queue calls
-  totals-alike site queue Completed = ap (λ t. t.completed) (is.totals site queue)
-  totals-alike site queue Abandoned = ap (λ t. t.abandoned) (is.totals site queue)
+  totals_alike : (site queue : ℕ) (calls : Calls) → number_of calls (totals_of d.totals.entries site queue) ≡ site_total k site queue calls
+  totals_alike site queue Completed = ap (λ t. t.completed) (is.totals site queue)
+  totals_alike site queue Abandoned = ap (λ t. t.abandoned) (is.totals site queue)
 
-  pub read-as : IsReadAs d k
-  read-as = record { dots = shows-alike; totals = totals-alike }
+  pub read_as : IsReadAs d k
+  read_as = record { dots = shows_alike; totals = totals_alike }

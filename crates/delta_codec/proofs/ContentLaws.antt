@@ -12,7 +12,7 @@ use Rattle.operations.specs.Totals.{Entries}
 use Rattle.dots.specs.Values.{Dot}
 use Rattle.member_orset.specs.Members.{Holding}
 use Rattle.dots.proofs.DotOrder.{dots_total}
-use Rattle.dots.proofs.Runs.{contains-set_of}
+use Rattle.dots.proofs.Runs.{contains_set_of}
 use Rattle.delta_codec.specs.declared.decode_fault.DecodeFault.{DecodeFault}
 use Rattle.delta_codec.specs.declared.decode_fault.DecodeFault.TheVariants.{BadMagic, BadRange, BadVersion}
 use Rattle.delta_codec.specs.declared.limits.TheConstants.{VERSION}
@@ -73,18 +73,18 @@ or_more false false c = refl
 known_from : (dots : set.FinSet dot_cmp) (runs : List Run) (q : Dot) → set.contains (fold with_run dots runs) q ≡ (set.contains dots q || in_runs runs q)
 known_from dots [] q = sym (or-false (set.contains dots q))
 known_from dots (r ∷ runs) q =
-    let one : set.contains (with_run dots r) q ≡ (set.contains dots q || (in_run q r || false)) = set.contains-union dots_total dots (dots_between r.site r.first r.last) q ∙ ap (λ (b : Bool). set.contains dots q || b) (contains-set_of (record { site = r.site; first = r.first; last = r.last } ∷ []) q) in
+    let one : set.contains (with_run dots r) q ≡ (set.contains dots q || (in_run q r || false)) = set.contains-union dots_total dots (dots_between r.site r.first r.last) q ∙ ap (λ (b : Bool). set.contains dots q || b) (contains_set_of (record { site = r.site; first = r.first; last = r.last } ∷ []) q) in
     known_from (with_run dots r) runs q ∙ ap (λ (b : Bool). b || in_runs runs q) one ∙ or_more (set.contains dots q) (in_run q r) (in_runs runs q)
 
-pub contains-known_of : (runs : List Run) (q : Dot) → set.contains (known_of runs) q ≡ in_runs runs q
-contains-known_of runs q = known_from set.empty runs q ∙ ap (λ (b : Bool). b || in_runs runs q) (set.contains-empty dot_cmp q)
+pub contains_known_of : (runs : List Run) (q : Dot) → set.contains (known_of runs) q ≡ in_runs runs q
+contains_known_of runs q = known_from set.empty runs q ∙ ap (λ (b : Bool). b || in_runs runs q) (set.contains-empty dot_cmp q)
 
 -- cells of known dots are cells of dots in the runs
 pub known_cells : (runs : List Run) (cells : List CellParts) → AreCellsOf (set.contains (known_of runs)) cells → AreCells runs cells
-known_cells runs cells good = record { listed = good.listed; known = λ k d lt. sym (contains-known_of runs _) ∙ good.known k d lt }
+known_cells runs cells good = record { listed = good.listed; known = λ k d lt. sym (contains_known_of runs _) ∙ good.known k d lt }
 
 pub cells_known : (runs : List Run) (cells : List CellParts) → AreCells runs cells → AreCellsOf (set.contains (known_of runs)) cells
-cells_known runs cells good = record { listed = good.listed; known = λ k d lt. contains-known_of runs _ ∙ good.known k d lt }
+cells_known runs cells good = record { listed = good.listed; known = λ k d lt. contains_known_of runs _ ∙ good.known k d lt }
 
 -- ---- the parts behind the length
 

@@ -14,7 +14,7 @@ use Rattle.delta_codec.specs.declared.decode_fault.DecodeFault.TheVariants.{BadR
 use Rattle.delta_codec.specs.Faults.{IsBit, IsFlagged, IsFlags}
 use Rattle.delta_codec.specs.Parts.{IsEntry, bit_of, byte, field_bytes, label_bytes, pause_bytes, penalty_bytes, stamp_bytes, text_bytes}
 use Rattle.delta_codec.specs.Reading.{Read, bit_at, both, byte_at, calls_at, count_at, entry_at, field_at, flags_at, is_count, label_at, last_at, no_reason_at, number_at, pause_at, penalty_at, queue_at, reason_at, site_at, stamp_at, tested, text_at, text_of}
-use Rattle.delta_codec.proofs.PartLaws.{IsBytes, IsBytes-drop, Reads, Takes, bind_ok, byte_reads, number2_reads, number4_reads, number8_reads, ok_is, reads_both, reads_good, reads_made, reads_tested}
+use Rattle.delta_codec.proofs.PartLaws.{IsBytes, IsBytes_drop, Reads, Takes, bind_ok, byte_reads, number2_reads, number4_reads, number8_reads, ok_is, reads_both, reads_good, reads_made, reads_tested}
 
 -- ---- numbers
 
@@ -80,7 +80,7 @@ text_reads least = record {
       let most_is : a.0.0 ≤ TEXT_BYTES = grind (arith, nat_tests) in
       let front : bytes ≡ text_bytes (take a.0.0 a.0.1) ++ drop a.0.0 a.0.1 = t.parts ∙ (λ i. sym len i ∷ sym (take-append-drop a.0.0 a.0.1) i) in
       subst (λ (z : List ℕ × List ℕ). Takes (IsTextOf least) text_bytes bytes z.0 z.1) g.2
-      (record { good = (record { short = omega (arith, len, most_is); clean = g.1 }, omega (arith, len, least_is)); parts = front; rest_fits = IsBytes-drop a.0.0 a.0.1 t.rest_fits });
+      (record { good = (record { short = omega (arith, len, most_is); clean = g.1 }, omega (arith, len, least_is)); parts = front; rest_fits = IsBytes_drop a.0.0 a.0.1 t.rest_fits });
   again = λ x rest good.
       let short = good.0.short in
       let test : (nat_le least (length x) && nat_le (length x) TEXT_BYTES) ≡ true = let a = good.1 in grind (arith, nat_tests) in

@@ -23,7 +23,7 @@ use Rattle.delta_codec.proofs.ContentLaws.{cells_known, known_cells, magic_reads
 use Rattle.delta_codec.proofs.ListFaults.{cells_tell, runs_tell, totals_tell}
 use Rattle.delta_codec.proofs.ListLaws.{AreCellsOf, cells_reads, runs_reads, totals_reads}
 use Rattle.delta_codec.proofs.PartFaults.{HasOneFault, Tells, bind_err, fault_is, guard_err, last_err, tells_by, tells_kept, tells_lacks, tells_then}
-use Rattle.delta_codec.proofs.PartLaws.{IsBytes, IsBytes-take, Reads, number4_reads, reads_good}
+use Rattle.delta_codec.proofs.PartLaws.{IsBytes, IsBytes_take, Reads, number4_reads, reads_good}
 
 -- ---- magic and version
 
@@ -205,7 +205,7 @@ rest_only len rest fault fits e =
         | inl small ↦ inr (inl (small, sym (fault_is {A = Kept × ℕ} BadRange fault (sym (too_small len rest small) ∙ e))))
         | inr least ↦ elim (cases_lt (length rest) len) [
           | inl short ↦ inr (inr (inl (least, most, short, sym (fault_is {A = Kept × ℕ} Truncated fault (sym (too_short len rest least most short) ∙ e)))))
-          | inr there ↦ inr (inr (inr (least, most, there, content_tells.only (take len rest) fault (IsBytes-take len rest fits) (counted_fails (take len rest) fault (sym (all_there len rest least most there) ∙ e)))))
+          | inr there ↦ inr (inr (inr (least, most, there, content_tells.only (take len rest) fault (IsBytes_take len rest fits) (counted_fails (take len rest) fault (sym (all_there len rest least most there) ∙ e)))))
         ]
       ]
     ]
@@ -218,7 +218,7 @@ rest_always len rest fault fits h =
         | inl small ↦ rw small.1 (too_small len rest small.0)
         | inr more ↦ elim more [
           | inl short ↦ rw short.3 (too_short len rest short.0 short.1 short.2)
-          | inr there ↦ all_there len rest there.0 there.1 there.2 ∙ rw (content_tells.always (take len rest) fault (IsBytes-take len rest fits) there.3) refl
+          | inr there ↦ all_there len rest there.0 there.1 there.2 ∙ rw (content_tells.always (take len rest) fault (IsBytes_take len rest fits) there.3) refl
         ]
       ]
     ]

@@ -41,8 +41,8 @@ use Rattle.delta_codec.specs.Decoding.{frame_kept}
 use Rattle.delta_codec.specs.Frames.{AreParts, FrameParts, Spells, content_bytes, frame_bytes}
 use Rattle.delta_codec.specs.Parts.{CellParts, IsCell, IsField, TotalParts, cell_bytes, field_bytes, fields_bytes, label_bytes, pause_bytes, penalty_bytes, text_bytes}
 use Rattle.delta_codec.specs.Reading.{◌>>=◌, Kept, content_in, kept_at, kept_in, known_of, live_of, number_at, totals_of, with_cell, with_total, within_at}
-use Rattle.delta_codec.proofs.ContentLaws.{contains-known_of, content_read, content_spelled, kept_of, kept_of_read, read_of_kept}
-use Rattle.delta_codec.proofs.PartLaws.{IsBytes, IsBytes-take, bind_ok, number4_reads, ok_is}
+use Rattle.delta_codec.proofs.ContentLaws.{contains_known_of, content_read, content_spelled, kept_of, kept_of_read, read_of_kept}
+use Rattle.delta_codec.proofs.PartLaws.{IsBytes, IsBytes_take, bind_ok, number4_reads, ok_is}
 
 -- ---- the length
 
@@ -83,7 +83,7 @@ content_found bytes content fits e =
       parts = t.parts ∙ ap (λ (x : List ℕ). to_be_bytes w32 n ++ x) (sym (take-append-drop n rest)) ∙ sym (append_assoc (to_be_bytes w32 n) (take n rest) (drop n rest)) ∙ ap (λ (k : ℕ). (to_be_bytes w32 k ++ take n rest) ++ drop n rest) (sym len);
       least = omega (arith, len, enough);
       most = omega (arith, len, few);
-      fits = IsBytes-take n rest t.rest_fits;
+      fits = IsBytes_take n rest t.rest_fits;
     })
 
 pub content_again : (content rest : List ℕ) → LEAST_LENGTH ≤ length content → length content ≤ MOST_LENGTH → content_in ((to_be_bytes w32 (length content) ++ content) ++ rest) ≡ Ok content
@@ -194,7 +194,7 @@ frame_spelled bytes frame n fits e =
         of_frame = record {
           maker = ap (λ (k : Kept). k.0.maker) same;
           number = ap (λ (k : Kept). k.0.number) same;
-          runs = record { apart = w.0.runs.order; same = λ d. ap (λ (k : Kept). set.contains k.1.0 d) (sym same) ∙ contains-known_of p.parts.runs d };
+          runs = record { apart = w.0.runs.order; same = λ d. ap (λ (k : Kept). set.contains k.1.0 d) (sym same) ∙ contains_known_of p.parts.runs d };
           cells = sym (ap (λ (k : Kept). map.entries k.1.1.0) (sym same) ∙ live_entries p.parts.cells w.0.cells.listed.order);
           totals = sym (ap (λ (k : Kept). map.entries k.1.1.1) (sym same) ∙ totals_entries p.parts.totals w.0.totals.order (by_recursion (λ t. IsTotal t.0 t.1) p.parts.totals w.0.totals.each));
         };
@@ -259,7 +259,7 @@ frame_found bytes frame n there s =
 
 -- sets and maps by their lists
 same_known : (runs : List Run) (x y : set.FinSet dot_cmp) → x ≡ known_of runs → IsRunsOf runs y → x ≡ y
-same_known runs x y is are = set.same_set dots_total dots_exact _ _ (λ d. ap (λ (s : set.FinSet dot_cmp). set.contains s d) is ∙ contains-known_of runs d ∙ sym (are.same d))
+same_known runs x y is are = set.same_set dots_total dots_exact _ _ (λ d. ap (λ (s : set.FinSet dot_cmp). set.contains s d) is ∙ contains_known_of runs d ∙ sym (are.same d))
 
 get_by : (x y : map.FinMap dot_cmp Holding) → map.entries x ≡ map.entries y → (d : Dot) → map.get x d ≡ map.get y d
 get_by x y e d = map.get-entries x d ∙ ap (find dot_cmp d) e ∙ sym (map.get-entries y d)
@@ -331,7 +331,7 @@ both_found bytes x y n m in_x in_y s t =
 
 frame_keeps : (x : Frame) (bytes : List ℕ) (s : Spells x bytes) → frame_kept x ≡ kept_of s.parts
 frame_keeps x bytes s =
-    let known : x.delta.members.known ≡ known_of s.parts.runs = set.same_set dots_total dots_exact _ _ (λ d. s.of_frame.runs.same d ∙ sym (contains-known_of s.parts.runs d)) in
+    let known : x.delta.members.known ≡ known_of s.parts.runs = set.same_set dots_total dots_exact _ _ (λ d. s.of_frame.runs.same d ∙ sym (contains_known_of s.parts.runs d)) in
     let live : x.delta.members.live ≡ live_of s.parts.cells = map.same_map dots_total dots_exact _ _ (get_by x.delta.members.live (live_of s.parts.cells) (sym s.of_frame.cells ∙ sym (live_entries s.parts.cells s.within.cells.listed.order))) in
     let totals : x.delta.totals.entries ≡ totals_of s.parts.totals = totals_by x.delta.totals.entries (totals_of s.parts.totals) (sym s.of_frame.totals ∙ sym (totals_entries s.parts.totals s.within.totals.order (by_recursion (λ t. IsTotal t.0 t.1) s.parts.totals s.within.totals.each))) in
     λ i. (record { maker = sym s.of_frame.maker i; number = sym s.of_frame.number i }, (known i, (live i, totals i)))

@@ -19,9 +19,9 @@ use Rattle.delta_codec.specs.Parts.{CellParts, IsCell, TotalParts, cell_bytes, r
 use Rattle.delta_codec.specs.Reading.{◌>>=◌, Elements, accepted, cell_elements, cells_at, elements_at, is_dot_before, is_key_before, known_of, list_at, next_at, number_at, or_else, order_fault, run_elements, runs_at, size_at, total_elements, totals_at, unless}
 use Rattle.delta_codec.proofs.CellFaults.{cell_tells, run_tells, total_tells}
 use Rattle.delta_codec.proofs.CellLaws.{cell_reads, run_reads, total_reads}
-use Rattle.delta_codec.proofs.ContentLaws.{cells_known, contains-known_of, known_cells}
+use Rattle.delta_codec.proofs.ContentLaws.{cells_known, contains_known_of, known_cells}
 use Rattle.delta_codec.proofs.ListLaws.{AreElements, Chain, last_key, cells_are_read, next_takes, read_are_cells, read_are_runs, read_are_totals, runs_are_read, totals_are_read}
-use Rattle.delta_codec.proofs.PartFaults.{IsBytes-behind, Tells, bind_err, is_over, is_under, one_number, over, tells_by, tells_lacks, tells_then, test_err, under}
+use Rattle.delta_codec.proofs.PartFaults.{IsBytes_behind, Tells, bind_err, is_over, is_under, one_number, over, tells_by, tells_lacks, tells_then, test_err, under}
 use Rattle.delta_codec.proofs.PartLaws.{IsBytes, Reads, number4_reads}
 
 -- ---- elements
@@ -137,7 +137,7 @@ module _ {A K : Type 0} (e : Elements A K) (G : A → Type 0) (s : A → List �
         | inr few ↦
             let f = few.1 in
             let good = back f.before f.good in
-            let behind = IsBytes-behind (flat_map s f.before) f.rest (subst (λ (x : List ℕ). IsBytes x) f.spelled fits) in
+            let behind = IsBytes_behind (flat_map s f.before) f.rest (subst (λ (x : List ℕ). IsBytes x) f.spelled fits) in
             let fails = elements_fail e G s r f.before n None f.rest fault f.fewer good.1.0 good.1.1 ((nexts f.before).always f.rest fault behind f.next) in
             rw (is_under n most few.0) (ap (elements_at e n None) f.spelled ∙ fails)
       ]
@@ -224,14 +224,14 @@ cell_breaks runs fault before cell h =
     let known = set.contains (known_of runs) cell.0 in
     elim (either_fails (order_fault is_dot_before (option_map dot_of (last_or None before)) cell.0) (unless known BadRange) fault h) [
       | inl order ↦ inl (order_fails dot_of is_dot_before (last_or None before) cell fault order)
-      | inr dot ↦ let fails = unless_fails known BadRange fault dot.1 in inr (order_keeps dot_of is_dot_before (last_or None before) cell dot.0, sym (contains-known_of runs cell.0) ∙ fails.0, fails.1)
+      | inr dot ↦ let fails = unless_fails known BadRange fault dot.1 in inr (order_keeps dot_of is_dot_before (last_or None before) cell dot.0, sym (contains_known_of runs cell.0) ∙ fails.0, fails.1)
     ]
 
 breaks_cell : (runs : List Run) (fault : DecodeFault) (before : List CellParts) (cell : CellParts) → CellBreaks runs fault before cell → fault_behind (cell_elements (set.contains (known_of runs))) before cell ≡ Some fault
 breaks_cell runs fault before cell h =
     elim h [
       | inl order ↦ ap (λ o. or_else o (unless (set.contains (known_of runs) cell.0) BadRange)) (fails_order dot_of is_dot_before (last_or None before) cell fault order.0 order.1)
-      | inr dot ↦ ap (λ o. or_else o (unless (set.contains (known_of runs) cell.0) BadRange)) (keeps_order dot_of is_dot_before (last_or None before) cell dot.0) ∙ fails_unless (set.contains (known_of runs) cell.0) BadRange fault (contains-known_of runs cell.0 ∙ dot.1) dot.2
+      | inr dot ↦ ap (λ o. or_else o (unless (set.contains (known_of runs) cell.0) BadRange)) (keeps_order dot_of is_dot_before (last_or None before) cell dot.0) ∙ fails_unless (set.contains (known_of runs) cell.0) BadRange fault (contains_known_of runs cell.0 ∙ dot.1) dot.2
     ]
 
 pub cells_tell : (runs : List Run) → Tells (cells_at (set.contains (known_of runs))) (CellsFail runs)

@@ -8,7 +8,7 @@ use Rattle.delta_codec.specs.declared.decode_fault.DecodeFault.{DecodeFault}
 use Rattle.delta_codec.specs.declared.decode_fault.DecodeFault.TheVariants.{BadRange}
 use Rattle.delta_codec.specs.Faults.{After, Lacks}
 use Rattle.delta_codec.specs.Reading.{◌>>=◌, Read, both, byte_at, made, number_at, tested}
-use Rattle.delta_codec.proofs.PartLaws.{IsBytes, IsBytes-drop, Reads}
+use Rattle.delta_codec.proofs.PartLaws.{IsBytes, IsBytes_drop, Reads}
 
 -- what is read fails with a fault where bytes have it, and nowhere else
 pub record Tells {B : Type 0} (read : List ℕ → Result B DecodeFault) (Has : DecodeFault → List ℕ → Type 0) : Type 0 where
@@ -63,8 +63,8 @@ pub is_under : (n most : ℕ) → n ≤ most → nat_le n most ≡ true
 is_under n most h = grind (arith, nat_tests)
 
 -- what stands behind bytes is bytes
-pub IsBytes-behind : (front rest : List ℕ) → IsBytes (front ++ rest) → IsBytes rest
-IsBytes-behind front rest fits = subst (λ (x : List ℕ). IsBytes x) (drop_at front rest (length front) refl) (IsBytes-drop (length front) (front ++ rest) fits)
+pub IsBytes_behind : (front rest : List ℕ) → IsBytes (front ++ rest) → IsBytes rest
+IsBytes_behind front rest fits = subst (λ (x : List ℕ). IsBytes x) (drop_at front rest (length front) refl) (IsBytes_drop (length front) (front ++ rest) fits)
 
 -- ---- parts of parts
 

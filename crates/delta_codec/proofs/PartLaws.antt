@@ -12,11 +12,11 @@ use Rattle.delta_codec.specs.Reading.{◌>>=◌, Read, both, byte_at, made, numb
 abbrev pub IsBytes : List ℕ → Type 0
 IsBytes bytes = (i : ℕ) → get_or bytes i 0 < 256
 
-pub IsBytes-drop : (n : ℕ) (bytes : List ℕ) → IsBytes bytes → IsBytes (drop n bytes)
-IsBytes-drop n bytes h i = rw get_or-drop (h (n + i))
+pub IsBytes_drop : (n : ℕ) (bytes : List ℕ) → IsBytes bytes → IsBytes (drop n bytes)
+IsBytes_drop n bytes h i = rw get_or-drop (h (n + i))
 
-pub IsBytes-take : (n : ℕ) (bytes : List ℕ) → IsBytes bytes → IsBytes (take n bytes)
-IsBytes-take n bytes h i =
+pub IsBytes_take : (n : ℕ) (bytes : List ℕ) → IsBytes bytes → IsBytes (take n bytes)
+IsBytes_take n bytes h i =
     elim (cases_lt i n) [
       | inl lt ↦ rw (get_or-take n bytes i 0 lt) (h i)
       | inr le ↦ rw (get_or_past (take n bytes) i 0 (omega (arith, length-take n bytes))) (omega arith)
@@ -150,10 +150,10 @@ number_reads w limit wide = record {
   takes = λ bytes n rest fits e.
       let g = guard_ok (ltb (length bytes) (byte_len w)) BadRange (from_be_bytes w (take (byte_len w) bytes), drop (byte_len w) bytes) (n, rest) e in
       let long : byte_len w ≤ length bytes = ltb-false _ _ g.0 in
-      let front_fits = IsBytes-take (byte_len w) bytes fits in
+      let front_fits = IsBytes_take (byte_len w) bytes fits in
       let front : to_be_bytes w (from_be_bytes w (take (byte_len w) bytes)) ≡ take (byte_len w) bytes = wide.back (take (byte_len w) bytes) (omega (arith, length-take (byte_len w) bytes)) front_fits in
       subst (λ (z : ℕ × List ℕ). Takes (λ n. n < limit) (to_be_bytes w) bytes z.0 z.1) g.1
-      (record { good = wide.below (take (byte_len w) bytes) front_fits; parts = sym (ap (λ (x : List ℕ). x ++ drop (byte_len w) bytes) front ∙ take-append-drop (byte_len w) bytes); rest_fits = IsBytes-drop (byte_len w) bytes fits });
+      (record { good = wide.below (take (byte_len w) bytes) front_fits; parts = sym (ap (λ (x : List ℕ). x ++ drop (byte_len w) bytes) front ∙ take-append-drop (byte_len w) bytes); rest_fits = IsBytes_drop (byte_len w) bytes fits });
   again = λ n rest lt.
       let len = wide.len n in
       let long : ltb (length (to_be_bytes w n ++ rest)) (byte_len w) ≡ false = le-ltb _ _ (omega (arith, length-append (to_be_bytes w n) rest)) in

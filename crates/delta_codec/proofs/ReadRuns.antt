@@ -7,10 +7,10 @@ use Rattle.std.proofs.lemmas.List.{length-append}
 use Rattle.dots.specs.declared.limits.TheConstants.{MOST_RUNS}
 use Rattle.dots.specs.DotSets.{Run, is_apart, run_count}
 use Rattle.dots.specs.Orders.{dot_cmp}
-use Rattle.dots.proofs.RunCounts.{run_count-runs}
+use Rattle.dots.proofs.RunCounts.{run_count_runs}
 use Rattle.causal_context.specs.Contexts.{IsRun}
 use Rattle.delta_codec.specs.Reading.{Elements, known_of, order_fault, run_elements, with_run}
-use Rattle.delta_codec.proofs.ContentLaws.{contains-known_of}
+use Rattle.delta_codec.proofs.ContentLaws.{contains_known_of}
 use Rattle.delta_codec.proofs.ListLaws.{Chain, are_apart, last_key}
 
 -- one element more
@@ -55,5 +55,5 @@ one_more last dots count run read good order = record {
 -- so they are no more runs than were read
 pub few_runs : (last : Option Run) (dots : set.FinSet dot_cmp) (count : ℕ) → AreRead last dots count → count ≤ MOST_RUNS → run_count dots ≤ MOST_RUNS
 few_runs last dots count read few =
-    let same = run_count-runs read.runs (known_of read.runs) (record { apart = are_apart read.runs read.each read.chain; same = contains-known_of read.runs }) in
+    let same = run_count_runs read.runs (known_of read.runs) (record { apart = are_apart read.runs read.each read.chain; same = contains_known_of read.runs }) in
     subst (λ (d : set.FinSet dot_cmp). run_count d ≤ MOST_RUNS) read.dots_are (omega (arith, same, read.counted, few))

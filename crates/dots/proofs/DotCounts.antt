@@ -13,9 +13,9 @@ number : Dot → ℕ
 number d = d.site * 1099511627776 + (d.count - 1)
 
 -- so many for each site
-pub dots-few : (dots : set.FinSet dot_cmp) → AreDots dots → set.len dots ≤ SITES * MOST_COUNT
+pub dots_few : (dots : set.FinSet dot_cmp) → AreDots dots → set.len dots ≤ SITES * MOST_COUNT
 unfolding number
-dots-few dots are = numbered dots_total dots_exact number 70368744177664 dots
+dots_few dots are = numbered dots_total dots_exact number 70368744177664 dots
     (λ q h. let d = are q h in below q.site q.count d.site d.count.0 d.count.1)
     (λ p q h l e. let a = are p h in let b = are q l in
     let x = sites p.site p.count q.site q.count a.count.0 a.count.1 b.count.0 b.count.1 e in

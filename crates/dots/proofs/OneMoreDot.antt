@@ -11,7 +11,7 @@ use Rattle.dots.specs.Values.{Dot}
 use Rattle.dots.specs.Orders.{dot_cmp}
 use Rattle.dots.specs.DotSets.{next_dot, run_ends, run_count}
 use Rattle.dots.proofs.DotOrder.{dots_total, dots_exact, same_dot}
-use Rattle.dots.proofs.RunCounts.{contains-run_ends}
+use Rattle.dots.proofs.RunCounts.{contains_run_ends}
 
 -- the dot of the count before
 abbrev pub dot_before : Dot → Dot
@@ -68,25 +68,25 @@ module _ (dots : set.FinSet dot_cmp) (d : Dot) (counted : 1 ≤ d.count) (new : 
   ends_after : (q : Dot) → set.contains (run_ends (set.insert dots d)) q
       ≡ ((eq_by_cmp dot_cmp q d || set.contains dots q) && not (eq_by_cmp dot_cmp q (dot_before d) || set.contains dots (next_dot q)))
   ends_after q =
-      contains-run_ends (set.insert dots d) q
+      contains_run_ends (set.insert dots d) q
       ∙ (λ i. set.contains-insert dots_total dots d q i && not (set.contains-insert dots_total dots d (next_dot q) i))
       ∙ ap (λ b. (eq_by_cmp dot_cmp q d || set.contains dots q) && not (b || set.contains dots (next_dot q))) (back_one q d counted)
 
-  contains-kept : (q : Dot) → set.contains kept q ≡ (not (eq_by_cmp dot_cmp q (dot_before d)) && (set.contains dots q && not (set.contains dots (next_dot q))))
-  contains-kept q = set.contains-remove dots_total (run_ends dots) (dot_before d) q ∙ ap (λ b. not (eq_by_cmp dot_cmp q (dot_before d)) && b) (contains-run_ends dots q)
+  contains_kept : (q : Dot) → set.contains kept q ≡ (not (eq_by_cmp dot_cmp q (dot_before d)) && (set.contains dots q && not (set.contains dots (next_dot q))))
+  contains_kept q = set.contains-remove dots_total (run_ends dots) (dot_before d) q ∙ ap (λ b. not (eq_by_cmp dot_cmp q (dot_before d)) && b) (contains_run_ends dots q)
 
   joined_ends : set.contains dots (next_dot d) ≡ true → run_ends (set.insert dots d) ≡ kept
   joined_ends h = set.same_set dots_total dots_exact _ _ (λ q.
       ends_after q ∙ with_next (eq_by_cmp dot_cmp q d) (eq_by_cmp dot_cmp q (dot_before d)) (set.contains dots q) (set.contains dots (next_dot q)) (at_dot q) (λ e. at_next q e ∙ h)
-      ∙ sym (contains-kept q))
+      ∙ sym (contains_kept q))
 
   new_end : set.contains dots (next_dot d) ≡ false → run_ends (set.insert dots d) ≡ set.insert kept d
   new_end h = set.same_set dots_total dots_exact _ _ (λ q.
       ends_after q ∙ without_next (eq_by_cmp dot_cmp q d) (eq_by_cmp dot_cmp q (dot_before d)) (set.contains dots q) (set.contains dots (next_dot q)) (λ e. at_next q e ∙ h) (not_both q d counted)
-      ∙ sym (set.contains-insert dots_total kept d q ∙ ap (λ b. eq_by_cmp dot_cmp q d || b) (contains-kept q)))
+      ∙ sym (set.contains-insert dots_total kept d q ∙ ap (λ b. eq_by_cmp dot_cmp q d || b) (contains_kept q)))
 
   not_kept : set.contains kept d ≡ false
-  not_kept = contains-kept d ∙ ap (λ b. not (eq_by_cmp dot_cmp d (dot_before d)) && (b && not (set.contains dots (next_dot d)))) new ∙ and-false (not (eq_by_cmp dot_cmp d (dot_before d)))
+  not_kept = contains_kept d ∙ ap (λ b. not (eq_by_cmp dot_cmp d (dot_before d)) && (b && not (set.contains dots (next_dot d)))) new ∙ and-false (not (eq_by_cmp dot_cmp d (dot_before d)))
 
   next_before : next_dot (dot_before d) ≡ d
   next_before = λ i. record { site = d.site; count = back d.count counted i }
@@ -95,7 +95,7 @@ module _ (dots : set.FinSet dot_cmp) (d : Dot) (counted : 1 ≤ d.count) (new : 
       back n l = omega arith
 
   end_before : set.contains (run_ends dots) (dot_before d) ≡ set.contains dots (dot_before d)
-  end_before = contains-run_ends dots (dot_before d) ∙ ap (λ b. set.contains dots (dot_before d) && not b) (ap (set.contains dots) next_before ∙ new) ∙ and-true (set.contains dots (dot_before d))
+  end_before = contains_run_ends dots (dot_before d) ∙ ap (λ b. set.contains dots (dot_before d) && not b) (ap (set.contains dots) next_before ∙ new) ∙ and-true (set.contains dots (dot_before d))
 
   some : (s : set.FinSet dot_cmp) (q : Dot) → set.contains s q ≡ true → 1 ≤ set.len s
   some s q h = elim (cases_zero (set.len s)) [ inl z ↦ absurd (let e = ap (λ t. set.contains t q) (set.empty_of_len s z) in let f = set.contains-empty dot_cmp q in cc) | inr l ↦ l ]
@@ -124,5 +124,5 @@ module _ (dots : set.FinSet dot_cmp) (d : Dot) (counted : 1 ≤ d.count) (new : 
       ]
 
   -- a new dot is a run more, but for the runs beside it that it joins
-  pub run_count-insert : run_count (set.insert dots d) + cond (set.contains dots (next_dot d)) 1 0 + cond (set.contains dots (dot_before d)) 1 0 ≡ run_count dots + 1
-  run_count-insert = let a = len_after in let b = len_kept in omega arith
+  pub run_count_insert : run_count (set.insert dots d) + cond (set.contains dots (next_dot d)) 1 0 + cond (set.contains dots (dot_before d)) 1 0 ≡ run_count dots + 1
+  run_count_insert = let a = len_after in let b = len_kept in omega arith

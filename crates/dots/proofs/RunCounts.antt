@@ -15,15 +15,15 @@ any_end q [] = refl
 any_end q (r ∷ rs) = λ i. same_dot q (last_dot r) i || any_end q rs i
 
 -- what ends a run of a set
-pub contains-run_ends : (dots : set.FinSet dot_cmp) (q : Dot) → set.contains (run_ends dots) q ≡ (set.contains dots q && not (set.contains dots (next_dot q)))
+pub contains_run_ends : (dots : set.FinSet dot_cmp) (q : Dot) → set.contains (run_ends dots) q ≡ (set.contains dots q && not (set.contains dots (next_dot q)))
 unfolding run_ends
-contains-run_ends dots q =
+contains_run_ends dots q =
     set.contains-retain dots (λ d. not (set.contains dots (next_dot d))) q (λ x e. ap (λ d. not (set.contains dots (next_dot d))) (sym (dots_exact q x e)))
 
 -- a set's runs end at the last dots of its runs
 ends_are : (rs : List Run) (dots : set.FinSet dot_cmp) → IsRunsOf rs dots → run_ends dots ≡ set.from_list (map last_dot rs)
 ends_are rs dots is = set.same_set dots_total dots_exact _ _ (λ q.
-    contains-run_ends dots q ∙ (λ i. is.same q i && not (is.same (next_dot q) i)) ∙ ends_of_apart rs is.apart q
+    contains_run_ends dots q ∙ (λ i. is.same q i && not (is.same (next_dot q) i)) ∙ ends_of_apart rs is.apart q
     ∙ sym (set.contains-from_list dots_total (map last_dot rs) q ∙ any_end q rs))
 
 own_end : (r : Run) → r.first ≤ r.last → in_run (last_dot r) r ≡ true
@@ -40,6 +40,6 @@ len_ends (r ∷ rs) a =
     fresh = set.contains-from_list dots_total (map last_dot rs) (last_dot r) ∙ any_end (last_dot r) rs ∙ no_end (last_dot r) rs a.2 (rest_misses (last_dot r) r rs a.1 (own_end r a.0))
 
 -- a set has as many runs as there are in the list of its runs
-pub run_count-runs : (rs : List Run) (dots : set.FinSet dot_cmp) → IsRunsOf rs dots → run_count dots ≡ length rs
+pub run_count_runs : (rs : List Run) (dots : set.FinSet dot_cmp) → IsRunsOf rs dots → run_count dots ≡ length rs
 unfolding run_count
-run_count-runs rs dots is = ap set.len (ends_are rs dots is) ∙ len_ends rs is.apart
+run_count_runs rs dots is = ap set.len (ends_are rs dots is) ∙ len_ends rs is.apart

@@ -39,18 +39,18 @@ any_dots q [] = refl
 any_dots q (r ∷ rs) = list_any-append (eq_by_cmp dot_cmp q) (dots_from r.site r.first (suc r.last - r.first)) (dots_in rs) ∙ (λ i. any_run q r i || any_dots q rs i)
 
 -- a dot is in the set of runs where one of them has it
-pub contains-set_of : (rs : List Run) (q : Dot) → set.contains (set_of rs) q ≡ in_runs rs q
+pub contains_set_of : (rs : List Run) (q : Dot) → set.contains (set_of rs) q ≡ in_runs rs q
 unfolding set_of
-contains-set_of rs q = set.contains-from_list dots_total (dots_in rs) q ∙ any_dots q rs
+contains_set_of rs q = set.contains-from_list dots_total (dots_in rs) q ∙ any_dots q rs
 
-pub set_of-nil : set_of [] ≡ set.empty
+pub set_of_nil : set_of [] ≡ set.empty
 unfolding set_of dots_in
-set_of-nil = refl
+set_of_nil = refl
 
 -- runs that are apart are the runs of their set
 pub runs_of_set : (rs : List Run) → AreApart rs → IsRunsOf rs (set_of rs)
-runs_of_set rs apart = record { apart = apart; same = contains-set_of rs }
+runs_of_set rs apart = record { apart = apart; same = contains_set_of rs }
 
 -- a set is that of its runs
-pub set_of-runs : (rs : List Run) (dots : set.FinSet dot_cmp) → IsRunsOf rs dots → set_of rs ≡ dots
-set_of-runs rs dots is = set.same_set dots_total dots_exact _ _ (λ q. contains-set_of rs q ∙ sym (is.same q))
+pub set_of_runs : (rs : List Run) (dots : set.FinSet dot_cmp) → IsRunsOf rs dots → set_of rs ≡ dots
+set_of_runs rs dots is = set.same_set dots_total dots_exact _ _ (λ q. contains_set_of rs q ∙ sym (is.same q))

@@ -8,30 +8,30 @@ use Rattle.std.specs.Ordering.{eq_by_cmp, is_eq}
 use Rattle.std.specs.declared.cmp.Ordering.{Ordering}
 use Rattle.std.proofs.lemmas.Bool.Decides.{nat_tests}
 use Rattle.std.proofs.lemmas.Cmp.{tied_itself}
-use Rattle.general_lemmas.proofs.Membership.{any-in, in-any}
+use Rattle.general_lemmas.proofs.Membership.{any_in, in_any}
 use Rattle.general_lemmas.proofs.TruthTables.{equal_of}
 
 module _ {K : Type 0} {R : K → K → Ordering} (o : IsTotalOrder R) (exact : set.IsAntisymmetric R) where
   itself : (x : K) → eq_by_cmp R x x ≡ true
   itself x = ap is_eq (tied_itself o x)
 
-  one-of : (x q : K) → eq_by_cmp R x q ≡ true → x ≡ q
-  one-of x q e = exact x q (equal_of (R x q) e)
+  one_of : (x q : K) → eq_by_cmp R x q ≡ true → x ≡ q
+  one_of x q e = exact x q (equal_of (R x q) e)
 
   -- an element that the order finds in a list is in it
-  pub tied-in : (ks : List K) (q : K) → list_any (eq_by_cmp R q) ks ≡ true → Contains ks q
-  tied-in ks q h = let found = in-any (eq_by_cmp R q) ks h in subst (Contains ks) (sym (one-of q found.0 found.2)) found.1
+  pub tied_in : (ks : List K) (q : K) → list_any (eq_by_cmp R q) ks ≡ true → Contains ks q
+  tied_in ks q h = let found = in_any (eq_by_cmp R q) ks h in subst (Contains ks) (sym (one_of q found.0 found.2)) found.1
 
   -- the items of a set are what it contains
-  pub item-of : (s : set.FinSet R) (q : K) → set.contains s q ≡ true → Contains (set.items s) q
-  item-of s q h = tied-in (set.items s) q (sym (set.contains-items s q) ∙ h)
+  pub item_of : (s : set.FinSet R) (q : K) → set.contains s q ≡ true → Contains (set.items s) q
+  item_of s q h = tied_in (set.items s) q (sym (set.contains-items s q) ∙ h)
 
-  pub of-item : (s : set.FinSet R) (q : K) → Contains (set.items s) q → set.contains s q ≡ true
-  of-item s q here = set.contains-items s q ∙ any-in (eq_by_cmp R q) (set.items s) q here (itself q)
+  pub of_item : (s : set.FinSet R) (q : K) → Contains (set.items s) q → set.contains s q ≡ true
+  of_item s q here = set.contains-items s q ∙ any_in (eq_by_cmp R q) (set.items s) q here (itself q)
 
   -- a set that isn't empty has an element
-  some-of : (s : set.FinSet R) (n : ℕ) → set.len s ≡ suc n → (x : K) × (set.contains s x ≡ true)
-  some-of s n e = by (set.items s) refl
+  some_of : (s : set.FinSet R) (n : ℕ) → set.len s ≡ suc n → (x : K) × (set.contains s x ≡ true)
+  some_of s n e = by (set.items s) refl
     where
       by : (ks : List K) → set.items s ≡ ks → (x : K) × (set.contains s x ≡ true)
       by [] is =
@@ -53,55 +53,55 @@ module _ {K : Type 0} {R : K → K → Ordering} (o : IsTotalOrder R) (exact : s
   less s x n here e = let l = set.len-remove o s x ∙ ap (λ b. cond b (set.len s - 1) (set.len s)) here in omega (arith, l, e)
 
   -- without anything else as many
-  at-most-one-less : (s : set.FinSet R) (x : K) → set.len s ≤ set.len (set.remove s x) + 1
-  at-most-one-less s x = by (set.contains s x) (set.len-remove o s x)
+  at_most_one_less : (s : set.FinSet R) (x : K) → set.len s ≤ set.len (set.remove s x) + 1
+  at_most_one_less s x = by (set.contains s x) (set.len-remove o s x)
     where
       by : (b : Bool) → set.len (set.remove s x) ≡ cond b (set.len s - 1) (set.len s) → set.len s ≤ set.len (set.remove s x) + 1
       by true e = omega (arith, e)
       by false e = omega (arith, e)
 
   -- what is left without an element was there, and is another one
-  pub kept-parts : (s : set.FinSet R) (gone q : K) → set.contains (set.remove s gone) q ≡ true → (set.contains s q ≡ true) × (q ≡ gone → ⊥)
-  kept-parts s gone q h = by (eq_by_cmp R q gone) (set.contains s q) refl refl (sym (set.contains-remove o s gone q) ∙ h)
+  pub kept_parts : (s : set.FinSet R) (gone q : K) → set.contains (set.remove s gone) q ≡ true → (set.contains s q ≡ true) × (q ≡ gone → ⊥)
+  kept_parts s gone q h = by (eq_by_cmp R q gone) (set.contains s q) refl refl (sym (set.contains-remove o s gone q) ∙ h)
     where
       by : (e b : Bool) → eq_by_cmp R q gone ≡ e → set.contains s q ≡ b → (not e && b) ≡ true → (set.contains s q ≡ true) × (q ≡ gone → ⊥)
       by true b tie is h = absurd (true≢false (sym h))
       by false true tie is h = (is, λ same. true≢false (sym (itself q) ∙ ap (eq_by_cmp R q) same ∙ tie))
       by false false tie is h = absurd (true≢false (sym h))
 
-  still-there : (s : set.FinSet R) (gone q : K) → set.contains s q ≡ true → (q ≡ gone → ⊥) → set.contains (set.remove s gone) q ≡ true
-  still-there s gone q here other = set.contains-remove o s gone q ∙ by (eq_by_cmp R q gone) refl
+  still_there : (s : set.FinSet R) (gone q : K) → set.contains s q ≡ true → (q ≡ gone → ⊥) → set.contains (set.remove s gone) q ≡ true
+  still_there s gone q here other = set.contains-remove o s gone q ∙ by (eq_by_cmp R q gone) refl
     where
       by : (b : Bool) → eq_by_cmp R q gone ≡ b → (not b && set.contains s q) ≡ true
-      by true e = absurd (other (one-of q gone e))
+      by true e = absurd (other (one_of q gone e))
       by false e = here
 
-  within-by : (n : ℕ) (s u : set.FinSet R) → set.len s ≡ n → ((q : K) → set.contains s q ≡ true → set.contains u q ≡ true) → set.len s ≤ set.len u
-  within-by zero s u e sub = omega (arith, e)
-  within-by (suc n) s u e sub =
-      let x = some-of s n e in
+  within_by : (n : ℕ) (s u : set.FinSet R) → set.len s ≡ n → ((q : K) → set.contains s q ≡ true → set.contains u q ≡ true) → set.len s ≤ set.len u
+  within_by zero s u e sub = omega (arith, e)
+  within_by (suc n) s u e sub =
+      let x = some_of s n e in
       let gone = less s x.0 n x.1 e in
-      let rest = within-by n (set.remove s x.0) (set.remove u x.0) gone
-      (λ q h. let k = kept-parts s x.0 q h in still-there u x.0 q (sub q k.0) k.1) in
+      let rest = within_by n (set.remove s x.0) (set.remove u x.0) gone
+      (λ q h. let k = kept_parts s x.0 q h in still_there u x.0 q (sub q k.0) k.1) in
       let one = set.len-remove o u x.0 ∙ ap (λ b. cond b (set.len u - 1) (set.len u)) (sub x.0 x.1) in
       let some = positive u x.0 (sub x.0 x.1) in
       omega (arith, e, gone, rest, one, some)
 
   -- a set within another has no more
   pub within : (s u : set.FinSet R) → ((q : K) → set.contains s q ≡ true → set.contains u q ≡ true) → set.len s ≤ set.len u
-  within s u sub = within-by (set.len s) s u refl sub
+  within s u sub = within_by (set.len s) s u refl sub
 
-  apart-by : (n : ℕ) (t s u : set.FinSet R) → set.len t ≡ n → ((q : K) → set.contains s q ≡ true → set.contains u q ≡ true)
+  apart_by : (n : ℕ) (t s u : set.FinSet R) → set.len t ≡ n → ((q : K) → set.contains s q ≡ true → set.contains u q ≡ true)
       → ((q : K) → set.contains t q ≡ true → set.contains u q ≡ true) → ((q : K) → set.contains s q ≡ true → set.contains t q ≡ true → ⊥)
       → set.len s + set.len t ≤ set.len u
-  apart-by zero t s u e sub also never = let l = within s u sub in omega (arith, e, l)
-  apart-by (suc n) t s u e sub also never =
-      let x = some-of t n e in
+  apart_by zero t s u e sub also never = let l = within s u sub in omega (arith, e, l)
+  apart_by (suc n) t s u e sub also never =
+      let x = some_of t n e in
       let gone = less t x.0 n x.1 e in
-      let rest = apart-by n (set.remove t x.0) s (set.remove u x.0) gone
-      (λ q h. still-there u x.0 q (sub q h) (λ same. never q h (subst (λ y. set.contains t y ≡ true) (sym same) x.1)))
-      (λ q h. let k = kept-parts t x.0 q h in still-there u x.0 q (also q k.0) k.1)
-      (λ q h l. never q h (kept-parts t x.0 q l).0) in
+      let rest = apart_by n (set.remove t x.0) s (set.remove u x.0) gone
+      (λ q h. still_there u x.0 q (sub q h) (λ same. never q h (subst (λ y. set.contains t y ≡ true) (sym same) x.1)))
+      (λ q h. let k = kept_parts t x.0 q h in still_there u x.0 q (also q k.0) k.1)
+      (λ q h l. never q h (kept_parts t x.0 q l).0) in
       let one = set.len-remove o u x.0 ∙ ap (λ b. cond b (set.len u - 1) (set.len u)) (also x.0 x.1) in
       let some = positive u x.0 (also x.0 x.1) in
       omega (arith, e, gone, rest, one, some)
@@ -110,7 +110,7 @@ module _ {K : Type 0} {R : K → K → Ordering} (o : IsTotalOrder R) (exact : s
   pub apart : (s t u : set.FinSet R) → ((q : K) → set.contains s q ≡ true → set.contains u q ≡ true)
       → ((q : K) → set.contains t q ≡ true → set.contains u q ≡ true) → ((q : K) → set.contains s q ≡ true → set.contains t q ≡ true → ⊥)
       → set.len s + set.len t ≤ set.len u
-  apart s t u sub also never = apart-by (set.len t) t s u refl sub also never
+  apart s t u sub also never = apart_by (set.len t) t s u refl sub also never
 
   -- elements that numbers below n tell apart are at most n
   pub numbered : (f : K → ℕ) (n : ℕ) (s : set.FinSet R) → ((q : K) → set.contains s q ≡ true → f q < n)
@@ -119,14 +119,14 @@ module _ {K : Type 0} {R : K → K → Ordering} (o : IsTotalOrder R) (exact : s
     where
       at : (k : ℕ) → set.len s ≡ k → set.len s ≤ 0
       at zero e = omega (arith, e)
-      at (suc k) e = let x = some-of s k e in let l = below x.0 x.1 in absurd (omega (arith, l))
+      at (suc k) e = let x = some_of s k e in let l = below x.0 x.1 in absurd (omega (arith, l))
   numbered f (suc n) s below tell = by (list_any (λ q. nat_eq (f q) n) (set.items s)) refl (numbered f n)
     where
-      is-number : (a b : ℕ) → nat_eq a b ≡ true → a ≡ b
-      is-number a b h = grind (arith, nat_tests, h)
+      is_number : (a b : ℕ) → nat_eq a b ≡ true → a ≡ b
+      is_number a b h = grind (arith, nat_tests, h)
 
-      same-number : (a b : ℕ) → a ≡ b → nat_eq a b ≡ true
-      same-number a b h = grind (arith, nat_tests, h)
+      same_number : (a b : ℕ) → a ≡ b → nat_eq a b ≡ true
+      same_number a b h = grind (arith, nat_tests, h)
 
       smaller : (a b : ℕ) → a < suc b → (a ≡ b → ⊥) → a < b
       smaller a b l other = grind (arith, l, other)
@@ -135,16 +135,16 @@ module _ {K : Type 0} {R : K → K → Ordering} (o : IsTotalOrder R) (exact : s
           → ((t : set.FinSet R) → ((q : K) → set.contains t q ≡ true → f q < n) → ((p q : K) → set.contains t p ≡ true → set.contains t q ≡ true → f p ≡ f q → p ≡ q) → set.len t ≤ n)
           → set.len s ≤ suc n
       by true e few =
-          let x = in-any (λ q. nat_eq (f q) n) (set.items s) e in
-          let here = of-item s x.0 x.1 in
+          let x = in_any (λ q. nat_eq (f q) n) (set.items s) e in
+          let here = of_item s x.0 x.1 in
           let rest = few (set.remove s x.0)
-          (λ q h. let k = kept-parts s x.0 q h in smaller (f q) n (below q k.0) (λ same. k.1 (tell q x.0 k.0 here (same ∙ sym (is-number (f x.0) n x.2)))))
-          (λ p q h l. tell p q (kept-parts s x.0 p h).0 (kept-parts s x.0 q l).0) in
-          let most = at-most-one-less s x.0 in
+          (λ q h. let k = kept_parts s x.0 q h in smaller (f q) n (below q k.0) (λ same. k.1 (tell q x.0 k.0 here (same ∙ sym (is_number (f x.0) n x.2)))))
+          (λ p q h l. tell p q (kept_parts s x.0 p h).0 (kept_parts s x.0 q l).0) in
+          let most = at_most_one_less s x.0 in
           omega (arith, rest, most)
       by false e few =
           let rest = few s
-          (λ q h. smaller (f q) n (below q h) (λ same. true≢false (sym (any-in (λ x. nat_eq (f x) n) (set.items s) q (item-of s q h) (same-number (f q) n same)) ∙ e)))
+          (λ q h. smaller (f q) n (below q h) (λ same. true≢false (sym (any_in (λ x. nat_eq (f x) n) (set.items s) q (item_of s q h) (same_number (f q) n same)) ∙ e)))
           tell in
           omega (arith, rest)
 
@@ -157,20 +157,20 @@ module _ {K : Type 0} {R : K → K → Ordering} (o : IsTotalOrder R) (exact : s
     pub is : set.contains gone from ≡ true
     pub gives : f from ≡ Some l
 
-  one-given : (a b : L) → Some a ≡ Some b → a ≡ b
-  one-given a b e = cc
+  one_given : (a b : L) → Some a ≡ Some b → a ≡ b
+  one_given a b e = cc
 
-  given-by : (n : ℕ) (gone : set.FinSet R) (old new : set.FinSet Q) → set.len gone ≡ n
+  given_by : (n : ℕ) (gone : set.FinSet R) (old new : set.FinSet Q) → set.len gone ≡ n
       → ((l : L) → set.contains new l ≡ true → (set.contains old l ≡ true) ⊎ Gives gone l) → set.len new ≤ set.len old + set.len gone
-  given-by zero gone old new e comes =
+  given_by zero gone old new e comes =
       let l = within p precise new old (λ q h. elim (comes q h) [
         | inl was ↦ was
         | inr g ↦ absurd (true≢false (sym g.is ∙ ap (λ t. set.contains t g.from) (set.empty_of_len gone e) ∙ set.contains-empty R g.from))
       ]) in omega (arith, e, l)
-  given-by (suc n) gone old new e comes =
-      let x = some-of o exact gone n e in
+  given_by (suc n) gone old new e comes =
+      let x = some_of o exact gone n e in
       let fewer = less o exact gone x.0 n x.1 e in
-      by x.0 x.1 fewer (f x.0) refl (given-by n)
+      by x.0 x.1 fewer (f x.0) refl (given_by n)
     where
       by : (x : K) → set.contains gone x ≡ true → set.len (set.remove gone x) ≡ n → (y : Option L) → f x ≡ y
           → ((g : set.FinSet R) (a b : set.FinSet Q) → set.len g ≡ n → ((l : L) → set.contains b l ≡ true → (set.contains a l ≡ true) ⊎ Gives g l) → set.len b ≤ set.len a + set.len g)
@@ -178,18 +178,18 @@ module _ {K : Type 0} {R : K → K → Ordering} (o : IsTotalOrder R) (exact : s
       by x here fewer None is few =
           let rest = few (set.remove gone x) old new fewer (λ l h. elim (comes l h) [
             | inl was ↦ inl was
-            | inr g ↦ inr (record { from = g.from; is = still-there o exact gone x g.from g.is (λ same. cc (g.gives, ap f same, is)); gives = g.gives })
+            | inr g ↦ inr (record { from = g.from; is = still_there o exact gone x g.from g.is (λ same. cc (g.gives, ap f same, is)); gives = g.gives })
           ]) in
           omega (arith, e, fewer, rest)
       by x here fewer (Some i) is few =
-          let rest = few (set.remove gone x) old (set.remove new i) fewer (λ l h. let k = kept-parts p precise new i l h in elim (comes l k.0) [
+          let rest = few (set.remove gone x) old (set.remove new i) fewer (λ l h. let k = kept_parts p precise new i l h in elim (comes l k.0) [
             | inl was ↦ inl was
-            | inr g ↦ inr (record { from = g.from; is = still-there o exact gone x g.from g.is (λ same. k.1 (one-given l i (sym g.gives ∙ ap f same ∙ is))); gives = g.gives })
+            | inr g ↦ inr (record { from = g.from; is = still_there o exact gone x g.from g.is (λ same. k.1 (one_given l i (sym g.gives ∙ ap f same ∙ is))); gives = g.gives })
           ]) in
-          let most = at-most-one-less p precise new i in
+          let most = at_most_one_less p precise new i in
           omega (arith, e, fewer, rest, most)
 
   -- what comes, beside what was there, of elements that are gone, is at most as many more
   pub given : (gone : set.FinSet R) (old new : set.FinSet Q)
       → ((l : L) → set.contains new l ≡ true → (set.contains old l ≡ true) ⊎ Gives gone l) → set.len new ≤ set.len old + set.len gone
-  given gone old new comes = given-by (set.len gone) gone old new refl comes
+  given gone old new comes = given_by (set.len gone) gone old new refl comes

@@ -19,10 +19,10 @@ use Rattle.member_orset.specs.LiveLists.{HoldingsAgree}
 use Rattle.member_orset.specs.LiveStates.{LiveState}
 use Rattle.member_orset.specs.Members.{AreKept, CanBeJoined, HasField, Holding, Members, both_joined, cells_joined, condition_at, joined_dots}
 use Rattle.member_orset.proofs.Agreeing.{agree_back}
-use Rattle.member_orset.proofs.Deaths.{still-dead}
+use Rattle.member_orset.proofs.Deaths.{still_dead}
 use Rattle.member_orset.proofs.FieldReadings.{joined_field}
 use Rattle.member_orset.proofs.IdSteps.{follow_grown}
-use Rattle.member_orset.proofs.JoinedSets.{contains-joined}
+use Rattle.member_orset.proofs.JoinedSets.{contains_joined}
 use Rattle.member_orset.proofs.Joins.{conditions_at, of_either}
 use Rattle.member_orset.proofs.LiveIds.{unnamed}
 use Rattle.member_orset.proofs.MapEntries.{entry_is}
@@ -68,7 +68,7 @@ module _ (s t : Members) (heard : (q : Dot) (h : Holding) → map.get s.live q �
     live_after q = join.live q ∙ ap (λ o. holding_with o (set.contains s.known q) (map.get t.live q)) (mid_live q) ∙ both_ways (map.get s.live q) (map.get t.live q) (set.contains s.known q) (set.contains t.known q)
 
     len_after : map.len after.live ≡ cells_joined s t
-    len_after = sym (len_of_keys after.live (joined_dots s t) (λ q. contains-joined s t heard heard_there q ∙ ap is_some (sym (live_after q))))
+    len_after = sym (len_of_keys after.live (joined_dots s t) (λ q. contains_joined s t heard heard_there q ∙ ap is_some (sym (live_after q))))
 
     -- each dot has the join of its conditions
     pub conditions_after : (q : Dot) → condition_at (map.get after.live q) (set.contains (set.union s.known t.known) q) ≡ both_joined s t q
@@ -110,7 +110,7 @@ module _ (s t : Members) (heard : (q : Dot) (h : Holding) → map.get s.live q �
     pub dead_after : ((q : Dot) → map.contains_key old.ids q ≡ map.contains_key old.live q) → ((q : Dot) → map.contains_key after.ids q ≡ map.contains_key after.live q)
         → AreOfTheDead s.known (map.contains_key old.live) old.spent → AreOfTheDead (set.union s.known t.known) (map.contains_key after.live) after.spent
     dead_after named named_after few =
-        still-dead s.known (set.union s.known t.known) (map.contains_key old.live) (map.contains_key after.live) old.ids after.ids old.spent after.spent (follow_after named_after) named named_after
+        still_dead s.known (set.union s.known t.known) (map.contains_key old.live) (map.contains_key after.live) old.ids after.ids old.spent after.spent (follow_after named_after) named named_after
         (λ q h. known_live q (map.get old.live q) refl h)
         (λ q h. set.contains-union dots_total s.known t.known q ∙ ap (λ b. b || set.contains t.known q) h)
         (λ q h n. let none = ap (λ m. map.get m q) (sym old_is) ∙ none_of (map.get old.live q) n in

@@ -19,11 +19,11 @@ Rise cs = is_sorted dot_cmp (entries_of cs) ≡ true
 abbrev pub Ahead : Dot → List LiveDot → ℕ → Type 0
 Ahead d cs i = AllWithin (λ c. is_lt (dot_cmp c.dot d) ≡ true) cs 0 i
 
-pub rise-tail : (c : LiveDot) (cs : List LiveDot) → Rise (c ∷ cs) → Rise cs
-rise-tail = rising.rise-tail dot_cmp dots_total dots_exact (λ c. c.dot) holding
+pub rise_tail : (c : LiveDot) (cs : List LiveDot) → Rise (c ∷ cs) → Rise cs
+rise_tail = rising.rise_tail dot_cmp dots_total dots_exact (λ c. c.dot) holding
 
-pub rise-head : (c : LiveDot) (cs : List LiveDot) → Rise (c ∷ cs) → below_all dot_cmp c.dot (entries_of cs) ≡ true
-rise-head = rising.rise-head dot_cmp dots_total dots_exact (λ c. c.dot) holding
+pub rise_head : (c : LiveDot) (cs : List LiveDot) → Rise (c ∷ cs) → below_all dot_cmp c.dot (entries_of cs) ≡ true
+rise_head = rising.rise_head dot_cmp dots_total dots_exact (λ c. c.dot) holding
 
 -- what lies before all of some cells lies before each
 pub below_at : (d : Dot) (cs : List LiveDot) → below_all dot_cmp d (entries_of cs) ≡ true → (k : ℕ) (e : LiveDot) → k < length cs → is_lt (dot_cmp d (get_or cs k e).dot) ≡ true

@@ -23,7 +23,7 @@ use Rattle.member_orset.specs.Members.{Holding, HasField, condition_at, conditio
 use Rattle.member_orset.specs.LiveLists.{IsAt, IsGap, AreCells, holding, entries_of, live_of, members_of}
 use Rattle.member_orset.proofs.DotTests.{one_dot}
 use Rattle.member_orset.proofs.CellLists.{Rise, missed_at, found_at, removed_at, put_at, set_at}
-use Rattle.member_orset.proofs.Views.{get-live_of}
+use Rattle.member_orset.proofs.Views.{get_live_of}
 use Rattle.std.proofs.Math.Bool.{or_self}
 
 -- a cell that is taken out
@@ -31,15 +31,15 @@ pub taken_sorted : (cs : List LiveDot) (d : Dot) (i : ℕ) (e : LiveDot) → Ris
 taken_sorted cs d i e s at = fact _ (subst (λ es. T (maps.is_sorted dot_cmp es)) (sym (removed_at d cs i e s at.within at.before (at.here e))) (is_sorted-where_key dot_cmp (λ x. not (eq_by_cmp dot_cmp d x)) (entries_of cs) (truth _ s)))
 
 -- without one cell fewer things hold of all
-All-remove : (P : LiveDot → Type 0) (cs : List LiveDot) (i : ℕ) → All P cs → All P (remove cs i)
-All-remove P cs i a = All-append P (take i cs) (drop (suc i) cs) (All-take P i cs a) (All-drop P (suc i) cs a)
+All_remove : (P : LiveDot → Type 0) (cs : List LiveDot) (i : ℕ) → All P cs → All P (remove cs i)
+All_remove P cs i a = All-append P (take i cs) (drop (suc i) cs) (All-take P i cs a) (All-drop P (suc i) cs a)
 
 pub taken_cells : (cs : List LiveDot) (d : Dot) (i : ℕ) (e : LiveDot) (known : sets.FinSet dot_cmp) → IsAt cs d i → AreCells cs known → AreCells (remove cs i) known
 taken_cells cs d i e known at a = record {
   sorted = taken_sorted cs d i e a.sorted at;
   few = let most = a.few in let less = length-remove cs i at.within in omega arith;
-  in_context = All-remove (λ c. sets.contains known c.dot ≡ true) cs i a.in_context;
-  have_field = All-remove (λ c. HasField c.fields) cs i a.have_field;
+  in_context = All_remove (λ c. sets.contains known c.dot ≡ true) cs i a.in_context;
+  have_field = All_remove (λ c. HasField c.fields) cs i a.have_field;
 }
 
 eq_back : (d q : Dot) → eq_by_cmp dot_cmp d q ≡ eq_by_cmp dot_cmp q d
@@ -54,18 +54,18 @@ turned false x y = refl
 
 pub taken_live : (cs : List LiveDot) (d : Dot) (i : ℕ) (e : LiveDot) → Rise cs → IsAt cs d i → live_of (remove cs i) ≡ maps.remove (live_of cs) d
 taken_live cs d i e s at = maps.same_map dots_total dots_exact _ _ (λ q.
-    get-live_of (remove cs i) q (taken_sorted cs d i e s at)
+    get_live_of (remove cs i) q (taken_sorted cs d i e s at)
     ∙ ap (find dot_cmp q) (removed_at d cs i e s at.within at.before (at.here e))
     ∙ find-where_key dot_cmp (λ x. not (eq_by_cmp dot_cmp d x)) q (alike d q) (entries_of cs)
     ∙ turned (eq_by_cmp dot_cmp d q) _ _
     ∙ ap (λ b. cond b None (find dot_cmp q (entries_of cs))) (eq_back d q)
-    ∙ ap (cond (eq_by_cmp dot_cmp q d) None) (sym (get-live_of cs q s))
+    ∙ ap (cond (eq_by_cmp dot_cmp q d) None) (sym (get_live_of cs q s))
     ∙ sym (maps.get-remove dots_total (live_of cs) d q))
 
 -- nothing is taken out where there is no cell
 pub missed_live : (cs : List LiveDot) (d : Dot) (i : ℕ) → Rise cs → IsGap cs d i → live_of cs ≡ maps.remove (live_of cs) d
 missed_live cs d i s gap = maps.same_map dots_total dots_exact _ _ (λ q. elim (cases_Bool (eq_by_cmp dot_cmp q d)) [
-  | inl t ↦ get-live_of cs q s ∙ ap (λ x. find dot_cmp x (entries_of cs)) (one_dot q d t) ∙ missed_at d cs i s gap.before gap.within gap.after
+  | inl t ↦ get_live_of cs q s ∙ ap (λ x. find dot_cmp x (entries_of cs)) (one_dot q d t) ∙ missed_at d cs i s gap.before gap.within gap.after
       ∙ ap (λ b. cond b None (maps.get (live_of cs) q)) (sym t) ∙ sym (maps.get-remove dots_total (live_of cs) d q)
   | inr f ↦ ap (λ b. cond b None (maps.get (live_of cs) q)) (sym f) ∙ sym (maps.get-remove dots_total (live_of cs) d q)
 ])
@@ -85,34 +85,34 @@ killed live known d q = (λ i. condition_at (maps.get-remove dots_total live d q
     split false = refl
 
 -- a dot that a set and itself have with one more
-pub union-self : (known : sets.FinSet dot_cmp) → sets.union known known ≡ known
-union-self known = sets.same_set dots_total dots_exact _ _ (λ q. sets.contains-union dots_total known known q ∙ or_self (sets.contains known q))
+pub union_self : (known : sets.FinSet dot_cmp) → sets.union known known ≡ known
+union_self known = sets.same_set dots_total dots_exact _ _ (λ q. sets.contains-union dots_total known known q ∙ or_self (sets.contains known q))
 
-pub runs_with-self : (known : sets.FinSet dot_cmp) (d : Dot) (site count : ℕ) → site ≡ d.site → count ≡ d.count → run_count (sets.insert (sets.union known known) (record { site = site; count = count })) ≡ run_count (sets.insert known d)
-runs_with-self known d site count s n = λ i. run_count (sets.insert (union-self known i) (record { site = s i; count = n i }))
+pub runs_with_self : (known : sets.FinSet dot_cmp) (d : Dot) (site count : ℕ) → site ≡ d.site → count ≡ d.count → run_count (sets.insert (sets.union known known) (record { site = site; count = count })) ≡ run_count (sets.insert known d)
+runs_with_self known d site count s n = λ i. run_count (sets.insert (union_self known i) (record { site = s i; count = n i }))
 
 -- a cell whose dot stays leaves the order
-below-set : (d : Dot) (cs : List LiveDot) (i : ℕ) (x j : LiveDot) → i < length cs → x ≡ get_or cs i x → j.dot ≡ x.dot → below_all dot_cmp d (entries_of (set cs i j)) ≡ below_all dot_cmp d (entries_of cs)
-below-set d [] i x j l at e = refl
-below-set d (c ∷ cs) zero x j l at e = ap (λ y. is_lt (dot_cmp d y) && below_all dot_cmp d (entries_of cs)) (e ∙ ap (λ y. y.dot) at)
-below-set d (c ∷ cs) (suc i) x j l at e = ap (λ b. is_lt (dot_cmp d c.dot) && b) (below-set d cs i x j (omega arith) at e)
+below_set : (d : Dot) (cs : List LiveDot) (i : ℕ) (x j : LiveDot) → i < length cs → x ≡ get_or cs i x → j.dot ≡ x.dot → below_all dot_cmp d (entries_of (set cs i j)) ≡ below_all dot_cmp d (entries_of cs)
+below_set d [] i x j l at e = refl
+below_set d (c ∷ cs) zero x j l at e = ap (λ y. is_lt (dot_cmp d y) && below_all dot_cmp d (entries_of cs)) (e ∙ ap (λ y. y.dot) at)
+below_set d (c ∷ cs) (suc i) x j l at e = ap (λ b. is_lt (dot_cmp d c.dot) && b) (below_set d cs i x j (omega arith) at e)
 
-sorted-set : (cs : List LiveDot) (i : ℕ) (x j : LiveDot) → i < length cs → x ≡ get_or cs i x → j.dot ≡ x.dot → maps.is_sorted dot_cmp (entries_of (set cs i j)) ≡ maps.is_sorted dot_cmp (entries_of cs)
-sorted-set [] i x j l at e = refl
-sorted-set (c ∷ cs) zero x j l at e = ap (λ y. below_all dot_cmp y (entries_of cs) && maps.is_sorted dot_cmp (entries_of cs)) (e ∙ ap (λ y. y.dot) at)
-sorted-set (c ∷ cs) (suc i) x j l at e = λ k. below-set c.dot cs i x j (omega arith) at e k && sorted-set cs i x j (omega arith) at e k
+sorted_set : (cs : List LiveDot) (i : ℕ) (x j : LiveDot) → i < length cs → x ≡ get_or cs i x → j.dot ≡ x.dot → maps.is_sorted dot_cmp (entries_of (set cs i j)) ≡ maps.is_sorted dot_cmp (entries_of cs)
+sorted_set [] i x j l at e = refl
+sorted_set (c ∷ cs) zero x j l at e = ap (λ y. below_all dot_cmp y (entries_of cs) && maps.is_sorted dot_cmp (entries_of cs)) (e ∙ ap (λ y. y.dot) at)
+sorted_set (c ∷ cs) (suc i) x j l at e = λ k. below_set c.dot cs i x j (omega arith) at e k && sorted_set cs i x j (omega arith) at e k
 
 -- a cell that takes the place of another of its dot and member leaves all members
-members-set : (cs : List LiveDot) (i : ℕ) (x j : LiveDot) (q : Dot) → i < length cs → x ≡ get_or cs i x → j.dot ≡ x.dot → j.member ≡ x.member
+members_set : (cs : List LiveDot) (i : ℕ) (x j : LiveDot) (q : Dot) → i < length cs → x ≡ get_or cs i x → j.dot ≡ x.dot → j.member ≡ x.member
     → option_map (λ h. h.0) (find dot_cmp q (entries_of (set cs i j))) ≡ option_map (λ h. h.0) (find dot_cmp q (entries_of cs))
-members-set [] i x j q l at e m = refl
-members-set (c ∷ cs) zero x j q l at e m =
+members_set [] i x j q l at e m = refl
+members_set (c ∷ cs) zero x j q l at e m =
     ap (λ d. option_map (λ h. h.0) (cond (eq_by_cmp dot_cmp q d) (Some (holding j)) (find dot_cmp q (entries_of cs)))) (e ∙ ap (λ y. y.dot) at) ∙ first (eq_by_cmp dot_cmp q c.dot)
   where
     first : (b : Bool) → option_map (λ h. h.0) (cond b (Some (holding j)) (find dot_cmp q (entries_of cs))) ≡ option_map (λ h. h.0) (cond b (Some (holding c)) (find dot_cmp q (entries_of cs)))
     first true = ap Some (m ∙ ap (λ y. y.member) at)
     first false = refl
-members-set (c ∷ cs) (suc i) x j q l at e m = rest (eq_by_cmp dot_cmp q c.dot) (find dot_cmp q (entries_of (set cs i j))) (members-set cs i x j q (omega arith) at e m)
+members_set (c ∷ cs) (suc i) x j q l at e m = rest (eq_by_cmp dot_cmp q c.dot) (find dot_cmp q (entries_of (set cs i j))) (members_set cs i x j q (omega arith) at e m)
   where
     rest : (b : Bool) (o : Option Holding) → option_map (λ h. h.0) o ≡ option_map (λ h. h.0) (find dot_cmp q (entries_of cs)) → option_map (λ h. h.0) (cond b (Some (holding c)) o) ≡ option_map (λ h. h.0) (cond b (Some (holding c)) (find dot_cmp q (entries_of cs)))
     rest true o h = refl
@@ -121,29 +121,29 @@ members-set (c ∷ cs) (suc i) x j q l at e m = rest (eq_by_cmp dot_cmp q c.dot)
 pub met_members : (cs : List LiveDot) (i : ℕ) (x j : LiveDot) (q : Dot) → Rise cs → i < length cs → x ≡ get_or cs i x → j.dot ≡ x.dot → j.member ≡ x.member
     → option_map (λ h. h.0) (maps.get (live_of (set cs i j)) q) ≡ option_map (λ h. h.0) (maps.get (live_of cs) q)
 met_members cs i x j q s l at e m =
-    ap (option_map (λ h. h.0)) (get-live_of (set cs i j) q (sorted-set cs i x j l at e ∙ s)) ∙ members-set cs i x j q l at e m ∙ ap (option_map (λ h. h.0)) (sym (get-live_of cs q s))
+    ap (option_map (λ h. h.0)) (get_live_of (set cs i j) q (sorted_set cs i x j l at e ∙ s)) ∙ members_set cs i x j q l at e m ∙ ap (option_map (λ h. h.0)) (sym (get_live_of cs q s))
 
-All-insert : (P : LiveDot → Type 0) (cs : List LiveDot) (i : ℕ) (c : LiveDot) → P c → All P cs → All P (insert cs i c)
-All-insert P cs i c p a = All-append P (take i cs) (c ∷ drop i cs) (All-take P i cs a) (All-cons P c (drop i cs) p (All-drop P i cs a))
+All_insert : (P : LiveDot → Type 0) (cs : List LiveDot) (i : ℕ) (c : LiveDot) → P c → All P cs → All P (insert cs i c)
+All_insert P cs i c p a = All-append P (take i cs) (c ∷ drop i cs) (All-take P i cs a) (All-cons P c (drop i cs) p (All-drop P i cs a))
 
 brought_sorted : (cs : List LiveDot) (i : ℕ) (c : LiveDot) → Rise cs → IsGap cs c.dot i → Rise (insert cs i c)
 brought_sorted cs i c s gap = fact _ (subst (λ es. T (maps.is_sorted dot_cmp es)) (sym (put_at cs i c s gap.within gap.before gap.after)) (is_sorted-put dot_cmp dots_total c.dot (holding c) (entries_of cs) (truth _ s)))
 
 pub brought_live : (cs : List LiveDot) (i : ℕ) (c : LiveDot) (q : Dot) → Rise cs → IsGap cs c.dot i → maps.get (live_of (insert cs i c)) q ≡ cond (eq_by_cmp dot_cmp q c.dot) (Some (holding c)) (maps.get (live_of cs) q)
 brought_live cs i c q s gap =
-    get-live_of (insert cs i c) q (brought_sorted cs i c s gap) ∙ ap (find dot_cmp q) (put_at cs i c s gap.within gap.before gap.after)
-    ∙ find-put dot_cmp dots_total q c.dot (holding c) (entries_of cs) ∙ ap (cond (eq_by_cmp dot_cmp q c.dot) (Some (holding c))) (sym (get-live_of cs q s))
+    get_live_of (insert cs i c) q (brought_sorted cs i c s gap) ∙ ap (find dot_cmp q) (put_at cs i c s gap.within gap.before gap.after)
+    ∙ find-put dot_cmp dots_total q c.dot (holding c) (entries_of cs) ∙ ap (cond (eq_by_cmp dot_cmp q c.dot) (Some (holding c))) (sym (get_live_of cs q s))
 
 -- a cell that takes the place of another of its dot
 pub met_live : (cs : List LiveDot) (i : ℕ) (x j : LiveDot) (q : Dot) → Rise cs → IsAt cs j.dot i → x ≡ get_or cs i x → maps.get (live_of (set cs i j)) q ≡ cond (eq_by_cmp dot_cmp q j.dot) (Some (holding j)) (maps.get (live_of cs) q)
 met_live cs i x j q s at is =
-    get-live_of (set cs i j) q (sorted-set cs i x j at.within is (at.here x ∙ ap (λ y. y.dot) (sym is)) ∙ s) ∙ ap (find dot_cmp q) (set_at cs i j x s at.within (at.here x))
-    ∙ find-put dot_cmp dots_total q j.dot (holding j) (entries_of cs) ∙ ap (cond (eq_by_cmp dot_cmp q j.dot) (Some (holding j))) (sym (get-live_of cs q s))
+    get_live_of (set cs i j) q (sorted_set cs i x j at.within is (at.here x ∙ ap (λ y. y.dot) (sym is)) ∙ s) ∙ ap (find dot_cmp q) (set_at cs i j x s at.within (at.here x))
+    ∙ find-put dot_cmp dots_total q j.dot (holding j) (entries_of cs) ∙ ap (cond (eq_by_cmp dot_cmp q j.dot) (Some (holding j))) (sym (get_live_of cs q s))
 
 -- what is known of an absent dot
 -- a dot that has a gap isn't live
 pub gap_live : (cs : List LiveDot) (d : Dot) (i : ℕ) → Rise cs → IsGap cs d i → maps.get (live_of cs) d ≡ None
-gap_live cs d i s gap = get-live_of cs d s ∙ missed_at d cs i s gap.before gap.within gap.after
+gap_live cs d i s gap = get_live_of cs d s ∙ missed_at d cs i s gap.before gap.within gap.after
 
 pub absent : (cs : List LiveDot) (d : Dot) (i : ℕ) (known : sets.FinSet dot_cmp) (b : Bool) → Rise cs → IsGap cs d i → b ≡ sets.contains known d → condition_of (members_of cs known) d ≡ condition_at None b
 absent cs d i known b s gap e = λ k. condition_at (gap_live cs d i s gap k) (sym e k)
@@ -151,4 +151,4 @@ absent cs d i known b s gap e = λ k. condition_at (gap_live cs d i s gap k) (sy
 -- what is known of a present dot
 pub present : (cs : List LiveDot) (d : Dot) (i : ℕ) (x : LiveDot) (known : sets.FinSet dot_cmp) → Rise cs → IsAt cs d i → x ≡ get_or cs i x → condition_of (members_of cs known) d ≡ Some (Live x.member x.fields)
 present cs d i x known s at is =
-    ap (λ o. condition_at o (sets.contains known d)) (get-live_of cs d s ∙ found_at d cs i x s at.within (at.here x) ∙ ap (λ y. Some (holding y)) (sym is))
+    ap (λ o. condition_at o (sets.contains known d)) (get_live_of cs d s ∙ found_at d cs i x s at.within (at.here x) ∙ ap (λ y. Some (holding y)) (sym is))

@@ -15,7 +15,7 @@ use Rattle.dots.proofs.DotOrder.{dots_total, dots_exact}
 use Rattle.causal_context.specs.Contexts.{IsRun}
 use Rattle.member_orset.specs.LiveDots.{dead_dots}
 use Rattle.member_orset.specs.Gathering.{AreToName, part_before}
-use Rattle.member_orset.proofs.SeenDots.{contains-part, known_zero, under}
+use Rattle.member_orset.proofs.SeenDots.{contains_part, known_zero, under}
 
 abbrev at : ℕ → ℕ → Dot
 at site count = record { site = site; count = count }
@@ -44,15 +44,15 @@ module _ (known : sets.FinSet dot_cmp) (live : Dot → Bool) (site : ℕ) where
   abbrev is_dead : Dot → Bool
   is_dead q = nat_eq q.site site && not (live q)
 
-  contains-dead : (q : Dot) → sets.contains dead q ≡ (sets.contains known q && is_dead q)
+  contains_dead : (q : Dot) → sets.contains dead q ≡ (sets.contains known q && is_dead q)
   unfolding dead_dots
-  contains-dead q = sets.contains-retain known is_dead q (λ x h. ap is_dead (sym (dots_exact q x h)))
+  contains_dead q = sets.contains-retain known is_dead q (λ x h. ap is_dead (sym (dots_exact q x h)))
 
   dead_at : (n : ℕ) → sets.contains dead (at site n) ≡ (sets.contains known (at site n) && not (live (at site n)))
-  dead_at n = contains-dead (at site n) ∙ ap (λ b. sets.contains known (at site n) && (b && not (live (at site n)))) (own_site site)
+  dead_at n = contains_dead (at site n) ∙ ap (λ b. sets.contains known (at site n) && (b && not (live (at site n)))) (own_site site)
 
   dead_site : (q : Dot) → sets.contains dead q ≡ true → nat_eq q.site site ≡ true
-  dead_site q h = (and_parts (nat_eq q.site site) (not (live q)) (and_parts (sets.contains known q) (is_dead q) (sym (contains-dead q) ∙ h)).1).0
+  dead_site q h = (and_parts (nat_eq q.site site) (not (live q)) (and_parts (sets.contains known q) (is_dead q) (sym (contains_dead q) ∙ h)).1).0
 
   dead_unknown : (n : ℕ) → sets.contains known (at site n) ≡ false → sets.contains dead (at site n) ≡ false
   dead_unknown n h = dead_at n ∙ ap (λ b. b && not (live (at site n))) h
@@ -63,12 +63,12 @@ module _ (known : sets.FinSet dot_cmp) (live : Dot → Bool) (site : ℕ) where
   -- all of them are of the site
   pub none_earlier : part_before dead site 0 ≡ sets.empty
   none_earlier = sets.same_set dots_total dots_exact _ _ (λ q.
-      contains-part dead site 0 q ∙ under (sets.contains dead q) _ false (λ t. not_earlier q.site q.count site (dead_site q t)) ∙ and-false (sets.contains dead q)
+      contains_part dead site 0 q ∙ under (sets.contains dead q) _ false (λ t. not_earlier q.site q.count site (dead_site q t)) ∙ and-false (sets.contains dead q)
       ∙ sym (sets.contains-empty dot_cmp q))
 
   pub all_before_next : part_before dead (site + 1) 0 ≡ dead
   all_before_next = sets.same_set dots_total dots_exact _ _ (λ q.
-      contains-part dead (site + 1) 0 q ∙ under (sets.contains dead q) _ true (λ t. before_next q.site q.count site (dead_site q t)) ∙ and-true (sets.contains dead q))
+      contains_part dead (site + 1) 0 q ∙ under (sets.contains dead q) _ true (λ t. before_next q.site q.count site (dead_site q t)) ∙ and-true (sets.contains dead q))
 
   -- so they are the dead ones up to the greatest count
   pub dead_to_name : (runs : List Run) (last : ℕ) → IsRunsOf runs known → All IsRun runs → 2 ^ 40 ≤ last → AreToName known live [] site last dead

@@ -23,9 +23,9 @@ module _ {X Y : Type 0} (h : X → Option Y) where
   rest : (x : X) (xs : List X) → Given (x ∷ xs) → Given xs
   rest x xs a = All-tail (λ x. is_some (h x) ≡ true) x xs a
 
-  pub length-given : (xs : List X) → Given xs → length (filter_map h xs) ≡ length xs
-  length-given [] a = refl
-  length-given (x ∷ xs) a = ap (λ o. length (cons_option o (filter_map h xs))) (first x xs a).1 ∙ ap suc (length-given xs (rest x xs a))
+  pub length_given : (xs : List X) → Given xs → length (filter_map h xs) ≡ length xs
+  length_given [] a = refl
+  length_given (x ∷ xs) a = ap (λ o. length (cons_option o (filter_map h xs))) (first x xs a).1 ∙ ap suc (length_given xs (rest x xs a))
 
   pub given_at : (xs : List X) (k : ℕ) (x : X) (y : Y) → Given xs → k < length xs → h (get_or xs k x) ≡ Some (get_or (filter_map h xs) k y)
   given_at [] k x y a l = absurd (omega arith)
@@ -34,43 +34,43 @@ module _ {X Y : Type 0} (h : X → Option Y) where
       given_at xs k x y (rest z xs a) (omega arith) ∙ ap (λ o. Some (get_or (cons_option o (filter_map h xs)) (suc k) y)) (sym (first z xs a).1)
 
   -- one item more, at a place
-  pub given-insert : (xs : List X) (i : ℕ) (x : X) (y : Y) → Given xs → h x ≡ Some y → filter_map h (insert xs i x) ≡ insert (filter_map h xs) i y
-  given-insert [] zero x y a e = ap (λ o. cons_option o []) e
-  given-insert [] (suc i) x y a e = ap (λ o. cons_option o []) e
-  given-insert (z ∷ xs) zero x y a e = ap (λ o. cons_option o (filter_map h (z ∷ xs))) e
-  given-insert (z ∷ xs) (suc i) x y a e =
+  pub given_insert : (xs : List X) (i : ℕ) (x : X) (y : Y) → Given xs → h x ≡ Some y → filter_map h (insert xs i x) ≡ insert (filter_map h xs) i y
+  given_insert [] zero x y a e = ap (λ o. cons_option o []) e
+  given_insert [] (suc i) x y a e = ap (λ o. cons_option o []) e
+  given_insert (z ∷ xs) zero x y a e = ap (λ o. cons_option o (filter_map h (z ∷ xs))) e
+  given_insert (z ∷ xs) (suc i) x y a e =
       let s = first z xs a in
-      ap (λ o. cons_option o (filter_map h (insert xs i x))) s.1 ∙ ap (λ ys. s.0 ∷ ys) (given-insert xs i x y (rest z xs a) e) ∙ ap (λ o. insert (cons_option o (filter_map h xs)) (suc i) y) (sym s.1)
+      ap (λ o. cons_option o (filter_map h (insert xs i x))) s.1 ∙ ap (λ ys. s.0 ∷ ys) (given_insert xs i x y (rest z xs a) e) ∙ ap (λ o. insert (cons_option o (filter_map h xs)) (suc i) y) (sym s.1)
 
   -- one item less
-  pub given-remove : (xs : List X) (i : ℕ) → Given xs → filter_map h (remove xs i) ≡ remove (filter_map h xs) i
-  given-remove [] zero a = refl
-  given-remove [] (suc i) a = refl
-  given-remove (z ∷ xs) zero a = ap (λ o. remove (cons_option o (filter_map h xs)) 0) (sym (first z xs a).1)
-  given-remove (z ∷ xs) (suc i) a =
+  pub given_remove : (xs : List X) (i : ℕ) → Given xs → filter_map h (remove xs i) ≡ remove (filter_map h xs) i
+  given_remove [] zero a = refl
+  given_remove [] (suc i) a = refl
+  given_remove (z ∷ xs) zero a = ap (λ o. remove (cons_option o (filter_map h xs)) 0) (sym (first z xs a).1)
+  given_remove (z ∷ xs) (suc i) a =
       let s = first z xs a in
-      ap (λ o. cons_option o (filter_map h (remove xs i))) s.1 ∙ ap (λ ys. s.0 ∷ ys) (given-remove xs i (rest z xs a)) ∙ ap (λ o. remove (cons_option o (filter_map h xs)) (suc i)) (sym s.1)
+      ap (λ o. cons_option o (filter_map h (remove xs i))) s.1 ∙ ap (λ ys. s.0 ∷ ys) (given_remove xs i (rest z xs a)) ∙ ap (λ o. remove (cons_option o (filter_map h xs)) (suc i)) (sym s.1)
 
   -- another thing is given of the item at a place, and the same of the others
-  pub given-set : (g : X → Option Y) (xs : List X) (i : ℕ) (x : X) (y : Y) → Given xs → i < length xs → g (get_or xs i x) ≡ Some y
+  pub given_set : (g : X → Option Y) (xs : List X) (i : ℕ) (x : X) (y : Y) → Given xs → i < length xs → g (get_or xs i x) ≡ Some y
       → ((k : ℕ) (d : X) → k < length xs → k ≢ i → g (get_or xs k d) ≡ h (get_or xs k d)) → filter_map g xs ≡ set (filter_map h xs) i y
-  given-set g [] i x y a l e same = absurd (omega arith)
-  given-set g (z ∷ xs) zero x y a l e same =
+  given_set g [] i x y a l e same = absurd (omega arith)
+  given_set g (z ∷ xs) zero x y a l e same =
       (λ k. cons_option (e k) (given_alike g h xs (λ n d lt. same (suc n) d (omega arith) (λ q. absurd (omega arith))) k)) ∙ ap (λ o. set (cons_option o (filter_map h xs)) 0 y) (sym (first z xs a).1)
-  given-set g (z ∷ xs) (suc i) x y a l e same =
+  given_set g (z ∷ xs) (suc i) x y a l e same =
       let s = first z xs a in
-      (λ k. cons_option (same 0 z (omega arith) (λ q. absurd (omega arith)) k) (given-set g xs i x y (rest z xs a) (omega arith) e (λ n d lt other. same (suc n) d (omega arith) (λ q. other (omega arith))) k))
+      (λ k. cons_option (same 0 z (omega arith) (λ q. absurd (omega arith)) k) (given_set g xs i x y (rest z xs a) (omega arith) e (λ n d lt other. same (suc n) d (omega arith) (λ q. other (omega arith))) k))
       ∙ ap (λ o. cons_option o (set (filter_map h xs) i y)) s.1 ∙ ap (λ o. set (cons_option o (filter_map h xs)) (suc i) y) (sym s.1)
 
   -- the first items, and those after them
-  pub given-take : (xs : List X) (n : ℕ) → Given xs → filter_map h (take n xs) ≡ take n (filter_map h xs)
-  given-take xs zero a = refl
-  given-take [] (suc n) a = refl
-  given-take (z ∷ xs) (suc n) a =
+  pub given_take : (xs : List X) (n : ℕ) → Given xs → filter_map h (take n xs) ≡ take n (filter_map h xs)
+  given_take xs zero a = refl
+  given_take [] (suc n) a = refl
+  given_take (z ∷ xs) (suc n) a =
       let s = first z xs a in
-      ap (λ o. cons_option o (filter_map h (take n xs))) s.1 ∙ ap (λ ys. s.0 ∷ ys) (given-take xs n (rest z xs a)) ∙ ap (λ o. take (suc n) (cons_option o (filter_map h xs))) (sym s.1)
+      ap (λ o. cons_option o (filter_map h (take n xs))) s.1 ∙ ap (λ ys. s.0 ∷ ys) (given_take xs n (rest z xs a)) ∙ ap (λ o. take (suc n) (cons_option o (filter_map h xs))) (sym s.1)
 
-  pub given-drop : (xs : List X) (n : ℕ) → Given xs → filter_map h (drop n xs) ≡ drop n (filter_map h xs)
-  given-drop xs zero a = refl
-  given-drop [] (suc n) a = refl
-  given-drop (z ∷ xs) (suc n) a = given-drop xs n (rest z xs a) ∙ ap (λ o. drop (suc n) (cons_option o (filter_map h xs))) (sym (first z xs a).1)
+  pub given_drop : (xs : List X) (n : ℕ) → Given xs → filter_map h (drop n xs) ≡ drop n (filter_map h xs)
+  given_drop xs zero a = refl
+  given_drop [] (suc n) a = refl
+  given_drop (z ∷ xs) (suc n) a = given_drop xs n (rest z xs a) ∙ ap (λ o. drop (suc n) (cons_option o (filter_map h xs))) (sym (first z xs a).1)

@@ -28,7 +28,7 @@ use Rattle.member_orset.proofs.MapSteps.{apart_by}
 use Rattle.member_orset.proofs.PlacedDots.{all_held}
 use Rattle.member_orset.proofs.Relisted.{distinct, held_by}
 use Rattle.member_orset.proofs.Rising as rising
-use Rattle.member_orset.proofs.Views.{get-live_of}
+use Rattle.member_orset.proofs.Views.{get_live_of}
 
 -- ids are ordered by what has a weak order
 pub ids_ranked : (held : CellMap) → IsStrictWeakOrder (λ id other. is_lt (id_order held id other))
@@ -79,7 +79,7 @@ module _ (s : PlacedState) (members : List Id) (placed : IsPlaced s) (same : IsP
   lists m d =
       sym (list_any-IsPermutation (eq_by_cmp listed_cmp (entry m d)) (listed_at s.held (ids_of s.dots)) listed moved)
       ∙ held_by (cells_of s) m d (rise s.dots s.held s.spent placed)
-      ∙ ap (λ o. option_map_or (eq_by_cmp member_cmp m) (option_map (λ h. h.0) o) false) (sym (get-live_of (cells_of s) d (rise s.dots s.held s.spent placed)))
+      ∙ ap (λ o. option_map_or (eq_by_cmp member_cmp m) (option_map (λ h. h.0) o) false) (sym (get_live_of (cells_of s) d (rise s.dots s.held s.spent placed)))
 
   -- are the index where they rise
   pub indexed_by : Rises listed → AreIndexed s members

@@ -15,7 +15,7 @@ use Rattle.std.proofs.lemmas.List.Folds.{list_any_none}
 use Rattle.dots.specs.declared.member.Member.{Member}
 use Rattle.dots.specs.Orders.{member_cmp}
 use Rattle.dots.proofs.MemberOrder.{members_total}
-use Rattle.general_lemmas.proofs.Membership.{any-in}
+use Rattle.general_lemmas.proofs.Membership.{any_in}
 use Rattle.general_lemmas.proofs.TruthTables.{less_of}
 use Rattle.member_orset.specs.Index.{Listed}
 use Rattle.member_orset.specs.Index.{Rises}
@@ -107,7 +107,7 @@ none_own m ls i a e = sym (list_any_none (is_own m) ls (λ k d h. own_before m (
 
 pub first_own : (m : Member) (ls : List Listed) (i : ℕ) (e : Listed) → Rises ls → Lesser m ls i → i < length ls → is_le (member_cmp (get_or ls i e).member m) ≡ list_any (is_own m) ls
 first_own m ls i e r a w = elim (cases_Bool (is_le (member_cmp (get_or ls i e).member m))) [
-  | inl t ↦ t ∙ sym (any-in (is_own m) ls (get_or ls i e) (Contains-get_or ls i e w) (own_between m (get_or ls i e) (a.1 i e (omega arith) w) t))
+  | inl t ↦ t ∙ sym (any_in (is_own m) ls (get_or ls i e) (Contains-get_or ls i e w) (own_between m (get_or ls i e) (a.1 i e (omega arith) w) t))
   | inr f ↦ f ∙ sym (list_any_none (is_own m) ls (λ k d h. elim (cases_lt k i) [
     | inl l ↦ own_before m (get_or ls k d) (a.0 k d (omega arith) l)
     | inr l ↦ own_past m (get_or ls k d) (past_from m ls i e r w f k d l h)

@@ -34,11 +34,11 @@ listed_exact a b h =
     (exact_pairs member_cmp dot_cmp exact_members dots_exact (a.member, a.dot) (b.member, b.dot) h)
 
 -- entries that rise
-pub rises-tail : (l : Listed) (ls : List Listed) → Rises (l ∷ ls) → Rises ls
-rises-tail = rising.rise-tail listed_cmp listed_total listed_exact (λ x. x) (λ x. tt)
+pub rises_tail : (l : Listed) (ls : List Listed) → Rises (l ∷ ls) → Rises ls
+rises_tail = rising.rise_tail listed_cmp listed_total listed_exact (λ x. x) (λ x. tt)
 
-pub rises-head : (l : Listed) (ls : List Listed) → Rises (l ∷ ls) → IsBelow l ls
-rises-head = rising.rise-head listed_cmp listed_total listed_exact (λ x. x) (λ x. tt)
+pub rises_head : (l : Listed) (ls : List Listed) → Rises (l ∷ ls) → IsBelow l ls
+rises_head = rising.rise_head listed_cmp listed_total listed_exact (λ x. x) (λ x. tt)
 
 pub below_from : (l x : Listed) (ls : List Listed) → is_lt (listed_cmp l x) ≡ true → IsBelow x ls → IsBelow l ls
 below_from = rising.below_from listed_cmp listed_total listed_exact (λ x. x) (λ x. tt)

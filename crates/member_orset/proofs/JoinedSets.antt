@@ -18,18 +18,18 @@ use Rattle.member_orset.specs.Joining.{dead_in_runs, holding_joined}
 use Rattle.member_orset.specs.LiveDots.{live_dots_without}
 use Rattle.member_orset.specs.Members.{Holding, Members, both_joined, cells_joined, is_live, joined_dots}
 use Rattle.member_orset.specs.PlacedLists.{id_entries, is_placed}
-use Rattle.member_orset.proofs.Counts.{AreNew, add, contains-add, len-add}
+use Rattle.member_orset.proofs.Counts.{AreNew, add, contains_add, len_add}
 use Rattle.member_orset.proofs.DotTests.{apart_after, one_dot, same_itself}
 use Rattle.member_orset.proofs.Joins.{stays_live}
-use Rattle.member_orset.proofs.PlacedOrder.{Rise, rise-head, rise-tail}
+use Rattle.member_orset.proofs.PlacedOrder.{Rise, rise_head, rise_tail}
 
 -- the dots that pass a test, of live dots that rise
 module _ (test : Dot → Bool) where
   abbrev pub kept : List Placed → List Dot
   kept ps = each (λ p. p.dot) (filter (λ p. test p.dot) ps)
 
-  pub length-kept : (ps : List Placed) → length (kept ps) ≡ count_by (λ p. test p.dot) ps
-  length-kept ps = length-map (filter (λ p. test p.dot) ps) (λ p. p.dot) ∙ length-filter (λ p. test p.dot) ps
+  pub length_kept : (ps : List Placed) → length (kept ps) ≡ count_by (λ p. test p.dot) ps
+  length_kept ps = length-map (filter (λ p. test p.dot) ps) (λ p. p.dot) ∙ length-filter (λ p. test p.dot) ps
 
   any_cond : (q : Dot) (p : Placed) (b : Bool) (ps : List Placed) → list_any (eq_by_cmp dot_cmp q) (each (λ p. p.dot) (cond b (p ∷ ps) ps)) ≡ cond b (eq_by_cmp dot_cmp q p.dot || list_any (eq_by_cmp dot_cmp q) (each (λ p. p.dot) ps)) (list_any (eq_by_cmp dot_cmp q) (each (λ p. p.dot) ps))
   any_cond q p true ps = refl
@@ -60,10 +60,10 @@ module _ (test : Dot → Bool) where
   -- they are new to a set that has none of them
   pub new_kept : (s : set.FinSet dot_cmp) (ps : List Placed) → Rise ps → ((q : Dot) → is_placed ps q ≡ true → test q ≡ true → set.contains s q ≡ false) → AreNew s (kept ps)
   new_kept s [] rise none = tt
-  new_kept s (p ∷ ps) rise none = at (test p.dot) refl (new_kept s ps (rise-tail p ps rise) (λ q h t. none q (ap (λ b. eq_by_cmp dot_cmp q p.dot || b) h ∙ or-true (eq_by_cmp dot_cmp q p.dot)) t))
+  new_kept s (p ∷ ps) rise none = at (test p.dot) refl (new_kept s ps (rise_tail p ps rise) (λ q h t. none q (ap (λ b. eq_by_cmp dot_cmp q p.dot || b) h ∙ or-true (eq_by_cmp dot_cmp q p.dot)) t))
     where
       at : (b : Bool) → test p.dot ≡ b → AreNew s (kept ps) → AreNew s (each (λ x. x.dot) (cond b (p ∷ filter (λ x. test x.dot) ps) (filter (λ x. test x.dot) ps)))
-      at true t rest = (placed_kept p.dot ps ∙ ap (λ b. b && test p.dot) (none_below p.dot ps (rise-head p ps rise)), none p.dot (ap (λ b. b || is_placed ps p.dot) (same_itself p.dot)) t, rest)
+      at true t rest = (placed_kept p.dot ps ∙ ap (λ b. b && test p.dot) (none_below p.dot ps (rise_head p ps rise)), none p.dot (ap (λ b. b || is_placed ps p.dot) (same_itself p.dot)) t, rest)
       at false t rest = rest
 
 -- how many live dots aren't among others
@@ -73,8 +73,8 @@ unfolding live_dots_without
 counted_without s others runs ps rise placed are =
     let test = λ (q : Dot). not (in_runs runs q) in
     ap set.len (sets_same test)
-    ∙ len-add (set.empty {R = dot_cmp}) (kept test ps) (new_kept test (set.empty {R = dot_cmp}) ps rise (λ q h t. set.contains-empty dot_cmp q))
-    ∙ (let none = set.len-empty dot_cmp in let n = length-kept test ps in omega arith)
+    ∙ len_add (set.empty {R = dot_cmp}) (kept test ps) (new_kept test (set.empty {R = dot_cmp}) ps rise (λ q h t. set.contains-empty dot_cmp q))
+    ∙ (let none = set.len-empty dot_cmp in let n = length_kept test ps in omega arith)
   where
     sets_same : (test : Dot → Bool) → set.difference (set.from_list (map.keys s.live)) others ≡ add (set.empty {R = dot_cmp}) (kept (λ q. not (in_runs runs q)) ps)
     sets_same test = set.same_set dots_total dots_exact _ _ (λ q.
@@ -83,7 +83,7 @@ counted_without s others runs ps rise placed are =
         ∙ sym (placed_kept (λ x. not (in_runs runs x)) q ps)
         ∙ sym (or-false (list_any (eq_by_cmp dot_cmp q) (kept (λ x. not (in_runs runs x)) ps)))
         ∙ ap (λ b. list_any (eq_by_cmp dot_cmp q) (kept (λ x. not (in_runs runs x)) ps) || b) (sym (set.contains-empty dot_cmp q))
-        ∙ sym (contains-add (set.empty {R = dot_cmp}) (kept (λ x. not (in_runs runs x)) ps) q))
+        ∙ sym (contains_add (set.empty {R = dot_cmp}) (kept (λ x. not (in_runs runs x)) ps) q))
 
 -- what is live in the join: what is live there and unknown here, and what is live here and not dead there
 live_in : (o p : Option Holding) (a b : Bool) → is_some (holding_joined o a p b) ≡ ((is_some p && not a) || ((is_some o && not (b && not (is_some p))) || false))
@@ -100,9 +100,9 @@ live_in None None false b = refl
 
 -- the dots that are live in the join of two sets, as they are held
 module _ (s t : Members) (heard : (q : Dot) (h : Holding) → map.get s.live q ≡ Some h → set.contains s.known q ≡ true) (heard_there : (q : Dot) (h : Holding) → map.get t.live q ≡ Some h → set.contains t.known q ≡ true) where
-  pub contains-joined : (q : Dot) → set.contains (joined_dots s t) q ≡ is_some (holding_joined (map.get s.live q) (set.contains s.known q) (map.get t.live q) (set.contains t.known q))
+  pub contains_joined : (q : Dot) → set.contains (joined_dots s t) q ≡ is_some (holding_joined (map.get s.live q) (set.contains s.known q) (map.get t.live q) (set.contains t.known q))
   unfolding joined_dots
-  contains-joined q =
+  contains_joined q =
       set.contains-retain (set.union s.known t.known) (λ d. is_live (both_joined s t d)) q (λ x h. ap (λ d. is_live (both_joined s t d)) (sym (dots_exact q x h)))
       ∙ ap (λ x. x && is_live (both_joined s t q)) (set.contains-union dots_total s.known t.known q)
       ∙ stays_live (map.get s.live q) (map.get t.live q) (set.contains s.known q) (set.contains t.known q) (heard q) (heard_there q)
@@ -117,14 +117,14 @@ module _ (s t : Members) (heard : (q : Dot) (h : Holding) → map.get s.live q �
     abbrev own : set.FinSet dot_cmp
     own = add (set.empty {R = dot_cmp}) ours
 
-    contains-own : (q : Dot) → set.contains own q ≡ ((map.contains_key s.live q && not (set.contains t.known q && not (map.contains_key t.live q))) || false)
-    contains-own q =
-        contains-add (set.empty {R = dot_cmp}) ours q
+    contains_own : (q : Dot) → set.contains own q ≡ ((map.contains_key s.live q && not (set.contains t.known q && not (map.contains_key t.live q))) || false)
+    contains_own q =
+        contains_add (set.empty {R = dot_cmp}) ours q
         ∙ (λ i. placed_kept (λ x. not (dead_in_runs runs t.live x)) q ps i || set.contains-empty dot_cmp q i)
         ∙ (λ i. (placed i q && not (sym (are.same q) i && not (map.contains_key t.live q))) || false)
 
     unheard : (q : Dot) → set.contains s.known q ≡ false → set.contains own q ≡ false
-    unheard q f = contains-own q ∙ at (map.get s.live q) refl
+    unheard q f = contains_own q ∙ at (map.get s.live q) refl
       where
         at : (o : Option Holding) → map.get s.live q ≡ o → ((is_some o && not (set.contains t.known q && not (map.contains_key t.live q))) || false) ≡ false
         at None e = refl
@@ -133,13 +133,13 @@ module _ (s t : Members) (heard : (q : Dot) (h : Holding) → map.get s.live q �
     pub counted_joined : cells_joined s t ≡ count_by (λ p. not (dead_in_runs runs t.live p.dot)) ps + count_by (λ p. not (set.contains s.known p.dot)) qs
     counted_joined =
         ap set.len (set.same_set dots_total dots_exact _ _ (λ q.
-        contains-joined q ∙ live_in (map.get s.live q) (map.get t.live q) (set.contains s.known q) (set.contains t.known q)
-        ∙ (λ i. (sym placed_there i q && not (set.contains s.known q)) || sym (contains-own q) i)
+        contains_joined q ∙ live_in (map.get s.live q) (map.get t.live q) (set.contains s.known q) (set.contains t.known q)
+        ∙ (λ i. (sym placed_there i q && not (set.contains s.known q)) || sym (contains_own q) i)
         ∙ (λ i. sym (placed_kept (λ x. not (set.contains s.known x)) q qs) i || set.contains own q)
-        ∙ sym (contains-add own theirs q)))
-        ∙ len-add own theirs (new_kept (λ q. not (set.contains s.known q)) own qs rise_there (λ q h u. unheard q (not_true (set.contains s.known q) u)))
-        ∙ (λ i. (len-add (set.empty {R = dot_cmp}) ours (new_kept (λ q. not (dead_in_runs runs t.live q)) (set.empty {R = dot_cmp}) ps rise (λ q h u. set.contains-empty dot_cmp q)) ∙ ap (λ n. n + length ours) (set.len-empty dot_cmp)) i + length theirs)
-        ∙ (let a = length-kept (λ q. not (dead_in_runs runs t.live q)) ps in let b = length-kept (λ q. not (set.contains s.known q)) qs in omega arith)
+        ∙ sym (contains_add own theirs q)))
+        ∙ len_add own theirs (new_kept (λ q. not (set.contains s.known q)) own qs rise_there (λ q h u. unheard q (not_true (set.contains s.known q) u)))
+        ∙ (λ i. (len_add (set.empty {R = dot_cmp}) ours (new_kept (λ q. not (dead_in_runs runs t.live q)) (set.empty {R = dot_cmp}) ps rise (λ q h u. set.contains-empty dot_cmp q)) ∙ ap (λ n. n + length ours) (set.len-empty dot_cmp)) i + length theirs)
+        ∙ (let a = length_kept (λ q. not (dead_in_runs runs t.live q)) ps in let b = length_kept (λ q. not (set.contains s.known q)) qs in omega arith)
       where
         not_true : (b : Bool) → not b ≡ true → b ≡ false
         not_true true h = absurd (cc h)

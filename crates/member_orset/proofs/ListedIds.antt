@@ -13,7 +13,7 @@ use Rattle.member_orset.specs.Index.{Listed}
 use Rattle.member_orset.specs.declared.live_dot.LiveDot.{LiveDot}
 use Rattle.member_orset.specs.Index.{IsPlaceFor, Rises, listed_cmp, listing}
 use Rattle.member_orset.specs.PlacedStates.{AreHeld, CellMap, cells_at, listed_at}
-use Rattle.member_orset.proofs.GivenItems.{given-drop, given-take, given_at, length-given}
+use Rattle.member_orset.proofs.GivenItems.{given_drop, given_take, given_at, length_given}
 use Rattle.member_orset.proofs.Indexes.{listed_exact, listed_total}
 use Rattle.member_orset.proofs.Rising as rising
 
@@ -43,13 +43,13 @@ module _ (held : CellMap) (ids : List Id) (a : AreHeld held ids) where
   listed = listed_at held ids
 
   pub as_long : length listed ≡ length ids
-  as_long = length-map (cells_at held ids) listing ∙ length-given (λ id. maps.get held id) ids a
+  as_long = length-map (cells_at held ids) listing ∙ length_given (λ id. maps.get held id) ids a
 
   -- the entry at a place is that of the cell of the id there
   pub entry_there : (k : ℕ) (id : Id) (l : Listed) → k < length ids → option_map listing (maps.get held (get_or ids k id)) ≡ Some (get_or listed k l)
   entry_there k id l w =
       ap (option_map listing) (given_at (λ q. maps.get held q) ids k id (of_entry l) a w)
-      ∙ ap Some (sym (get_or-map listing (cells_at held ids) k (of_entry l) l (let n = length-given (λ q. maps.get held q) ids a in omega arith)))
+      ∙ ap Some (sym (get_or-map listing (cells_at held ids) k (of_entry l) l (let n = length_given (λ q. maps.get held q) ids a in omega arith)))
 
   -- a test of the cell of an id, by its entry
   abbrev pub told : (Listed → Bool) → Id → Bool
@@ -85,7 +85,7 @@ module _ (held : CellMap) (ids : List Id) (a : AreHeld held ids) where
 
   pub listed_between : (i n : ℕ) → listed_at held (take n (drop i ids)) ≡ take n (drop i listed)
   listed_between i n =
-      ap (each listing) (given-take (λ q. maps.get held q) (drop i ids) n (All-drop (λ q. is_some (maps.get held q) ≡ true) i ids a) ∙ ap (take n) (given-drop (λ q. maps.get held q) ids i a))
+      ap (each listing) (given_take (λ q. maps.get held q) (drop i ids) n (All-drop (λ q. is_some (maps.get held q) ≡ true) i ids a) ∙ ap (take n) (given_drop (λ q. maps.get held q) ids i a))
       ∙ sym (take-map listing n (drop i (cells_at held ids))) ∙ ap (take n) (sym (drop-map listing i (cells_at held ids)))
 
   -- the places of a member's entries, by a test of the cells

@@ -24,7 +24,7 @@ use Rattle.member_orset.proofs.Changes.{brought_live, gap_live, met_live, met_me
 use Rattle.member_orset.proofs.Indexes.{less_lists, less_rises, listed_exact, listed_less, listed_more, listed_still, listed_total, more_lists, more_rises, stands}
 use Rattle.op_arena.proofs.IdOrder.{ids_total, ids_exact}
 use Rattle.member_orset.proofs.Relisted.{as_many}
-use Rattle.member_orset.proofs.ListEdits.{All-insert, All-others, map-insert, map-remove}
+use Rattle.member_orset.proofs.ListEdits.{All_insert, All_others, map_insert, map_remove}
 use Rattle.member_orset.proofs.ListedIds.{as_long, entry_there, listed_alike}
 use Rattle.member_orset.proofs.LiveMaps.{dot_here, ids_by, its_cell, its_live, rise, within_dots}
 use Rattle.member_orset.proofs.MapSteps.{apart_by, gone_other, got, got_other}
@@ -80,10 +80,10 @@ module _ (s t : PlacedState) (members : List Id) (x : AreIndexed s members) (i :
       let index = listed_at s.held members in
       let at = subst (λ ls. IsPlaceFor ls (listing cell) j) listed_kept place in
       let listed : listed_at t.held (insert members j id) ≡ insert index j (listing cell) =
-      ap (λ m. listed_at m (insert members j id)) h ∙ ap (each listing) (cells_more s.held id cell members j free x.held) ∙ map-insert listing (cells_at s.held members) j cell in
+      ap (λ m. listed_at m (insert members j id)) h ∙ ap (each listing) (cells_more s.held id cell members j free x.held) ∙ map_insert listing (cells_at s.held members) j cell in
       record {
         placed = valid;
-        held = All-insert (λ q. is_some (maps.get t.held q) ≡ true) members j id (ap is_some cell_more) held_more;
+        held = All_insert (λ q. is_some (maps.get t.held q) ≡ true) members j id (ap is_some cell_more) held_more;
         index = listed_more index (listed_at t.held (insert members j id)) (live_of (cells_of s)) (live_of (cells_of t)) cell.member cell.dot (holding cell) refl x.index
             (gap_live (cells_of s) cell.dot i (rise s.dots s.held s.spent x.placed) gap)
             (λ q. ap (λ ds. maps.get (live_of ds) q) cs ∙ brought_live (cells_of s) i cell q (rise s.dots s.held s.spent x.placed) gap)
@@ -140,10 +140,10 @@ module _ (s : PlacedState) (members : List Id) (x : AreIndexed s members) (d : D
     pub indexed_less : (t : PlacedState) → t.held ≡ maps.remove s.held its → cells_of t ≡ remove (cells_of s) i → IsPlaced t → AreIndexed t (remove members j)
     indexed_less t h cs valid =
         let listed : listed_at t.held (remove members j) ≡ remove index j =
-        ap (λ m. listed_at m (remove members j)) h ∙ ap (each listing) (cells_less s.held members j its x.held (All-others (λ q. q ≢ its) members j others)) ∙ map-remove listing (cells_at s.held members) j in
+        ap (λ m. listed_at m (remove members j)) h ∙ ap (each listing) (cells_less s.held members j its x.held (All_others (λ q. q ≢ its) members j others)) ∙ map_remove listing (cells_at s.held members) j in
         record {
           placed = valid;
-          held = All-others (λ q. is_some (maps.get t.held q) ≡ true) members j (λ k e l n.
+          held = All_others (λ q. is_some (maps.get t.held q) ≡ true) members j (λ k e l n.
               ap (λ m. is_some (maps.get m (get_or members k e))) h ∙ ap is_some (gone_other id_cmp ids_total ids_exact s.held its (get_or members k e) (others k e l n)) ∙ x.held k e l);
           index = listed_less index (listed_at t.held (remove members j)) (live_of (cells_of s)) (live_of (cells_of t)) cell.member cell.dot (holding cell) refl x.index
               (its_live s.dots s.held s.spent x.placed its cell here)

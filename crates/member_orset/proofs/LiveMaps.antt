@@ -22,8 +22,8 @@ use Rattle.member_orset.proofs.CellLists.{found_at}
 use Rattle.member_orset.proofs.DotTests.{one_dot}
 use Rattle.member_orset.proofs.PlacedDots.{AreThere, ahead_dots, as_long, before_dots, cells_rise, dot_there, no_cell, same_some}
 use Rattle.member_orset.proofs.Rising as rising
-use Rattle.member_orset.proofs.RisingMaps.{get-map_of}
-use Rattle.member_orset.proofs.Views.{get-live_of, len-live_of}
+use Rattle.member_orset.proofs.RisingMaps.{get_map_of}
+use Rattle.member_orset.proofs.Views.{get_live_of, len_live_of}
 
 -- the ids of placed dots, by their dots
 abbrev pub ids_by : List Placed → IdMap
@@ -71,22 +71,22 @@ module _ (dots : List Placed) (held : CellMap) (spent : IdSet) (a : ArePlaced do
   abbrev cells : List LiveDot
   cells = cells_at held (ids_of dots)
 
-  pub get-ids_by : (q : Dot) → maps.get (ids_by dots) q ≡ find dot_cmp q (id_entries dots)
-  get-ids_by q = get-map_of dot_cmp dots_total dots_exact (λ p. p.dot) (λ p. p.id) dots q a.sorted
+  pub get_ids_by : (q : Dot) → maps.get (ids_by dots) q ≡ find dot_cmp q (id_entries dots)
+  get_ids_by q = get_map_of dot_cmp dots_total dots_exact (λ p. p.dot) (λ p. p.id) dots q a.sorted
 
   pub rise : maps.is_sorted dot_cmp (entries_of cells) ≡ true
   rise = cells_rise dots held a.there a.sorted
 
   pub live_found : (q : Dot) → maps.get (live_of cells) q ≡ option_and_then (λ id. option_map holding (maps.get held id)) (maps.get (ids_by dots) q)
-  live_found q = get-live_of cells q rise ∙ find_both dots held q a.there ∙ ap (option_and_then (λ id. option_map holding (maps.get held id))) (sym (get-ids_by q))
+  live_found q = get_live_of cells q rise ∙ find_both dots held q a.there ∙ ap (option_and_then (λ id. option_map holding (maps.get held id))) (sym (get_ids_by q))
 
   -- the cell of a dot's id is the dot's
   pub its_cell : (q : Dot) (id : Id) → maps.get (ids_by dots) q ≡ Some id → option_map (λ c. c.dot) (maps.get held id) ≡ Some q
-  its_cell q id e = found_held dots held q id a.there (sym (get-ids_by q) ∙ e)
+  its_cell q id e = found_held dots held q id a.there (sym (get_ids_by q) ∙ e)
 
   -- the id of a cell is its dot's
   pub its_id : (id : Id) (cell : LiveDot) → maps.get held id ≡ Some cell → maps.get (ids_by dots) cell.dot ≡ Some id
-  its_id id cell e = get-ids_by cell.dot ∙ a.alone id cell e
+  its_id id cell e = get_ids_by cell.dot ∙ a.alone id cell e
 
   pub its_live : (id : Id) (cell : LiveDot) → maps.get held id ≡ Some cell → maps.get (live_of cells) cell.dot ≡ Some (holding cell)
   its_live id cell e = live_found cell.dot ∙ ap (option_and_then (λ i. option_map holding (maps.get held i))) (its_id id cell e) ∙ ap (option_map holding) e
@@ -99,16 +99,16 @@ module _ (dots : List Placed) (held : CellMap) (spent : IdSet) (a : ArePlaced do
   within_dots d i at = let w = at.within in omega (arith, as_long dots held a.there)
 
   pub id_here : (d : Dot) (i : ℕ) (p : Placed) → IsAt cells d i → maps.get (ids_by dots) d ≡ Some (get_or dots i p).id
-  id_here d i p at = get-ids_by d ∙ rising.found_at dot_cmp dots_total dots_exact (λ p. p.dot) (λ p. p.id) d dots i p a.sorted (within_dots d i at) (dot_here d i p at)
+  id_here d i p at = get_ids_by d ∙ rising.found_at dot_cmp dots_total dots_exact (λ p. p.dot) (λ p. p.id) d dots i p a.sorted (within_dots d i at) (dot_here d i p at)
 
   pub live_here : (d : Dot) (i : ℕ) (c : LiveDot) → IsAt cells d i → maps.get (live_of cells) d ≡ Some (holding (get_or cells i c))
-  live_here d i c at = get-live_of cells d rise ∙ found_at d cells i c rise at.within (at.here c)
+  live_here d i c at = get_live_of cells d rise ∙ found_at d cells i c rise at.within (at.here c)
 
   -- and of one that isn't
   pub no_id : (d : Dot) (i : ℕ) → IsGap cells d i → maps.get (ids_by dots) d ≡ None
   no_id d i gap =
       let w : i ≤ length dots = let v = gap.within in omega (arith, as_long dots held a.there) in
-      get-ids_by d ∙ rising.missed_at dot_cmp dots_total dots_exact (λ p. p.dot) (λ p. p.id) d dots i a.sorted (ahead_dots dots held a.there d i (no_cell d) w gap.before) w (before_dots dots held a.there d i (no_cell d) gap)
+      get_ids_by d ∙ rising.missed_at dot_cmp dots_total dots_exact (λ p. p.dot) (λ p. p.id) d dots i a.sorted (ahead_dots dots held a.there d i (no_cell d) w gap.before) w (before_dots dots held a.there d i (no_cell d) gap)
 
   -- what holds of all live dots
   pub named : (q : Dot) → maps.contains_key (ids_by dots) q ≡ maps.contains_key (live_of cells) q
@@ -125,8 +125,8 @@ module _ (dots : List Placed) (held : CellMap) (spent : IdSet) (a : ArePlaced do
   pub apart : AreApart (ids_by dots) spent
   apart = record {
     one = λ dot other id e f. same_some dot other (sym (its_cell dot id e) ∙ its_cell other id f);
-    unspent = λ dot id e. found_all (λ i. sets.contains spent i ≡ false) dots dot id a.unspent (sym (get-ids_by dot) ∙ e);
+    unspent = λ dot id e. found_all (λ i. sets.contains spent i ≡ false) dots dot id a.unspent (sym (get_ids_by dot) ∙ e);
   }
 
-  pub len-live : maps.len (live_of cells) ≡ length dots
-  len-live = len-live_of cells rise ∙ as_long dots held a.there
+  pub len_live : maps.len (live_of cells) ≡ length dots
+  len_live = len_live_of cells rise ∙ as_long dots held a.there

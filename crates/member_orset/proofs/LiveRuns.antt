@@ -8,7 +8,7 @@ use Rattle.std.proofs.lemmas.List.Elements.{Contains-get_or}
 use Rattle.dots.specs.Values.{Dot}
 use Rattle.dots.specs.Orders.{dot_cmp}
 use Rattle.dots.proofs.DotOrder.{dots_exact, dots_total}
-use Rattle.general_lemmas.proofs.Membership.{any-in}
+use Rattle.general_lemmas.proofs.Membership.{any_in}
 use Rattle.member_orset.specs.declared.placed.Placed.{Placed}
 use Rattle.member_orset.specs.LiveRuns.{IsLiveRun}
 use Rattle.member_orset.specs.PlacedLists.{is_placed}
@@ -67,4 +67,4 @@ module _ (dots : List Placed) (rise : Rise dots) (e : Placed) where
       let there = count_there i k c h l (run.site e) count lo hi in
       let q : Dot = record { site = (dot i).site; count = c } in
       let same : q ≡ dot m = λ j. record { site = sym there.0 j; count = sym there.1 j } in
-      any-in (λ p. eq_by_cmp dot_cmp q p.dot) dots (get_or dots m e) (Contains-get_or dots m e (omega arith)) (same_tied q (dot m) same)
+      any_in (λ p. eq_by_cmp dot_cmp q p.dot) dots (get_or dots m e) (Contains-get_or dots m e (omega arith)) (same_tied q (dot m) same)

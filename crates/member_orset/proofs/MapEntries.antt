@@ -9,7 +9,7 @@ use Rattle.std.proofs.lemmas.Option.{same_Some}
 use Rattle.dots.specs.Values.{Dot}
 use Rattle.dots.specs.Orders.{dot_cmp}
 use Rattle.dots.proofs.DotOrder.{dots_total, dots_exact}
-use Rattle.general_lemmas.proofs.Membership.{first-in, later-in}
+use Rattle.general_lemmas.proofs.Membership.{first_in, later_in}
 use Rattle.general_lemmas.proofs.SortedEntries.{find_at}
 use Rattle.general_lemmas.proofs.TruthTables.{fact}
 use Rattle.member_orset.proofs.DotTests.{one_dot}
@@ -28,8 +28,8 @@ module _ {V : Type 0} where
   found_in : (q : Dot) (v : V) (es : List (Dot × V)) → find dot_cmp q es ≡ Some v → Contains es (q, v)
   found_in q v [] h = absurd (cc)
   found_in q v (e ∷ es) h = elim (cases_Bool (eq_by_cmp dot_cmp q e.0)) [
-    | inl t ↦ subst (Contains (e ∷ es)) (λ i. (sym (one_dot q e.0 t) i, same_Some e.1 v (ap (λ b. cond b (Some e.1) (find dot_cmp q es)) (sym t) ∙ h) i)) (first-in e es)
-    | inr f ↦ later-in e es (q, v) (found_in q v es (ap (λ b. cond b (Some e.1) (find dot_cmp q es)) (sym f) ∙ h))
+    | inl t ↦ subst (Contains (e ∷ es)) (λ i. (sym (one_dot q e.0 t) i, same_Some e.1 v (ap (λ b. cond b (Some e.1) (find dot_cmp q es)) (sym t) ∙ h) i)) (first_in e es)
+    | inr f ↦ later_in e es (q, v) (found_in q v es (ap (λ b. cond b (Some e.1) (find dot_cmp q es)) (sym f) ∙ h))
   ]
 
   -- and what the map gives is an entry

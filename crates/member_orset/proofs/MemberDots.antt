@@ -16,7 +16,7 @@ use Rattle.dots.specs.Orders.{dot_cmp, member_cmp}
 use Rattle.operations.specs.Rows.{dots_of, is_of}
 use Rattle.general_lemmas.specs.SetItems.{in_order}
 use Rattle.dots.proofs.DotOrder.{dots_total, dots_exact}
-use Rattle.general_lemmas.proofs.ItemOrder.{in_order-keys, in_order-list, units}
+use Rattle.general_lemmas.proofs.ItemOrder.{in_order_keys, in_order_list, units}
 use Rattle.general_lemmas.proofs.TruthTables.{truth, fact}
 use Rattle.member_orset.specs.Index.{Listed}
 use Rattle.member_orset.specs.declared.live_dot.LiveDot.{LiveDot}
@@ -24,11 +24,11 @@ use Rattle.member_orset.specs.Members.{Holding}
 use Rattle.member_orset.specs.LiveLists.{entries_of, live_of}
 use Rattle.member_orset.specs.Index.{IsIndex, Rises, is_held, is_listed, listed_cmp, listings}
 use Rattle.member_orset.specs.ShownRows.{cells_view, dots_listed, group, is_own}
-use Rattle.member_orset.proofs.CellLists.{Rise, rise-head, rise-tail}
+use Rattle.member_orset.proofs.CellLists.{Rise, rise_head, rise_tail}
 use Rattle.member_orset.proofs.DotTests.{one_dot}
-use Rattle.member_orset.proofs.Indexes.{rises-head, rises-tail}
+use Rattle.member_orset.proofs.Indexes.{rises_head, rises_tail}
 use Rattle.member_orset.proofs.MemberOrder.{by_dots, one_member}
-use Rattle.member_orset.proofs.Views.{entries-live_of}
+use Rattle.member_orset.proofs.Views.{entries_live_of}
 
 -- dots rise
 abbrev Ascend : List Dot → Type 0
@@ -37,8 +37,8 @@ Ascend ds = is_sorted dot_cmp (units ds) ≡ true
 -- dots that rise in two lists, and are the same in both, are one list
 same_dots : (ds es : List Dot) → Ascend ds → Ascend es → ((q : Dot) → list_any (eq_by_cmp dot_cmp q) ds ≡ list_any (eq_by_cmp dot_cmp q) es) → ds ≡ es
 same_dots ds es a b same =
-    sym (in_order-list dots_total dots_exact (sets.from_list ds) ds (truth _ a) (λ q. sets.contains-from_list dots_total ds q))
-    ∙ in_order-list dots_total dots_exact (sets.from_list ds) es (truth _ b) (λ q. sets.contains-from_list dots_total ds q ∙ same q)
+    sym (in_order_list dots_total dots_exact (sets.from_list ds) ds (truth _ a) (λ q. sets.contains-from_list dots_total ds q))
+    ∙ in_order_list dots_total dots_exact (sets.from_list ds) es (truth _ b) (λ q. sets.contains-from_list dots_total ds q ∙ same q)
 
 -- the dots of a member's entries rise
 below_own : (m : Member) (l : Listed) (ls : List Listed) → is_own m l ≡ true → below_all listed_cmp l (listings ls) ≡ true → below_all dot_cmp l.dot (units (dots_listed (group m ls))) ≡ true
@@ -55,8 +55,8 @@ own_ascend : (m : Member) (ls : List Listed) → Rises ls → Ascend (dots_liste
 own_ascend m [] r = refl
 own_ascend m (l ∷ ls) r = elim (cases_Bool (is_own m l)) [
   | inl t ↦ ap (λ b. is_sorted dot_cmp (units (dots_listed (cond b (l ∷ group m ls) (group m ls))))) t
-      ∙ and_from (below_all dot_cmp l.dot (units (dots_listed (group m ls)))) (is_sorted dot_cmp (units (dots_listed (group m ls)))) (below_own m l ls t (rises-head l ls r)) (own_ascend m ls (rises-tail l ls r))
-  | inr f ↦ ap (λ b. is_sorted dot_cmp (units (dots_listed (cond b (l ∷ group m ls) (group m ls))))) f ∙ own_ascend m ls (rises-tail l ls r)
+      ∙ and_from (below_all dot_cmp l.dot (units (dots_listed (group m ls)))) (is_sorted dot_cmp (units (dots_listed (group m ls)))) (below_own m l ls t (rises_head l ls r)) (own_ascend m ls (rises_tail l ls r))
+  | inr f ↦ ap (λ b. is_sorted dot_cmp (units (dots_listed (cond b (l ∷ group m ls) (group m ls))))) f ∙ own_ascend m ls (rises_tail l ls r)
 ]
 
 -- they are those that are listed under the member
@@ -77,7 +77,7 @@ below_cells d (c ∷ cs) = ap (λ b. is_lt (dot_cmp d c.dot) && b) (below_cells 
 cells_ascend : (cs : List LiveDot) → Rise cs → Ascend (each (λ c. c.dot) cs)
 cells_ascend [] s = refl
 cells_ascend (c ∷ cs) s =
-    and_from (below_all dot_cmp c.dot (units (each (λ x. x.dot) cs))) (is_sorted dot_cmp (units (each (λ x. x.dot) cs))) (below_cells c.dot cs ∙ rise-head c cs s) (cells_ascend cs (rise-tail c cs s))
+    and_from (below_all dot_cmp c.dot (units (each (λ x. x.dot) cs))) (is_sorted dot_cmp (units (each (λ x. x.dot) cs))) (below_cells c.dot cs ∙ rise_head c cs s) (cells_ascend cs (rise_tail c cs s))
 
 units_kept : (p : Dot → Bool) (ds : List Dot) → where_key dot_cmp p (units ds) ≡ units (filter p ds)
 units_kept p [] = refl
@@ -91,18 +91,18 @@ kept_ascend : (p : Dot → Bool) (ds : List Dot) → Ascend ds → Ascend (filte
 kept_ascend p ds a = ap (is_sorted dot_cmp) (sym (units_kept p ds)) ∙ fact _ (is_sorted-where_key dot_cmp p (units ds) (truth _ a))
 
 -- the live dots in their order are those of the cells
-keys-entries : (cs : List LiveDot) → each (λ e. e.0) (entries_of cs) ≡ each (λ c. c.dot) cs
-keys-entries [] = refl
-keys-entries (c ∷ cs) = ap (λ ks. c.dot ∷ ks) (keys-entries cs)
+keys_entries : (cs : List LiveDot) → each (λ e. e.0) (entries_of cs) ≡ each (λ c. c.dot) cs
+keys_entries [] = refl
+keys_entries (c ∷ cs) = ap (λ ks. c.dot ∷ ks) (keys_entries cs)
 
 visible : (cs : List LiveDot) → Rise cs → in_order (cells_view cs).visible ≡ each (λ c. c.dot) cs
 visible cs s =
-    in_order-keys dots_total dots_exact (sets.from_list (maps.keys (live_of cs))) (live_of cs) (λ q. sets.contains-from_list dots_total (maps.keys (live_of cs)) q ∙ sym (maps.contains_key-keys (live_of cs) q))
-    ∙ ap (each (λ e. e.0)) (entries-live_of cs s) ∙ keys-entries cs
+    in_order_keys dots_total dots_exact (sets.from_list (maps.keys (live_of cs))) (live_of cs) (λ q. sets.contains-from_list dots_total (maps.keys (live_of cs)) q ∙ sym (maps.contains_key-keys (live_of cs) q))
+    ∙ ap (each (λ e. e.0)) (entries_live_of cs s) ∙ keys_entries cs
 
 live_any : (cs : List LiveDot) (q : Dot) → Rise cs → list_any (eq_by_cmp dot_cmp q) (each (λ c. c.dot) cs) ≡ maps.contains_key (live_of cs) q
 live_any cs q s =
-    sym (maps.contains_key-keys (live_of cs) q ∙ ap (λ es. list_any (eq_by_cmp dot_cmp q) (each (λ e. e.0) es)) (entries-live_of cs s) ∙ ap (list_any (eq_by_cmp dot_cmp q)) (keys-entries cs))
+    sym (maps.contains_key-keys (live_of cs) q ∙ ap (λ es. list_any (eq_by_cmp dot_cmp q) (each (λ e. e.0) es)) (entries_live_of cs s) ∙ ap (list_any (eq_by_cmp dot_cmp q)) (keys_entries cs))
 
 -- a dot that is held is live
 held_live : (m : Member) (o : Option Holding) → (option_map_or (eq_by_cmp member_cmp m) (option_map (λ h. h.0) o) false && is_some o) ≡ option_map_or (eq_by_cmp member_cmp m) (option_map (λ h. h.0) o) false

@@ -3,7 +3,7 @@ use Rattle.std.proofs.Common.{◌≡◌, ◌≢◌, ℕ, ◌≤◌, ◌<◌, tru
 use Rattle.std.proofs.Common.{Contains}
 use Rattle.std.specs.List.{AllWithin}
 use Rattle.std.proofs.lemmas.List.Elements.{Contains-get_or}
-use Rattle.general_lemmas.proofs.Membership.{any-in}
+use Rattle.general_lemmas.proofs.Membership.{any_in}
 use Rattle.std.specs.Ordering.{eq_by_cmp, is_lt}
 use Rattle.std.proofs.lemmas.Bool.{cases_Bool}
 use Rattle.dots.specs.Values.{Dot}
@@ -34,7 +34,7 @@ module _ (dots : List Placed) (from : Dot) (i : ℕ) (x : Placed) (s : Rise dots
   ]
 
   itself_here : is_placed dots x.dot ≡ true
-  itself_here = any-in (λ p. eq_by_cmp dot_cmp x.dot p.dot) dots x (subst (Contains dots) (sym at_x) (Contains-get_or dots i x l)) (same_itself x.dot)
+  itself_here = any_in (λ p. eq_by_cmp dot_cmp x.dot p.dot) dots x (subst (Contains dots) (sym at_x) (Contains-get_or dots i x l)) (same_itself x.dot)
 
   -- so it is the first
   pub first_in : (site first last : ℕ) → from.site ≡ site → from.count ≡ first → x.dot.count ≤ last → IsFirstIn dots site first last x.dot

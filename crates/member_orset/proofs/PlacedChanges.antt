@@ -20,9 +20,9 @@ use Rattle.member_orset.specs.LiveLists.{IsGap}
 use Rattle.member_orset.specs.PlacedStates.{AreHeld, ArePlaced, CellMap, cells_at, ids_of}
 use Rattle.member_orset.specs.PlacedLists.{id_entries}
 use Rattle.member_orset.proofs.DotTests.{same_tied}
-use Rattle.member_orset.proofs.GivenItems.{given-insert, given-remove, given-set, given_alike}
+use Rattle.member_orset.proofs.GivenItems.{given_insert, given_remove, given_set, given_alike}
 use Rattle.op_arena.proofs.IdOrder.{ids_total, ids_exact}
-use Rattle.member_orset.proofs.ListEdits.{All-insert, All-others, map-insert, map-remove}
+use Rattle.member_orset.proofs.ListEdits.{All_insert, All_others, map_insert, map_remove}
 use Rattle.member_orset.proofs.MapSteps.{apart_by, gone as left, gone_other, got, got_other, spent_more, untied}
 use Rattle.member_orset.proofs.PlacedDots.{Ahead, AreThere, ahead_dots, all_held, as_long, before_dots, cell_there, ids_apart, no_cell, same_some, some_there}
 use Rattle.member_orset.proofs.Rising as rising
@@ -45,20 +45,20 @@ still_held held id cell ids free a =
 -- and one id more
 pub cells_more : (held : CellMap) (id : Id) (cell : LiveDot) (ids : List Id) (i : ℕ) → maps.get held id ≡ None → AreHeld held ids → cells_at (maps.insert held id cell) (insert ids i id) ≡ insert (cells_at held ids) i cell
 cells_more held id cell ids i free a =
-    given-insert (λ q. maps.get (maps.insert held id cell) q) ids i id cell (still_held held id cell ids free a) (got id_cmp ids_total ids_exact held id cell)
+    given_insert (λ q. maps.get (maps.insert held id cell) q) ids i id cell (still_held held id cell ids free a) (got id_cmp ids_total ids_exact held id cell)
     ∙ ap (λ xs. insert xs i cell) (cells_kept held id cell ids free a)
 
 -- one id less, which stands once
 pub cells_less : (held : CellMap) (ids : List Id) (i : ℕ) (id : Id) → AreHeld held ids → All (λ q. q ≢ id) (remove ids i) → cells_at (maps.remove held id) (remove ids i) ≡ remove (cells_at held ids) i
 cells_less held ids i id a others =
     given_alike (λ q. maps.get (maps.remove held id) q) (λ q. maps.get held q) (remove ids i) (All-weaker (λ q. q ≢ id) (λ q. maps.get (maps.remove held id) q ≡ maps.get held q) (gone_other id_cmp ids_total ids_exact held id) (remove ids i) others)
-    ∙ given-remove (λ q. maps.get held q) ids i a
+    ∙ given_remove (λ q. maps.get held q) ids i a
 
 -- another cell of an id, which stands once
 pub cells_changed : (held : CellMap) (ids : List Id) (i : ℕ) (id : Id) (cell : LiveDot) → AreHeld held ids → i < length ids → get_or ids i id ≡ id → ((k : ℕ) (d : Id) → k < length ids → k ≢ i → get_or ids k d ≢ id)
     → cells_at (maps.insert held id cell) ids ≡ set (cells_at held ids) i cell
 cells_changed held ids i id cell a l is others =
-    given-set (λ q. maps.get held q) (λ q. maps.get (maps.insert held id cell) q) ids i id cell a l (ap (maps.get (maps.insert held id cell)) is ∙ got id_cmp ids_total ids_exact held id cell)
+    given_set (λ q. maps.get held q) (λ q. maps.get (maps.insert held id cell) q) ids i id cell a l (ap (maps.get (maps.insert held id cell)) is ∙ got id_cmp ids_total ids_exact held id cell)
     (λ k d m n. got_other id_cmp ids_total ids_exact held id cell (get_or ids k d) (others k d m n))
 
 module _ (dots : List Placed) (held : CellMap) (spent : IdSet) (a : ArePlaced dots held spent) where
@@ -80,11 +80,11 @@ module _ (dots : List Placed) (held : CellMap) (spent : IdSet) (a : ArePlaced do
     ahead = ahead_dots dots held a.there cell.dot i cell within gap.before
 
     pub more_cells : cells_at (maps.insert held id cell) (ids_of (insert dots i here)) ≡ insert cells i cell
-    more_cells = ap (cells_at (maps.insert held id cell)) (map-insert (λ p. p.id) dots i here) ∙ cells_more held id cell (ids_of dots) i free (all_held dots held a.there)
+    more_cells = ap (cells_at (maps.insert held id cell)) (map_insert (λ p. p.id) dots i here) ∙ cells_more held id cell (ids_of dots) i free (all_held dots held a.there)
 
     more_there : AreThere (maps.insert held id cell) (insert dots i here)
     more_there =
-        All-insert (HasCell (maps.insert held id cell)) dots i here (ap (option_map (λ c. c.dot)) (got id_cmp ids_total ids_exact held id cell))
+        All_insert (HasCell (maps.insert held id cell)) dots i here (ap (option_map (λ c. c.dot)) (got id_cmp ids_total ids_exact held id cell))
         (All-weaker (HasCell held) (HasCell (maps.insert held id cell)) (λ p h. ap (option_map (λ c. c.dot)) (got_other id_cmp ids_total ids_exact held id cell p.id (not_fresh held id p.id free (some_there (maps.get held p.id) p.dot h))) ∙ h) dots a.there)
 
     more_alone : (q : Id) (c : LiveDot) → maps.get (maps.insert held id cell) q ≡ Some c → find dot_cmp c.dot (id_entries (insert dots i here)) ≡ Some q
@@ -109,7 +109,7 @@ module _ (dots : List Placed) (held : CellMap) (spent : IdSet) (a : ArePlaced do
       there = more_there;
       alone = more_alone;
       as_many = maps.len-insert ids_total held id cell ∙ ap (λ o. cond (is_some o) (maps.len held) (maps.len held + 1)) free ∙ ap (λ n. n + 1) a.as_many ∙ sym (length-insert dots i here within);
-      unspent = All-insert (λ p. sets.contains spent p.id ≡ false) dots i here unspent a.unspent;
+      unspent = All_insert (λ p. sets.contains spent p.id ≡ false) dots i here unspent a.unspent;
     }
 
   -- one dot less
@@ -118,18 +118,18 @@ module _ (dots : List Placed) (held : CellMap) (spent : IdSet) (a : ArePlaced do
     gone = get_or dots i e
 
     others : All (λ p. p.id ≢ gone.id) (remove dots i)
-    others = All-others (λ p. p.id ≢ gone.id) dots i (λ k d m n. ids_apart dots held a.there a.sorted k i d e m l n)
+    others = All_others (λ p. p.id ≢ gone.id) dots i (λ k d m n. ids_apart dots held a.there a.sorted k i d e m l n)
 
     there_gone : (c : LiveDot) → maps.get held gone.id ≡ Some (get_or cells i c)
     there_gone c = cell_there dots held a.there i e c l
 
     pub less_cells : cells_at (maps.remove held gone.id) (ids_of (remove dots i)) ≡ remove cells i
     less_cells =
-        ap (cells_at (maps.remove held gone.id)) (map-remove (λ p. p.id) dots i)
-        ∙ cells_less held (ids_of dots) i gone.id (all_held dots held a.there) (subst (All (λ q. q ≢ gone.id)) (map-remove (λ p. p.id) dots i) (All-map (λ q. q ≢ gone.id) (λ p. p.id) (remove dots i) others))
+        ap (cells_at (maps.remove held gone.id)) (map_remove (λ p. p.id) dots i)
+        ∙ cells_less held (ids_of dots) i gone.id (all_held dots held a.there) (subst (All (λ q. q ≢ gone.id)) (map_remove (λ p. p.id) dots i) (All-map (λ q. q ≢ gone.id) (λ p. p.id) (remove dots i) others))
 
     less_there : AreThere (maps.remove held gone.id) (remove dots i)
-    less_there = All-others (HasCell (maps.remove held gone.id)) dots i (λ k d m n. ap (option_map (λ c. c.dot)) (gone_other id_cmp ids_total ids_exact held gone.id (get_or dots k d).id (ids_apart dots held a.there a.sorted k i d e m l n)) ∙ a.there k d m)
+    less_there = All_others (HasCell (maps.remove held gone.id)) dots i (λ k d m n. ap (option_map (λ c. c.dot)) (gone_other id_cmp ids_total ids_exact held gone.id (get_or dots k d).id (ids_apart dots held a.there a.sorted k i d e m l n)) ∙ a.there k d m)
 
     ahead_gone : Ahead gone.dot dots i
     ahead_gone k p lo hi = rising.earlier dot_cmp dots_total dots_exact (λ p. p.dot) (λ p. p.id) dots k i p e a.sorted hi l
@@ -157,7 +157,7 @@ module _ (dots : List Placed) (held : CellMap) (spent : IdSet) (a : ArePlaced do
           let had : maps.len held ≡ length dots = a.as_many in
           let now : maps.len (maps.remove held gone.id) ≡ maps.len held - 1 = maps.len-remove ids_total held gone.id ∙ ap (λ o. cond (is_some o) (maps.len held - 1) (maps.len held)) (there_gone (no_cell gone.dot)) in
           omega arith;
-      unspent = All-others (λ p. sets.contains (sets.insert spent gone.id) p.id ≡ false) dots i (λ k d m n. spent_more id_cmp ids_total ids_exact spent gone.id (get_or dots k d).id (ids_apart dots held a.there a.sorted k i d e m l n) (a.unspent k d m));
+      unspent = All_others (λ p. sets.contains (sets.insert spent gone.id) p.id ≡ false) dots i (λ k d m n. spent_more id_cmp ids_total ids_exact spent gone.id (get_or dots k d).id (ids_apart dots held a.there a.sorted k i d e m l n) (a.unspent k d m));
     }
 
   -- another cell of a dot

@@ -18,7 +18,7 @@ use Rattle.member_orset.specs.declared.placed.Placed.{Placed}
 use Rattle.member_orset.specs.LiveLists.{IsAt, IsGap, entries_of}
 use Rattle.member_orset.specs.PlacedStates.{AreHeld, CellMap, cells_at, ids_of}
 use Rattle.member_orset.specs.PlacedLists.{id_entries}
-use Rattle.member_orset.proofs.GivenItems.{given_at, length-given}
+use Rattle.member_orset.proofs.GivenItems.{given_at, length_given}
 use Rattle.member_orset.proofs.Rising as rising
 
 -- the cell of each is that of its dot
@@ -45,13 +45,13 @@ some_there None d e = absurd (cc)
 some_there (Some c) d e = refl
 
 -- entries rise where their keys do
-below-keys : {V : Type 0} (d : Dot) (es : List (Dot × V)) → below_all dot_cmp d (units (each (λ e. e.0) es)) ≡ below_all dot_cmp d es
-below-keys d [] = refl
-below-keys d (e ∷ es) = ap (λ b. is_lt (dot_cmp d e.0) && b) (below-keys d es)
+below_keys : {V : Type 0} (d : Dot) (es : List (Dot × V)) → below_all dot_cmp d (units (each (λ e. e.0) es)) ≡ below_all dot_cmp d es
+below_keys d [] = refl
+below_keys d (e ∷ es) = ap (λ b. is_lt (dot_cmp d e.0) && b) (below_keys d es)
 
-sorted-keys : {V : Type 0} (es : List (Dot × V)) → is_sorted dot_cmp (units (each (λ e. e.0) es)) ≡ is_sorted dot_cmp es
-sorted-keys [] = refl
-sorted-keys (e ∷ es) = λ i. below-keys e.0 es i && sorted-keys es i
+sorted_keys : {V : Type 0} (es : List (Dot × V)) → is_sorted dot_cmp (units (each (λ e. e.0) es)) ≡ is_sorted dot_cmp es
+sorted_keys [] = refl
+sorted_keys (e ∷ es) = λ i. below_keys e.0 es i && sorted_keys es i
 
 -- the cells have the dots
 keys_are : (dots : List Placed) (held : CellMap) → AreThere held dots → each (λ e. e.0) (entries_of (cells_at held (ids_of dots))) ≡ each (λ e. e.0) (id_entries dots)
@@ -75,7 +75,7 @@ module _ (dots : List Placed) (held : CellMap) (there : AreThere held dots) wher
       (All-weaker (λ p. option_map (λ c. c.dot) (maps.get held p.id) ≡ Some p.dot) (λ p. is_some (maps.get held p.id) ≡ true) (λ p. some_there (maps.get held p.id) p.dot) dots there)
 
   pub as_long : length cells ≡ length dots
-  as_long = length-given (λ id. maps.get held id) (ids_of dots) all_held ∙ length-map dots (λ p. p.id)
+  as_long = length_given (λ id. maps.get held id) (ids_of dots) all_held ∙ length-map dots (λ p. p.id)
 
   -- the cell at a place is that of the id there
   pub cell_there : (k : ℕ) (p : Placed) (c : LiveDot) → k < length dots → maps.get held (get_or dots k p).id ≡ Some (get_or cells k c)
@@ -87,7 +87,7 @@ module _ (dots : List Placed) (held : CellMap) (there : AreThere held dots) wher
   dot_there k p c l = same_some (get_or cells k c).dot (get_or dots k p).dot (ap (option_map (λ x. x.dot)) (sym (cell_there k p c l)) ∙ there k p l)
 
   pub cells_rise : Rise dots → is_sorted dot_cmp (entries_of cells) ≡ true
-  cells_rise s = sym (sorted-keys (entries_of cells)) ∙ ap (λ ks. is_sorted dot_cmp (units ks)) (keys_are dots held there) ∙ sorted-keys (id_entries dots) ∙ s
+  cells_rise s = sym (sorted_keys (entries_of cells)) ∙ ap (λ ks. is_sorted dot_cmp (units ks)) (keys_are dots held there) ∙ sorted_keys (id_entries dots) ∙ s
 
   -- a dot's place, and its gap, among the dots is that among the cells
   pub at_cells : (d : Dot) (i : ℕ) (p : Placed) → i < length dots → Ahead d dots i → d ≡ (get_or dots i p).dot → IsAt cells d i

@@ -23,11 +23,11 @@ Rise ps = is_sorted dot_cmp (id_entries ps) ≡ true
 abbrev pub Ahead : Dot → List Placed → ℕ → Type 0
 Ahead d ps i = AllWithin (λ p. is_lt (dot_cmp p.dot d) ≡ true) ps 0 i
 
-pub rise-tail : (p : Placed) (ps : List Placed) → Rise (p ∷ ps) → Rise ps
-rise-tail = rising.rise-tail dot_cmp dots_total dots_exact (λ p. p.dot) (λ p. p.id)
+pub rise_tail : (p : Placed) (ps : List Placed) → Rise (p ∷ ps) → Rise ps
+rise_tail = rising.rise_tail dot_cmp dots_total dots_exact (λ p. p.dot) (λ p. p.id)
 
-pub rise-head : (p : Placed) (ps : List Placed) → Rise (p ∷ ps) → below_all dot_cmp p.dot (id_entries ps) ≡ true
-rise-head = rising.rise-head dot_cmp dots_total dots_exact (λ p. p.dot) (λ p. p.id)
+pub rise_head : (p : Placed) (ps : List Placed) → Rise (p ∷ ps) → below_all dot_cmp p.dot (id_entries ps) ≡ true
+rise_head = rising.rise_head dot_cmp dots_total dots_exact (λ p. p.dot) (λ p. p.id)
 
 -- those before a dot come first
 pub partitioned : (d : Dot) (ps : List Placed) → Rise ps → IsPartitionedBy (λ p. is_lt (dot_cmp p.dot d)) ps

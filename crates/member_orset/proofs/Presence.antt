@@ -10,7 +10,7 @@ use Rattle.std.proofs.lemmas.Bool.{and_from, and_parts}
 use Rattle.dots.specs.declared.member.Member.{Member}
 use Rattle.operations.specs.Conditions.{DotFields}
 use Rattle.dots.specs.Orders.{dot_cmp, member_cmp}
-use Rattle.general_lemmas.proofs.Membership.{any-in, in-any}
+use Rattle.general_lemmas.proofs.Membership.{any_in, in_any}
 use Rattle.member_orset.specs.Index.{Listed}
 use Rattle.member_orset.specs.Members.{Members, Holding, IsPresent}
 use Rattle.member_orset.specs.Index.{IsIndex, listed_cmp}
@@ -26,14 +26,14 @@ held_is m (Some h) t = (h.1, ap (λ n. Some (n, h.1)) (sym (one_member m h.0 t))
 pub presence : (s : Members) (index : List Listed) (m : Member) → IsIndex index s.live → IsTrue (list_any (is_own m) index) ↔ IsPresent s m
 presence s index m is = (
   λ t.
-      let own = in-any (is_own m) index t in
-      let listed = any-in (eq_by_cmp listed_cmp (record { member = m; dot = own.0.dot })) index own.0 own.1
+      let own = in_any (is_own m) index t in
+      let listed = any_in (eq_by_cmp listed_cmp (record { member = m; dot = own.0.dot })) index own.0 own.1
       (sym (tied_then (member_cmp m own.0.member) (dot_cmp own.0.dot own.0.dot)) ∙ and_from (is_own m own.0) (eq_by_cmp dot_cmp own.0.dot own.0.dot) own.2 (same_itself own.0.dot)) in
       let held = held_is m (maps.get s.live own.0.dot) (sym (is.lists m own.0.dot) ∙ listed) in
       record { dot = own.0.dot; fields = held.0; live = held.1 },
   λ p.
-      let listed = in-any (eq_by_cmp listed_cmp (record { member = m; dot = p.dot })) index
+      let listed = in_any (eq_by_cmp listed_cmp (record { member = m; dot = p.dot })) index
       (is.lists m p.dot ∙ ap (λ o. option_map_or (eq_by_cmp member_cmp m) (option_map (λ h. h.0) o) false) p.live ∙ member_itself m) in
-      any-in (is_own m) index listed.0 listed.1
+      any_in (is_own m) index listed.0 listed.1
       (and_parts (is_own m listed.0) (eq_by_cmp dot_cmp p.dot listed.0.dot) (tied_then (member_cmp m listed.0.member) (dot_cmp p.dot listed.0.dot) ∙ listed.2)).0,
 )

@@ -19,11 +19,11 @@ use Rattle.member_orset.specs.declared.live_dot.LiveDot.{LiveDot}
 use Rattle.member_orset.specs.LiveLists.{entries_of, holding, live_of}
 use Rattle.member_orset.specs.Members.{HasField}
 use Rattle.member_orset.specs.Index.{AreListed, IsBelow, IsIndex, Listed, Rises, listed_cmp, listing, listings}
-use Rattle.member_orset.proofs.CellLists.{Rise, rise-head, rise-tail}
+use Rattle.member_orset.proofs.CellLists.{Rise, rise_head, rise_tail}
 use Rattle.member_orset.proofs.DotTests.{apart_after, one_dot}
-use Rattle.member_orset.proofs.Indexes.{entry, listed_exact, listed_total, rises-head, rises-tail, same_parts}
+use Rattle.member_orset.proofs.Indexes.{entry, listed_exact, listed_total, rises_head, rises_tail, same_parts}
 use Rattle.member_orset.proofs.Rising as rising
-use Rattle.member_orset.proofs.Views.{get-live_of}
+use Rattle.member_orset.proofs.Views.{get_live_of}
 
 -- a dot before those of all cells is none of theirs
 apart_from : (m : Member) (d : Dot) (c : LiveDot) → is_lt (dot_cmp d c.dot) ≡ true → eq_by_cmp listed_cmp (entry m d) (listing c) ≡ false
@@ -41,11 +41,11 @@ held_by [] m d s = refl
 held_by (c ∷ cs) m d s =
     ap (λ b. b || list_any (eq_by_cmp listed_cmp (entry m d)) (each listing cs)) (same_parts m c.member d c.dot) ∙ elim (cases_Bool (eq_by_cmp dot_cmp d c.dot)) [
       | inl t ↦
-          let rest = none_listed m d cs (subst (λ x. below_all dot_cmp x (entries_of cs) ≡ true) (sym (one_dot d c.dot t)) (rise-head c cs s)) in
+          let rest = none_listed m d cs (subst (λ x. below_all dot_cmp x (entries_of cs) ≡ true) (sym (one_dot d c.dot t)) (rise_head c cs s)) in
           (λ i. (eq_by_cmp member_cmp m c.member && t i) || rest i) ∙ first_alone (eq_by_cmp member_cmp m c.member)
           ∙ (λ i. option_map_or (eq_by_cmp member_cmp m) (option_map (λ h. h.0) (cond (sym t i) (Some (holding c)) (find dot_cmp d (entries_of cs)))) false)
       | inr f ↦
-          (λ i. (eq_by_cmp member_cmp m c.member && f i) || held_by cs m d (rise-tail c cs s) i) ∙ third_alone (eq_by_cmp member_cmp m c.member) _
+          (λ i. (eq_by_cmp member_cmp m c.member && f i) || held_by cs m d (rise_tail c cs s) i) ∙ third_alone (eq_by_cmp member_cmp m c.member) _
           ∙ (λ i. option_map_or (eq_by_cmp member_cmp m) (option_map (λ h. h.0) (cond (sym f i) (Some (holding c)) (find dot_cmp d (entries_of cs)))) false)
     ]
 
@@ -59,13 +59,13 @@ apart_all m d (c ∷ cs) h =
 pub distinct : (cs : List LiveDot) → Rise cs → IsDistinct (eq_by_cmp listed_cmp) (each listing cs)
 unfolding IsDistinct
 distinct [] s = tt
-distinct (c ∷ cs) s = (apart_all c.member c.dot cs (rise-head c cs s), distinct cs (rise-tail c cs s))
+distinct (c ∷ cs) s = (apart_all c.member c.dot cs (rise_head c cs s), distinct cs (rise_tail c cs s))
 
 -- where there is no cell, the index is empty
 pub nothing_listed : (cs : List LiveDot) (index : List Listed) (known : sets.FinSet dot_cmp) → cs ≡ [] → index ≡ [] → AreListed cs index known
 nothing_listed cs index known none empty = subst (λ xs. AreListed xs index known) (sym none) (subst (λ ys. AreListed [] ys known) (sym empty) (record {
   are_cells = record { sorted = refl; few = omega arith; in_context = All-nil (λ c. sets.contains known c.dot ≡ true); have_field = All-nil (λ c. HasField c.fields) };
-  is_index = record { rises = refl; lists = λ m d. sym (ap (λ o. option_map_or (eq_by_cmp member_cmp m) (option_map (λ h. h.0) o) false) (get-live_of [] d refl)) };
+  is_index = record { rises = refl; lists = λ m d. sym (ap (λ o. option_map_or (eq_by_cmp member_cmp m) (option_map (λ h. h.0) o) false) (get_live_of [] d refl)) };
 }))
 
 -- entries that rise differ
@@ -78,11 +78,11 @@ all_apart l (x ∷ ls) h =
 rising_distinct : (ls : List Listed) → Rises ls → IsDistinct (eq_by_cmp listed_cmp) ls
 unfolding IsDistinct
 rising_distinct [] r = tt
-rising_distinct (l ∷ ls) r = (all_apart l ls (rises-head l ls r), rising_distinct ls (rises-tail l ls r))
+rising_distinct (l ∷ ls) r = (all_apart l ls (rises_head l ls r), rising_distinct ls (rises_tail l ls r))
 
 -- the index has as many entries as there are cells
 pub as_many : (cs : List LiveDot) (index : List Listed) → Rise cs → IsIndex index (live_of cs) → length index ≡ length cs
 as_many cs index s is =
     length-from_same_keys (eq_by_cmp_equiv listed_total) index (each listing cs) (rising_distinct index is.rises) (distinct cs s) (λ q.
-    is.lists q.member q.dot ∙ ap (λ o. option_map_or (eq_by_cmp member_cmp q.member) (option_map (λ h. h.0) o) false) (get-live_of cs q.dot s) ∙ sym (held_by cs q.member q.dot s))
+    is.lists q.member q.dot ∙ ap (λ o. option_map_or (eq_by_cmp member_cmp q.member) (option_map (λ h. h.0) o) false) (get_live_of cs q.dot s) ∙ sym (held_by cs q.member q.dot s))
     ∙ length-map cs listing

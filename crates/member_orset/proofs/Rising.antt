@@ -68,11 +68,11 @@ module _ {X K V : Type 0} (R : K → K → Ordering) (o : IsTotalOrder R) (exact
   abbrev Ahead : K → List X → ℕ → Type 0
   Ahead d cs i = AllWithin (λ c. is_lt (R (key c) d) ≡ true) cs 0 i
 
-  pub rise-tail : (c : X) (cs : List X) → Rise (c ∷ cs) → Rise cs
-  rise-tail c cs h = rising_tail R o (key c, value c) (entries cs) h
+  pub rise_tail : (c : X) (cs : List X) → Rise (c ∷ cs) → Rise cs
+  rise_tail c cs h = rising_tail R o (key c, value c) (entries cs) h
 
-  pub rise-head : (c : X) (cs : List X) → Rise (c ∷ cs) → below_all R (key c) (entries cs) ≡ true
-  rise-head c cs h = rising_head R o (key c, value c) (entries cs) h
+  pub rise_head : (c : X) (cs : List X) → Rise (c ∷ cs) → below_all R (key c) (entries cs) ≡ true
+  rise_head c cs h = rising_head R o (key c, value c) (entries cs) h
 
   -- what lies before all keys lies before each
   pub below_at : (d : K) (cs : List X) → below_all R d (entries cs) ≡ true → (k : ℕ) (e : X) → k < length cs → is_lt (R d (key (get_or cs k e))) ≡ true
@@ -90,25 +90,25 @@ module _ {X K V : Type 0} (R : K → K → Ordering) (o : IsTotalOrder R) (exact
     where
       first : (xs : List X) → ((e : X) → 1 < length (c ∷ xs) → is_lt (R (key c) (key (get_or xs 0 e))) ≡ true) → Rise xs → Rise (c ∷ xs)
       first [] l s = refl
-      first (x ∷ xs) l s = let less = l x (omega arith) in λ i. (less i && below_from (key c) (key x) xs less (rise-head x xs s) i) && s i
+      first (x ∷ xs) l s = let less = l x (omega arith) in λ i. (less i && below_from (key c) (key x) xs less (rise_head x xs s) i) && s i
 
   -- elements that pass a test come first, where each that lies before one that passes it passes it
   pub partitioned_by : (p : X → Bool) → ((a b : X) → is_lt (R (key a) (key b)) ≡ true → p b ≡ true → p a ≡ true) → (cs : List X) → Rise cs → IsPartitionedBy p cs
   partitioned_by p f [] a i j e l h t = absurd (omega (arith, h))
   partitioned_by p f (c ∷ cs) a zero zero e l h t = t
-  partitioned_by p f (c ∷ cs) a zero (suc j) e l h t = f c (get_or cs j e) (below_at (key c) cs (rise-head c cs a) j e (omega arith)) t
+  partitioned_by p f (c ∷ cs) a zero (suc j) e l h t = f c (get_or cs j e) (below_at (key c) cs (rise_head c cs a) j e (omega arith)) t
   partitioned_by p f (c ∷ cs) a (suc i) zero e l h t = absurd (omega arith)
-  partitioned_by p f (c ∷ cs) a (suc i) (suc j) e l h t = partitioned_by p f cs (rise-tail c cs a) i j e (omega arith) (omega arith) t
+  partitioned_by p f (c ∷ cs) a (suc i) (suc j) e l h t = partitioned_by p f cs (rise_tail c cs a) i j e (omega arith) (omega arith) t
 
   -- so those before a key come first
   pub partitioned : (d : K) (cs : List X) → Rise cs → IsPartitionedBy (λ c. is_lt (R (key c) d)) cs
   partitioned d = partitioned_by (λ c. is_lt (R (key c) d)) (λ a b h t. before_trans R o exact (key a) (key b) d h t)
 
-  ahead-tail : (d : K) (c : X) (cs : List X) (i : ℕ) → Ahead d (c ∷ cs) (suc i) → Ahead d cs i
-  ahead-tail d c cs i a k e lo hi = a (suc k) e (omega arith) (omega arith)
+  ahead_tail : (d : K) (c : X) (cs : List X) (i : ℕ) → Ahead d (c ∷ cs) (suc i) → Ahead d cs i
+  ahead_tail d c cs i a k e lo hi = a (suc k) e (omega arith) (omega arith)
 
-  ahead-head : (d : K) (c : X) (cs : List X) (i : ℕ) → Ahead d (c ∷ cs) (suc i) → is_lt (R (key c) d) ≡ true
-  ahead-head d c cs i a = a 0 c (omega arith) (omega arith)
+  ahead_head : (d : K) (c : X) (cs : List X) (i : ℕ) → Ahead d (c ∷ cs) (suc i) → is_lt (R (key c) d) ≡ true
+  ahead_head d c cs i a = a 0 c (omega arith) (omega arith)
 
   pub none_below : (d : K) (cs : List X) → below_all R d (entries cs) ≡ true → find R d (entries cs) ≡ None
   none_below d cs h = find_below R o d (entries cs) h
@@ -185,11 +185,11 @@ module _ {X K V : Type 0} (R : K → K → Ordering) (o : IsTotalOrder R) (exact
   pub removed_at : (d : K) (cs : List X) (i : ℕ) (e : X) → Rise cs → i < length cs → Ahead d cs i → d ≡ key (get_or cs i e) → entries (remove cs i) ≡ where_key R (λ x. not (eq_by_cmp R d x)) (entries cs)
   removed_at d [] i e s l a h = absurd (omega arith)
   removed_at d (c ∷ cs) zero e s l a h =
-      kept d cs (subst (λ x. below_all R x (entries cs) ≡ true) (sym h) (rise-head c cs s))
+      kept d cs (subst (λ x. below_all R x (entries cs) ≡ true) (sym h) (rise_head c cs s))
       ∙ ap (λ b. cond (not b) ((key c, value c) ∷ where_key R (λ x. not (eq_by_cmp R d x)) (entries cs)) (where_key R (λ x. not (eq_by_cmp R d x)) (entries cs))) (sym (same_tied R o exact d (key c) h))
   removed_at d (c ∷ cs) (suc i) e s l a h =
-      ap (λ es. (key c, value c) ∷ es) (removed_at d cs i e (rise-tail c cs s) (omega arith) (ahead-tail d c cs i a) h)
-      ∙ ap (λ b. cond (not b) ((key c, value c) ∷ where_key R (λ x. not (eq_by_cmp R d x)) (entries cs)) (where_key R (λ x. not (eq_by_cmp R d x)) (entries cs))) (sym (apart R o exact (key c) d (ahead-head d c cs i a)))
+      ap (λ es. (key c, value c) ∷ es) (removed_at d cs i e (rise_tail c cs s) (omega arith) (ahead_tail d c cs i a) h)
+      ∙ ap (λ b. cond (not b) ((key c, value c) ∷ where_key R (λ x. not (eq_by_cmp R d x)) (entries cs)) (where_key R (λ x. not (eq_by_cmp R d x)) (entries cs))) (sym (apart R o exact (key c) d (ahead_head d c cs i a)))
 
   pub same_place : (cs : List X) (i : ℕ) (e x : X) → i < length cs → get_or cs i e ≡ get_or cs i x
   same_place cs i e x l = get_or_default cs i e x l

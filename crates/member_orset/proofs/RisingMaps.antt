@@ -15,8 +15,8 @@ pub turned : {A : Type 0} (b : Bool) (x y : A) → cond (not b) x y ≡ cond b y
 turned true x y = refl
 turned false x y = refl
 
-pub map_of-nil : {K V : Type 0} (R : K → K → Ordering) → maps.from_sorted {X = V} {R = R} [] ≡ maps.empty
-map_of-nil R = maps.empty_of_len (maps.from_sorted []) (maps.len-entries (maps.from_sorted []) ∙ ap length (maps.entries-from_sorted R [] tt))
+pub map_of_nil : {K V : Type 0} (R : K → K → Ordering) → maps.from_sorted {X = V} {R = R} [] ≡ maps.empty
+map_of_nil R = maps.empty_of_len (maps.from_sorted []) (maps.len-entries (maps.from_sorted []) ∙ ap length (maps.entries-from_sorted R [] tt))
 
 module _ {X K V : Type 0} (R : K → K → Ordering) (o : IsTotalOrder R) (exact : maps.IsAntisymmetric R) (key : X → K) (value : X → V) where
   abbrev pub entries : List X → List (K × V)
@@ -35,8 +35,8 @@ module _ {X K V : Type 0} (R : K → K → Ordering) (o : IsTotalOrder R) (exact
   abbrev pub Before : K → List X → ℕ → Type 0
   Before d xs i = (e : X) → i < length xs → is_lt (R d (key (get_or xs i e))) ≡ true
 
-  pub get-map_of : (xs : List X) (q : K) → Rise xs → maps.get (map_of xs) q ≡ find R q (entries xs)
-  get-map_of xs q s = maps.get-from_sorted R (entries xs) q (truth _ s)
+  pub get_map_of : (xs : List X) (q : K) → Rise xs → maps.get (map_of xs) q ≡ find R q (entries xs)
+  get_map_of xs q s = maps.get-from_sorted R (entries xs) q (truth _ s)
 
   -- an element that is put in at its place
   module _ (xs : List X) (i : ℕ) (x : X) (s : Rise xs) (w : i ≤ length xs) (a : Ahead (key x) xs i) (h : Before (key x) xs i) where
@@ -51,7 +51,7 @@ module _ {X K V : Type 0} (R : K → K → Ordering) (o : IsTotalOrder R) (exact
 
     pub put_map : map_of (insert xs i x) ≡ maps.insert (map_of xs) (key x) (value x)
     put_map = maps.same_map o exact _ _ (λ q.
-        get-map_of (insert xs i x) q put_rises ∙ put_finds q ∙ ap (cond (eq_by_cmp R q (key x)) (Some (value x))) (sym (get-map_of xs q s)) ∙ sym (maps.get-insert o (map_of xs) (key x) (value x) q))
+        get_map_of (insert xs i x) q put_rises ∙ put_finds q ∙ ap (cond (eq_by_cmp R q (key x)) (Some (value x))) (sym (get_map_of xs q s)) ∙ sym (maps.get-insert o (map_of xs) (key x) (value x) q))
 
   -- the element of a key that is taken out
   module _ (d : K) (xs : List X) (i : ℕ) (e : X) (s : Rise xs) (w : i < length xs) (a : Ahead d xs i) (h : d ≡ key (get_or xs i e)) where
@@ -71,4 +71,4 @@ module _ {X K V : Type 0} (R : K → K → Ordering) (o : IsTotalOrder R) (exact
 
     pub removed_map : map_of (remove xs i) ≡ maps.remove (map_of xs) d
     removed_map = maps.same_map o exact _ _ (λ q.
-        get-map_of (remove xs i) q removed_rises ∙ removed_finds q ∙ ap (cond (eq_by_cmp R q d) None) (sym (get-map_of xs q s)) ∙ sym (maps.get-remove o (map_of xs) d q))
+        get_map_of (remove xs i) q removed_rises ∙ removed_finds q ∙ ap (cond (eq_by_cmp R q d) None) (sym (get_map_of xs q s)) ∙ sym (maps.get-remove o (map_of xs) d q))

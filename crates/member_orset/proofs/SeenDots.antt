@@ -13,8 +13,8 @@ use Rattle.dots.specs.Values.{Dot, IsSite}
 use Rattle.dots.specs.Orders.{dot_cmp}
 use Rattle.dots.specs.DotSets.{IsRunsOf, Run, dots_between, in_run, next_dot, run_count, is_older}
 use Rattle.dots.proofs.DotOrder.{dots_total, dots_exact, same_dot}
-use Rattle.dots.proofs.OneMoreDot.{dot_before, run_count-insert}
-use Rattle.dots.proofs.Runs.{contains-set_of}
+use Rattle.dots.proofs.OneMoreDot.{dot_before, run_count_insert}
+use Rattle.dots.proofs.Runs.{contains_set_of}
 use Rattle.general_lemmas.proofs.TruthTables.{or_swap}
 use Rattle.causal_context.specs.Contexts.{IsRun}
 use Rattle.member_orset.proofs.DotTests.{one_dot}
@@ -30,10 +30,10 @@ at site count = record { site = site; count = count }
 abbrev run : ℕ → ℕ → ℕ → Run
 run site first last = record { site = site; first = first; last = last }
 
-contains-between : (dots : Dots) (site first last : ℕ) (q : Dot) → sets.contains (sets.union dots (dots_between site first last)) q ≡ (sets.contains dots q || in_run q (run site first last))
-contains-between dots site first last q =
+contains_between : (dots : Dots) (site first last : ℕ) (q : Dot) → sets.contains (sets.union dots (dots_between site first last)) q ≡ (sets.contains dots q || in_run q (run site first last))
+contains_between dots site first last q =
     sets.contains-union dots_total dots (dots_between site first last) q
-    ∙ ap (λ b. sets.contains dots q || b) (contains-set_of (run site first last ∷ []) q ∙ or-false (in_run q (run site first last)))
+    ∙ ap (λ b. sets.contains dots q || b) (contains_set_of (run site first last ∷ []) q ∙ or-false (in_run q (run site first last)))
 
 one_count : (s t c f : ℕ) → (nat_eq s t && (nat_le f c && nat_le c f)) ≡ (nat_eq s t && nat_eq f c)
 one_count s t c f = grind (arith, nat_tests)
@@ -43,16 +43,16 @@ one_longer s t c f l m h e = grind (arith, nat_tests)
 
 first_only : (dots : Dots) (site first : ℕ) → sets.union dots (dots_between site first first) ≡ sets.insert dots (at site first)
 first_only dots site first = sets.same_set dots_total dots_exact _ _ (λ q.
-    contains-between dots site first first q
+    contains_between dots site first first q
     ∙ ap (λ b. sets.contains dots q || b) (one_count site q.site q.count first ∙ sym (same_dot q (at site first)))
     ∙ or_comm (sets.contains dots q) (eq_by_cmp dot_cmp q (at site first)) ∙ sym (sets.contains-insert dots_total dots (at site first) q))
 
 longer : (dots : Dots) (site first last more : ℕ) → first ≤ last → more ≡ last + 1 → sets.union dots (dots_between site first more) ≡ sets.insert (sets.union dots (dots_between site first last)) (at site more)
 longer dots site first last more h e = sets.same_set dots_total dots_exact _ _ (λ q.
-    contains-between dots site first more q
+    contains_between dots site first more q
     ∙ ap (λ b. sets.contains dots q || b) (one_longer site q.site q.count first last more h e ∙ ap (λ b. b || in_run q (run site first last)) (sym (same_dot q (at site more))))
     ∙ or_swap (sets.contains dots q) (eq_by_cmp dot_cmp q (at site more)) (in_run q (run site first last))
-    ∙ ap (λ b. eq_by_cmp dot_cmp q (at site more) || b) (sym (contains-between dots site first last q))
+    ∙ ap (λ b. eq_by_cmp dot_cmp q (at site more) || b) (sym (contains_between dots site first last q))
     ∙ sym (sets.contains-insert dots_total (sets.union dots (dots_between site first last)) (at site more) q))
 
 counted_from : (a b : ℕ) (p q : Bool) → p ≡ false → a + cond p 1 0 + cond q 1 0 ≡ b + 1 → a ≡ runs_after b (not q)
@@ -71,17 +71,17 @@ module _ (dots : Dots) (site first : ℕ) (least : 1 ≤ first) (none : (n : ℕ
   grown zero last e =
       let same : last ≡ first = omega arith in
       ap (λ l. run_count (sets.union dots (dots_between site first l))) same ∙ ap run_count (first_only dots site first)
-      ∙ counted_from _ _ _ _ (none (suc first) (omega arith)) (run_count-insert dots (at site first) least (none first (omega arith)))
+      ∙ counted_from _ _ _ _ (none (suc first) (omega arith)) (run_count_insert dots (at site first) least (none first (omega arith)))
   grown (suc k) last e =
       let before = first + k in
       let order : first ≤ before = omega arith in
       let next : last ≡ before + 1 = omega arith in
       let old = sets.union dots (dots_between site first before) in
-      let new : sets.contains old (at site last) ≡ false = contains-between dots site first before (at site last) ∙ or_from _ _ (none last (omega arith)) (out_of site first before last (omega arith)) in
-      let past : sets.contains old (next_dot (at site last)) ≡ false = contains-between dots site first before (at site (suc last)) ∙ or_from _ _ (none (suc last) (omega arith)) (out_of site first before (suc last) (omega arith)) in
-      let there : sets.contains old (dot_before (at site last)) ≡ true = contains-between dots site first before (at site (last - 1)) ∙ or_right (sets.contains dots (at site (last - 1))) _ (last_in site first before (last - 1) order (omega arith)) in
+      let new : sets.contains old (at site last) ≡ false = contains_between dots site first before (at site last) ∙ or_from _ _ (none last (omega arith)) (out_of site first before last (omega arith)) in
+      let past : sets.contains old (next_dot (at site last)) ≡ false = contains_between dots site first before (at site (suc last)) ∙ or_from _ _ (none (suc last) (omega arith)) (out_of site first before (suc last) (omega arith)) in
+      let there : sets.contains old (dot_before (at site last)) ≡ true = contains_between dots site first before (at site (last - 1)) ∙ or_right (sets.contains dots (at site (last - 1))) _ (last_in site first before (last - 1) order (omega arith)) in
       ap run_count (longer dots site first before last order next)
-      ∙ counted_from _ _ _ _ past (run_count-insert old (at site last) (omega arith) new)
+      ∙ counted_from _ _ _ _ past (run_count_insert old (at site last) (omega arith) new)
       ∙ ap (λ b. runs_after (run_count old) (not b)) there
       ∙ grown k before refl
 
@@ -92,9 +92,9 @@ module _ (dots : Dots) (site first : ℕ) (least : 1 ≤ first) (none : (n : ℕ
 abbrev pub lies_before : ℕ → ℕ → Dot → Bool
 lies_before site count d = nat_lt d.site site || (nat_eq d.site site && nat_lt d.count count)
 
-pub contains-part : (dots : Dots) (site count : ℕ) (q : Dot) → sets.contains (part_before dots site count) q ≡ (sets.contains dots q && lies_before site count q)
+pub contains_part : (dots : Dots) (site count : ℕ) (q : Dot) → sets.contains (part_before dots site count) q ≡ (sets.contains dots q && lies_before site count q)
 unfolding part_before
-contains-part dots site count q = sets.contains-retain dots (lies_before site count) q (λ x h. ap (lies_before site count) (sym (dots_exact q x h)))
+contains_part dots site count q = sets.contains-retain dots (lies_before site count) q (λ x h. ap (lies_before site count) (sym (dots_exact q x h)))
 
 not_past : (s n c : ℕ) → c ≤ n → (nat_lt s s || (nat_eq s s && nat_lt n c)) ≡ false
 not_past s n c h = grind (arith, nat_tests)
@@ -103,10 +103,10 @@ just_before : (s n c : ℕ) → n < c → (nat_lt s s || (nat_eq s s && nat_lt n
 just_before s n c h = grind (arith, nat_tests)
 
 pub none_past : (dots : Dots) (site count n : ℕ) → count ≤ n → sets.contains (part_before dots site count) (at site n) ≡ false
-none_past dots site count n h = contains-part dots site count (at site n) ∙ ap (λ b. sets.contains dots (at site n) && b) (not_past site n count h) ∙ and-false (sets.contains dots (at site n))
+none_past dots site count n h = contains_part dots site count (at site n) ∙ ap (λ b. sets.contains dots (at site n) && b) (not_past site n count h) ∙ and-false (sets.contains dots (at site n))
 
 pub before_it : (dots : Dots) (site count : ℕ) → 1 ≤ count → sets.contains (part_before dots site count) (at site (count - 1)) ≡ sets.contains dots (at site (count - 1))
-before_it dots site count h = contains-part dots site count (at site (count - 1)) ∙ ap (λ b. sets.contains dots (at site (count - 1)) && b) (just_before site (count - 1) count (omega arith)) ∙ and-true (sets.contains dots (at site (count - 1)))
+before_it dots site count h = contains_part dots site count (at site (count - 1)) ∙ ap (λ b. sets.contains dots (at site (count - 1)) && b) (just_before site (count - 1) count (omega arith)) ∙ and-true (sets.contains dots (at site (count - 1)))
 
 further : (t c s f l : ℕ) → f ≤ l → (nat_lt t s || (nat_eq t s && nat_lt c (l + 1))) ≡ ((nat_lt t s || (nat_eq t s && nat_lt c f)) || (nat_eq s t && (nat_le f c && nat_le c l)))
 further t c s f l h = grind (arith, nat_tests)
@@ -118,9 +118,9 @@ in_it t c s f l h = (grind (arith, nat_tests, h), grind (arith, nat_tests, h), g
 pub part_inside : (dots : Dots) (site first last : ℕ) → first ≤ last → ((n : ℕ) → first ≤ n → n ≤ last → sets.contains dots (at site n) ≡ true)
     → part_before dots site (last + 1) ≡ sets.union (part_before dots site first) (dots_between site first last)
 part_inside dots site first last h all = sets.same_set dots_total dots_exact _ _ (λ q.
-    contains-part dots site (last + 1) q ∙ ap (λ b. sets.contains dots q && b) (further q.site q.count site first last h)
+    contains_part dots site (last + 1) q ∙ ap (λ b. sets.contains dots q && b) (further q.site q.count site first last h)
     ∙ spread (sets.contains dots q) (lies_before site first q) (in_run q (run site first last)) (λ t. let i = in_it q.site q.count site first last t in ap (λ s. sets.contains dots (at s q.count)) (sym i.0) ∙ all q.count i.1 i.2)
-    ∙ ap (λ b. b || in_run q (run site first last)) (sym (contains-part dots site first q)) ∙ sym (contains-between (part_before dots site first) site first last q))
+    ∙ ap (λ b. b || in_run q (run site first last)) (sym (contains_part dots site first q)) ∙ sym (contains_between (part_before dots site first) site first last q))
   where
     spread : (s b t : Bool) → (t ≡ true → s ≡ true) → (s && (b || t)) ≡ ((s && b) || t)
     spread true b t f = refl
@@ -130,9 +130,9 @@ part_inside dots site first last h all = sets.same_set dots_total dots_exact _ _
 pub part_outside : (dots : Dots) (site first last : ℕ) → first ≤ last → ((n : ℕ) → first ≤ n → n ≤ last → sets.contains dots (at site n) ≡ false)
     → part_before dots site (last + 1) ≡ part_before dots site first
 part_outside dots site first last h none = sets.same_set dots_total dots_exact _ _ (λ q.
-    contains-part dots site (last + 1) q ∙ ap (λ b. sets.contains dots q && b) (further q.site q.count site first last h)
+    contains_part dots site (last + 1) q ∙ ap (λ b. sets.contains dots q && b) (further q.site q.count site first last h)
     ∙ spread (sets.contains dots q) (lies_before site first q) (in_run q (run site first last)) (λ t. let i = in_it q.site q.count site first last t in ap (λ s. sets.contains dots (at s q.count)) (sym i.0) ∙ none q.count i.1 i.2)
-    ∙ sym (contains-part dots site first q))
+    ∙ sym (contains_part dots site first q))
   where
     spread : (s b t : Bool) → (t ≡ true → s ≡ false) → (s && (b || t)) ≡ (s && b)
     spread true true t f = refl
@@ -153,12 +153,12 @@ under false x y h = refl
 
 pub next_site : (dots : Dots) (site last : ℕ) → ((n : ℕ) → last < n → sets.contains dots (at site n) ≡ false) → part_before dots site (last + 1) ≡ part_before dots (site + 1) 0
 next_site dots site last none = sets.same_set dots_total dots_exact _ _ (λ q.
-    contains-part dots site (last + 1) q
+    contains_part dots site (last + 1) q
     ∙ under (sets.contains dots q) _ _ (λ t. site_over q.site q.count site last (λ e. elim (cases_lt last q.count) [
       | inl l ↦ absurd (let f = ap (λ s. sets.contains dots (at s q.count)) e ∙ none q.count l in cc)
       | inr m ↦ m
     ]))
-    ∙ sym (contains-part dots (site + 1) 0 q))
+    ∙ sym (contains_part dots (site + 1) 0 q))
 
 first_at : (t c s : ℕ) → (t ≡ s → 1 ≤ c) → (nat_lt t s || (nat_eq t s && nat_lt c 1)) ≡ (nat_lt t s || (nat_eq t s && nat_lt c 0))
 first_at t c s h = elim (cases_eq t s) [
@@ -168,12 +168,12 @@ first_at t c s h = elim (cases_eq t s) [
 
 pub from_one : (dots : Dots) (site : ℕ) → sets.contains dots (at site 0) ≡ false → part_before dots site 1 ≡ part_before dots site 0
 from_one dots site none = sets.same_set dots_total dots_exact _ _ (λ q.
-    contains-part dots site 1 q
+    contains_part dots site 1 q
     ∙ under (sets.contains dots q) _ _ (λ t. first_at q.site q.count site (λ e. elim (cases_lt 0 q.count) [
       | inl l ↦ l
       | inr m ↦ absurd (let z : q.count ≡ 0 = omega arith in let f = (λ i. sets.contains dots (at (e i) (z i))) ∙ none in cc)
     ]))
-    ∙ sym (contains-part dots site 0 q))
+    ∙ sym (contains_part dots site 0 q))
 
 -- a site of which nothing is to be named adds nothing
 pub none_of_site : (known : Dots) (live : Dot → Bool) (given : List Dot) (site : ℕ) (dots : Dots) → AreToName known live given site 0 dots → part_before dots site 0 ≡ part_before dots (site + 1) 0
@@ -184,20 +184,20 @@ nothing_first t c = grind (arith, nat_tests)
 
 pub no_part : (dots : Dots) → sets.empty ≡ part_before dots 0 0
 no_part dots = sets.same_set dots_total dots_exact _ _ (λ q.
-    sets.contains-empty dot_cmp q ∙ sym (contains-part dots 0 0 q ∙ ap (λ b. sets.contains dots q && b) (nothing_first q.site q.count) ∙ and-false (sets.contains dots q)))
+    sets.contains-empty dot_cmp q ∙ sym (contains_part dots 0 0 q ∙ ap (λ b. sets.contains dots q && b) (nothing_first q.site q.count) ∙ and-false (sets.contains dots q)))
 
 all_sites : (t c : ℕ) → t < 64 → (nat_lt t 64 || (nat_eq t 64 && nat_lt c 0)) ≡ true
 all_sites t c h = grind (arith, nat_tests)
 
 pub whole_part : (dots : Dots) → ((q : Dot) → sets.contains dots q ≡ true → q.site < 64) → part_before dots 64 0 ≡ dots
 whole_part dots few = sets.same_set dots_total dots_exact _ _ (λ q.
-    contains-part dots 64 0 q ∙ under (sets.contains dots q) _ true (λ t. all_sites q.site q.count (few q t)) ∙ and-true (sets.contains dots q))
+    contains_part dots 64 0 q ∙ under (sets.contains dots q) _ true (λ t. all_sites q.site q.count (few q t)) ∙ and-true (sets.contains dots q))
 
 -- whether a dot was seen
-contains-seen : (known : Dots) (live : Dot → Bool) (given : List Dot) (q : Dot)
+contains_seen : (known : Dots) (live : Dot → Bool) (given : List Dot) (q : Dot)
     → sets.contains (seen_dots known live given) q ≡ (is_given given q || (sets.contains known q && (not (live q) && is_older given q)))
 unfolding seen_dots
-contains-seen known live given q =
+contains_seen known live given q =
     sets.contains-union dots_total (sets.from_list given) (sets.retain known (λ d. not (live d) && is_older given d)) q
     ∙ (λ i. sets.contains-from_list dots_total given q i || sets.contains-retain known (λ d. not (live d) && is_older given d) q (λ x h. ap (λ d. not (live d) && is_older given d) (sym (dots_exact q x h))) i)
 
@@ -251,7 +251,7 @@ module _ (known : Dots) (live : Dot → Bool) (given : List Dot) (site last : �
   -- past the greatest given dot nothing was seen, nor at the count 0
   seen_past : (n : ℕ) → last < n → sets.contains seen (at site n) ≡ false
   seen_past n h =
-      contains-seen known live given (at site n)
+      contains_seen known live given (at site n)
       ∙ or_from _ _ (list_any_none (eq_by_cmp dot_cmp (at site n)) given (All-weaker (λ d. d.site ≡ site → d.count ≤ last) (λ d. eq_by_cmp dot_cmp (at site n) d ≡ false) (λ d m. not_this site n d (λ s c. let k = m s in omega arith)) given g.most))
       (ap (λ b. sets.contains known (at site n) && (not (live (at site n)) && b)) (older_past n (omega arith)) ∙ none (sets.contains known (at site n)) (not (live (at site n))))
     where
@@ -262,7 +262,7 @@ module _ (known : Dots) (live : Dot → Bool) (given : List Dot) (site last : �
 
   seen_zero : sets.contains known (at site 0) ≡ false → sets.contains seen (at site 0) ≡ false
   seen_zero k =
-      contains-seen known live given (at site 0)
+      contains_seen known live given (at site 0)
       ∙ or_from _ _ (list_any_none (eq_by_cmp dot_cmp (at site 0)) given (All-weaker (λ d. d.site ≡ site → 1 ≤ d.count) (λ d. eq_by_cmp dot_cmp (at site 0) d ≡ false) (λ d m. not_this site 0 d (λ s c. let k = m s in omega arith)) given g.least))
       (ap (λ b. b && (not (live (at site 0)) && is_older given (at site 0))) k)
 
@@ -279,7 +279,7 @@ module _ (known : Dots) (live : Dot → Bool) (given : List Dot) (site last : �
   pub seen_to_name : sets.contains known (at site 0) ≡ false → AreToName known live given site last seen
   seen_to_name k = record {
     not_zero = seen_zero k;
-    same = λ n lo hi. contains-seen known live given (at site n) ∙ up_to n lo hi;
+    same = λ n lo hi. contains_seen known live given (at site n) ∙ up_to n lo hi;
     none_past = seen_past;
   }
 
@@ -288,7 +288,7 @@ pub seen_sites : (known : Dots) (live : Dot → Bool) (given : List Dot) → All
 seen_sites known live given sites q h = elim (cases_Bool (is_given given q)) [
   | inl t ↦ let f = any_has (λ d. IsSite d.site) (eq_by_cmp dot_cmp q) given sites t in subst (λ (d : Dot). d.site < 64) (sym (one_dot q f.0 f.2)) f.1
   | inr n ↦
-      let all = ap (λ b. b || (sets.contains known q && (not (live q) && is_older given q))) (sym n) ∙ sym (contains-seen known live given q) ∙ h in
+      let all = ap (λ b. b || (sets.contains known q && (not (live q) && is_older given q))) (sym n) ∙ sym (contains_seen known live given q) ∙ h in
       let older = (and_parts (not (live q)) (is_older given q) (and_parts (sets.contains known q) (not (live q) && is_older given q) all).1).1 in
       let f = any_has (λ d. IsSite d.site) (λ g. nat_eq g.site q.site && nat_lt q.count g.count) given sites older in
       let same = and_parts (nat_eq f.0.site q.site) (nat_lt q.count f.0.count) f.2 in

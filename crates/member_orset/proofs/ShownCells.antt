@@ -14,7 +14,7 @@ use Rattle.member_orset.specs.LiveLists.{live_of}
 use Rattle.member_orset.specs.PlacedStates.{AreIndexed, CellMap, IsPlaced, PlacedState, cells_at, cells_of, listed_at}
 use Rattle.member_orset.specs.ShownRows.{cells_view, dots_listed, fields_after, fields_held, fields_shown, group}
 use Rattle.member_orset.proofs.LiveMaps.{its_live, rise}
-use Rattle.member_orset.proofs.ShownFields.{row_shown, shown-push}
+use Rattle.member_orset.proofs.ShownFields.{row_shown, shown_push}
 
 -- the fields of the cells of ids
 abbrev pub fields_at : CellMap → List Id → List DotFields
@@ -30,7 +30,7 @@ more held ids i id l is =
 pub shown_cell : (held : CellMap) (ids : List Id) (i : ℕ) (id : Id) (c : LiveDot) (o : Option DotFields) → i < length ids → id ≡ get_or ids i id → Some c ≡ maps.get held id
     → o ≡ fields_shown (fields_at held (take i ids)) → Some (fields_after o c.fields) ≡ fields_shown (fields_at held (take (i + 1) ids))
 shown_cell held ids i id c o l is there so =
-    ap (λ p. Some (fields_after p c.fields)) so ∙ sym (shown-push (fields_at held (take i ids)) c.fields)
+    ap (λ p. Some (fields_after p c.fields)) so ∙ sym (shown_push (fields_at held (take i ids)) c.fields)
     ∙ ap fields_shown (ap (λ p. fields_at held (take i ids) ++ each (λ x. x.fields) (cons_option p [])) there ∙ sym (more held ids i id l is))
 
 -- and after one that has none

@@ -29,27 +29,27 @@ one_latest : {T : Type 0} (x : Option (Entry T)) → latest_of (cons_option x []
 one_latest None = refl
 one_latest (Some e) = refl
 
-latest-push : {T : Type 0} (f : DotFields → Option (Entry T)) (xs : List DotFields) (x : DotFields) → latest_of (filter_map f (xs ++ x ∷ [])) ≡ join_of (latest_of (filter_map f xs)) (f x)
-latest-push f [] x = one_latest (f x)
-latest-push {T} f (y ∷ xs) x = front (f y) (latest-push f xs x)
+latest_push : {T : Type 0} (f : DotFields → Option (Entry T)) (xs : List DotFields) (x : DotFields) → latest_of (filter_map f (xs ++ x ∷ [])) ≡ join_of (latest_of (filter_map f xs)) (f x)
+latest_push f [] x = one_latest (f x)
+latest_push {T} f (y ∷ xs) x = front (f y) (latest_push f xs x)
   where
     front : (e : Option (Entry T)) → latest_of (filter_map f (xs ++ x ∷ [])) ≡ join_of (latest_of (filter_map f xs)) (f x)
         → latest_of (cons_option e (filter_map f (xs ++ x ∷ []))) ≡ join_of (latest_of (cons_option e (filter_map f xs))) (f x)
     front None h = h
     front (Some e) h = ap (join_of (Some e)) h ∙ sym (joined_assoc (Some e) (latest_of (filter_map f xs)) (f x))
 
-pub shown-push : (xs : List DotFields) (x : DotFields) → fields_shown (xs ++ x ∷ []) ≡ Some (fields_after (fields_shown xs) x)
-shown-push [] x = λ i. Some (record { penalty = one_latest x.penalty i; pause = one_latest x.pause i; label = one_latest x.label i })
-shown-push (y ∷ xs) x = λ i. Some (record {
-  penalty = latest-push (λ f. f.penalty) (y ∷ xs) x i;
-  pause = latest-push (λ f. f.pause) (y ∷ xs) x i;
-  label = latest-push (λ f. f.label) (y ∷ xs) x i;
+pub shown_push : (xs : List DotFields) (x : DotFields) → fields_shown (xs ++ x ∷ []) ≡ Some (fields_after (fields_shown xs) x)
+shown_push [] x = λ i. Some (record { penalty = one_latest x.penalty i; pause = one_latest x.pause i; label = one_latest x.label i })
+shown_push (y ∷ xs) x = λ i. Some (record {
+  penalty = latest_push (λ f. f.penalty) (y ∷ xs) x i;
+  pause = latest_push (λ f. f.pause) (y ∷ xs) x i;
+  label = latest_push (λ f. f.label) (y ∷ xs) x i;
 })
 
 -- the fields of the dots of entries, with one more entry
-held-push : (live : maps.FinMap dot_cmp Holding) (ls : List Listed) (x : Listed) → fields_held live (dots_listed (ls ++ x ∷ [])) ≡ fields_held live (dots_listed ls) ++ cons_option (option_map (λ h. h.1) (maps.get live x.dot)) []
-held-push live [] x = refl
-held-push live (l ∷ ls) x = ap (cons_option (option_map (λ h. h.1) (maps.get live l.dot))) (held-push live ls x) ∙ front (option_map (λ h. h.1) (maps.get live l.dot))
+held_push : (live : maps.FinMap dot_cmp Holding) (ls : List Listed) (x : Listed) → fields_held live (dots_listed (ls ++ x ∷ [])) ≡ fields_held live (dots_listed ls) ++ cons_option (option_map (λ h. h.1) (maps.get live x.dot)) []
+held_push live [] x = refl
+held_push live (l ∷ ls) x = ap (cons_option (option_map (λ h. h.1) (maps.get live l.dot))) (held_push live ls x) ∙ front (option_map (λ h. h.1) (maps.get live l.dot))
   where
     front : (o : Option DotFields) → cons_option o (fields_held live (dots_listed ls) ++ cons_option (option_map (λ h. h.1) (maps.get live x.dot)) [])
         ≡ (cons_option o (fields_held live (dots_listed ls)) ++ cons_option (option_map (λ h. h.1) (maps.get live x.dot)) [])
@@ -59,7 +59,7 @@ held-push live (l ∷ ls) x = ap (cons_option (option_map (λ h. h.1) (maps.get 
 held_more : (live : maps.FinMap dot_cmp Holding) (ls : List Listed) (i : ℕ) (x : Listed) (o : Option Holding) → i < length ls → x ≡ get_or ls i x → o ≡ maps.get live x.dot
     → fields_held live (dots_listed (take (i + 1) ls)) ≡ fields_held live (dots_listed (take i ls)) ++ cons_option (option_map (λ h. h.1) o) []
 held_more live ls i x o w e is =
-    ap (λ ys. fields_held live (dots_listed ys)) (take_more ls i x w ∙ ap (λ y. take i ls ++ y ∷ []) (sym e)) ∙ held-push live (take i ls) x
+    ap (λ ys. fields_held live (dots_listed ys)) (take_more ls i x w ∙ ap (λ y. take i ls ++ y ∷ []) (sym e)) ∙ held_push live (take i ls) x
     ∙ ap (λ y. fields_held live (dots_listed (take i ls)) ++ cons_option (option_map (λ h. h.1) y) []) (sym is)
 
 -- a field of dots, by what is held of them

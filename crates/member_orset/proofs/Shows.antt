@@ -19,8 +19,8 @@ use Rattle.dots.specs.Values.{Dot}
 use Rattle.dots.specs.Orders.{member_cmp, text_cmp}
 use Rattle.general_lemmas.specs.SetItems.{in_order}
 use Rattle.operations.specs.Rows.{MemberRow, interface_in, interfaces_of, is_of, dots_of, row_if, row_of, rows_of}
-use Rattle.general_lemmas.proofs.ItemOrder.{in_order-has}
-use Rattle.general_lemmas.proofs.Membership.{any-in, in-any}
+use Rattle.general_lemmas.proofs.ItemOrder.{in_order_has}
+use Rattle.general_lemmas.proofs.Membership.{any_in, in_any}
 use Rattle.member_orset.specs.Index.{Listed}
 use Rattle.member_orset.specs.declared.live_dot.LiveDot.{LiveDot}
 use Rattle.member_orset.specs.LiveLists.{live_of}
@@ -134,21 +134,21 @@ abbrev has_any : {X : Type 0} → List X → Bool
 has_any [] = false
 has_any (x ∷ xs) = true
 
-any-kept : {X : Type 0} (p : X → Bool) (xs : List X) → list_any p xs ≡ has_any (filter p xs)
-any-kept p [] = refl
-any-kept p (x ∷ xs) = split (p x) (any-kept p xs)
+any_kept : {X : Type 0} (p : X → Bool) (xs : List X) → list_any p xs ≡ has_any (filter p xs)
+any_kept p [] = refl
+any_kept p (x ∷ xs) = split (p x) (any_kept p xs)
   where
     split : (b : Bool) → list_any p xs ≡ has_any (filter p xs) → (b || list_any p xs) ≡ has_any (cond b (x ∷ filter p xs) (filter p xs))
     split true h = refl
     split false h = h
 
-any-dots : (ls : List Listed) → has_any (dots_listed ls) ≡ has_any ls
-any-dots [] = refl
-any-dots (l ∷ ls) = refl
+any_dots : (ls : List Listed) → has_any (dots_listed ls) ≡ has_any ls
+any_dots [] = refl
+any_dots (l ∷ ls) = refl
 
 -- a member has a dot where the index has an entry of it
 dots_there : (cs : List LiveDot) (index : List Listed) (m : Member) → Rise cs → IsIndex index (live_of cs) → has_any (dots_of (cells_view cs) m) ≡ list_any (is_own m) index
-dots_there cs index m s is = ap has_any (sym (dots_are cs index m s is)) ∙ any-dots (group m index) ∙ sym (any-kept (is_own m) index)
+dots_there cs index m s is = ap has_any (sym (dots_are cs index m s is)) ∙ any_dots (group m index) ∙ sym (any_kept (is_own m) index)
 
 -- the member of a queue with an interface
 abbrev in_queue : ℕ → Text → Member
@@ -177,16 +177,16 @@ interfaces_are : (cs : List LiveDot) (index : List Listed) (queue : ℕ) (i : Te
     → list_any (eq_by_cmp text_cmp i) (in_order (interfaces_of (cells_view cs) queue)) ≡ list_any (is_own (in_queue queue i)) index
 unfolding interfaces_of
 interfaces_are cs index queue i s is =
-    in_order-has nat_list_cmp_total (interfaces_of (cells_view cs) queue) i
+    in_order_has nat_list_cmp_total (interfaces_of (cells_view cs) queue) i
     ∙ sets.contains-from_list nat_list_cmp_total (filter_map (λ dot. option_and_then (interface_in queue) ((cells_view cs).member dot)) (in_order (cells_view cs).visible)) i
     ∙ interfaces_kept queue i (cells_view cs).member (in_order (cells_view cs).visible)
-    ∙ any-kept (is_of (cells_view cs) (in_queue queue i)) (in_order (cells_view cs).visible)
+    ∙ any_kept (is_of (cells_view cs) (in_queue queue i)) (in_order (cells_view cs).visible)
     ∙ dots_there cs index (in_queue queue i) s is
 
 -- what holds of each entry holds of one of a member
 on_own : (P : Listed → Type 0) (X : Type 0) (m : Member) (ls : List Listed) → All P ls → list_any (is_own m) ls ≡ true → ((l : Listed) → P l → m ≡ l.member → X) → X
 on_own P X m ls a h g =
-    let own = in-any (is_own m) ls h in
+    let own = in_any (is_own m) ls h in
     g own.0 (subst P own.1.2 (a own.1.0 own.0 own.1.1)) (one_member m own.0.member own.2)
 
 -- a queue is itself
@@ -216,7 +216,7 @@ module _ (cs : List LiveDot) (index : List Listed) (queue : ℕ) (s : Rise cs) (
       let same : queue ≡ l.member.queue = grind (arith, nat_tests, own) in
       first_row read last l.member.interface row names names_rise (ap (λ q. row_of (cells_view cs) (in_queue q l.member.interface)) same ∙ r) own.1
       (interfaces_are cs index queue l.member.interface s is
-      ∙ any-in (is_own (in_queue queue l.member.interface)) index l least.here (ap (λ q. eq_by_cmp member_cmp (in_queue q l.member.interface) l.member) same ∙ member_itself l.member))
+      ∙ any_in (is_own (in_queue queue l.member.interface)) index l least.here (ap (λ q. eq_by_cmp member_cmp (in_queue q l.member.interface) l.member) same ∙ member_itself l.member))
       (λ j h a. on_own (λ e. is_left queue last e ≡ true → is_lt (text_cmp e.member.interface l.member.interface) ≡ false) (is_lt (text_cmp j l.member.interface) ≡ false) (in_queue queue j) index least.least
       (sym (interfaces_are cs index queue j s is) ∙ h) (λ e g k. ap (λ (m : Member). is_lt (text_cmp m.interface l.member.interface)) k ∙ g (name_left last j e k ∙ a)))
 
@@ -235,7 +235,7 @@ module _ (cs : List LiveDot) (index : List Listed) (queue : ℕ) (s : Rise cs) (
 
 -- the member of an entry has a row
 pub has_row : (cs : List LiveDot) (index : List Listed) (l : Listed) → Rise cs → IsIndex index (live_of cs) → Contains index l → row_of (cells_view cs) l.member ≢ None
-has_row cs index l s is here = some (dots_of (cells_view cs) l.member) _ (dots_there cs index l.member s is ∙ any-in (is_own l.member) index l here (member_itself l.member))
+has_row cs index l s is here = some (dots_of (cells_view cs) l.member) _ (dots_there cs index l.member s is ∙ any_in (is_own l.member) index l here (member_itself l.member))
   where
     some : (ds : List Dot) (row : MemberRow) → has_any ds ≡ true → row_if ds row ≢ None
     some [] row h none = (cc)

@@ -7,7 +7,7 @@ use Rattle.std.specs.FinMap.Entries.{find, is_sorted}
 use Rattle.std.proofs.lemmas.List.Elements.{Contains-append_right}
 use Rattle.dots.specs.Values.{Dot}
 use Rattle.dots.specs.Orders.{dot_cmp}
-use Rattle.general_lemmas.proofs.Membership.{first-in}
+use Rattle.general_lemmas.proofs.Membership.{first_in}
 use Rattle.general_lemmas.proofs.TruthTables.{fact}
 use Rattle.member_orset.specs.declared.live_dot.LiveDot.{LiveDot}
 use Rattle.member_orset.specs.Joining.{AgreeWith, HaveGrown, IsJoinedWith, IsTakenIn, holding_with}
@@ -46,7 +46,7 @@ module _ (known : Dot → Bool) (old now after : LiveState) (there : map.FinMap 
   together = t.parts ∙ ap (λ es. t.done ++ es) split
 
   here : Contains (map.entries there) (entry_of c)
-  here = subst (λ (es : Entries). Contains es (entry_of c)) (sym together) (Contains-append_right t.done (entry_of c ∷ left) (entry_of c) (first-in (entry_of c) left))
+  here = subst (λ (es : Entries). Contains es (entry_of c)) (sym together) (Contains-append_right t.done (entry_of c ∷ left) (entry_of c) (first_in (entry_of c) left))
 
   held : map.get there c.dot ≡ Some (holding c)
   held = entry_is there (entry_of c) here

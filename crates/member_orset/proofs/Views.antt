@@ -17,23 +17,23 @@ use Rattle.general_lemmas.proofs.TruthTables.{truth}
 use Rattle.member_orset.proofs.CellLists.{Rise}
 
 -- the map of cells that rise has the cells as its entries
-pub entries-live_of : (cs : List LiveDot) → Rise cs → maps.entries (live_of cs) ≡ entries_of cs
+pub entries_live_of : (cs : List LiveDot) → Rise cs → maps.entries (live_of cs) ≡ entries_of cs
 unfolding live_of
-entries-live_of cs h = maps.entries-from_sorted dot_cmp (entries_of cs) (truth _ h)
+entries_live_of cs h = maps.entries-from_sorted dot_cmp (entries_of cs) (truth _ h)
 
-pub get-live_of : (cs : List LiveDot) (q : Dot) → Rise cs → maps.get (live_of cs) q ≡ find dot_cmp q (entries_of cs)
+pub get_live_of : (cs : List LiveDot) (q : Dot) → Rise cs → maps.get (live_of cs) q ≡ find dot_cmp q (entries_of cs)
 unfolding live_of
-get-live_of cs q h = maps.get-from_sorted dot_cmp (entries_of cs) q (truth _ h)
+get_live_of cs q h = maps.get-from_sorted dot_cmp (entries_of cs) q (truth _ h)
 
-length-entries_of : (cs : List LiveDot) → length (entries_of cs) ≡ length cs
-length-entries_of [] = refl
-length-entries_of (c ∷ cs) = ap suc (length-entries_of cs)
+length_entries_of : (cs : List LiveDot) → length (entries_of cs) ≡ length cs
+length_entries_of [] = refl
+length_entries_of (c ∷ cs) = ap suc (length_entries_of cs)
 
-pub len-live_of : (cs : List LiveDot) → Rise cs → maps.len (live_of cs) ≡ length cs
-len-live_of cs h = maps.len-entries (live_of cs) ∙ ap length (entries-live_of cs h) ∙ length-entries_of cs
+pub len_live_of : (cs : List LiveDot) → Rise cs → maps.len (live_of cs) ≡ length cs
+len_live_of cs h = maps.len-entries (live_of cs) ∙ ap length (entries_live_of cs h) ∙ length_entries_of cs
 
-pub live_of-nil : live_of [] ≡ maps.empty
-live_of-nil = maps.empty_of_len (live_of []) (len-live_of [] refl)
+pub live_of_nil : live_of [] ≡ maps.empty
+live_of_nil = maps.empty_of_len (live_of []) (len_live_of [] refl)
 
 -- what is found of a dot is known and has a field
 pub found_known : (cs : List LiveDot) (known : sets.FinSet dot_cmp) (q : Dot) (h : Holding) → All (λ c. sets.contains known c.dot ≡ true) cs → find dot_cmp q (entries_of cs) ≡ Some h → sets.contains known q ≡ true

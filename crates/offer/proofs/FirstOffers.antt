@@ -7,9 +7,9 @@ use Rattle.offer.specs.Offers.{comes_before, may_be_offered, offer_of, offers_of
 use Rattle.offer.specs.GoingOver.{comes_first, first_with, is_next}
 
 -- where no offers are left, it is the first so far
-pub first-alone : (first : Option Offer) → first ≡ first_with first []
-first-alone None = refl
-first-alone (Some first) = refl
+pub first_alone : (first : Option Offer) → first ≡ first_with first []
+first_alone None = refl
+first_alone (Some first) = refl
 
 -- an offer that comes first takes the place of the first so far
 taken : (first : Option Offer) (offer : Offer) (offers : List Offer) → comes_first first offer ≡ true → first_with (Some offer) offers ≡ first_with first (offer ∷ offers)
@@ -22,17 +22,17 @@ left None offer offers is = absurd (true≢false is)
 left (Some first) offer offers is = ap (λ b. Some (best_of comes_before (cond b offer first) offers)) (sym is)
 
 -- a row whose offer comes first, and another row
-pub row-taken : (tried : List (List ℕ)) (first : Option Offer) (row : List ℕ × MemberRow) (rows : List (List ℕ × MemberRow)) → is_next tried first row ≡ true
+pub row_taken : (tried : List (List ℕ)) (first : Option Offer) (row : List ℕ × MemberRow) (rows : List (List ℕ × MemberRow)) → is_next tried first row ≡ true
     → first_with (Some (offer_of row)) (offers_of tried rows) ≡ first_with first (offers_of tried (row ∷ rows))
-row-taken tried first row rows = by (may_be_offered tried row) refl where
+row_taken tried first row rows = by (may_be_offered tried row) refl where
   by : (b : Bool) → may_be_offered tried row ≡ b → (b && comes_first first (offer_of row)) ≡ true
       → first_with (Some (offer_of row)) (offers_of tried rows) ≡ first_with first (offers_of tried (row ∷ rows))
   by true may is = rw may (taken first (offer_of row) (offers_of tried rows) is)
   by false may is = absurd (true≢false (sym is))
 
-pub row-left : (tried : List (List ℕ)) (first : Option Offer) (row : List ℕ × MemberRow) (rows : List (List ℕ × MemberRow)) → is_next tried first row ≡ false
+pub row_left : (tried : List (List ℕ)) (first : Option Offer) (row : List ℕ × MemberRow) (rows : List (List ℕ × MemberRow)) → is_next tried first row ≡ false
     → first_with first (offers_of tried rows) ≡ first_with first (offers_of tried (row ∷ rows))
-row-left tried first row rows = by (may_be_offered tried row) refl where
+row_left tried first row rows = by (may_be_offered tried row) refl where
   by : (b : Bool) → may_be_offered tried row ≡ b → (b && comes_first first (offer_of row)) ≡ false
       → first_with first (offers_of tried rows) ≡ first_with first (offers_of tried (row ∷ rows))
   by true may is = rw may (left first (offer_of row) (offers_of tried rows) is)

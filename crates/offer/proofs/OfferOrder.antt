@@ -27,9 +27,9 @@ ranked : IsStrictWeakOrder comes_before
 ranked = ranks_by offers_total (λ (o : Offer). o)
 
 -- the first of offers is the first
-pub is-first : (offers : List Offer) → IsFirstOf offers (first_of offers)
-is-first [] = refl
-is-first (offer ∷ offers) =
+pub is_first : (offers : List Offer) → IsFirstOf offers (first_of offers)
+is_first [] = refl
+is_first (offer ∷ offers) =
     let best = IsFirstBest-from_best_of ranked offer offers in
     let same = best.2 in
     record {
@@ -47,6 +47,6 @@ tied Greater Equal e f g = e
 tied Greater Greater e f g = absurd (true≢false (ap is_lt (sym e)))
 
 -- and no other is
-pub one-first : (offers : List Offer) → HaveOneFirst offers
-one-first offers one other a b =
+pub one_first : (offers : List Offer) → HaveOneFirst offers
+one_first offers one other a b =
     exact_offers one other (tied (offer_cmp one other) (offer_cmp other one) (offers_total.antisymm one other) (b.first one a.there) (a.first other b.there))

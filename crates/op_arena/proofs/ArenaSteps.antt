@@ -16,7 +16,7 @@ use Rattle.op_arena.proofs.FreeCells.{popped, aside, same_next}
 use Rattle.std.proofs.lemmas.Option.{slice_get_past}
 use Rattle.op_arena.proofs.Updates.{written, taken}
 use Rattle.op_arena.proofs.IdOrder.{ids_total, ids_exact}
-use Rattle.op_arena.proofs.Views.{value_at, count_at, get-held, contains-spent}
+use Rattle.op_arena.proofs.Views.{value_at, count_at, get_held, contains_spent}
 use Rattle.std.specs.Ordering.{eq_by_cmp}
 use Rattle.std.specs.Cmp.{Equal-is}
 use Rattle.std.proofs.Common.{Bor}
@@ -178,16 +178,16 @@ module _ {T : Type 0} where
   -- the cell of an id that is held, and its value
   pub held_at : (ss : List (Slot T)) (id : Id) → IsTrue (map.contains_key (held_in ss) id) → (v : T) × (slice_get ss id.index ≡ Some (slot id.generation (Held v))) × (map.get (held_in ss) id ≡ Some v)
   held_at ss id e =
-      let f = found_at id.generation (slice_get ss id.index) (ap is_some (sym (get-held ss id)) ∙ e) in
-      (f.0, f.1, get-held ss id ∙ ap (value_at id.generation) f.1 ∙ ap (λ b. cond b (Some f.0) None) (eq-eqb id.generation id.generation refl))
+      let f = found_at id.generation (slice_get ss id.index) (ap is_some (sym (get_held ss id)) ∙ e) in
+      (f.0, f.1, get_held ss id ∙ ap (value_at id.generation) f.1 ∙ ap (λ b. cond b (Some f.0) None) (eq-eqb id.generation id.generation refl))
 
   -- the ids of a cell up to its generation, but for a retired one
   module _ (ss : List (Slot T)) (i g : ℕ) (o : Option (Slot T)) (at : slice_get ss i ≡ o) (same : count_at o ≡ g) where
     pub unspent : set.contains (spent_in ss) (id_of i g) ≡ false
-    unspent = contains-spent ss (id_of i g) ∙ ap (λ x. nat_lt g (count_at x)) at ∙ ap (nat_lt g) same ∙ le-ltb g g (omega arith)
+    unspent = contains_spent ss (id_of i g) ∙ ap (λ x. nat_lt g (count_at x)) at ∙ ap (nat_lt g) same ∙ le-ltb g g (omega arith)
 
     pub lesser : (h : ℕ) → h < g → set.contains (spent_in ss) (id_of i h) ≡ true
-    lesser h lt = contains-spent ss (id_of i h) ∙ ap (λ x. nat_lt h (count_at x)) at ∙ ap (nat_lt h) same ∙ lt-ltb h g lt
+    lesser h lt = contains_spent ss (id_of i h) ∙ ap (λ x. nat_lt h (count_at x)) at ∙ ap (nat_lt h) same ∙ lt-ltb h g lt
 
   past : (g h : ℕ) (s : State T) → nat_lt g (spent_at h s) ≡ true → cond (nat_eq h g) (value_of s) None ≡ None
   past g h (Free n) e = none_here (nat_eq h g)
@@ -200,21 +200,21 @@ module _ {T : Type 0} where
 
   -- a spent id is not held
   pub spent_none : (ss : List (Slot T)) (id : Id) → IsTrue (set.contains (spent_in ss) id) → map.get (held_in ss) id ≡ None
-  spent_none ss id e = get-held ss id ∙ past_at id.generation (slice_get ss id.index) (sym (contains-spent ss id) ∙ e)
+  spent_none ss id e = get_held ss id ∙ past_at id.generation (slice_get ss id.index) (sym (contains_spent ss id) ∙ e)
 
   -- an id of a cell without a value is not held
   pub none_held : (ss : List (Slot T)) (i g : ℕ) (o : Option (Slot T)) → slice_get ss i ≡ o → value_at g o ≡ None → map.get (held_in ss) (id_of i g) ≡ None
-  none_held ss i g o at e = get-held ss (id_of i g) ∙ ap (value_at g) at ∙ e
+  none_held ss i g o at e = get_held ss (id_of i g) ∙ ap (value_at g) at ∙ e
 
   -- what an id finds at its cell
   pub past_end : (ss : List (Slot T)) (id : Id) → length ss ≤ id.index → map.get (held_in ss) id ≡ None
-  past_end ss id le = get-held ss id ∙ ap (value_at id.generation) (slice_get_past ss id.index le)
+  past_end ss id le = get_held ss id ∙ ap (value_at id.generation) (slice_get_past ss id.index le)
 
   pub other_generation : (ss : List (Slot T)) (id : Id) (s : Slot T) → slice_get ss id.index ≡ Some s → (s.generation ≡ id.generation → ⊥) → map.get (held_in ss) id ≡ None
-  other_generation ss id s at other = get-held ss id ∙ ap (value_at id.generation) at ∙ ap (λ b. cond b (value_of s.state) None) (ne_eqb s.generation id.generation other)
+  other_generation ss id s at other = get_held ss id ∙ ap (value_at id.generation) at ∙ ap (λ b. cond b (value_of s.state) None) (ne_eqb s.generation id.generation other)
 
   pub same_generation : (ss : List (Slot T)) (id : Id) (s : Slot T) → slice_get ss id.index ≡ Some s → s.generation ≡ id.generation → map.get (held_in ss) id ≡ value_of s.state
-  same_generation ss id s at same = get-held ss id ∙ ap (value_at id.generation) at ∙ ap (λ b. cond b (value_of s.state) None) (eq-eqb s.generation id.generation same)
+  same_generation ss id s at same = get_held ss id ∙ ap (value_at id.generation) at ∙ ap (λ b. cond b (value_of s.state) None) (eq-eqb s.generation id.generation same)
 
   abbrev Both : List (Slot T) → map.FinMap id_cmp T → set.FinSet id_cmp → Type 0
   Both slots held spent = (held_in slots ≡ held) × (spent_in slots ≡ spent)

@@ -12,9 +12,9 @@ module _ {X : Type 0} where
   none_there zero = refl
   none_there (suc k) = none_there k
 
-  pub values-laid : (xs : List X) (k : ℕ) → values (laid xs k) ≡ xs
-  values-laid [] k = none_there k
-  values-laid (x ∷ xs) k = ap (λ ys. x ∷ ys) (values-laid xs k)
+  pub values_laid : (xs : List X) (k : ℕ) → values (laid xs k) ≡ xs
+  values_laid [] k = none_there k
+  values_laid (x ∷ xs) k = ap (λ ys. x ∷ ys) (values_laid xs k)
 
   empty_at : (k i : ℕ) → get_or (replicate {A = Option X} k None) i None ≡ None
   empty_at zero i = refl
@@ -22,10 +22,10 @@ module _ {X : Type 0} where
   empty_at (suc k) (suc i) = empty_at k i
 
   -- a place reads as the list of the values does
-  pub get_or-laid : (xs : List X) (k i : ℕ) → get_or (laid xs k) i None ≡ slice_get xs i
-  get_or-laid [] k i = empty_at k i
-  get_or-laid (x ∷ xs) k zero = refl
-  get_or-laid (x ∷ xs) k (suc i) = get_or-laid xs k i
+  pub get_or_laid : (xs : List X) (k i : ℕ) → get_or (laid xs k) i None ≡ slice_get xs i
+  get_or_laid [] k i = empty_at k i
+  get_or_laid (x ∷ xs) k zero = refl
+  get_or_laid (x ∷ xs) k (suc i) = get_or_laid xs k i
 
   pub one_there : (xs : List X) (i : ℕ) → i < length xs → (x : X) × (slice_get xs i ≡ Some x)
   one_there [] i lt = absurd (omega arith)
@@ -36,27 +36,27 @@ module _ {X : Type 0} where
   none_past [] = refl
   none_past (x ∷ xs) = none_past xs
 
-  pub set-laid : (xs : List X) (k i : ℕ) (w : X) → i < length xs → slice_set (laid xs k) i (Some w) ≡ laid (slice_set xs i w) k
-  set-laid [] k i w lt = absurd (omega arith)
-  set-laid (x ∷ xs) k zero w lt = refl
-  set-laid (x ∷ xs) k (suc i) w lt = ap (λ ys. Some x ∷ ys) (set-laid xs k i w (omega arith))
+  pub set_laid : (xs : List X) (k i : ℕ) (w : X) → i < length xs → slice_set (laid xs k) i (Some w) ≡ laid (slice_set xs i w) k
+  set_laid [] k i w lt = absurd (omega arith)
+  set_laid (x ∷ xs) k zero w lt = refl
+  set_laid (x ∷ xs) k (suc i) w lt = ap (λ ys. Some x ∷ ys) (set_laid xs k i w (omega arith))
 
-  pub push-laid : (xs : List X) (k : ℕ) (v : X) → slice_set (laid xs (suc k)) (length xs) (Some v) ≡ laid (xs ++ v ∷ []) k
-  push-laid [] k v = refl
-  push-laid (x ∷ xs) k v = ap (λ ys. Some x ∷ ys) (push-laid xs k v)
+  pub push_laid : (xs : List X) (k : ℕ) (v : X) → slice_set (laid xs (suc k)) (length xs) (Some v) ≡ laid (xs ++ v ∷ []) k
+  push_laid [] k v = refl
+  push_laid (x ∷ xs) k v = ap (λ ys. Some x ∷ ys) (push_laid xs k v)
 
-  pub length-laid : (xs : List X) (k : ℕ) → length (laid xs k) ≡ length xs + k
-  length-laid [] k = length-replicate k None ∙ omega arith
-  length-laid (x ∷ xs) k = omega (arith, length-laid xs k)
+  pub length_laid : (xs : List X) (k : ℕ) → length (laid xs k) ≡ length xs + k
+  length_laid [] k = length-replicate k None ∙ omega arith
+  length_laid (x ∷ xs) k = omega (arith, length_laid xs k)
 
-  pub length-more : (xs : List X) (v : X) → length (xs ++ v ∷ []) ≡ length xs + 1
-  length-more [] v = refl
-  length-more (x ∷ xs) v = omega (arith, length-more xs v)
+  pub length_more : (xs : List X) (v : X) → length (xs ++ v ∷ []) ≡ length xs + 1
+  length_more [] v = refl
+  length_more (x ∷ xs) v = omega (arith, length_more xs v)
 
   pub filled : (places : List (Option X)) (xs : List X) (len capacity : ℕ) → places ≡ laid xs (capacity - len) → len ≡ length xs → len ≤ capacity → capacity < 2 ^ 63
       → IsFilled places len capacity × (values places ≡ xs)
   filled places xs len capacity e l le small =
-      let all : values places ≡ xs = ap values e ∙ values-laid xs (capacity - len) in
+      let all : values places ≡ xs = ap values e ∙ values_laid xs (capacity - len) in
       (record { laid = e ∙ ap (λ ys. laid ys (capacity - len)) (sym all); count = l ∙ ap length (sym all); within = le; small = small }, all)
 
   -- the first i places are emptied
@@ -85,12 +85,12 @@ module _ {X : Type 0} where
       → IsFilled new (len + 1) capacity × (values new ≡ values places ++ v ∷ [])
   pushed places new len capacity v set fills lt =
       let xs = values places in let k : ℕ = capacity - (len + 1) in let one : capacity - len ≡ suc k = omega arith in
-      let all : new ≡ laid (xs ++ v ∷ []) k = set ∙ ap (λ ys. slice_set ys len (Some v)) fills.laid ∙ ap (λ m. slice_set (laid xs m) len (Some v)) one ∙ ap (λ m. slice_set (laid xs (suc k)) m (Some v)) fills.count ∙ push-laid xs k v in
-      filled new (xs ++ v ∷ []) (len + 1) capacity all (omega (arith, fills.count, length-more xs v)) (omega arith) fills.small
+      let all : new ≡ laid (xs ++ v ∷ []) k = set ∙ ap (λ ys. slice_set ys len (Some v)) fills.laid ∙ ap (λ m. slice_set (laid xs m) len (Some v)) one ∙ ap (λ m. slice_set (laid xs (suc k)) m (Some v)) fills.count ∙ push_laid xs k v in
+      filled new (xs ++ v ∷ []) (len + 1) capacity all (omega (arith, fills.count, length_more xs v)) (omega arith) fills.small
 
   -- a value is written over
   pub rewritten : (places : List (Option X)) (len capacity i : ℕ) (w : X) → IsFilled places len capacity → i < length (values places)
       → IsFilled (slice_set places i (Some w)) len capacity × (values (slice_set places i (Some w)) ≡ slice_set (values places) i w)
   rewritten places len capacity i w fills lt =
       let xs = values places in
-      filled (slice_set places i (Some w)) (slice_set xs i w) len capacity (ap (λ ys. slice_set ys i (Some w)) fills.laid ∙ set-laid xs (capacity - len) i w lt) (fills.count ∙ sym (length-set xs i w)) fills.within fills.small
+      filled (slice_set places i (Some w)) (slice_set xs i w) len capacity (ap (λ ys. slice_set ys i (Some w)) fills.laid ∙ set_laid xs (capacity - len) i w lt) (fills.count ∙ sym (length-set xs i w)) fills.within fills.small

@@ -27,22 +27,22 @@ span_power a (suc d) =
     let same : 2 ^ (suc a + d) ≡ 2 ^ (a + suc d) = ap (λ m. 2 ^ m) e in
     omega (arith, all, twice, same)
 
-pub span-total : (m : ℕ) → span 0 m ≡ total m
-span-total zero = refl
-span-total (suc d) =
+pub span_total : (m : ℕ) → span 0 m ≡ total m
+span_total zero = refl
+span_total (suc d) =
     let all : span 1 d + 2 ^ 0 ≡ 2 ^ (0 + d) = span_power 0 d in let e : 0 + d ≡ d = omega arith in let same : 2 ^ (0 + d) ≡ 2 ^ d = ap (λ m. 2 ^ m) e in
     let first : 2 ^ 0 ≡ 1 = refl in omega (arith, all, same, first)
 
 -- the next chunk is as large as all before it together
-pub total-next : (m : ℕ) → total (suc (suc m)) ≡ total (suc m) + total (suc m)
-total-next m = doubled m
+pub total_next : (m : ℕ) → total (suc (suc m)) ≡ total (suc m) + total (suc m)
+total_next m = doubled m
 
-pub total-limit : (m : ℕ) → m ≤ 21 → total m ≤ 2 ^ 20
-total-limit zero le = omega arith
-total-limit (suc m) le = let few : m ≤ 20 = omega arith in pow-le-pow_right {n = 2} (omega arith) few
+pub total_limit : (m : ℕ) → m ≤ 21 → total m ≤ 2 ^ 20
+total_limit zero le = omega arith
+total_limit (suc m) le = let few : m ≤ 20 = omega arith in pow-le-pow_right {n = 2} (omega arith) few
 
-pub total-below : (m : ℕ) → m ≤ 21 → total m < 2 ^ 20 → suc m ≤ 21
-total-below m le lt =
+pub total_below : (m : ℕ) → m ≤ 21 → total m < 2 ^ 20 → suc m ≤ 21
+total_below m le lt =
     let full : m ≡ 21 → ⊥ = λ e. let t : total m ≡ 2 ^ 20 = ap total e in omega (arith, t, lt) in omega (arith, le, full)
 
 -- the size of the next chunk, from what all before it hold
@@ -50,7 +50,7 @@ pub next_size : (m capacity s : ℕ) → capacity ≡ total m → ((capacity ≡
 next_size zero capacity s e (inl (none, is)) = let first : 2 ^ 0 ≡ 1 = refl in (is, omega (arith, none, is, first))
 next_size zero capacity s e (inr (some, is)) = absurd (some e)
 next_size (suc m) capacity s e (inl (none, is)) = let some : 1 ≤ 2 ^ m = one-le-pow m 2 (omega arith) in absurd (omega (arith, e, none, some))
-next_size (suc m) capacity s e (inr (some, is)) = (is ∙ e, omega (arith, total-next m, e, is))
+next_size (suc m) capacity s e (inr (some, is)) = (is ∙ e, omega (arith, total_next m, e, is))
 
 -- past the first chunk, the highest bit of an index tells its chunk
 pub located : (i p one : ℕ) → 1 ≤ i → i < 2 ^ 64 → p ≡ 63 - count_leading_zeros 64 i → one ≡ (1 * 2 ^ p) % 2 ^ 64 → (one ≤ i) × IsAt i (p + 1) (i - one)
@@ -97,16 +97,16 @@ module _ {X : Type 0} where
   no_items [] e = refl
   no_items (x ∷ xs) e = absurd (omega arith)
 
-  pub length-all : (k n : ℕ) (cs : List (Column X)) → IsLaid k n cs → length (all_items cs) ≡ n
-  length-all k n [] laid = sym laid
-  length-all k n (c ∷ cs) laid = omega (arith, length-append c.items (all_items cs), length-all (suc k) (n - size k) cs laid.2, laid.1)
+  pub length_all : (k n : ℕ) (cs : List (Column X)) → IsLaid k n cs → length (all_items cs) ≡ n
+  length_all k n [] laid = sym laid
+  length_all k n (c ∷ cs) laid = omega (arith, length-append c.items (all_items cs), length_all (suc k) (n - size k) cs laid.2, laid.1)
 
-  pub within-span : (k n : ℕ) (cs : List (Column X)) → IsLaid k n cs → n ≤ span k (length cs)
-  within-span k n [] laid = omega (arith, laid)
-  within-span k n (c ∷ cs) laid = omega (arith, within-span (suc k) (n - size k) cs laid.2)
+  pub within_span : (k n : ℕ) (cs : List (Column X)) → IsLaid k n cs → n ≤ span k (length cs)
+  within_span k n [] laid = omega (arith, laid)
+  within_span k n (c ∷ cs) laid = omega (arith, within_span (suc k) (n - size k) cs laid.2)
 
   none_laid : (k n : ℕ) (cs : List (Column X)) → n ≡ 0 → IsLaid k n cs → all_items cs ≡ []
-  none_laid k n cs e laid = no_items (all_items cs) (length-all k n cs laid ∙ e)
+  none_laid k n cs e laid = no_items (all_items cs) (length_all k n cs laid ∙ e)
 
   -- the chunk of a place is there
   pub chunk_there : (k d j : ℕ) (cs : List (Column X)) → span k d + j < span k (length cs) → d < length cs
@@ -173,17 +173,17 @@ module _ {X : Type 0} where
 
   -- the same at an index, from the first chunk on
   pub there : (i d j : ℕ) (cs : List (Column X)) → IsAt i d j → i < total (length cs) → d < length cs
-  there i d j cs at lt = chunk_there 0 d j cs (omega (arith, span-total d, at.0, span-total (length cs), lt))
+  there i d j cs at lt = chunk_there 0 d j cs (omega (arith, span_total d, at.0, span_total (length cs), lt))
 
-  pub length-within : (n : ℕ) (cs : List (Column X)) → IsLaid 0 n cs → (length (all_items cs) ≡ n) × (n ≤ total (length cs))
-  length-within n cs laid = (length-all 0 n cs laid, omega (arith, within-span 0 n cs laid, span-total (length cs)))
+  pub length_within : (n : ℕ) (cs : List (Column X)) → IsLaid 0 n cs → (length (all_items cs) ≡ n) × (n ≤ total (length cs))
+  length_within n cs laid = (length_all 0 n cs laid, omega (arith, within_span 0 n cs laid, span_total (length cs)))
 
   module _ (n i d j : ℕ) (cs : List (Column X)) (c : Column X) (laid : IsLaid 0 n cs) (at : IsAt i d j) where
     small : j < size (0 + d)
     small = let e : d ≡ 0 + d = omega arith in subst (λ m. j < size m) e at.1
 
     sum : span 0 d + j ≡ i
-    sum = omega (arith, span-total d, at.0)
+    sum = omega (arith, span_total d, at.0)
 
     module _ (within : d < length cs) (read : c ≡ get_or cs d c) where
       is : slice_get cs d ≡ Some c

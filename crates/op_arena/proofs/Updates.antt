@@ -12,7 +12,7 @@ use Rattle.op_arena.specs.declared.slot.State.{State}
 use Rattle.op_arena.specs.declared.slot.State.TheVariants.{Free, Held, Retired}
 use Rattle.op_arena.proofs.Counts.{get_set_same, get_set_other, get_push_same, get_push_other, get_end}
 use Rattle.op_arena.proofs.IdOrder.{ids_total, ids_exact}
-use Rattle.op_arena.proofs.Views.{apart, together, below_next, value_at, count_at, get-held, contains-spent}
+use Rattle.op_arena.proofs.Views.{apart, together, below_next, value_at, count_at, get_held, contains_spent}
 
 module _ {T : Type 0} where
   none_or : (b : Bool) (x : Option T) → x ≡ None → cond b x None ≡ None
@@ -40,8 +40,8 @@ module _ {T : Type 0} where
     -- a value is there
     pub inserted : (g : ℕ) (v : T) → ((h : ℕ) → value_at h (slice_get new i) ≡ cond (nat_eq g h) (Some v) (value_at h (slice_get old i))) → held_in new ≡ map.insert (held_in old) (id_of i g) v
     inserted g v here = map.same_map ids_total ids_exact (held_in new) (map.insert (held_in old) (id_of i g) v) (λ q.
-        let found = get-held old q in
-        get-held new q ∙ elim (cases_eq i q.index) [
+        let found = get_held old q in
+        get_held new q ∙ elim (cases_eq i q.index) [
           | inl same ↦ subst (λ k. value_at q.generation (slice_get new k) ≡ cond (nat_eq g q.generation) (Some v) (value_at q.generation (slice_get old k))) same (here q.generation) ∙ (λ j. cond (sym (together q (id_of i g) same) j) (Some v) (sym found j))
           | inr differs ↦ ap (value_at q.generation) (other q.index differs) ∙ sym found ∙ ap (λ b. cond b (Some v) (map.get (held_in old) q)) (sym (apart q (id_of i g) differs))
         ] ∙ sym (map.get-insert ids_total (held_in old) (id_of i g) v q))
@@ -49,8 +49,8 @@ module _ {T : Type 0} where
     -- a value is gone
     pub removed : (g : ℕ) → ((h : ℕ) → value_at h (slice_get new i) ≡ cond (nat_eq g h) None (value_at h (slice_get old i))) → held_in new ≡ map.remove (held_in old) (id_of i g)
     removed g here = map.same_map ids_total ids_exact (held_in new) (map.remove (held_in old) (id_of i g)) (λ q.
-        let found = get-held old q in
-        get-held new q ∙ elim (cases_eq i q.index) [
+        let found = get_held old q in
+        get_held new q ∙ elim (cases_eq i q.index) [
           | inl same ↦ subst (λ k. value_at q.generation (slice_get new k) ≡ cond (nat_eq g q.generation) None (value_at q.generation (slice_get old k))) same (here q.generation) ∙ (λ j. cond (sym (together q (id_of i g) same) j) None (sym found j))
           | inr differs ↦ ap (value_at q.generation) (other q.index differs) ∙ sym found ∙ ap (λ b. cond b None (map.get (held_in old) q)) (sym (apart q (id_of i g) differs))
         ] ∙ sym (map.get-remove ids_total (held_in old) (id_of i g) q))
@@ -58,16 +58,16 @@ module _ {T : Type 0} where
     -- as many generations are spent
     pub as_spent : count_at (slice_get new i) ≡ count_at (slice_get old i) → spent_in new ≡ spent_in old
     as_spent here = set.same_set ids_total ids_exact (spent_in new) (spent_in old) (λ q.
-        contains-spent new q ∙ ap (nat_lt q.generation) (elim (cases_eq i q.index) [
+        contains_spent new q ∙ ap (nat_lt q.generation) (elim (cases_eq i q.index) [
           | inl same ↦ subst (λ k. count_at (slice_get new k) ≡ count_at (slice_get old k)) same here
           | inr differs ↦ ap count_at (other q.index differs)
-        ]) ∙ sym (contains-spent old q))
+        ]) ∙ sym (contains_spent old q))
 
     -- one more generation is spent
     pub one_spent : (g : ℕ) → count_at (slice_get old i) ≡ g → count_at (slice_get new i) ≡ suc g → spent_in new ≡ set.insert (spent_in old) (id_of i g)
     one_spent g before after = set.same_set ids_total ids_exact (spent_in new) (set.insert (spent_in old) (id_of i g)) (λ q.
-        let known = contains-spent old q in
-        contains-spent new q ∙ elim (cases_eq i q.index) [
+        let known = contains_spent old q in
+        contains_spent new q ∙ elim (cases_eq i q.index) [
           | inl same ↦
               subst (λ k. nat_lt q.generation (count_at (slice_get new k)) ≡ (nat_eq g q.generation || nat_lt q.generation (count_at (slice_get old k)))) same
               (ap (nat_lt q.generation) after ∙ sym (below_next g q.generation) ∙ ap (λ n. nat_eq g q.generation || nat_lt q.generation n) (sym before))

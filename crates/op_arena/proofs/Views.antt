@@ -114,9 +114,9 @@ module _ {T : Type 0} where
       find_apart (value_of s.state) (id_of i s.generation) q (entries_from (suc i) ss) (apart q (id_of i s.generation) (λ f. omega (arith, e, f))) ∙ find_from (suc i) k ss q (omega (arith, e))
 
   -- the value of an id is the one of its cell, in its generation
-  pub get-held : (ss : List (Slot T)) (q : Id) → map.get (held_in ss) q ≡ value_at q.generation (slice_get ss q.index)
+  pub get_held : (ss : List (Slot T)) (q : Id) → map.get (held_in ss) q ≡ value_at q.generation (slice_get ss q.index)
   unfolding held_in
-  get-held ss q = map.get-from_entries ids_total (entries_from 0 ss) q ∙ find_from 0 q.index ss q (omega arith)
+  get_held ss q = map.get-from_entries ids_total (entries_from 0 ss) q ∙ find_from 0 q.index ss q (omega arith)
 
   any_later : (i : ℕ) (ss : List (Slot T)) (q : Id) → q.index < i → list_any (eq_by_cmp id_cmp q) (spent_from i ss) ≡ false
   any_later i [] q lt = refl
@@ -134,9 +134,9 @@ module _ {T : Type 0} where
       ∙ (λ j. none_before i (spent_at s.generation s.state) q (λ f. omega (arith, e, f)) j || any_from (suc i) k ss q (omega (arith, e)) j)
 
   -- an id is spent if its generation is below those of its cell that are
-  pub contains-spent : (ss : List (Slot T)) (q : Id) → set.contains (spent_in ss) q ≡ nat_lt q.generation (count_at (slice_get ss q.index))
+  pub contains_spent : (ss : List (Slot T)) (q : Id) → set.contains (spent_in ss) q ≡ nat_lt q.generation (count_at (slice_get ss q.index))
   unfolding spent_in
-  contains-spent ss q = set.contains-from_list ids_total (spent_from 0 ss) q ∙ any_from 0 q.index ss q (omega arith)
+  contains_spent ss q = set.contains-from_list ids_total (spent_from 0 ss) q ∙ any_from 0 q.index ss q (omega arith)
 
   len_with : (id : Id) (o : Option T) (es : List (Id × T)) → find id_cmp id es ≡ None → map.len (map.from_entries {R = id_cmp} (with_value id o es)) ≡ cond (is_some o) 1 0 + map.len (map.from_entries {R = id_cmp} es)
   len_with id None es e = omega arith
@@ -150,9 +150,9 @@ module _ {T : Type 0} where
       len_with (id_of i s.generation) (value_of s.state) (entries_from (suc i) ss) (find_later (suc i) ss (id_of i s.generation) (omega arith)) ∙ ap (λ n. cond (is_held s) 1 0 + n) (len_from (suc i) ss)
 
   -- there are as many values as cells that hold one
-  pub len-held : (ss : List (Slot T)) → map.len (held_in ss) ≡ count is_held ss
+  pub len_held : (ss : List (Slot T)) → map.len (held_in ss) ≡ count is_held ss
   unfolding held_in
-  len-held ss = len_from 0 ss
+  len_held ss = len_from 0 ss
 
   -- the last ids of the retired cells, where the first cell has this index
   abbrev last_ids : ℕ → ℕ → List (Slot T) → List Id
@@ -201,12 +201,12 @@ module _ {T : Type 0} where
   ]
 
   -- so many cells are retired
-  pub len-retired : (last : ℕ) (ss : List (Slot T)) → ((i : ℕ) (s : Slot T) → slice_get ss i ≡ Some s → KeepsLast last s.generation s.state)
+  pub len_retired : (last : ℕ) (ss : List (Slot T)) → ((i : ℕ) (s : Slot T) → slice_get ss i ≡ Some s → KeepsLast last s.generation s.state)
       → set.len (set.retain (spent_in ss) (λ id. nat_eq id.generation last)) ≡ count is_retired ss
-  len-retired last ss keeps =
+  len_retired last ss keeps =
       let one : Id → Bool = λ id. nat_eq id.generation last in
       let same : set.retain (spent_in ss) one ≡ set.from_list (last_ids last 0 ss) = set.same_set ids_total ids_exact (set.retain (spent_in ss) one) (set.from_list (last_ids last 0 ss)) (λ q.
-      set.contains-retain (spent_in ss) one q (λ x t. ap one (sym (ids_exact q x t))) ∙ ap (λ b. b && one q) (contains-spent ss q)
+      set.contains-retain (spent_in ss) one q (λ x t. ap one (sym (ids_exact q x t))) ∙ ap (λ b. b && one q) (contains_spent ss q)
       ∙ spent_or_retired last q.generation (slice_get ss q.index) (at_last last (slice_get ss q.index) (keeps q.index))
       ∙ sym (set.contains-from_list ids_total (last_ids last 0 ss) q ∙ last_from last 0 q.index ss q (omega arith))) in
       ap set.len same ∙ len_last last 0 ss
@@ -232,14 +232,14 @@ module _ {T : Type 0} where
   spent_of_retired last (s ∷ ss) keeps = spent_more last s.generation s.state (count is_retired ss) (all_spent ss) (keeps 0 s refl) (spent_of_retired last ss (λ i t e. keeps (suc i) t e))
 
   -- each retired cell has spent an id in each of its generations
-  pub len-worn : (last : ℕ) (ss : List (Slot T)) → ((i : ℕ) (s : Slot T) → slice_get ss i ≡ Some s → KeepsLast last s.generation s.state) → count is_retired ss * (last + 1) ≤ set.len (spent_in ss)
+  pub len_worn : (last : ℕ) (ss : List (Slot T)) → ((i : ℕ) (s : Slot T) → slice_get ss i ≡ Some s → KeepsLast last s.generation s.state) → count is_retired ss * (last + 1) ≤ set.len (spent_in ss)
   unfolding spent_in
-  len-worn last ss keeps = omega (arith, spent_of_retired last ss keeps, len_spent 0 ss)
+  len_worn last ss keeps = omega (arith, spent_of_retired last ss keeps, len_spent 0 ss)
 
-  pub held-empty : held_in {T = T} [] ≡ map.empty
+  pub held_empty : held_in {T = T} [] ≡ map.empty
   unfolding held_in
-  held-empty = refl
+  held_empty = refl
 
-pub spent-empty : (T : Type 0) → spent_in {T = T} [] ≡ set.empty
+pub spent_empty : (T : Type 0) → spent_in {T = T} [] ≡ set.empty
 unfolding spent_in
-spent-empty T = refl
+spent_empty T = refl

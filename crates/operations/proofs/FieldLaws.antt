@@ -14,24 +14,24 @@ use Rattle.operations.specs.Operations.{Operation, Field, asserted_by}
 use Rattle.operations.specs.Knowledge.{Knowledge, SameOperations, OneValue, IsFieldOf, is_dot, asserts, all_asserted, member_of, settings_of, latest_of, field_of}
 use Rattle.dots.proofs.DotOrder.{dots_total, dots_exact}
 use Rattle.operations.proofs.RegisterLaws.{stamps_total, exact_stamps, joined_keeps_latest}
-use Rattle.general_lemmas.proofs.Membership.{first-in, later-in, cases-in, some-in, in-some, part-in, in-part, in-find, some-find, any-in}
+use Rattle.general_lemmas.proofs.Membership.{first_in, later_in, cases_in, some_in, in_some, part_in, in_part, in_find, some_find, any_in}
 use Rattle.general_lemmas.proofs.TruthTables.{equal_of}
 
 -- the latest of a list is in it
-pub latest-in : {T : Type 0} (es : List (Entry T)) (e : Entry T) → latest_of es ≡ Some e → Contains es e
-latest-in [] e h = (cc)
-latest-in (x ∷ xs) e h = elim ((joined_keeps_latest (Some x) (latest_of xs)).of_either e h) [
-  | inl p ↦ subst (Contains (x ∷ xs)) (same p) (first-in x xs)
-  | inr p ↦ later-in x xs e (latest-in xs e p)
+pub latest_in : {T : Type 0} (es : List (Entry T)) (e : Entry T) → latest_of es ≡ Some e → Contains es e
+latest_in [] e h = (cc)
+latest_in (x ∷ xs) e h = elim ((joined_keeps_latest (Some x) (latest_of xs)).of_either e h) [
+  | inl p ↦ subst (Contains (x ∷ xs)) (same p) (first_in x xs)
+  | inr p ↦ later_in x xs e (latest_in xs e p)
 ]
   where
     same : Some x ≡ Some e → x ≡ e
     same p = cc
 
 -- a list that has an entry has a latest one
-pub latest-some : {T : Type 0} (es : List (Entry T)) (e : Entry T) → Contains es e → IsSome (latest_of es)
-latest-some [] e h = absurd (omega (arith, h.1))
-latest-some (x ∷ xs) e h = (joined_keeps_latest (Some x) (latest_of xs)).has_one x (inl refl)
+pub latest_some : {T : Type 0} (es : List (Entry T)) (e : Entry T) → Contains es e → IsSome (latest_of es)
+latest_some [] e h = absurd (omega (arith, h.1))
+latest_some (x ∷ xs) e h = (joined_keeps_latest (Some x) (latest_of xs)).has_one x (inl refl)
 
 turned : (o : Ordering) → o ≢ Less → is_gt (ordering_reverse o) ≡ false
 turned Less h = absurd (h refl)
@@ -55,11 +55,11 @@ not_some : (T : Type 0) → IsSome {T = T} None → ⊥
 not_some T h = (cc)
 
 -- none in the list is later
-pub latest-greatest : {T : Type 0} (es : List (Entry T)) (e x : Entry T) → latest_of es ≡ Some e → Contains es x → stamp_cmp e.stamp x.stamp ≢ Less
-latest-greatest [] e x h k = absurd (omega (arith, k.1))
-latest-greatest {T} (y ∷ ys) e x h k = elim (cases-in y ys x k) [
+pub latest_greatest : {T : Type 0} (es : List (Entry T)) (e x : Entry T) → latest_of es ≡ Some e → Contains es x → stamp_cmp e.stamp x.stamp ≢ Less
+latest_greatest [] e x h k = absurd (omega (arith, k.1))
+latest_greatest {T} (y ∷ ys) e x h k = elim (cases_in y ys x k) [
   | inl p ↦ (joined_keeps_latest (Some y) (latest_of ys)).none_later e x h (inl (ap Some p))
-  | inr r ↦ by (latest_of ys) refl (λ z hz. latest-greatest ys z x hz r) (latest-some ys x r)
+  | inr r ↦ by (latest_of ys) refl (λ z hz. latest_greatest ys z x hz r) (latest_some ys x r)
 ]
   where
     by : (o : Option (Entry T)) → latest_of ys ≡ o → ((z : Entry T) → latest_of ys ≡ Some z → stamp_cmp z.stamp x.stamp ≢ Less) → IsSome (latest_of ys) → stamp_cmp e.stamp x.stamp ≢ Less
@@ -76,10 +76,10 @@ same_stamp a b ab ba = exact_stamps a b (between (stamp_cmp a b) ab (subst (λ o
     between Greater p q = absurd (q refl)
 
 -- what is computed is the field
-pub field-is : {T : Type 0} (field : Field T) (k : Knowledge) (dot : Dot) (e : Entry T) → field_of field k dot ≡ Some e → IsFieldOf field k dot e
-field-is field k dot e h = record {
-  given = latest-in (settings_of field k dot) e h;
-  latest = λ x here. latest-greatest (settings_of field k dot) e x h here;
+pub field_is : {T : Type 0} (field : Field T) (k : Knowledge) (dot : Dot) (e : Entry T) → field_of field k dot ≡ Some e → IsFieldOf field k dot e
+field_is field k dot e h = record {
+  given = latest_in (settings_of field k dot) e h;
+  latest = λ x here. latest_greatest (settings_of field k dot) e x h here;
 }
 
 -- of two lists with the same entries, one value a stamp, the latest is one
@@ -89,53 +89,53 @@ same_latest {T} xs ys to from one = by (latest_of xs) (latest_of ys) refl refl
   where
     by : (o p : Option (Entry T)) → latest_of xs ≡ o → latest_of ys ≡ p → latest_of xs ≡ latest_of ys
     by None None q r = q ∙ sym r
-    by None (Some f) q r = absurd (not_some (Entry T) (subst IsSome q (latest-some xs f (from f (latest-in ys f r)))))
-    by (Some e) None q r = absurd (not_some (Entry T) (subst IsSome r (latest-some ys e (to e (latest-in xs e q)))))
+    by None (Some f) q r = absurd (not_some (Entry T) (subst IsSome q (latest_some xs f (from f (latest_in ys f r)))))
+    by (Some e) None q r = absurd (not_some (Entry T) (subst IsSome r (latest_some ys e (to e (latest_in xs e q)))))
     by (Some e) (Some f) q r =
-        let stamps : e.stamp ≡ f.stamp = same_stamp e.stamp f.stamp (latest-greatest xs e f q (from f (latest-in ys f r))) (latest-greatest ys f e r (to e (latest-in xs e q))) in
-        let values : e.value ≡ f.value = one e f (latest-in xs e q) (from f (latest-in ys f r)) stamps in
+        let stamps : e.stamp ≡ f.stamp = same_stamp e.stamp f.stamp (latest_greatest xs e f q (from f (latest_in ys f r))) (latest_greatest ys f e r (to e (latest_in xs e q))) in
+        let values : e.value ≡ f.value = one e f (latest_in xs e q) (from f (latest_in ys f r)) stamps in
         q ∙ (λ i. Some (record { stamp = stamps i; value = values i })) ∙ sym r
 
 chosen_of : {T : Type 0} (field : Field T) (dot : Dot) → Operation → Option (Entry T)
 chosen_of field dot o = if asserts dot o then field o else None
 
-setting-moves : {T : Type 0} (field : Field T) (k l : Knowledge) (dot : Dot) → ((o : Operation) → Contains k o → Contains l o) → (e : Entry T) → Contains (settings_of field k dot) e → Contains (settings_of field l dot) e
+setting_moves : {T : Type 0} (field : Field T) (k l : Knowledge) (dot : Dot) → ((o : Operation) → Contains k o → Contains l o) → (e : Entry T) → Contains (settings_of field k dot) e → Contains (settings_of field l dot) e
 unfolding chosen_of
-setting-moves field k l dot to e h =
-    let o = in-some (chosen_of field dot) k e h in some-in (chosen_of field dot) l o.0 e (to o.0 o.1) o.2
+setting_moves field k l dot to e h =
+    let o = in_some (chosen_of field dot) k e h in some_in (chosen_of field dot) l o.0 e (to o.0 o.1) o.2
 
-pub same-field : {T : Type 0} (field : Field T) (k l : Knowledge) (dot : Dot) → SameOperations k l → OneValue field k → field_of field k dot ≡ field_of field l dot
-same-field field k l dot same one =
-    same_latest (settings_of field k dot) (settings_of field l dot) (setting-moves field k l dot (λ o. (same o).0)) (setting-moves field l k dot (λ o. (same o).1)) (one dot)
+pub same_field : {T : Type 0} (field : Field T) (k l : Knowledge) (dot : Dot) → SameOperations k l → OneValue field k → field_of field k dot ≡ field_of field l dot
+same_field field k l dot same one =
+    same_latest (settings_of field k dot) (settings_of field l dot) (setting_moves field k l dot (λ o. (same o).0)) (setting_moves field l k dot (λ o. (same o).1)) (one dot)
 
 -- the dot of a pair that is found
 own_dot : (dot : Dot) (p : Dot × Member) → is_dot dot p.0 ≡ true → dot ≡ p.0
 own_dot dot p h = dots_exact dot p.0 (equal_of (dot_cmp dot p.0) h)
 
-pair-moves : (k l : Knowledge) → ((o : Operation) → Contains k o → Contains l o) → (p : Dot × Member) → Contains (all_asserted k) p → Contains (all_asserted l) p
-pair-moves k l to p h = let o = in-part asserted_by k p h in part-in asserted_by l o.0 p (to o.0 o.1) o.2
+pair_moves : (k l : Knowledge) → ((o : Operation) → Contains k o → Contains l o) → (p : Dot × Member) → Contains (all_asserted k) p → Contains (all_asserted l) p
+pair_moves k l to p h = let o = in_part asserted_by k p h in part_in asserted_by l o.0 p (to o.0 o.1) o.2
 
 -- what is found for a dot stands in the knowledge under that very dot
 pub found_pair : (k : Knowledge) (dot : Dot) (p : Dot × Member) → find (λ q. is_dot dot q.0) (all_asserted k) ≡ Some p → Contains (all_asserted k) (dot, p.1)
 found_pair k dot p h =
-    let is = in-find (λ (q : Dot × Member). is_dot dot q.0) (all_asserted k) p h in
+    let is = in_find (λ (q : Dot × Member). is_dot dot q.0) (all_asserted k) p h in
     subst (λ d. Contains (all_asserted k) (d, p.1)) (sym (own_dot dot p is.1)) is.0
 
 -- where nothing is found for a dot, nothing stands there under it
 some_in_none : (k : Knowledge) (dot : Dot) → find (λ q. is_dot dot q.0) (all_asserted k) ≡ None → (p : Dot × Member) → p.0 ≡ dot → Contains (all_asserted k) p → ⊥
 some_in_none k dot h p is here =
     let test : Dot × Member → Bool = λ q. is_dot dot q.0 in
-    true≢false (sym (any-in test (all_asserted k) p here (ap (is_dot dot) is ∙ ap is_eq (tied_itself dots_total dot))) ∙ sym (some-find test (all_asserted k)) ∙ ap is_some h)
+    true≢false (sym (any_in test (all_asserted k) p here (ap (is_dot dot) is ∙ ap is_eq (tied_itself dots_total dot))) ∙ sym (some_find test (all_asserted k)) ∙ ap is_some h)
 
-pub same-member : (k l : Knowledge) (dot : Dot) → SameOperations k l
+pub same_member : (k l : Knowledge) (dot : Dot) → SameOperations k l
     → ((d : Dot) (m n : Member) → Contains (all_asserted k) (d, m) → Contains (all_asserted k) (d, n) → m ≡ n) → member_of k dot ≡ member_of l dot
-same-member k l dot same one = by (find (λ q. is_dot dot q.0) (all_asserted k)) (find (λ q. is_dot dot q.0) (all_asserted l)) refl refl
+same_member k l dot same one = by (find (λ q. is_dot dot q.0) (all_asserted k)) (find (λ q. is_dot dot q.0) (all_asserted l)) refl refl
   where
     by : (a b : Option (Dot × Member)) → find (λ q. is_dot dot q.0) (all_asserted k) ≡ a → find (λ q. is_dot dot q.0) (all_asserted l) ≡ b → member_of k dot ≡ member_of l dot
     by None None p q = ap (option_map (λ r. r.1)) (p ∙ sym q)
-    by None (Some r) p q = absurd (some_in_none k dot p (dot, r.1) refl (pair-moves l k (λ o. (same o).1) (dot, r.1) (found_pair l dot r q)))
-    by (Some r) None p q = absurd (some_in_none l dot q (dot, r.1) refl (pair-moves k l (λ o. (same o).0) (dot, r.1) (found_pair k dot r p)))
+    by None (Some r) p q = absurd (some_in_none k dot p (dot, r.1) refl (pair_moves l k (λ o. (same o).1) (dot, r.1) (found_pair l dot r q)))
+    by (Some r) None p q = absurd (some_in_none l dot q (dot, r.1) refl (pair_moves k l (λ o. (same o).0) (dot, r.1) (found_pair k dot r p)))
     by (Some r) (Some s) p q =
         ap (option_map (λ t. t.1)) p
-        ∙ ap Some (one dot r.1 s.1 (found_pair k dot r p) (pair-moves l k (λ o. (same o).1) (dot, s.1) (found_pair l dot s q)))
+        ∙ ap Some (one dot r.1 s.1 (found_pair k dot r p) (pair_moves l k (λ o. (same o).1) (dot, s.1) (found_pair l dot s q)))
         ∙ sym (ap (option_map (λ t. t.1)) q)

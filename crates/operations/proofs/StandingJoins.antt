@@ -14,13 +14,13 @@ use Rattle.operations.specs.Operations.{penalty_field, pause_field, label_field}
 use Rattle.operations.specs.Knowledge.{Knowledge, IsConsistent, SameOperations, asserts, names}
 use Rattle.dots.specs.CountedCalls.{is_zero, no_calls}
 use Rattle.operations.specs.Totals.{Entries, greater, join_of, key_cmp, totals_of}
-use Rattle.operations.proofs.CountLaws.{same-total}
+use Rattle.operations.proofs.CountLaws.{same_total}
 use Rattle.dots.proofs.DotOrder.{dots_exact, dots_total}
-use Rattle.operations.proofs.FieldLaws.{same-field, same-member}
-use Rattle.operations.proofs.JoinedKnowledge.{condition-both, known-both, total-both}
-use Rattle.operations.proofs.KnownLaws.{known-dot}
-use Rattle.operations.proofs.TotalsLaws.{by_numbers, get-joined, totals_at-joined, zero_greater, greater_zero}
-use Rattle.operations.proofs.VisibleLaws.{same-any}
+use Rattle.operations.proofs.FieldLaws.{same_field, same_member}
+use Rattle.operations.proofs.JoinedKnowledge.{condition_both, known_both, total_both}
+use Rattle.operations.proofs.KnownLaws.{known_dot}
+use Rattle.operations.proofs.TotalsLaws.{by_numbers, get_joined, totals_at_joined, zero_greater, greater_zero}
+use Rattle.operations.proofs.VisibleLaws.{same_any}
 
 not_zero : (p q : CallTotals) → is_zero p ≡ false → is_zero (greater p q) ≡ false
 not_zero p q h = grind (arith, nat_tests)
@@ -37,26 +37,26 @@ none_zero (Some q) (Some r) f g p e = ap is_zero (sym (same_totals _ p e)) ∙ n
     same_totals x y h = cc
 
 -- what stands for each of two knowledges, joined, stands for them together
-pub represents-both : (c d joint : Dot → Option Condition) (known heard all : set.FinSet dot_cmp) (counts totals sums : Entries) (k l : Knowledge)
+pub represents_both : (c d joint : Dot → Option Condition) (known heard all : set.FinSet dot_cmp) (counts totals sums : Entries) (k l : Knowledge)
     → Represents c known counts k → Represents d heard totals l
     → ((dot : Dot) → joint dot ≡ condition_joined (c dot) (d dot)) → all ≡ set.union known heard → sums ≡ join_of counts totals
     → Represents joint all sums (k ++ l)
-represents-both c d joint known heard all counts totals sums k l r s conditions dots are = record {
-  conditions = λ dot. conditions dot ∙ (λ i. condition_joined (r.conditions dot i) (s.conditions dot i)) ∙ sym (condition-both k l dot);
-  dots = dots ∙ (λ i. set.union (r.dots i) (s.dots i)) ∙ sym (known-both k l);
+represents_both c d joint known heard all counts totals sums k l r s conditions dots are = record {
+  conditions = λ dot. conditions dot ∙ (λ i. condition_joined (r.conditions dot i) (s.conditions dot i)) ∙ sym (condition_both k l dot);
+  dots = dots ∙ (λ i. set.union (r.dots i) (s.dots i)) ∙ sym (known_both k l);
   totals = λ site queue.
       ap (λ x. totals_of x site queue) are
-      ∙ totals_at-joined counts totals (record { site = site; queue = queue })
+      ∙ totals_at_joined counts totals (record { site = site; queue = queue })
       ∙ (λ i. greater (r.totals site queue i) (s.totals site queue i))
-      ∙ by_numbers _ _ (sym (total-both k l site queue Completed)) (sym (total-both k l site queue Abandoned));
-  no_zeros = λ key p e. none_zero (map.get counts key) (map.get totals key) (r.no_zeros key) (s.no_zeros key) p (sym (get-joined counts totals key) ∙ ap (λ x. map.get x key) (sym are) ∙ e);
+      ∙ by_numbers _ _ (sym (total_both k l site queue Completed)) (sym (total_both k l site queue Abandoned));
+  no_zeros = λ key p e. none_zero (map.get counts key) (map.get totals key) (r.no_zeros key) (s.no_zeros key) p (sym (get_joined counts totals key) ∙ ap (λ x. map.get x key) (sym are) ∙ e);
 }
 
 -- nothing stands for the knowledge of no operation
-pub represents-none : Represents (λ dot. None) set.empty map.empty []
-represents-none = record {
+pub represents_none : Represents (λ dot. None) set.empty map.empty []
+represents_none = record {
   conditions = λ dot. refl;
-  dots = set.same_set dots_total dots_exact _ _ (λ dot. set.contains-empty dot_cmp dot ∙ sym (known-dot [] dot));
+  dots = set.same_set dots_total dots_exact _ _ (λ dot. set.contains-empty dot_cmp dot ∙ sym (known_dot [] dot));
   totals = λ site queue. ap (λ o. unwrap_or o no_calls) (map.get-empty key_cmp (record { site = site; queue = queue }));
   no_zeros = λ key p e. absurd (none_some p (sym (map.get-empty key_cmp key) ∙ e));
 }
@@ -69,16 +69,16 @@ condition_by : Bool → Option Member → DotFields → Option Condition
 condition_by named member fields = if named then Some Dead else option_map (λ m. Live m fields) member
 
 -- what stands for a consistent knowledge stands for each with the same operations
-pub represents-same : (c : Dot → Option Condition) (known : set.FinSet dot_cmp) (counts : Entries) (k l : Knowledge)
+pub represents_same : (c : Dot → Option Condition) (known : set.FinSet dot_cmp) (counts : Entries) (k l : Knowledge)
     → IsConsistent k → SameOperations k l → Represents c known counts k → Represents c known counts l
 unfolding condition_by
-represents-same c known counts k l one same r = record {
-  conditions = λ dot. r.conditions dot ∙ (λ i. condition_by (same-any (names dot) k l same i) (same-member k l dot same one.members i) (record {
-    penalty = same-field penalty_field k l dot same one.penalties i;
-    pause = same-field pause_field k l dot same one.pauses i;
-    label = same-field label_field k l dot same one.labels i;
+represents_same c known counts k l one same r = record {
+  conditions = λ dot. r.conditions dot ∙ (λ i. condition_by (same_any (names dot) k l same i) (same_member k l dot same one.members i) (record {
+    penalty = same_field penalty_field k l dot same one.penalties i;
+    pause = same_field pause_field k l dot same one.pauses i;
+    label = same_field label_field k l dot same one.labels i;
   }));
-  dots = r.dots ∙ set.same_set dots_total dots_exact _ _ (λ dot. known-dot k dot ∙ (λ i. same-any (asserts dot) k l same i || same-any (names dot) k l same i) ∙ sym (known-dot l dot));
-  totals = λ site queue. r.totals site queue ∙ by_numbers _ _ (same-total k l same site queue Completed) (same-total k l same site queue Abandoned);
+  dots = r.dots ∙ set.same_set dots_total dots_exact _ _ (λ dot. known_dot k dot ∙ (λ i. same_any (asserts dot) k l same i || same_any (names dot) k l same i) ∙ sym (known_dot l dot));
+  totals = λ site queue. r.totals site queue ∙ by_numbers _ _ (same_total k l same site queue Completed) (same_total k l same site queue Abandoned);
   no_zeros = r.no_zeros;
 }

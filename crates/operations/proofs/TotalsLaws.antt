@@ -47,8 +47,8 @@ any_append p (x ∷ xs) ys = elim (p x) as (λ b. (b || list_any p (xs ++ ys)) �
 ]
 
 -- what the join has at a key
-pub get-joined : (x y : Entries) (q : Key) → map.get (join_of x y) q ≡ cond (map.contains_key x q || map.contains_key y q) (Some (greater (totals_at x q) (totals_at y q))) None
-get-joined x y q =
+pub get_joined : (x y : Entries) (q : Key) → map.get (join_of x y) q ≡ cond (map.contains_key x q || map.contains_key y q) (Some (greater (totals_at x q) (totals_at y q))) None
+get_joined x y q =
     map.get-from_entries keys_total _ q
     ∙ find_each (λ k. greater (totals_at x k) (totals_at y k)) q (map.keys x ++ map.keys y)
     ∙ ap (λ b. cond b (Some (greater (totals_at x q) (totals_at y q))) None)
@@ -107,28 +107,28 @@ pub same_totals : (x y : Entries) → ((q : Key) → map.get x q ≡ map.get y q
 same_totals = map.same_map keys_total exact_keys
 
 -- the join has the greater of both totals
-pub totals_at-joined : (x y : Entries) (q : Key) → totals_at (join_of x y) q ≡ greater (totals_at x q) (totals_at y q)
-totals_at-joined x y q = ap (λ o. unwrap_or o no_calls) (get-joined x y q) ∙ totals_of_either (map.get x q) (map.get y q)
+pub totals_at_joined : (x y : Entries) (q : Key) → totals_at (join_of x y) q ≡ greater (totals_at x q) (totals_at y q)
+totals_at_joined x y q = ap (λ o. unwrap_or o no_calls) (get_joined x y q) ∙ totals_of_either (map.get x q) (map.get y q)
 
 pub joined_comm : (x y : Entries) → join_of x y ≡ join_of y x
-joined_comm x y = same_totals _ _ (λ q. get-joined x y q ∙ either_comm (map.get x q) (map.get y q) ∙ sym (get-joined y x q))
+joined_comm x y = same_totals _ _ (λ q. get_joined x y q ∙ either_comm (map.get x q) (map.get y q) ∙ sym (get_joined y x q))
 
 pub joined_assoc : (x y z : Entries) → join_of (join_of x y) z ≡ join_of x (join_of y z)
 joined_assoc x y z = same_totals _ _ (λ q.
-    get-joined (join_of x y) z q
-    ∙ ap (λ o. either o (map.get z q)) (get-joined x y q)
+    get_joined (join_of x y) z q
+    ∙ ap (λ o. either o (map.get z q)) (get_joined x y q)
     ∙ either_assoc (map.get x q) (map.get y q) (map.get z q)
-    ∙ sym (ap (either (map.get x q)) (get-joined y z q))
-    ∙ sym (get-joined x (join_of y z) q))
+    ∙ sym (ap (either (map.get x q)) (get_joined y z q))
+    ∙ sym (get_joined x (join_of y z) q))
 
 pub joined_self : (x : Entries) → join_of x x ≡ x
-joined_self x = same_totals _ _ (λ q. get-joined x x q ∙ either_self (map.get x q))
+joined_self x = same_totals _ _ (λ q. get_joined x x q ∙ either_self (map.get x q))
 
 -- ---- one entry alone
 
 -- what one entry has at a key
-pub get-single : (key : Key) (totals : CallTotals) (q : Key) → map.get (single key totals) q ≡ cond (is_zero totals) None (cond (is_key q key) (Some totals) None)
-get-single key totals q = elim (is_zero totals) as (λ b. (let chosen : Entries = cond b map.empty (map.insert map.empty key totals) in map.get chosen q) ≡ cond b None (cond (is_key q key) (Some totals) None)) [
+pub get_single : (key : Key) (totals : CallTotals) (q : Key) → map.get (single key totals) q ≡ cond (is_zero totals) None (cond (is_key q key) (Some totals) None)
+get_single key totals q = elim (is_zero totals) as (λ b. (let chosen : Entries = cond b map.empty (map.insert map.empty key totals) in map.get chosen q) ≡ cond b None (cond (is_key q key) (Some totals) None)) [
   | true ↦ map.get-empty key_cmp q
   | false ↦ map.get-insert keys_total map.empty key totals q ∙ ap (cond (is_key q key) (Some totals)) (map.get-empty key_cmp q)
 ]
@@ -143,11 +143,11 @@ none_either (Some p) = ap Some (zero_greater p)
 
 -- nothing joined in changes nothing
 pub joined_empty : (x : Entries) → join_of x map.empty ≡ x
-joined_empty x = same_totals _ _ (λ q. get-joined x map.empty q ∙ ap (either (map.get x q)) (map.get-empty key_cmp q) ∙ either_none (map.get x q))
+joined_empty x = same_totals _ _ (λ q. get_joined x map.empty q ∙ ap (either (map.get x q)) (map.get-empty key_cmp q) ∙ either_none (map.get x q))
 
 -- what one entry has at a key, where its numbers are not both zero
-pub get-single_some : (key : Key) (totals : CallTotals) (q : Key) → is_zero totals ≡ false → map.get (single key totals) q ≡ cond (is_key q key) (Some totals) None
-get-single_some key totals q h = get-single key totals q ∙ ap (λ b. cond b None (cond (is_key q key) (Some totals) None)) h
+pub get_single_some : (key : Key) (totals : CallTotals) (q : Key) → is_zero totals ≡ false → map.get (single key totals) q ≡ cond (is_key q key) (Some totals) None
+get_single_some key totals q h = get_single key totals q ∙ ap (λ b. cond b None (cond (is_key q key) (Some totals) None)) h
 
 either_some : (a : Option CallTotals) (p : CallTotals) → either a (Some p) ≡ Some (greater (unwrap_or a no_calls) p)
 either_some None p = refl
@@ -156,8 +156,8 @@ either_some (Some q) p = refl
 -- to join one entry in is to insert the greater of both at its key
 pub joined_single : (x : Entries) (key : Key) (totals : CallTotals) → is_zero totals ≡ false → join_of x (single key totals) ≡ map.insert x key (greater (totals_at x key) totals)
 joined_single x key totals h = same_totals _ _ (λ q.
-    get-joined x (single key totals) q
-    ∙ ap (either (map.get x q)) (get-single_some key totals q h)
+    get_joined x (single key totals) q
+    ∙ ap (either (map.get x q)) (get_single_some key totals q h)
     ∙ elim (is_key q key) as (λ b. is_key q key ≡ b → either (map.get x q) (cond b (Some totals) None) ≡ cond b (Some (greater (totals_at x key) totals)) (map.get x q)) [
       | true ↦ λ e. either_some (map.get x q) totals ∙ ap (λ k. Some (greater (totals_at x k) totals)) (one_key q key e)
       | false ↦ λ e. either_none (map.get x q)
@@ -183,11 +183,11 @@ either_limits key (Some r) (Some q) f g p e = subst (IsTotal key) (ap (λ o. unw
 pub single_limits : (key : Key) (totals : CallTotals) → (is_zero totals ≡ false → IsTotal key totals) → InLimits (single key totals)
 single_limits key totals h q p e =
     elim (is_zero totals) as (λ z. is_zero totals ≡ z → IsTotal q p) [
-      | true ↦ λ zero. absurd (none_some p (ap (λ z. cond z None (cond (is_key q key) (Some totals) None)) (sym zero) ∙ sym (get-single key totals q) ∙ e))
+      | true ↦ λ zero. absurd (none_some p (ap (λ z. cond z None (cond (is_key q key) (Some totals) None)) (sym zero) ∙ sym (get_single key totals q) ∙ e))
       | false ↦ λ counted. elim (is_key q key) as (λ b. is_key q key ≡ b → IsTotal q p) [
         | true ↦ λ same. subst (λ k. IsTotal k p) (sym (one_key q key same))
-            (subst (IsTotal key) (ap (λ o. unwrap_or o totals) (ap (λ b. cond b (Some totals) None) (sym same) ∙ sym (get-single_some key totals q counted) ∙ e)) (h counted))
-        | false ↦ λ other. absurd (none_some p (ap (λ b. cond b (Some totals) None) (sym other) ∙ sym (get-single_some key totals q counted) ∙ e))
+            (subst (IsTotal key) (ap (λ o. unwrap_or o totals) (ap (λ b. cond b (Some totals) None) (sym same) ∙ sym (get_single_some key totals q counted) ∙ e)) (h counted))
+        | false ↦ λ other. absurd (none_some p (ap (λ b. cond b (Some totals) None) (sym other) ∙ sym (get_single_some key totals q counted) ∙ e))
       ] refl
     ] refl
   where
@@ -204,7 +204,7 @@ counted_of totals h = grind (arith, nat_tests)
 
 -- a join of totals within the limits is within them
 pub joined_limits : (x y : Entries) → InLimits x → InLimits y → InLimits (join_of x y)
-joined_limits x y f g key totals e = either_limits key (map.get x key) (map.get y key) (f key) (g key) totals (sym (get-joined x y key) ∙ e)
+joined_limits x y f g key totals e = either_limits key (map.get x key) (map.get y key) (f key) (g key) totals (sym (get_joined x y key) ∙ e)
 
 -- ---- missing keys
 
@@ -213,8 +213,8 @@ pub entries_empty : map.entries (map.empty {X = CallTotals} {R = key_cmp}) ≡ [
 entries_empty = nil_from_length _ (sym (map.len-entries map.empty) ∙ map.len-empty key_cmp CallTotals)
 
 -- one entry's key is missing, or not
-pub count_missing-single : (x : Entries) (key : Key) (totals : CallTotals) → is_zero totals ≡ false → count_missing x (single key totals) ≡ cond (is_none (map.get x key)) 1 0
-count_missing-single x key totals h = ap (count_missing x) (single_is key totals h) ∙ ap (count_by (λ k. is_none (map.get x k))) (keys_one key totals) ∙ zero-add _
+pub count_missing_single : (x : Entries) (key : Key) (totals : CallTotals) → is_zero totals ≡ false → count_missing x (single key totals) ≡ cond (is_none (map.get x key)) 1 0
+count_missing_single x key totals h = ap (count_missing x) (single_is key totals h) ∙ ap (count_by (λ k. is_none (map.get x k))) (keys_one key totals) ∙ zero-add _
   where
     single_is : (key : Key) (totals : CallTotals) → is_zero totals ≡ false → single key totals ≡ map.insert map.empty key totals
     single_is key totals h = ap (λ b. let chosen : Entries = cond b map.empty (map.insert map.empty key totals) in chosen) h
@@ -227,13 +227,13 @@ count_missing-single x key totals h = ap (count_missing x) (single_is key totals
 
 -- ---- sums over the sites
 
-pub sum_below-zero : (f : ℕ → ℕ) → sum_below 0 f ≡ 0
+pub sum_below_zero : (f : ℕ → ℕ) → sum_below 0 f ≡ 0
 unfolding sum_below
-sum_below-zero f = refl
+sum_below_zero f = refl
 
-pub sum_below-more : (f : ℕ → ℕ) (n : ℕ) → sum_below (n + 1) f ≡ sum_below n f + f n
+pub sum_below_more : (f : ℕ → ℕ) (n : ℕ) → sum_below (n + 1) f ≡ sum_below n f + f n
 unfolding sum_below
-sum_below-more f n = rw add-one refl
+sum_below_more f n = rw add-one refl
 
 -- ---- what totals read
 

@@ -20,8 +20,8 @@ use Rattle.dots.specs.CountedCalls.{no_calls}
 use Rattle.operations.specs.Totals.{Entries, key_cmp, totals_of}
 use Rattle.operations.specs.Traces.{LeaveTraces, LeavesTrace}
 use Rattle.dots.proofs.DotOrder.{dots_exact, dots_total}
-use Rattle.operations.proofs.KnownLaws.{known-dot}
-use Rattle.general_lemmas.proofs.Membership.{first-in}
+use Rattle.operations.proofs.KnownLaws.{known_dot}
+use Rattle.general_lemmas.proofs.Membership.{first_in}
 
 is_itself : (dot : Dot) → is_dot dot dot ≡ true
 is_itself dot = ap is_eq (tied_itself dots_total dot)
@@ -36,10 +36,10 @@ some_dot dots some = by (set.items dots) refl
 
 -- a dot that the first operation asserts, or names, is known
 asserted_known : (o : Operation) (k : Knowledge) (dot : Dot) → asserts dot o ≡ true → set.contains (known_dots (o ∷ k)) dot ≡ true
-asserted_known o k dot h = known-dot (o ∷ k) dot ∙ ap (λ b. (b || is_asserted k dot) || is_named (o ∷ k) dot) h
+asserted_known o k dot h = known_dot (o ∷ k) dot ∙ ap (λ b. (b || is_asserted k dot) || is_named (o ∷ k) dot) h
 
 named_known : (o : Operation) (k : Knowledge) (dot : Dot) → names dot o ≡ true → set.contains (known_dots (o ∷ k)) dot ≡ true
-named_known o k dot h = known-dot (o ∷ k) dot ∙ ap (λ b. is_asserted (o ∷ k) dot || (b || is_named k dot)) h ∙ or_true (is_asserted (o ∷ k) dot)
+named_known o k dot h = known_dot (o ∷ k) dot ∙ ap (λ b. is_asserted (o ∷ k) dot || (b || is_named k dot)) h ∙ or_true (is_asserted (o ∷ k) dot)
   where
     or_true : (b : Bool) → (b || true) ≡ true
     or_true true = refl
@@ -78,11 +78,11 @@ trace (Count site queue calls total) k leaves none uncounted =
     omega (arith, none_counted, said, leaves)
 
 -- a knowledge that leaves traces is empty exactly where no dot and no total of what stands for it is
-pub traces-none : (c : Dot → Option Condition) (known : set.FinSet dot_cmp) (counts : Entries) (k : Knowledge) → LeaveTraces k → Represents c known counts k
+pub traces_none : (c : Dot → Option Condition) (known : set.FinSet dot_cmp) (counts : Entries) (k : Knowledge) → LeaveTraces k → Represents c known counts k
     → known ≡ set.empty → counts ≡ map.empty → k ≡ []
-traces-none c known counts [] leave r e f = refl
-traces-none c known counts (o ∷ k) leave r e f =
-    absurd (trace o k (leave o (first-in o k)) (sym r.dots ∙ e) (λ site queue calls. zero site queue calls (sym (r.totals site queue) ∙ ap (λ x. totals_of x site queue) f ∙ nothing_read site queue)))
+traces_none c known counts [] leave r e f = refl
+traces_none c known counts (o ∷ k) leave r e f =
+    absurd (trace o k (leave o (first_in o k)) (sym r.dots ∙ e) (λ site queue calls. zero site queue calls (sym (r.totals site queue) ∙ ap (λ x. totals_of x site queue) f ∙ nothing_read site queue)))
   where
     zero : (site queue : ℕ) (calls : Calls) → record { completed = site_total (o ∷ k) site queue Completed; abandoned = site_total (o ∷ k) site queue Abandoned } ≡ no_calls → site_total (o ∷ k) site queue calls ≡ 0
     zero site queue Completed h = ap (λ t. t.completed) h

@@ -14,55 +14,55 @@ use Rattle.operations.specs.Knowledge.{Knowledge, all_asserted, asserts, is_asse
 use Rattle.dots.specs.WithinLimits.{IsDot, IsMember}
 use Rattle.operations.specs.OperationLimits.{AreWithinLimits, IsWithinLimits}
 use Rattle.dots.proofs.DotOrder.{dots_exact}
-use Rattle.general_lemmas.proofs.Membership.{in-any, in-find, in-part, nothing-in, only-in}
+use Rattle.general_lemmas.proofs.Membership.{in_any, in_find, in_part, nothing_in, only_in}
 
-equal-of : (o : Ordering) → is_eq o ≡ true → o ≡ Equal
-equal-of Less h = absurd (true≢false (sym h))
-equal-of Equal h = refl
-equal-of Greater h = absurd (true≢false (sym h))
+equal_of : (o : Ordering) → is_eq o ≡ true → o ≡ Equal
+equal_of Less h = absurd (true≢false (sym h))
+equal_of Equal h = refl
+equal_of Greater h = absurd (true≢false (sym h))
 
 -- a test for a dot passes that dot alone
-pub one-dot : (a b : Dot) → is_dot a b ≡ true → a ≡ b
-one-dot a b h = dots_exact a b (equal-of (dot_cmp a b) h)
+pub one_dot : (a b : Dot) → is_dot a b ≡ true → a ≡ b
+one_dot a b h = dots_exact a b (equal_of (dot_cmp a b) h)
 
 -- what an operation asserts
-asserted-is : (o : Operation) → IsWithinLimits o → (dot : Dot) (member : Member) → Contains (asserted_by o) (dot, member) → IsDot dot × IsMember member
-asserted-is (Add made held stamp penalty pause label older) h dot member here =
-    let e = only-in (made, held) (dot, member) here in (subst IsDot (ap (λ p. p.0) e) h.dot_is, subst IsMember (ap (λ p. p.1) e) h.member_is)
-asserted-is (Write dots setting stamp older) h dot member here = h.dots_are dot member here
-asserted-is (Remove dots) h dot member here = absurd (nothing-in (dot, member) here)
-asserted-is (Count site queue calls total) h dot member here = absurd (nothing-in (dot, member) here)
+asserted_is : (o : Operation) → IsWithinLimits o → (dot : Dot) (member : Member) → Contains (asserted_by o) (dot, member) → IsDot dot × IsMember member
+asserted_is (Add made held stamp penalty pause label older) h dot member here =
+    let e = only_in (made, held) (dot, member) here in (subst IsDot (ap (λ p. p.0) e) h.dot_is, subst IsMember (ap (λ p. p.1) e) h.member_is)
+asserted_is (Write dots setting stamp older) h dot member here = h.dots_are dot member here
+asserted_is (Remove dots) h dot member here = absurd (nothing_in (dot, member) here)
+asserted_is (Count site queue calls total) h dot member here = absurd (nothing_in (dot, member) here)
 
 -- what it names
-named-is : (o : Operation) → IsWithinLimits o → (dot : Dot) → names dot o ≡ true → IsDot dot
-named-is (Add made held stamp penalty pause label older) h dot e = h.older_are dot e
-named-is (Write dots setting stamp older) h dot e = h.older_are dot e
-named-is (Remove dots) h dot e = h dot e
-named-is (Count site queue calls total) h dot e = absurd (true≢false (sym e ∙ set.contains-empty dot_cmp dot))
+named_is : (o : Operation) → IsWithinLimits o → (dot : Dot) → names dot o ≡ true → IsDot dot
+named_is (Add made held stamp penalty pause label older) h dot e = h.older_are dot e
+named_is (Write dots setting stamp older) h dot e = h.older_are dot e
+named_is (Remove dots) h dot e = h dot e
+named_is (Count site queue calls total) h dot e = absurd (true≢false (sym e ∙ set.contains-empty dot_cmp dot))
 
 -- all dots that are asserted, with their members
-pub asserted-in : (k : Knowledge) → AreWithinLimits k → (dot : Dot) (member : Member) → Contains (all_asserted k) (dot, member) → IsDot dot × IsMember member
-asserted-in k within dot member here = let o = in-part asserted_by k (dot, member) here in asserted-is o.0 (within o.0 o.1) dot member o.2
+pub asserted_in : (k : Knowledge) → AreWithinLimits k → (dot : Dot) (member : Member) → Contains (all_asserted k) (dot, member) → IsDot dot × IsMember member
+asserted_in k within dot member here = let o = in_part asserted_by k (dot, member) here in asserted_is o.0 (within o.0 o.1) dot member o.2
 
 -- a dot that is asserted
-pub asserted-dot-is : (k : Knowledge) → AreWithinLimits k → (dot : Dot) → is_asserted k dot ≡ true → IsDot dot
-asserted-dot-is k within dot h =
-    let o = in-any (asserts dot) k h in
-    let p = in-any (λ p. is_dot dot p.0) (asserted_by o.0) o.2 in
-    subst IsDot (sym (one-dot dot p.0.0 p.2)) (asserted-is o.0 (within o.0 o.1) p.0.0 p.0.1 p.1).0
+pub asserted_dot_is : (k : Knowledge) → AreWithinLimits k → (dot : Dot) → is_asserted k dot ≡ true → IsDot dot
+asserted_dot_is k within dot h =
+    let o = in_any (asserts dot) k h in
+    let p = in_any (λ p. is_dot dot p.0) (asserted_by o.0) o.2 in
+    subst IsDot (sym (one_dot dot p.0.0 p.2)) (asserted_is o.0 (within o.0 o.1) p.0.0 p.0.1 p.1).0
 
 -- one that is named
-pub named-dot-is : (k : Knowledge) → AreWithinLimits k → (dot : Dot) → is_named k dot ≡ true → IsDot dot
-named-dot-is k within dot h = let o = in-any (names dot) k h in named-is o.0 (within o.0 o.1) dot o.2
+pub named_dot_is : (k : Knowledge) → AreWithinLimits k → (dot : Dot) → is_named k dot ≡ true → IsDot dot
+named_dot_is k within dot h = let o = in_any (names dot) k h in named_is o.0 (within o.0 o.1) dot o.2
 
 -- a dot with its member
-pub member-of-is : (k : Knowledge) → AreWithinLimits k → (dot : Dot) (member : Member) → member_of k dot ≡ Some member → IsDot dot × IsMember member
-member-of-is k within dot member h = by (find (λ p. is_dot dot p.0) (all_asserted k)) refl h
+pub member_of_is : (k : Knowledge) → AreWithinLimits k → (dot : Dot) (member : Member) → member_of k dot ≡ Some member → IsDot dot × IsMember member
+member_of_is k within dot member h = by (find (λ p. is_dot dot p.0) (all_asserted k)) refl h
   where
     by : (o : Option (Dot × Member)) → find (λ p. is_dot dot p.0) (all_asserted k) ≡ o → option_map (λ p. p.1) o ≡ Some member → IsDot dot × IsMember member
     by None e h = absurd (cc)
     by (Some p) e h =
-        let found = in-find (λ p. is_dot dot p.0) (all_asserted k) p e in
-        let is = asserted-in k within p.0 p.1 found.0 in
+        let found = in_find (λ p. is_dot dot p.0) (all_asserted k) p e in
+        let is = asserted_in k within p.0 p.1 found.0 in
         let same : p.1 ≡ member = cc in
-        (subst IsDot (sym (one-dot dot p.0 found.1)) is.0, subst IsMember same is.1)
+        (subst IsDot (sym (one_dot dot p.0 found.1)) is.0, subst IsMember same is.1)

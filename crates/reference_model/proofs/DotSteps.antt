@@ -15,9 +15,9 @@ use Rattle.operations.specs.Operations.{Operation, asserted_by, named_by}
 use Rattle.operations.specs.Knowledge.{Knowledge, is_dot, asserts, names, is_asserted, is_named, all_asserted, member_of, visible_dots}
 use Rattle.general_lemmas.specs.SetItems.{in_order}
 use Rattle.dots.proofs.DotOrder.{dots_total, dots_exact}
-use Rattle.general_lemmas.proofs.ItemOrder.{units, in_order-list}
-use Rattle.general_lemmas.proofs.Membership.{some-find}
-use Rattle.operations.proofs.VisibleLaws.{visible-dot}
+use Rattle.general_lemmas.proofs.ItemOrder.{units, in_order_list}
+use Rattle.general_lemmas.proofs.Membership.{some_find}
+use Rattle.operations.proofs.VisibleLaws.{visible_dot}
 use Rattle.general_lemmas.proofs.TruthTables.{equal_of, truth}
 use Rattle.reference_model.proofs.SetSteps.{any_insert, rises, each_itself}
 
@@ -34,7 +34,7 @@ pub asserts_is : {A : Type 0} (see : A → Member) (dot : Dot) (o : Operation) (
 asserts_is see dot o r h =
     let test : Dot × Member → Bool = λ p. is_dot dot p.0 in
     let member : Dot × Member → Member = λ p. p.1 in
-    sym (is_some_map see r) ∙ ap is_some h ∙ is_some_map member (find test (asserted_by o)) ∙ some-find test (asserted_by o)
+    sym (is_some_map see r) ∙ ap is_some h ∙ is_some_map member (find test (asserted_by o)) ∙ some_find test (asserted_by o)
 
 -- a set of dots with one dot more
 pub one_dot_more : (q dot : Dot) (old new : List Dot) → new ≡ insert_key dot_cmp old dot → list_any (is_dot q) new ≡ (list_any (is_dot q) old || is_dot q dot)
@@ -79,7 +79,7 @@ visible_list k found listed has sorted is =
     let rising : T (map.is_sorted dot_cmp (units kept)) =
     truth (map.is_sorted dot_cmp (units kept)) (ap (λ ds. map.is_sorted dot_cmp (units ds)) (sym (each_itself kept)) ∙ rises dot_cmp (λ d. d) kept (IsStrictlySortedBy-filter dot_cmp unnamed found sorted)) in
     is
-    ∙ sym (in_order-list dots_total dots_exact (visible_dots k) kept rising (λ q.
-    visible-dot k q
+    ∙ sym (in_order_list dots_total dots_exact (visible_dots k) kept rising (λ q.
+    visible_dot k q
     ∙ ap (λ b. b && not (is_named k q)) (sym (has q))
     ∙ sym (is_member-filter (eq_by_cmp_equiv dots_total) unnamed q (λ x e. ap unnamed (dots_exact q x (equal_of (dot_cmp q x) e))) found)))

@@ -12,9 +12,9 @@ use Rattle.dots.specs.DotSets.{run_count, is_older}
 use Rattle.operations.specs.Operations.{Operation, Setting, Add, Write, asserted_by}
 use Rattle.operations.specs.Knowledge.{Knowledge, is_dot, asserts, names, is_asserted, is_named, visible_dots, known_dots}
 use Rattle.dots.proofs.DotOrder.{dots_total, dots_exact}
-use Rattle.operations.proofs.KnownLaws.{known-dot}
-use Rattle.general_lemmas.proofs.Membership.{any-map}
-use Rattle.operations.proofs.VisibleLaws.{visible-dot}
+use Rattle.operations.proofs.KnownLaws.{known_dot}
+use Rattle.general_lemmas.proofs.Membership.{any_map}
+use Rattle.operations.proofs.VisibleLaws.{visible_dot}
 use Rattle.replica.specs.declared.refusal.Refusal.TheVariants.{MembersFull, Exhausted, TotalFull}
 use Rattle.replica.specs.Changes.{Meaning, Refused, Makes, add_at, write_at, is_full, is_too_long, is_exhausted, is_past_total, within_limits, where_absent, where_present, time_replaced}
 use Rattle.replica.specs.Promises.{ForeseesOneMore, OlderAreNamed}
@@ -36,7 +36,7 @@ second_is false b h = refl
 -- ---- the dots of an operation
 module _ (o : Operation) (made dead : List Dot) (touches : Touches o made dead) where
   made_are : (q : Dot) → asserts q o ≡ list_any (is_dot q) made
-  made_are q = sym (any-map (is_dot q) (λ (p : Dot × Member). p.0) (asserted_by o)) ∙ ap (list_any (is_dot q)) touches.asserted_are
+  made_are q = sym (any_map (is_dot q) (λ (p : Dot × Member). p.0) (asserted_by o)) ∙ ap (list_any (is_dot q)) touches.asserted_are
 
   dead_are : (q : Dot) → names q o ≡ list_any (is_dot q) dead
   dead_are q = ap (λ s. set.contains s q) touches.named_are ∙ set.contains-from_list dots_total dead q
@@ -45,31 +45,31 @@ module _ (o : Operation) (made dead : List Dot) (touches : Touches o made dead) 
   pub visible_then : (site : ℕ) (k : Knowledge) → ForeseesOneMore site k o → (q : Dot) → set.contains (visible_with (site_view site k) o) q
       ≡ ((is_asserted k q || list_any (is_dot q) made) && not (is_named k q || list_any (is_dot q) dead))
   visible_then site k foreseen q =
-      ap (λ s. set.contains s q) foreseen.visible ∙ visible-dot (o ∷ k) q
+      ap (λ s. set.contains s q) foreseen.visible ∙ visible_dot (o ∷ k) q
       ∙ (λ i. or_comm (made_are q i) (is_asserted k q) i && not (or_comm (dead_are q i) (is_named k q) i))
 
   -- the known ones
   pub known_then : (site : ℕ) (k : Knowledge) → ForeseesOneMore site k o → (q : Dot) → set.contains (known_with (site_view site k) o) q
       ≡ ((is_asserted k q || list_any (is_dot q) made) || (is_named k q || list_any (is_dot q) dead))
   known_then site k foreseen q =
-      ap (λ s. set.contains s q) foreseen.known ∙ known-dot (o ∷ k) q
+      ap (λ s. set.contains s q) foreseen.known ∙ known_dot (o ∷ k) q
       ∙ (λ i. or_comm (made_are q i) (is_asserted k q) i || or_comm (dead_are q i) (is_named k q) i)
 
   -- those of the operation alone
   pub known_alone : (q : Dot) → set.contains (known_dots (o ∷ [])) q ≡ ((is_asserted [] q || list_any (is_dot q) made) || (is_named [] q || list_any (is_dot q) dead))
   known_alone q =
-      known-dot (o ∷ []) q
+      known_dot (o ∷ []) q
       ∙ (λ i. or-false (asserts q o) i || or-false (names q o) i)
       ∙ (λ i. made_are q i || dead_are q i)
 
 -- all that is visible, and all that is known, with nothing more
 pub visible_now : (k l : Knowledge) → k ≡ l → (q : Dot) → set.contains (visible_dots l) q ≡ ((is_asserted k q || false) && not (is_named k q || false))
 visible_now k l e q =
-    ap (λ m. set.contains (visible_dots m) q) (sym e) ∙ visible-dot k q ∙ (λ i. sym (or-false (is_asserted k q)) i && not (sym (or-false (is_named k q)) i))
+    ap (λ m. set.contains (visible_dots m) q) (sym e) ∙ visible_dot k q ∙ (λ i. sym (or-false (is_asserted k q)) i && not (sym (or-false (is_named k q)) i))
 
 pub known_now : (k l : Knowledge) → k ≡ l → (q : Dot) → set.contains (known_dots l) q ≡ ((is_asserted k q || false) || (is_named k q || false))
 known_now k l e q =
-    ap (λ m. set.contains (known_dots m) q) (sym e) ∙ known-dot k q ∙ (λ i. sym (or-false (is_asserted k q)) i || sym (or-false (is_named k q)) i)
+    ap (λ m. set.contains (known_dots m) q) (sym e) ∙ known_dot k q ∙ (λ i. sym (or-false (is_asserted k q)) i || sym (or-false (is_named k q)) i)
 
 -- the older ones of those that are named
 pub older_list : (site : ℕ) (k : Knowledge) (dots found listed : List Dot) → OlderAreNamed → ((q : Dot) → list_any (is_dot q) found ≡ is_named k q)
@@ -102,17 +102,17 @@ not_past most n h = grind (arith, nat_tests)
 
 -- ---- what an operation means, by the tests of the limits
 module _ (r b : SiteView) (o : Operation) (full : Bool) (is : full ≡ (is_full r o || (is_full b o || is_too_long o))) where
-  pub means-full : full ≡ true → Refused MembersFull ≡ within_limits r b o
-  means-full h = λ i. if (sym h ∙ is) i then Refused MembersFull else if is_exhausted o then Refused Exhausted else if is_past_total o then Refused TotalFull else Makes o
+  pub means_full : full ≡ true → Refused MembersFull ≡ within_limits r b o
+  means_full h = λ i. if (sym h ∙ is) i then Refused MembersFull else if is_exhausted o then Refused Exhausted else if is_past_total o then Refused TotalFull else Makes o
 
-  pub means-exhausted : full ≡ false → is_exhausted o ≡ true → Refused Exhausted ≡ within_limits r b o
-  means-exhausted h e = λ i. if (sym h ∙ is) i then Refused MembersFull else if sym e i then Refused Exhausted else if is_past_total o then Refused TotalFull else Makes o
+  pub means_exhausted : full ≡ false → is_exhausted o ≡ true → Refused Exhausted ≡ within_limits r b o
+  means_exhausted h e = λ i. if (sym h ∙ is) i then Refused MembersFull else if sym e i then Refused Exhausted else if is_past_total o then Refused TotalFull else Makes o
 
-  pub means-past_total : full ≡ false → is_exhausted o ≡ false → is_past_total o ≡ true → Refused TotalFull ≡ within_limits r b o
-  means-past_total h e t = λ i. if (sym h ∙ is) i then Refused MembersFull else if sym e i then Refused Exhausted else if sym t i then Refused TotalFull else Makes o
+  pub means_past_total : full ≡ false → is_exhausted o ≡ false → is_past_total o ≡ true → Refused TotalFull ≡ within_limits r b o
+  means_past_total h e t = λ i. if (sym h ∙ is) i then Refused MembersFull else if sym e i then Refused Exhausted else if sym t i then Refused TotalFull else Makes o
 
-  pub means-made : full ≡ false → is_exhausted o ≡ false → is_past_total o ≡ false → Makes o ≡ within_limits r b o
-  means-made h e t = λ i. if (sym h ∙ is) i then Refused MembersFull else if sym e i then Refused Exhausted else if sym t i then Refused TotalFull else Makes o
+  pub means_made : full ≡ false → is_exhausted o ≡ false → is_past_total o ≡ false → Makes o ≡ within_limits r b o
+  means_made h e t = λ i. if (sym h ∙ is) i then Refused MembersFull else if sym e i then Refused Exhausted else if sym t i then Refused TotalFull else Makes o
 
 -- where no dot is seen
 pub absent_means : (dots seen : List (Dot × Member)) (n : ℕ) (m : Meaning) → seen ≡ dots → length seen ≡ n → true ≡ (n == 0) → m ≡ where_absent dots m
@@ -158,13 +158,13 @@ module _ (site : ℕ) (r b : SiteView) (member : Member) (penalty : ℕ) (paused
   add_limits = limits add (record { asserted_are = ap (λ d. d ∷ []) (sym dot_is); named_are = ap (λ d. older_dots r (d ∷ [])) (sym dot_is) ∙ sym older_is })
 
   pub add_full : full ≡ true → Refused MembersFull ≡ within_limits r b add
-  add_full h = means-full r b add full add_limits h
+  add_full h = means_full r b add full add_limits h
 
   pub add_no_count : full ≡ false → nat_lt (2 ^ 40) (suc r.last_count) ≡ true → Refused Exhausted ≡ within_limits r b add
-  add_no_count h e = means-exhausted r b add full add_limits h (ap (λ x. x || nat_lt (2 ^ 40) (suc r.last_time)) e)
+  add_no_count h e = means_exhausted r b add full add_limits h (ap (λ x. x || nat_lt (2 ^ 40) (suc r.last_time)) e)
 
   pub add_no_time : full ≡ false → nat_lt (2 ^ 40) (suc r.last_time) ≡ true → Refused Exhausted ≡ within_limits r b add
-  add_no_time h e = means-exhausted r b add full add_limits h (or_second (nat_lt (2 ^ 40) (suc r.last_count)) (nat_lt (2 ^ 40) (suc r.last_time)) e)
+  add_no_time h e = means_exhausted r b add full add_limits h (or_second (nat_lt (2 ^ 40) (suc r.last_count)) (nat_lt (2 ^ 40) (suc r.last_time)) e)
 
   pub add_made : full ≡ false → nat_lt (2 ^ 40) (suc r.last_count) ≡ false → nat_lt (2 ^ 40) (suc r.last_time) ≡ false
       → (made : Dot) (stamp : Stamp) (pause : PauseState) (named : Label) → made ≡ record { site = site; count = suc r.last_count }
@@ -172,7 +172,7 @@ module _ (site : ℕ) (r b : SiteView) (member : Member) (penalty : ℕ) (paused
       → Makes (Add made member stamp penalty pause named (set.from_list older)) ≡ within_limits r b add
   add_made h e f made stamp pause named is at set_to labelled =
       (λ i. Makes (Add (is i) member (at i) penalty (set_to i) (labelled i) ((older_is ∙ ap (λ d. older_dots r (d ∷ [])) dot_is) i)))
-      ∙ means-made r b add full add_limits h (λ i. e i || f i) refl
+      ∙ means_made r b add full add_limits h (λ i. e i || f i) refl
 
 -- ---- writes
 module _ (site : ℕ) (r b : SiteView) (setting : Setting) (dots : List (Dot × Member)) (made older : List Dot) (full : Bool)
@@ -188,16 +188,16 @@ module _ (site : ℕ) (r b : SiteView) (setting : Setting) (dots : List (Dot × 
   write_limits = limits write (record { asserted_are = sym made_is; named_are = ap (older_dots r) (sym made_is) ∙ sym older_is })
 
   pub write_full : full ≡ true → Refused MembersFull ≡ within_limits r b write
-  write_full h = means-full r b write full write_limits h
+  write_full h = means_full r b write full write_limits h
 
   pub write_no_time : full ≡ false → nat_lt (2 ^ 40) time ≡ true → Refused Exhausted ≡ within_limits r b write
-  write_no_time h e = means-exhausted r b write full write_limits h e
+  write_no_time h e = means_exhausted r b write full write_limits h e
 
   pub write_made : full ≡ false → nat_lt (2 ^ 40) time ≡ false → (stamp : Stamp) (set_to : Setting) → stamp ≡ record { time = time; site = site } → set_to ≡ setting
       → Makes (Write dots set_to stamp (set.from_list older)) ≡ within_limits r b write
   write_made h e stamp set_to at is =
       (λ i. Makes (Write dots (is i) (at i) ((older_is ∙ ap (older_dots r) made_is) i)))
-      ∙ means-made r b write full write_limits h e refl
+      ∙ means_made r b write full write_limits h e refl
 
 -- ---- frames that are taken
 module _ (s : SiteKnowledge) (frame : Knowledge) (dots runs : ℕ) (dots_are : dots ≡ set.len (visible_dots (frame ++ s.known))) (runs_are : runs ≡ run_count (known_dots (frame ++ s.known))) where

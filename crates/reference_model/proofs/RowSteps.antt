@@ -13,7 +13,7 @@ use Rattle.dots.specs.Orders.{text_cmp}
 use Rattle.operations.specs.Knowledge.{Knowledge, member_of}
 use Rattle.operations.specs.Rows.{DotView, MemberRow, dot_view, interface_in, interfaces_of, row_of}
 use Rattle.general_lemmas.specs.SetItems.{in_order}
-use Rattle.general_lemmas.proofs.ItemOrder.{units, in_order-list}
+use Rattle.general_lemmas.proofs.ItemOrder.{units, in_order_list}
 use Rattle.general_lemmas.proofs.TruthTables.{truth}
 use Rattle.reference_model.proofs.SetSteps.{any_insert, each_insert, rises}
 
@@ -35,7 +35,7 @@ unfolding interfaces_of
 interface_list r queue found has sorted =
     let texts = each (λ (i : Bor (List ℕ)). i.now) found in
     let rising : T (map.is_sorted text_cmp (units texts)) = truth (map.is_sorted text_cmp (units texts)) (rises text_cmp (λ (i : Bor (List ℕ)). i.now) found sorted) in
-    sym (in_order-list nat_list_cmp_total (set.slice_cmp-IsAntisymmetric set.nat_cmp-IsAntisymmetric) (interfaces_of r queue) texts rising (λ q.
+    sym (in_order_list nat_list_cmp_total (set.slice_cmp-IsAntisymmetric set.nat_cmp-IsAntisymmetric) (interfaces_of r queue) texts rising (λ q.
     set.contains-from_list nat_list_cmp_total (filter_map (λ dot. option_and_then (interface_in queue) (r.member dot)) (in_order r.visible)) q ∙ sym (has q)))
 
 -- a set of interfaces with one more

@@ -16,7 +16,7 @@ use Rattle.dots.specs.Orders.{dot_cmp}
 use Rattle.dots.specs.DotSets.{next_dot, run_ends, run_count}
 use Rattle.operations.specs.Knowledge.{is_dot}
 use Rattle.dots.proofs.DotOrder.{dots_total, dots_exact, same_dot}
-use Rattle.dots.proofs.RunCounts.{contains-run_ends}
+use Rattle.dots.proofs.RunCounts.{contains_run_ends}
 use Rattle.reference_model.specs.NextDots.{goes_on}
 use Rattle.general_lemmas.proofs.TruthTables.{equal_of}
 
@@ -86,38 +86,38 @@ next_first x (y ∷ ys) h =
     (none_next x y ys (ap is_lt greater.0) (sorted_head dot_cmp y ys (sorted_tail dot_cmp x (y ∷ ys) h)))
 
 -- what is left of a list that rises
-pub sorted-drop : (xs : List Dot) (n : ℕ) → IsStrictlySortedBy dot_cmp xs → IsStrictlySortedBy dot_cmp (drop n xs)
-sorted-drop xs zero h = h
-sorted-drop [] (suc n) h = h
-sorted-drop (x ∷ xs) (suc n) h = sorted-drop xs n (sorted_tail dot_cmp x xs h)
+pub sorted_drop : (xs : List Dot) (n : ℕ) → IsStrictlySortedBy dot_cmp xs → IsStrictlySortedBy dot_cmp (drop n xs)
+sorted_drop xs zero h = h
+sorted_drop [] (suc n) h = h
+sorted_drop (x ∷ xs) (suc n) h = sorted_drop xs n (sorted_tail dot_cmp x xs h)
 
 -- ---- sets
 fresh : (x : Dot) (xs : List Dot) → IsStrictlySortedBy dot_cmp (x ∷ xs) → set.contains (set.from_list {R = dot_cmp} xs) x ≡ false
 fresh x xs h = set.contains-from_list dots_total xs x ∙ not_among x xs (sorted_head dot_cmp x xs h)
 
 -- a set of dots that rise has as many dots as there are in the list
-pub len-sorted : (xs : List Dot) → IsStrictlySortedBy dot_cmp xs → set.len (set.from_list {R = dot_cmp} xs) ≡ length xs
-len-sorted [] h = set.len-empty dot_cmp
-len-sorted (x ∷ xs) h =
+pub len_sorted : (xs : List Dot) → IsStrictlySortedBy dot_cmp xs → set.len (set.from_list {R = dot_cmp} xs) ≡ length xs
+len_sorted [] h = set.len-empty dot_cmp
+len_sorted (x ∷ xs) h =
     let n = set.len (set.from_list {R = dot_cmp} xs) in
     set.len-insert dots_total (set.from_list xs) x
     ∙ ap (λ b. cond b n (n + 1)) (fresh x xs h)
-    ∙ ap (λ m. m + 1) (len-sorted xs (sorted_tail dot_cmp x xs h)) ∙ omega arith
+    ∙ ap (λ m. m + 1) (len_sorted xs (sorted_tail dot_cmp x xs h)) ∙ omega arith
 
 -- a set with the dots of a list is that of the list
 pub set_is : (s : set.FinSet dot_cmp) (xs : List Dot) → ((q : Dot) → set.contains s q ≡ list_any (is_dot q) xs) → s ≡ set.from_list xs
 set_is s xs same = set.same_set dots_total dots_exact s (set.from_list xs) (λ q. same q ∙ sym (set.contains-from_list dots_total xs q))
 
 -- the dots of one list that rises that aren't in another
-pub len-missing : (s : set.FinSet dot_cmp) (xs ys : List Dot) → IsStrictlySortedBy dot_cmp xs
+pub len_missing : (s : set.FinSet dot_cmp) (xs ys : List Dot) → IsStrictlySortedBy dot_cmp xs
     → ((q : Dot) → set.contains s q ≡ (list_any (is_dot q) xs && not (list_any (is_dot q) ys)))
     → count_by (λ d. not (list_any (is_dot d) ys)) xs ≡ set.len s
-len-missing s xs ys rises same =
+len_missing s xs ys rises same =
     let absent : Dot → Bool = λ d. not (list_any (is_dot d) ys) in
     let left = filter absent xs in
     let has : s ≡ set.from_list left = set_is s left (λ q.
     same q ∙ sym (is_member-filter (eq_by_cmp_equiv dots_total) absent q (λ x e. ap absent (same_one q x e)) xs)) in
-    sym (length-filter absent xs) ∙ sym (len-sorted left (IsStrictlySortedBy-filter dot_cmp absent xs rises)) ∙ sym (ap set.len has)
+    sym (length-filter absent xs) ∙ sym (len_sorted left (IsStrictlySortedBy-filter dot_cmp absent xs rises)) ∙ sym (ap set.len has)
 
 -- ---- one dot more, before all others
 kept_ends : (e c b d : Bool) → ((e || c) ≡ true → b ≡ false) → (e ≡ true → d ≡ true) → ((e || c) && not (b || d)) ≡ (c && not d)
@@ -147,7 +147,7 @@ module _ (x : Dot) (xs : List Dot) (rises : IsStrictlySortedBy dot_cmp (x ∷ xs
 
   ends_then : (q : Dot) → set.contains (run_ends (set.from_list (x ∷ xs))) q ≡ ((is_dot q x || set.contains rest q) && not (is_dot (next_dot q) x || set.contains rest (next_dot q)))
   ends_then q =
-      contains-run_ends (set.from_list (x ∷ xs)) q
+      contains_run_ends (set.from_list (x ∷ xs)) q
       ∙ (λ i. set.contains-insert dots_total rest x q i && not (set.contains-insert dots_total rest x (next_dot q) i))
 
   next_in : set.contains rest (next_dot x) ≡ goes_on x xs
@@ -157,29 +157,29 @@ module _ (x : Dot) (xs : List Dot) (rises : IsStrictlySortedBy dot_cmp (x ∷ xs
   at_next g e q is = ap (λ d. set.contains rest (next_dot d)) (same_one q x is) ∙ next_in ∙ e
 
   -- the first dot ends a run where the next one doesn't follow
-  pub run_count-more : run_count (set.from_list (x ∷ xs)) ≡ cond (goes_on x xs) (run_count rest) (run_count rest + 1)
+  pub run_count_more : run_count (set.from_list (x ∷ xs)) ≡ cond (goes_on x xs) (run_count rest) (run_count rest + 1)
   unfolding run_count
-  run_count-more = by (goes_on x xs) refl
+  run_count_more = by (goes_on x xs) refl
     where
       by : (g : Bool) → goes_on x xs ≡ g → set.len (run_ends (set.from_list (x ∷ xs))) ≡ cond g (set.len (run_ends rest)) (set.len (run_ends rest) + 1)
       by true e = ap set.len (set.same_set dots_total dots_exact _ _ (λ q.
           ends_then q
           ∙ kept_ends (is_dot q x) (set.contains rest q) (is_dot (next_dot q) x) (set.contains rest (next_dot q)) (not_next q) (at_next true e q)
-          ∙ sym (contains-run_ends rest q)))
+          ∙ sym (contains_run_ends rest q)))
       by false e =
           ap set.len (set.same_set dots_total dots_exact (run_ends (set.from_list (x ∷ xs))) (set.insert (run_ends rest) x) (λ q.
           ends_then q
           ∙ one_more_end (is_dot q x) (set.contains rest q) (is_dot (next_dot q) x) (set.contains rest (next_dot q)) (not_next q) (at_next false e q)
-          ∙ ap (λ b. is_dot q x || b) (sym (contains-run_ends rest q)) ∙ sym (set.contains-insert dots_total (run_ends rest) x q)))
+          ∙ ap (λ b. is_dot q x || b) (sym (contains_run_ends rest q)) ∙ sym (set.contains-insert dots_total (run_ends rest) x q)))
           ∙ set.len-insert dots_total (run_ends rest) x
           ∙ ap (λ b. cond b (set.len (run_ends rest)) (set.len (run_ends rest) + 1))
-          (contains-run_ends rest x ∙ ap (λ b. b && not (set.contains rest (next_dot x))) (fresh x xs rises))
+          (contains_run_ends rest x ∙ ap (λ b. b && not (set.contains rest (next_dot x))) (fresh x xs rises))
 
-pub run_count-empty : run_count (set.from_list {R = dot_cmp} []) ≡ 0
+pub run_count_empty : run_count (set.from_list {R = dot_cmp} []) ≡ 0
 unfolding run_count
-run_count-empty =
+run_count_empty =
     ap set.len (set.same_set dots_total dots_exact (run_ends set.empty) set.empty (λ q.
-    contains-run_ends set.empty q ∙ ap (λ b. b && not (set.contains (set.empty {R = dot_cmp}) (next_dot q))) (set.contains-empty dot_cmp q) ∙ sym (set.contains-empty dot_cmp q)))
+    contains_run_ends set.empty q ∙ ap (λ b. b && not (set.contains (set.empty {R = dot_cmp}) (next_dot q))) (set.contains-empty dot_cmp q) ∙ sym (set.contains-empty dot_cmp q)))
     ∙ set.len-empty dot_cmp
 
 -- one dot more that a loop passes: the ends so far, and the runs of what is left, stay all runs
@@ -188,7 +188,7 @@ pub counts_ends : (x : Dot) (rest left : List Dot) (before now all : ℕ) (follo
 counts_ends x rest left before now all follows is rises goes made h =
     let runs = run_count (set.from_list rest) in
     let more : run_count (set.from_list left) ≡ cond follows runs (runs + 1) =
-    ap (λ xs. run_count (set.from_list xs)) is ∙ run_count-more x rest (subst (IsStrictlySortedBy dot_cmp) is rises) ∙ ap (λ b. cond b runs (runs + 1)) (sym goes) in
+    ap (λ xs. run_count (set.from_list xs)) is ∙ run_count_more x rest (subst (IsStrictlySortedBy dot_cmp) is rises) ∙ ap (λ b. cond b runs (runs + 1)) (sym goes) in
     by follows runs (run_count (set.from_list left)) more made h
   where
     by : (f : Bool) (runs whole : ℕ) → whole ≡ cond f runs (runs + 1) → now ≡ cond f before (before + 1) → before + whole ≡ all → now + runs ≡ all

@@ -17,7 +17,7 @@ use Rattle.dots.specs.CountedCalls.{no_calls}
 use Rattle.operations.specs.Totals.{greater, key_cmp, totals_of}
 use Rattle.operations.proofs.ConditionOrder.{condition_below_self, condition_below_through, conditions_least}
 use Rattle.operations.proofs.RegisterLaws.{stamps_total}
-use Rattle.operations.proofs.TotalsLaws.{totals_at-joined}
+use Rattle.operations.proofs.TotalsLaws.{totals_at_joined}
 use Rattle.site_totals.specs.Raising.{number_of}
 use Rattle.member_orset.specs.Members.{condition_at, condition_of}
 use Rattle.delta.specs.DeltaStates as deltas
@@ -29,133 +29,133 @@ use Rattle.replica.specs.Keeping.{IsBelow}
 -- ---- the order
 
 -- a delta is below itself
-pub below-self : (d : DeltaState) → IsBelow d d
-below-self d = record { conditions = λ dot. condition_below_self (condition_of d.members dot); totals = λ site queue calls. omega arith }
+pub below_self : (d : DeltaState) → IsBelow d d
+below_self d = record { conditions = λ dot. condition_below_self (condition_of d.members dot); totals = λ site queue calls. omega arith }
 
 -- and below all that is above one that it is below
-pub below-through : (d e f : DeltaState) → IsBelow d e → IsBelow e f → IsBelow d f
-below-through d e f p q = record {
+pub below_through : (d e f : DeltaState) → IsBelow d e → IsBelow e f → IsBelow d f
+below_through d e f p q = record {
   conditions = λ dot. condition_below_through (condition_of d.members dot) (condition_of e.members dot) (condition_of f.members dot) (p.conditions dot) (q.conditions dot);
   totals = λ site queue calls. omega (arith, p.totals site queue calls, q.totals site queue calls);
 }
 
 -- a number of the greater of two totals is the greater of both
-number-greater : (calls : Calls) (p q : CallTotals) → number_of calls (greater p q) ≡ max (number_of calls p) (number_of calls q)
-number-greater Completed p q = refl
-number-greater Abandoned p q = refl
+number_greater : (calls : Calls) (p q : CallTotals) → number_of calls (greater p q) ≡ max (number_of calls p) (number_of calls q)
+number_greater Completed p q = refl
+number_greater Abandoned p q = refl
 
 -- each number of a join is the greater of both
-pub number-joined : (d x f : DeltaState) → IsJoinOf d x f → (site queue : ℕ) (calls : Calls)
+pub number_joined : (d x f : DeltaState) → IsJoinOf d x f → (site queue : ℕ) (calls : Calls)
     → number_of calls (totals_of f.totals.entries site queue) ≡ max (number_of calls (totals_of d.totals.entries site queue)) (number_of calls (totals_of x.totals.entries site queue))
-number-joined d x f j site queue calls =
+number_joined d x f j site queue calls =
     ap (λ e. number_of calls (totals_of e site queue)) j.totals
-    ∙ ap (number_of calls) (totals_at-joined d.totals.entries x.totals.entries (record { site = site; queue = queue }))
-    ∙ number-greater calls (totals_of d.totals.entries site queue) (totals_of x.totals.entries site queue)
+    ∙ ap (number_of calls) (totals_at_joined d.totals.entries x.totals.entries (record { site = site; queue = queue }))
+    ∙ number_greater calls (totals_of d.totals.entries site queue) (totals_of x.totals.entries site queue)
 
 -- the first of two that agree is below their join
-pub below-joined : (e x f : DeltaState) → Agree e x → IsJoinOf e x f → IsBelow e f
-below-joined e x f agree j = record {
+pub below_joined : (e x f : DeltaState) → Agree e x → IsJoinOf e x f → IsBelow e f
+below_joined e x f agree j = record {
   conditions = λ dot. subst (IsConditionBelow (condition_of e.members dot)) (sym (j.members.conditions dot)) (conditions_least (condition_of e.members dot) (condition_of x.members dot) (agree dot)).first;
-  totals = λ site queue calls. omega (arith, number-joined e x f j site queue calls);
+  totals = λ site queue calls. omega (arith, number_joined e x f j site queue calls);
 }
 
 -- so is the other
-pub other-below-joined : (e x f : DeltaState) → Agree e x → IsJoinOf e x f → IsBelow x f
-other-below-joined e x f agree j = record {
+pub other_below_joined : (e x f : DeltaState) → Agree e x → IsJoinOf e x f → IsBelow x f
+other_below_joined e x f agree j = record {
   conditions = λ dot. subst (IsConditionBelow (condition_of x.members dot)) (sym (j.members.conditions dot)) (conditions_least (condition_of e.members dot) (condition_of x.members dot) (agree dot)).second;
-  totals = λ site queue calls. omega (arith, number-joined e x f j site queue calls);
+  totals = λ site queue calls. omega (arith, number_joined e x f j site queue calls);
 }
 
 -- the join of two that agree is below all that is above both
-pub joined-least : (d x f g : DeltaState) → Agree d x → IsJoinOf d x f → IsBelow d g → IsBelow x g → IsBelow f g
-joined-least d x f g agree j p q = record {
+pub joined_least : (d x f g : DeltaState) → Agree d x → IsJoinOf d x f → IsBelow d g → IsBelow x g → IsBelow f g
+joined_least d x f g agree j p q = record {
   conditions = λ dot.
       subst (λ c. IsConditionBelow c (condition_of g.members dot)) (sym (j.members.conditions dot))
       ((conditions_least (condition_of d.members dot) (condition_of x.members dot) (agree dot)).least (condition_of g.members dot) (p.conditions dot) (q.conditions dot));
-  totals = λ site queue calls. omega (arith, number-joined d x f j site queue calls, p.totals site queue calls, q.totals site queue calls);
+  totals = λ site queue calls. omega (arith, number_joined d x f j site queue calls, p.totals site queue calls, q.totals site queue calls);
 }
 
 -- a delta that is below another stays so where the same is joined into both
-pub joined-keeps-below : (d e x f g : DeltaState) → IsBelow d e → Agree d x → Agree e x → IsJoinOf d x f → IsJoinOf e x g → IsBelow f g
-joined-keeps-below d e x f g p a b j k =
-    joined-least d x f g a j (below-through d e g p (below-joined e x g b k)) (other-below-joined e x g b k)
+pub joined_keeps_below : (d e x f g : DeltaState) → IsBelow d e → Agree d x → Agree e x → IsJoinOf d x f → IsJoinOf e x g → IsBelow f g
+joined_keeps_below d e x f g p a b j k =
+    joined_least d x f g a j (below_through d e g p (below_joined e x g b k)) (other_below_joined e x g b k)
 
 -- no calls are none of either kind
-number-none : (calls : Calls) → number_of calls no_calls ≡ 0
-number-none Completed = refl
-number-none Abandoned = refl
+number_none : (calls : Calls) → number_of calls no_calls ≡ 0
+number_none Completed = refl
+number_none Abandoned = refl
 
 -- an empty delta has no calls
-pub number-empty : (d : DeltaState) → IsEmpty d → (site queue : ℕ) (calls : Calls) → number_of calls (totals_of d.totals.entries site queue) ≡ 0
-number-empty d empty site queue calls =
+pub number_empty : (d : DeltaState) → IsEmpty d → (site queue : ℕ) (calls : Calls) → number_of calls (totals_of d.totals.entries site queue) ≡ 0
+number_empty d empty site queue calls =
     ap (λ e. number_of calls (totals_of e site queue)) empty.totals
     ∙ ap (λ o. number_of calls (unwrap_or o no_calls)) (map.get-empty key_cmp (record { site = site; queue = queue }))
-    ∙ number-none calls
+    ∙ number_none calls
 
 -- an empty delta is below all
-pub empty-below : (d e : DeltaState) → IsEmpty d → IsBelow d e
-empty-below d e empty = record {
+pub empty_below : (d e : DeltaState) → IsEmpty d → IsBelow d e
+empty_below d e empty = record {
   conditions = λ dot. subst (λ c. IsConditionBelow c (condition_of e.members dot)) (sym (empty.conditions dot)) tt;
-  totals = λ site queue calls. omega (arith, number-empty d empty site queue calls);
+  totals = λ site queue calls. omega (arith, number_empty d empty site queue calls);
 }
 
 -- a delta that says the same has the same condition of each dot
-pub unchanged-condition : (old new : DeltaState) → deltas.IsUnchanged old new → (dot : Dot) → condition_of new.members dot ≡ condition_of old.members dot
-unchanged-condition old new same dot = λ i. condition_at (map.get (same.members.live i) dot) (set.contains (same.members.known i) dot)
+pub unchanged_condition : (old new : DeltaState) → deltas.IsUnchanged old new → (dot : Dot) → condition_of new.members dot ≡ condition_of old.members dot
+unchanged_condition old new same dot = λ i. condition_at (map.get (same.members.live i) dot) (set.contains (same.members.known i) dot)
 
 -- it is below that which it was, and the other way
-pub unchanged-below : (old new : DeltaState) → deltas.IsUnchanged old new → IsBelow old new × IsBelow new old
-unchanged-below old new same = (
+pub unchanged_below : (old new : DeltaState) → deltas.IsUnchanged old new → IsBelow old new × IsBelow new old
+unchanged_below old new same = (
   record {
-    conditions = λ dot. subst (IsConditionBelow (condition_of old.members dot)) (sym (unchanged-condition old new same dot)) (condition_below_self (condition_of old.members dot));
+    conditions = λ dot. subst (IsConditionBelow (condition_of old.members dot)) (sym (unchanged_condition old new same dot)) (condition_below_self (condition_of old.members dot));
     totals = λ site queue calls. omega (arith, ap (λ e. number_of calls (totals_of e site queue)) same.totals);
   },
   record {
-    conditions = λ dot. subst (IsConditionBelow (condition_of new.members dot)) (unchanged-condition old new same dot) (condition_below_self (condition_of new.members dot));
+    conditions = λ dot. subst (IsConditionBelow (condition_of new.members dot)) (unchanged_condition old new same dot) (condition_below_self (condition_of new.members dot));
     totals = λ site queue calls. omega (arith, ap (λ e. number_of calls (totals_of e site queue)) same.totals);
   },
 )
 
 -- the order stays where both say the same
-pub same-below : (d e f g : DeltaState) → IsBelow d e → deltas.IsUnchanged d f → deltas.IsUnchanged e g → IsBelow f g
-same-below d e f g p a b = below-through f d g (unchanged-below d f a).1 (below-through d e g p (unchanged-below e g b).0)
+pub same_below : (d e f g : DeltaState) → IsBelow d e → deltas.IsUnchanged d f → deltas.IsUnchanged e g → IsBelow f g
+same_below d e f g p a b = below_through f d g (unchanged_below d f a).1 (below_through d e g p (unchanged_below e g b).0)
 
 -- ---- what is new to a delta
 
 -- no stamp is less than itself
-not-less : (a : Stamp) → stamp_cmp a a ≡ Less → ⊥
-not-less a h = let tied = tied_itself stamps_total a in absurd (cc)
+not_less : (a : Stamp) → stamp_cmp a a ≡ Less → ⊥
+not_less a h = let tied = tied_itself stamps_total a in absurd (cc)
 
 -- a register agrees with a newer one
-newer-agrees : {T : Type 0} (x y : Option (Entry T)) → IsNewer x y → registers.Agree x y
-newer-agrees x y newer a b e f same = absurd (not-less a.stamp (subst (λ s. stamp_cmp a.stamp s ≡ Less) (sym same) (newer.less a b e f)))
+newer_agrees : {T : Type 0} (x y : Option (Entry T)) → IsNewer x y → registers.Agree x y
+newer_agrees x y newer a b e f same = absurd (not_less a.stamp (subst (λ s. stamp_cmp a.stamp s ≡ Less) (sym same) (newer.less a b e f)))
 
 -- what is newer than a register is newer than all below that
-newer-below : {T : Type 0} (x y z : Option (Entry T)) → registers.IsBelow x y → IsNewer y z → IsNewer x z
-newer-below None y z p newer = record { less = λ a b e f. absurd (cc e) }
-newer-below (Some c) None z p newer = absurd p
-newer-below (Some c) (Some d) z (inl same) newer = record { less = λ a b e f. newer.less a b (ap Some (sym same) ∙ e) f }
-newer-below (Some c) (Some d) z (inr less) newer = record {
+newer_below : {T : Type 0} (x y z : Option (Entry T)) → registers.IsBelow x y → IsNewer y z → IsNewer x z
+newer_below None y z p newer = record { less = λ a b e f. absurd (cc e) }
+newer_below (Some c) None z p newer = absurd p
+newer_below (Some c) (Some d) z (inl same) newer = record { less = λ a b e f. newer.less a b (ap Some (sym same) ∙ e) f }
+newer_below (Some c) (Some d) z (inr less) newer = record {
   less = λ a b e f.
       let is : c ≡ a = cc in
       stamps_total.trans a.stamp d.stamp b.stamp (subst (λ (w : Entry _). stamp_cmp w.stamp d.stamp ≡ Less) is less) (newer.less d b refl f);
 }
 
 -- so with fields
-fields-newer-below : (x y z : DotFields) → FieldsBelow x y → FieldsNewer y z → FieldsNewer x z
-fields-newer-below x y z p newer = record {
-  penalty = newer-below x.penalty y.penalty z.penalty p.penalty newer.penalty;
-  pause = newer-below x.pause y.pause z.pause p.pause newer.pause;
-  label = newer-below x.label y.label z.label p.label newer.label;
+fields_newer_below : (x y z : DotFields) → FieldsBelow x y → FieldsNewer y z → FieldsNewer x z
+fields_newer_below x y z p newer = record {
+  penalty = newer_below x.penalty y.penalty z.penalty p.penalty newer.penalty;
+  pause = newer_below x.pause y.pause z.pause p.pause newer.pause;
+  label = newer_below x.label y.label z.label p.label newer.label;
 }
 
 -- a condition agrees with one for which it leaves room
-room-agrees : (c y : Option Condition) → LeavesRoom c y → ConditionsAgree c y
-room-agrees None y room = tt
-room-agrees (Some Dead) y room = tt
-room-agrees (Some (Live n g)) None room = tt
-room-agrees (Some (Live n g)) (Some Dead) room = tt
-room-agrees (Some (Live n g)) (Some (Live m f)) room = by (room m f refl)
+room_agrees : (c y : Option Condition) → LeavesRoom c y → ConditionsAgree c y
+room_agrees None y room = tt
+room_agrees (Some Dead) y room = tt
+room_agrees (Some (Live n g)) None room = tt
+room_agrees (Some (Live n g)) (Some Dead) room = tt
+room_agrees (Some (Live n g)) (Some (Live m f)) room = by (room m f refl)
   where
     at : (older : IsOlder (Some (Live n g)) m f) → ConditionsAgree (Some (Live n g)) (Some (Live m f))
     at older =
@@ -165,9 +165,9 @@ room-agrees (Some (Live n g)) (Some (Live m f)) room = by (room m f refl)
         let newer : FieldsNewer g f = subst (λ w. FieldsNewer w f) fields older.newer in (
           one,
           record {
-            penalty = newer-agrees g.penalty f.penalty newer.penalty;
-            pause = newer-agrees g.pause f.pause newer.pause;
-            label = newer-agrees g.label f.label newer.label;
+            penalty = newer_agrees g.penalty f.penalty newer.penalty;
+            pause = newer_agrees g.pause f.pause newer.pause;
+            label = newer_agrees g.label f.label newer.label;
           },
         )
 
@@ -176,23 +176,23 @@ room-agrees (Some (Live n g)) (Some (Live m f)) room = by (room m f refl)
     by (inr older) = at older
 
 -- what is below a condition that leaves room leaves it too
-room-below : (b c y : Option Condition) → IsConditionBelow b c → LeavesRoom c y → LeavesRoom b y
-room-below None c y p room m f e = inl refl
-room-below (Some b) None y p room m f e = absurd (none b p)
+room_below : (b c y : Option Condition) → IsConditionBelow b c → LeavesRoom c y → LeavesRoom b y
+room_below None c y p room m f e = inl refl
+room_below (Some b) None y p room m f e = absurd (none b p)
   where
     none : (b : Condition) → IsConditionBelow (Some b) None → ⊥
     none (Live m f) h = h
     none Dead h = h
-room-below (Some Dead) (Some (Live n g)) y p room m f e = absurd p
-room-below (Some Dead) (Some Dead) y p room m f e = elim (room m f e) [
+room_below (Some Dead) (Some (Live n g)) y p room m f e = absurd p
+room_below (Some Dead) (Some Dead) y p room m f e = elim (room m f e) [
   | inl q ↦ absurd (cc)
   | inr older ↦ absurd (let no = older.is in cc)
 ]
-room-below (Some (Live l k)) (Some Dead) y p room m f e = elim (room m f e) [
+room_below (Some (Live l k)) (Some Dead) y p room m f e = elim (room m f e) [
   | inl q ↦ absurd (cc)
   | inr older ↦ absurd (let no = older.is in cc)
 ]
-room-below (Some (Live l k)) (Some (Live n g)) y p room m f e = by (room m f e)
+room_below (Some (Live l k)) (Some (Live n g)) y p room m f e = by (room m f e)
   where
     at : IsOlder (Some (Live n g)) m f → IsOlder (Some (Live l k)) m f
     at older =
@@ -202,7 +202,7 @@ room-below (Some (Live l k)) (Some (Live n g)) y p room m f e = by (room m f e)
         record {
           fields = k;
           is = λ i. Some (Live ((p.0 ∙ one) i) k);
-          newer = fields-newer-below k g f p.1 (subst (λ w. FieldsNewer w f) fields older.newer);
+          newer = fields_newer_below k g f p.1 (subst (λ w. FieldsNewer w f) fields older.newer);
         }
 
     by : (Some (Live n g) ≡ None) ⊎ IsOlder (Some (Live n g)) m f → (Some (Live l k) ≡ None) ⊎ IsOlder (Some (Live l k)) m f
@@ -210,13 +210,13 @@ room-below (Some (Live l k)) (Some (Live n g)) y p room m f e = by (room m f e)
     by (inr older) = inr (at older)
 
 -- what is new to a delta agrees with it
-pub new-agrees : (e x : DeltaState) → IsNewTo e x → Agree e x
-new-agrees e x new dot = room-agrees (condition_of e.members dot) (condition_of x.members dot) (new.room dot)
+pub new_agrees : (e x : DeltaState) → IsNewTo e x → Agree e x
+new_agrees e x new dot = room_agrees (condition_of e.members dot) (condition_of x.members dot) (new.room dot)
 
 -- and is new to all below that
-pub below-new : (d e x : DeltaState) → IsBelow d e → IsNewTo e x → IsNewTo d x
-below-new d e x p new = record { room = λ dot. room-below (condition_of d.members dot) (condition_of e.members dot) (condition_of x.members dot) (p.conditions dot) (new.room dot) }
+pub below_new : (d e x : DeltaState) → IsBelow d e → IsNewTo e x → IsNewTo d x
+below_new d e x p new = record { room = λ dot. room_below (condition_of d.members dot) (condition_of e.members dot) (condition_of x.members dot) (p.conditions dot) (new.room dot) }
 
 -- with which it agrees too
-pub below-agrees : (d e x : DeltaState) → IsBelow d e → IsNewTo e x → Agree d x
-below-agrees d e x p new = new-agrees d x (below-new d e x p new)
+pub below_agrees : (d e x : DeltaState) → IsBelow d e → IsNewTo e x → Agree d x
+below_agrees d e x p new = new_agrees d x (below_new d e x p new)

@@ -17,7 +17,7 @@ use Rattle.replica.specs.Fitting.{HasRoomFor, IsTooFullFor}
 use Rattle.replica.specs.Making.{IsMade}
 use Rattle.replica.specs.Site.{SiteState, IsUnchanged, view_of}
 use Rattle.replica.specs.SiteViews.{SiteView, count_used, time_used}
-use Rattle.replica.proofs.Fullness.{full-joined, too_long-change}
+use Rattle.replica.proofs.Fullness.{full_joined, too_long_change}
 
 -- an operation that is within the limits by these tests is made, or refused for the first of them that is true
 chosen : Bool → Bool → Bool → Bool → Bool → Operation → Meaning
@@ -25,42 +25,42 @@ chosen full buffer_full too_long exhausted past_total o =
     if full || (buffer_full || too_long) then Refused MembersFull else if exhausted then Refused Exhausted else if past_total then Refused TotalFull else Makes o
 
 -- it is made where all are false
-made-where : (f b l e t : Bool) (o : Operation) → f ≡ false → b ≡ false → l ≡ false → e ≡ false → t ≡ false → chosen f b l e t o ≡ Makes o
+made_where : (f b l e t : Bool) (o : Operation) → f ≡ false → b ≡ false → l ≡ false → e ≡ false → t ≡ false → chosen f b l e t o ≡ Makes o
 unfolding chosen
-made-where f b l e t o p q r s u = λ i. chosen (p i) (q i) (r i) (s i) (u i) o
+made_where f b l e t o p q r s u = λ i. chosen (p i) (q i) (r i) (s i) (u i) o
 
 -- it is full where one of the first is true
-full-where : (f b l e t : Bool) (o : Operation) → (f ≡ true) ⊎ ((b ≡ true) ⊎ (l ≡ true)) → chosen f b l e t o ≡ Refused MembersFull
+full_where : (f b l e t : Bool) (o : Operation) → (f ≡ true) ⊎ ((b ≡ true) ⊎ (l ≡ true)) → chosen f b l e t o ≡ Refused MembersFull
 unfolding chosen
-full-where true b l e t o h = refl
-full-where false true l e t o h = refl
-full-where false false true e t o h = refl
-full-where false false false e t o (inl h) = absurd (true≢false (sym h))
-full-where false false false e t o (inr (inl h)) = absurd (true≢false (sym h))
-full-where false false false e t o (inr (inr h)) = absurd (true≢false (sym h))
+full_where true b l e t o h = refl
+full_where false true l e t o h = refl
+full_where false false true e t o h = refl
+full_where false false false e t o (inl h) = absurd (true≢false (sym h))
+full_where false false false e t o (inr (inl h)) = absurd (true≢false (sym h))
+full_where false false false e t o (inr (inr h)) = absurd (true≢false (sym h))
 
 -- an operation past the limits of one of both, or too long, is refused as full
-pub full-means : (r buffer : SiteView) (o : Operation) → (is_full r o ≡ true) ⊎ ((is_full buffer o ≡ true) ⊎ (is_too_long o ≡ true)) → within_limits r buffer o ≡ Refused MembersFull
+pub full_means : (r buffer : SiteView) (o : Operation) → (is_full r o ≡ true) ⊎ ((is_full buffer o ≡ true) ⊎ (is_too_long o ≡ true)) → within_limits r buffer o ≡ Refused MembersFull
 unfolding chosen
-full-means r buffer o h = full-where (is_full r o) (is_full buffer o) (is_too_long o) (is_exhausted o) (is_past_total o) o h
+full_means r buffer o h = full_where (is_full r o) (is_full buffer o) (is_too_long o) (is_exhausted o) (is_past_total o) o h
 
 -- one within all limits is made
-pub makes-it : (r buffer : SiteView) (o : Operation) → is_full r o ≡ false → is_full buffer o ≡ false → is_too_long o ≡ false → is_exhausted o ≡ false → is_past_total o ≡ false
+pub makes_it : (r buffer : SiteView) (o : Operation) → is_full r o ≡ false → is_full buffer o ≡ false → is_too_long o ≡ false → is_exhausted o ≡ false → is_past_total o ≡ false
     → within_limits r buffer o ≡ Makes o
 unfolding chosen
-makes-it r buffer o p q l e t = made-where (is_full r o) (is_full buffer o) (is_too_long o) (is_exhausted o) (is_past_total o) o p q l e t
+makes_it r buffer o p q l e t = made_where (is_full r o) (is_full buffer o) (is_too_long o) (is_exhausted o) (is_past_total o) o p q l e t
 
 -- and one within the limits of live dots and runs, but past those of its numbers, is refused as exhausted
-pub exhausted-means : (r buffer : SiteView) (o : Operation) → is_full r o ≡ false → is_full buffer o ≡ false → is_too_long o ≡ false → is_exhausted o ≡ true
+pub exhausted_means : (r buffer : SiteView) (o : Operation) → is_full r o ≡ false → is_full buffer o ≡ false → is_too_long o ≡ false → is_exhausted o ≡ true
     → within_limits r buffer o ≡ Refused Exhausted
 unfolding chosen
-exhausted-means r buffer o p q l e = λ i. chosen (p i) (q i) (l i) (e i) (is_past_total o) o
+exhausted_means r buffer o p q l e = λ i. chosen (p i) (q i) (l i) (e i) (is_past_total o) o
 
 -- or past those of totals
-pub total-means : (r buffer : SiteView) (o : Operation) → is_full r o ≡ false → is_full buffer o ≡ false → is_too_long o ≡ false → is_exhausted o ≡ false → is_past_total o ≡ true
+pub total_means : (r buffer : SiteView) (o : Operation) → is_full r o ≡ false → is_full buffer o ≡ false → is_too_long o ≡ false → is_exhausted o ≡ false → is_past_total o ≡ true
     → within_limits r buffer o ≡ Refused TotalFull
 unfolding chosen
-total-means r buffer o p q l e t = λ i. chosen (p i) (q i) (l i) (e i) (t i) o
+total_means r buffer o p q l e t = λ i. chosen (p i) (q i) (l i) (e i) (t i) o
 
 -- an operation within the limit of totals may want memory, by these tests
 wants : (f b l e t : Bool) (o : Operation) → t ≡ false → MayWantMemory (chosen f b l e t o)
@@ -73,40 +73,40 @@ wants false false false false true o h = absurd (true≢false h)
 wants false false false false false o h = tt
 
 -- be it made or refused
-pub limits-want : (r buffer : SiteView) (o : Operation) → is_past_total o ≡ false → MayWantMemory (within_limits r buffer o)
+pub limits_want : (r buffer : SiteView) (o : Operation) → is_past_total o ≡ false → MayWantMemory (within_limits r buffer o)
 unfolding chosen
-limits-want r buffer o h = wants (is_full r o) (is_full buffer o) (is_too_long o) (is_exhausted o) (is_past_total o) o h
+limits_want r buffer o h = wants (is_full r o) (is_full buffer o) (is_too_long o) (is_exhausted o) (is_past_total o) o h
 
 -- a refusal that is meant comes with a site that stays
-pub refused-done : (old new : SiteState) (m : Meaning) (r : Refusal) → m ≡ Refused r → IsUnchanged old new → IsDone old m new (Err r)
-refused-done old new m r e u = subst (λ m. IsDone old m new (Err r)) (sym e) (inl (refl, u))
+pub refused_done : (old new : SiteState) (m : Meaning) (r : Refusal) → m ≡ Refused r → IsUnchanged old new → IsDone old m new (Err r)
+refused_done old new m r e u = subst (λ m. IsDone old m new (Err r)) (sym e) (inl (refl, u))
 
 -- want of memory may stand in place of what may want some
-pub memory-done : (old new : SiteState) (m : Meaning) → MayWantMemory m → IsUnchanged old new → IsDone old m new (Err Memory)
-memory-done old new m w u = inr (u, refl, w)
+pub memory_done : (old new : SiteState) (m : Meaning) → MayWantMemory m → IsUnchanged old new → IsDone old m new (Err Memory)
+memory_done old new m w u = inr (u, refl, w)
 
 module _ (s : SiteState) (d x : DeltaState) (o : Operation) (limits : IsWithinLimits d.members) (stands : IsDeltaOf x (o ∷ [])) where
   -- what finds room isn't full
-  not-full : HasRoomFor d x → is_full (view_of s d) o ≡ false
-  not-full room = full-joined s d x o limits stands ∙ by (cells_joined d.members x.members) (runs_joined d.members x.members) room.cells room.runs
+  not_full : HasRoomFor d x → is_full (view_of s d) o ≡ false
+  not_full room = full_joined s d x o limits stands ∙ by (cells_joined d.members x.members) (runs_joined d.members x.members) room.cells room.runs
     where
       by : (cells runs : ℕ) → cells ≤ MOST_LIVE → runs ≤ MOST_RUNS → (nat_lt MOST_LIVE cells || nat_lt MOST_RUNS runs) ≡ false
       by cells runs few short = grind (arith, nat_tests)
 
   -- what finds none is full
-  too-full : IsTooFullFor d x → is_full (view_of s d) o ≡ true
-  too-full (inl many) = full-joined s d x o limits stands ∙ by (cells_joined d.members x.members) (runs_joined d.members x.members) many
+  too_full : IsTooFullFor d x → is_full (view_of s d) o ≡ true
+  too_full (inl many) = full_joined s d x o limits stands ∙ by (cells_joined d.members x.members) (runs_joined d.members x.members) many
     where
       by : (cells runs : ℕ) → MOST_LIVE < cells → (nat_lt MOST_LIVE cells || nat_lt MOST_RUNS runs) ≡ true
       by cells runs many = grind (arith, nat_tests)
-  too-full (inr many) = full-joined s d x o limits stands ∙ by (cells_joined d.members x.members) (runs_joined d.members x.members) many
+  too_full (inr many) = full_joined s d x o limits stands ∙ by (cells_joined d.members x.members) (runs_joined d.members x.members) many
     where
       by : (cells runs : ℕ) → MOST_RUNS < runs → (nat_lt MOST_LIVE cells || nat_lt MOST_RUNS runs) ≡ true
       by cells runs many = grind (arith, nat_tests)
 
 -- a change that exists isn't too long
-pub not-too-long : (x : DeltaState) (o : Operation) → IsWithinLimits x.members → IsDeltaOf x (o ∷ []) → is_too_long o ≡ false
-not-too-long x o there stands = too_long-change x o stands ∙ by (run_count x.members.known) there.runs
+pub not_too_long : (x : DeltaState) (o : Operation) → IsWithinLimits x.members → IsDeltaOf x (o ∷ []) → is_too_long o ≡ false
+not_too_long x o there stands = too_long_change x o stands ∙ by (run_count x.members.known) there.runs
   where
     by : (runs : ℕ) → runs ≤ MOST_RUNS → nat_lt MOST_RUNS runs ≡ false
     by runs few = grind (arith, nat_tests)
@@ -136,8 +136,8 @@ module _ (old new : SiteState) (x : DeltaState) (o : Operation) (count time : �
   taken made =
       let state = made.taken.0 in let pending = made.taken.1 in
       let is : meant ≡ Makes o =
-      makes-it (view_of old old.state) (view_of old old.pending) o (not-full old old.state x o limits stands state.room)
-      (not-full old old.pending x o limits_pending stands pending.room) (not-too-long x o there stands) exhausted past_total in
+      makes_it (view_of old old.state) (view_of old old.pending) o (not_full old old.state x o limits stands state.room)
+      (not_full old old.pending x o limits_pending stands pending.room) (not_too_long x o there stands) exhausted past_total in
       subst (λ m. IsDone old m new (Ok tt)) (sym is) (inl (
         refl,
         record {
@@ -160,18 +160,18 @@ module _ (old new : SiteState) (x : DeltaState) (o : Operation) (count time : �
 
       by : IsTooFullFor old.state x ⊎ IsTooFullFor old.pending x → IsDone old meant new (Err MembersFull)
       by (inl f) =
-          refused-done old new meant MembersFull (full-means (view_of old old.state) (view_of old old.pending) o (inl (too-full old old.state x o limits stands f))) stay
+          refused_done old new meant MembersFull (full_means (view_of old old.state) (view_of old old.pending) o (inl (too_full old old.state x o limits stands f))) stay
       by (inr f) =
-          refused-done old new meant MembersFull (full-means (view_of old old.state) (view_of old old.pending) o (inr (inl (too-full old old.pending x o limits_pending stands f)))) stay
+          refused_done old new meant MembersFull (full_means (view_of old old.state) (view_of old old.pending) o (inr (inl (too_full old old.pending x o limits_pending stands f)))) stay
 
   -- what comes of the change is what is meant
-  pub made-done : (result : Result (Unit {0}) Refusal) → IsMade old x count time new result → IsDone old meant new result
-  made-done (Ok u) made = taken made
-  made-done (Err NoSuchQueue) made = absurd made.taken
-  made-done (Err AlreadyThere) made = absurd made.taken
-  made-done (Err NotThere) made = absurd made.taken
-  made-done (Err MembersFull) made = full made
-  made-done (Err Exhausted) made = absurd made.taken
-  made-done (Err TotalFull) made = absurd made.taken
-  made-done (Err Memory) made =
-      memory-done old new meant (limits-want (view_of old old.state) (view_of old old.pending) o past_total) (stays old new x count time Memory made made.taken.0 made.taken.1)
+  pub made_done : (result : Result (Unit {0}) Refusal) → IsMade old x count time new result → IsDone old meant new result
+  made_done (Ok u) made = taken made
+  made_done (Err NoSuchQueue) made = absurd made.taken
+  made_done (Err AlreadyThere) made = absurd made.taken
+  made_done (Err NotThere) made = absurd made.taken
+  made_done (Err MembersFull) made = full made
+  made_done (Err Exhausted) made = absurd made.taken
+  made_done (Err TotalFull) made = absurd made.taken
+  made_done (Err Memory) made =
+      memory_done old new meant (limits_want (view_of old old.state) (view_of old old.pending) o past_total) (stays old new x count time Memory made made.taken.0 made.taken.1)

@@ -9,15 +9,15 @@ use Rattle.member_orset.specs.Members.{HasField}
 use Rattle.replica.specs.SetFields.{fields_added, fields_written}
 
 -- nothing isn't an entry
-no-entry : {T : Type 0} (entry : Entry T) → Some entry ≡ None → ⊥
-no-entry entry e = (cc)
+no_entry : {T : Type 0} (entry : Entry T) → Some entry ≡ None → ⊥
+no_entry entry e = (cc)
 
 -- an add sets fields
-pub added-set : (stamp : Stamp) (penalty : ℕ) (pause : PauseState) (label : Label) → HasField (fields_added stamp penalty pause label)
-added-set stamp penalty pause label e = no-entry (record { stamp = stamp; value = penalty }) (ap (λ (f : DotFields). f.penalty) e)
+pub added_set : (stamp : Stamp) (penalty : ℕ) (pause : PauseState) (label : Label) → HasField (fields_added stamp penalty pause label)
+added_set stamp penalty pause label e = no_entry (record { stamp = stamp; value = penalty }) (ap (λ (f : DotFields). f.penalty) e)
 
 -- so does a write
-pub written-set : (stamp : Stamp) (setting : Setting) → HasField (fields_written stamp setting)
-written-set stamp (SetPenalty penalty) e = no-entry (record { stamp = stamp; value = penalty }) (ap (λ (f : DotFields). f.penalty) e)
-written-set stamp (SetPause pause) e = no-entry (record { stamp = stamp; value = pause }) (ap (λ (f : DotFields). f.pause) e)
-written-set stamp (SetLabel label) e = no-entry (record { stamp = stamp; value = label }) (ap (λ (f : DotFields). f.label) e)
+pub written_set : (stamp : Stamp) (setting : Setting) → HasField (fields_written stamp setting)
+written_set stamp (SetPenalty penalty) e = no_entry (record { stamp = stamp; value = penalty }) (ap (λ (f : DotFields). f.penalty) e)
+written_set stamp (SetPause pause) e = no_entry (record { stamp = stamp; value = pause }) (ap (λ (f : DotFields). f.pause) e)
+written_set stamp (SetLabel label) e = no_entry (record { stamp = stamp; value = label }) (ap (λ (f : DotFields). f.label) e)

@@ -9,7 +9,7 @@ use Rattle.std.specs.Cmp.{IsTotalOrder}
 use Rattle.std.proofs.lemmas.Bool.{cases_Bool}
 use Rattle.std.proofs.lemmas.List.{get_or_default}
 use Rattle.std.proofs.lemmas.Option.{same_Some}
-use Rattle.general_lemmas.proofs.Membership.{cases-in, first-in, later-in, nothing-in}
+use Rattle.general_lemmas.proofs.Membership.{cases_in, first_in, later_in, nothing_in}
 use Rattle.general_lemmas.proofs.SortedEntries.{find_at}
 use Rattle.general_lemmas.proofs.TruthTables.{fact}
 
@@ -27,8 +27,8 @@ module _ {X : Type 0} (P : X → Type 0) where
   -- it is found in what is left where it is found in all
   pub none_yet : (x : X) (left rest all : List X) → left ≡ x ∷ rest → (P x → ⊥) → (Any P left ↔ Any P all) → Any P rest ↔ Any P all
   none_yet x left rest all step not_here found = (
-    λ a. let e = of_any rest a in found.0 (any_of left e.0 (subst (λ xs. Contains xs e.0) (sym step) (later-in x rest e.0 e.1)) e.2),
-    λ a. let e = of_any left (found.1 a) in elim (cases-in x rest e.0 (subst (λ xs. Contains xs e.0) step e.1)) [
+    λ a. let e = of_any rest a in found.0 (any_of left e.0 (subst (λ xs. Contains xs e.0) (sym step) (later_in x rest e.0 e.1)) e.2),
+    λ a. let e = of_any left (found.1 a) in elim (cases_in x rest e.0 (subst (λ xs. Contains xs e.0) step e.1)) [
       | inl is ↦ absurd (not_here (subst P (sym is) e.2))
       | inr later ↦ any_of rest e.0 later e.2
     ],
@@ -36,11 +36,11 @@ module _ {X : Type 0} (P : X → Type 0) where
 
   -- it is found at the first of what is left
   pub found_now : (x : X) (left rest all : List X) → left ≡ x ∷ rest → P x → (Any P left ↔ Any P all) → Any P all
-  found_now x left rest all step here found = found.0 (any_of left x (subst (λ xs. Contains xs x) (sym step) (first-in x rest)) here)
+  found_now x left rest all step here found = found.0 (any_of left x (subst (λ xs. Contains xs x) (sym step) (first_in x rest)) here)
 
   -- nothing is left, so it isn't found
   pub none_left : (left all : List X) → left ≡ [] → (Any P left ↔ Any P all) → Any P all → ⊥
-  none_left left all step found a = let e = of_any left (found.1 a) in nothing-in e.0 (subst (λ xs. Contains xs e.0) step e.1)
+  none_left left all step found a = let e = of_any left (found.1 a) in nothing_in e.0 (subst (λ xs. Contains xs e.0) step e.1)
 
 -- ---- in a map
 
@@ -58,8 +58,8 @@ module _ {K V : Type 0} (R : K → K → Ordering) (total : IsTotalOrder R) (exa
   found_in : (q : K) (v : V) (es : List (K × V)) → find R q es ≡ Some v → Contains es (q, v)
   found_in q v [] h = absurd (cc)
   found_in q v (e ∷ es) h = elim (cases_Bool (eq_by_cmp R q e.0)) [
-    | inl t ↦ subst (Contains (e ∷ es)) (λ i. (sym (exact q e.0 t) i, same_Some e.1 v (ap (λ b. cond b (Some e.1) (find R q es)) (sym t) ∙ h) i)) (first-in e es)
-    | inr f ↦ later-in e es (q, v) (found_in q v es (ap (λ b. cond b (Some e.1) (find R q es)) (sym f) ∙ h))
+    | inl t ↦ subst (Contains (e ∷ es)) (λ i. (sym (exact q e.0 t) i, same_Some e.1 v (ap (λ b. cond b (Some e.1) (find R q es)) (sym t) ∙ h) i)) (first_in e es)
+    | inr f ↦ later_in e es (q, v) (found_in q v es (ap (λ b. cond b (Some e.1) (find R q es)) (sym f) ∙ h))
   ]
 
   -- and what the map gives is an entry

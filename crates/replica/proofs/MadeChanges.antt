@@ -25,10 +25,10 @@ use Rattle.operations.specs.Operations.{Operation, Setting, Field, Add, Write, R
 use Rattle.dots.specs.CountedCalls.{is_zero, no_calls}
 use Rattle.operations.specs.Totals.{Entries, Key, join_of, key_cmp, single, totals_of}
 use Rattle.dots.proofs.DotOrder.{dots_exact, dots_total}
-use Rattle.operations.proofs.KnownLaws.{known-dot}
-use Rattle.general_lemmas.proofs.Membership.{any-map, in-any, nothing-in, only-in, some-find}
-use Rattle.operations.proofs.TotalsLaws.{by_numbers, get-single_some, is_key, joined_empty, joined_comm}
-use Rattle.dots.proofs.Unions.{union-comm, union-empty}
+use Rattle.operations.proofs.KnownLaws.{known_dot}
+use Rattle.general_lemmas.proofs.Membership.{any_map, in_any, nothing_in, only_in, some_find}
+use Rattle.operations.proofs.TotalsLaws.{by_numbers, get_single_some, is_key, joined_empty, joined_comm}
+use Rattle.dots.proofs.Unions.{union_comm, union_empty}
 use Rattle.member_orset.specs.Members.{Holding, condition_at}
 use Rattle.member_orset.proofs.DotTests.{one_dot}
 use Rattle.site_totals.specs.Raising.{alone}
@@ -51,27 +51,27 @@ abbrev condition_by : Bool → Option Member → DotFields → Option Condition
 condition_by named member fields = if named then Some Dead else option_map (λ m. Live m fields) member
 
 -- what one operation alone sets of a field
-field-alone : {T : Type 0} (field : Field T) (o : Operation) (dot : Dot) → field_of field (o ∷ []) dot ≡ (if asserts dot o then field o else None)
-field-alone {T} field o dot = by (if asserts dot o then field o else None)
+field_alone : {T : Type 0} (field : Field T) (o : Operation) (dot : Dot) → field_of field (o ∷ []) dot ≡ (if asserts dot o then field o else None)
+field_alone {T} field o dot = by (if asserts dot o then field o else None)
   where
     by : (e : Option (Entry T)) → latest_of (cons_option e []) ≡ e
     by None = refl
     by (Some e) = refl
 
 -- and what it sets of it on a dot that it asserts
-field-asserted : {T : Type 0} (field : Field T) (o : Operation) (dot : Dot) → asserts dot o ≡ true → field_of field (o ∷ []) dot ≡ field o
-field-asserted field o dot h = field-alone field o dot ∙ ap (λ b. if b then field o else None) h
+field_asserted : {T : Type 0} (field : Field T) (o : Operation) (dot : Dot) → asserts dot o ≡ true → field_of field (o ∷ []) dot ≡ field o
+field_asserted field o dot h = field_alone field o dot ∙ ap (λ b. if b then field o else None) h
 
 -- the dots that one operation alone knows
-known-alone : (o : Operation) (q : Dot) → set.contains (known_dots (o ∷ [])) q ≡ (list_any (λ p. is_dot q p.0) (asserted_by o) || set.contains (named_by o) q)
-known-alone o q = known-dot (o ∷ []) q ∙ (λ i. or-false (asserts q o) i || or-false (names q o) i)
+known_alone : (o : Operation) (q : Dot) → set.contains (known_dots (o ∷ [])) q ≡ (list_any (λ p. is_dot q p.0) (asserted_by o) || set.contains (named_by o) q)
+known_alone o q = known_dot (o ∷ []) q ∙ (λ i. or-false (asserts q o) i || or-false (names q o) i)
 
 -- the dots that it asserts, with those that it names
-pub known-by : (o : Operation) (ps : Pairs) (older : Dots) → asserted_by o ≡ ps → named_by o ≡ older
+pub known_by : (o : Operation) (ps : Pairs) (older : Dots) → asserted_by o ≡ ps → named_by o ≡ older
     → known_dots (o ∷ []) ≡ set.union (set.from_list (each (λ p. p.0) ps)) older
-known-by o ps older asserted named = set.same_set dots_total dots_exact _ _ (λ q.
-    known-alone o q ∙ (λ i. list_any (λ p. is_dot q p.0) (asserted i) || set.contains (named i) q)
-    ∙ (λ i. sym (set.contains-from_list dots_total (each (λ p. p.0) ps) q ∙ any-map (is_dot q) (λ p. p.0) ps) i || set.contains older q)
+known_by o ps older asserted named = set.same_set dots_total dots_exact _ _ (λ q.
+    known_alone o q ∙ (λ i. list_any (λ p. is_dot q p.0) (asserted i) || set.contains (named i) q)
+    ∙ (λ i. sym (set.contains-from_list dots_total (each (λ p. p.0) ps) q ∙ any_map (is_dot q) (λ p. p.0) ps) i || set.contains older q)
     ∙ sym (set.contains-union dots_total (set.from_list (each (λ p. p.0) ps)) older q))
 
 -- what a set holds of dots that an operation asserts, each with these fields
@@ -90,24 +90,24 @@ module _ (o : Operation) (ps : Pairs) (older : Dots) (fields : DotFields) (asser
   asserts_it q = list_any (λ p. is_dot q p.0) ps
 
   -- the fields of a dot that it asserts
-  fields-alone : (q : Dot) → asserts_it q ≡ true → fields_in (o ∷ []) q ≡ fields
-  fields-alone q h = λ i. record {
-    penalty = (field-asserted penalty_field o q is ∙ penalty) i;
-    pause = (field-asserted pause_field o q is ∙ pause) i;
-    label = (field-asserted label_field o q is ∙ label) i;
+  fields_alone : (q : Dot) → asserts_it q ≡ true → fields_in (o ∷ []) q ≡ fields
+  fields_alone q h = λ i. record {
+    penalty = (field_asserted penalty_field o q is ∙ penalty) i;
+    pause = (field_asserted pause_field o q is ∙ pause) i;
+    label = (field_asserted label_field o q is ∙ label) i;
   }
     where
       is : asserts q o ≡ true
       is = ap (list_any (λ p. is_dot q p.0)) asserted ∙ h
 
   -- which dots it asserts or names
-  known-here : (q : Dot) → set.contains all q ≡ (asserts_it q || set.contains older q)
-  known-here q = set.contains-union dots_total (set.from_list (each (λ p. p.0) ps)) older q
-      ∙ ap (λ b. b || set.contains older q) (set.contains-from_list dots_total (each (λ p. p.0) ps) q ∙ any-map (is_dot q) (λ p. p.0) ps)
+  known_here : (q : Dot) → set.contains all q ≡ (asserts_it q || set.contains older q)
+  known_here q = set.contains-union dots_total (set.from_list (each (λ p. p.0) ps)) older q
+      ∙ ap (λ b. b || set.contains older q) (set.contains-from_list dots_total (each (λ p. p.0) ps) q ∙ any_map (is_dot q) (λ p. p.0) ps)
 
   -- the member of a dot that it asserts
-  member-alone : (q : Dot) → member_of (o ∷ []) q ≡ option_map (λ p. p.1) (find (λ p. is_dot q p.0) ps)
-  member-alone q = ap (λ xs. option_map (λ p. p.1) (find (λ p. is_dot q p.0) xs)) (append-nil (asserted_by o) ∙ asserted)
+  member_alone : (q : Dot) → member_of (o ∷ []) q ≡ option_map (λ p. p.1) (find (λ p. is_dot q p.0) ps)
+  member_alone q = ap (λ xs. option_map (λ p. p.1) (find (λ p. is_dot q p.0) xs)) (append-nil (asserted_by o) ∙ asserted)
 
   -- the condition of a dot, case by case
   by : (q : Dot) (found : Option (Dot × Member)) (a n : Bool) (f : DotFields) → is_some found ≡ a → (a ≡ true → n ≡ false) → (a ≡ true → f ≡ fields)
@@ -122,15 +122,15 @@ module _ (o : Operation) (ps : Pairs) (older : Dots) (fields : DotFields) (asser
   -- it names no dot that it asserts
   not_named : (q : Dot) → asserts_it q ≡ true → set.contains older q ≡ false
   not_named q h =
-      let p = in-any (λ p. is_dot q p.0) ps h in
+      let p = in_any (λ p. is_dot q p.0) ps h in
       ap (set.contains older) (one_dot q p.0.0 p.2) ∙ alive p.0 p.1
 
   -- the condition of each dot is that in the operation alone
-  pub condition-alone : (q : Dot) → condition_at (held_by ps fields q) (set.contains all q) ≡ condition_in (o ∷ []) q
-  condition-alone q =
-      ap (condition_at (held_by ps fields q)) (known-here q)
-      ∙ by q (find (λ p. is_dot q p.0) ps) (asserts_it q) (set.contains older q) (fields_in (o ∷ []) q) (some-find (λ p. is_dot q p.0) ps) (not_named q) (fields-alone q)
-      ∙ (λ i. condition_by (sym (or-false (names q o) ∙ ap (λ s. set.contains s q) named) i) (sym (member-alone q) i) (fields_in (o ∷ []) q))
+  pub condition_alone : (q : Dot) → condition_at (held_by ps fields q) (set.contains all q) ≡ condition_in (o ∷ []) q
+  condition_alone q =
+      ap (condition_at (held_by ps fields q)) (known_here q)
+      ∙ by q (find (λ p. is_dot q p.0) ps) (asserts_it q) (set.contains older q) (fields_in (o ∷ []) q) (some_find (λ p. is_dot q p.0) ps) (not_named q) (fields_alone q)
+      ∙ (λ i. condition_by (sym (or-false (names q o) ∙ ap (λ s. set.contains s q) named) i) (sym (member_alone q) i) (fields_in (o ∷ []) q))
 
 -- ---- totals
 
@@ -162,16 +162,16 @@ pub asserting : (o : Operation) (x : DeltaState) (ps : Pairs) (older : Dots) (fi
     → x.totals.entries ≡ map.empty
     → IsDeltaOf x (o ∷ [])
 asserting o x ps older fields asserted named penalty pause label none alive known live empty = record {
-  conditions = λ q. (λ i. condition_at (live q i) (set.contains (known i) q)) ∙ condition-alone o ps older fields asserted named penalty pause label alive q;
-  dots = known ∙ sym (known-by o ps older asserted named);
+  conditions = λ q. (λ i. condition_at (live q i) (set.contains (known i) q)) ∙ condition_alone o ps older fields asserted named penalty pause label alive q;
+  dots = known ∙ sym (known_by o ps older asserted named);
   totals = uncounted o none x.totals.entries empty;
   no_zeros = no_entry x.totals.entries empty;
 }
 
 -- what is held where one dot is live
-held-one : (dot : Dot) (member : Member) (fields : DotFields) (q : Dot)
+held_one : (dot : Dot) (member : Member) (fields : DotFields) (q : Dot)
     → map.get (map.insert (map.empty {R = dot_cmp}) dot (member, fields)) q ≡ held_by ((dot, member) ∷ []) fields q
-held-one dot member fields q = map.get-insert dots_total map.empty dot (member, fields) q ∙ ap (cond (is_dot q dot) (Some held)) (map.get-empty dot_cmp q)
+held_one dot member fields q = map.get-insert dots_total map.empty dot (member, fields) q ∙ ap (cond (is_dot q dot) (Some held)) (map.get-empty dot_cmp q)
     ∙ at (is_dot q dot)
   where
     held : Holding
@@ -183,36 +183,36 @@ held-one dot member fields q = map.get-insert dots_total map.empty dot (member, 
     at false = refl
 
 -- one live dot that is new, with older ones that are dead, stands for an add
-pub add-delta : (x : DeltaState) (dot : Dot) (member : Member) (stamp : Stamp) (penalty : ℕ) (pause : PauseState) (label : Label) (older : Dots)
+pub add_delta : (x : DeltaState) (dot : Dot) (member : Member) (stamp : Stamp) (penalty : ℕ) (pause : PauseState) (label : Label) (older : Dots)
     → set.contains older dot ≡ false
     → x.members.known ≡ set.union (set.from_list (dot ∷ [])) older
     → x.members.live ≡ map.insert map.empty dot (member, fields_added stamp penalty pause label)
     → x.totals.entries ≡ map.empty
     → IsDeltaOf x (Add dot member stamp penalty pause label older ∷ [])
-add-delta x dot member stamp penalty pause label older new known live empty =
+add_delta x dot member stamp penalty pause label older new known live empty =
     asserting (Add dot member stamp penalty pause label older) x ((dot, member) ∷ []) older (fields_added stamp penalty pause label) refl refl refl refl refl (λ site queue calls. refl)
-    (λ p h. ap (λ (d : Dot × Member). set.contains older d.0) (sym (only-in (dot, member) p h)) ∙ new) known
-    (λ q. ap (λ m. map.get m q) live ∙ held-one dot member (fields_added stamp penalty pause label) q) empty
+    (λ p h. ap (λ (d : Dot × Member). set.contains older d.0) (sym (only_in (dot, member) p h)) ∙ new) known
+    (λ q. ap (λ m. map.get m q) live ∙ held_one dot member (fields_added stamp penalty pause label) q) empty
 
 -- live dots of one field, with older ones that are dead, stand for a write
-pub write-delta : (x : DeltaState) (ps : Pairs) (setting : Setting) (stamp : Stamp) (older : Dots)
+pub write_delta : (x : DeltaState) (ps : Pairs) (setting : Setting) (stamp : Stamp) (older : Dots)
     → ((p : Dot × Member) → Contains ps p → set.contains older p.0 ≡ false)
     → x.members.known ≡ set.union (set.from_list (each (λ p. p.0) ps)) older
     → ((q : Dot) → map.get x.members.live q ≡ held_by ps (fields_written stamp setting) q)
     → x.totals.entries ≡ map.empty
     → IsDeltaOf x (Write ps setting stamp older ∷ [])
-write-delta x ps setting stamp older = asserting (Write ps setting stamp older) x ps older (fields_written stamp setting) refl refl refl refl refl (λ site queue calls. refl)
+write_delta x ps setting stamp older = asserting (Write ps setting stamp older) x ps older (fields_written stamp setting) refl refl refl refl refl (λ site queue calls. refl)
 
 -- of no dot is anything held where nothing is live
-pub nothing-held : (live : map.FinMap dot_cmp Holding) → live ≡ map.empty → (q : Dot) → map.get live q ≡ None
-nothing-held live empty q = ap (λ m. map.get m q) empty ∙ map.get-empty dot_cmp q
+pub nothing_held : (live : map.FinMap dot_cmp Holding) → live ≡ map.empty → (q : Dot) → map.get live q ≡ None
+nothing_held live empty q = ap (λ m. map.get m q) empty ∙ map.get-empty dot_cmp q
 
 -- dead dots stand for a remove
-pub remove-delta : (x : DeltaState) (dots : Dots) → x.members.known ≡ dots → ((q : Dot) → map.get x.members.live q ≡ None) → x.totals.entries ≡ map.empty
+pub remove_delta : (x : DeltaState) (dots : Dots) → x.members.known ≡ dots → ((q : Dot) → map.get x.members.live q ≡ None) → x.totals.entries ≡ map.empty
     → IsDeltaOf x (Remove dots ∷ [])
-remove-delta x dots known none empty =
+remove_delta x dots known none empty =
     asserting (Remove dots) x [] dots no_fields refl refl refl refl refl (λ site queue calls. refl)
-    (λ p h. absurd (nothing-in p h)) (known ∙ sym (union-comm set.empty dots ∙ union-empty dots)) none empty
+    (λ p h. absurd (nothing_in p h)) (known ∙ sym (union_comm set.empty dots ∙ union_empty dots)) none empty
 
 -- ---- a count
 
@@ -234,12 +234,12 @@ abbrev counted : ℕ → ℕ → Calls → ℕ → Entries
 counted site queue calls n = join_of map.empty (single (record { site = site; queue = queue }) (alone calls n))
 
 -- what they have at a key
-pub get-counted : (site queue : ℕ) (calls : Calls) (n : ℕ) → 1 ≤ n → (key : Key)
+pub get_counted : (site queue : ℕ) (calls : Calls) (n : ℕ) → 1 ≤ n → (key : Key)
     → map.get (counted site queue calls n) key ≡ cond (is_key key (record { site = site; queue = queue })) (Some (alone calls n)) None
-get-counted site queue calls n h key =
+get_counted site queue calls n h key =
     let one = single (record { site = site; queue = queue }) (alone calls n) in
     ap (λ e. map.get e key) (joined_comm map.empty one ∙ joined_empty one)
-    ∙ get-single_some (record { site = site; queue = queue }) (alone calls n) key (some_calls calls n h)
+    ∙ get_single_some (record { site = site; queue = queue }) (alone calls n) key (some_calls calls n h)
 
 -- what the count says is what they have
 said : (site queue : ℕ) (calls : Calls) (n s q : ℕ) → unwrap_or (cond (nat_eq site s && nat_eq queue q) (Some (alone calls n)) None) no_calls
@@ -258,7 +258,7 @@ said site queue calls n s q = at calls (nat_eq site s) (nat_eq queue q)
 -- they have no entry of two zeros
 counted_not_zero : (site queue : ℕ) (calls : Calls) (n : ℕ) → 1 ≤ n → (key : Key) (totals : CallTotals) → map.get (counted site queue calls n) key ≡ Some totals
     → is_zero totals ≡ false
-counted_not_zero site queue calls n h key totals e = at (is_key key (record { site = site; queue = queue })) (sym (get-counted site queue calls n h key) ∙ e)
+counted_not_zero site queue calls n h key totals e = at (is_key key (record { site = site; queue = queue })) (sym (get_counted site queue calls n h key) ∙ e)
   where
     at : (b : Bool) → cond b (Some (alone calls n)) None ≡ Some totals → is_zero totals ≡ false
     at true f = ap is_zero (same (alone calls n) f) ∙ some_calls calls n h
@@ -268,18 +268,18 @@ counted_not_zero site queue calls n h key totals e = at (is_key key (record { si
     at false f = absurd (cc)
 
 -- one total alone stands for a count
-pub count-delta : (x : DeltaState) (site queue : ℕ) (calls : Calls) (n : ℕ) → 1 ≤ n → x.members.known ≡ set.empty
+pub count_delta : (x : DeltaState) (site queue : ℕ) (calls : Calls) (n : ℕ) → 1 ≤ n → x.members.known ≡ set.empty
     → ((q : Dot) → map.get x.members.live q ≡ None)
     → x.totals.entries ≡ join_of map.empty (single (record { site = site; queue = queue }) (alone calls n)) → IsDeltaOf x (Count site queue calls n ∷ [])
-count-delta x site queue calls n some known none are =
+count_delta x site queue calls n some known none are =
     let o = Count site queue calls n in
-    let nothing : x.members.known ≡ set.union (set.from_list []) set.empty = known ∙ sym (union-empty set.empty) in
+    let nothing : x.members.known ≡ set.union (set.from_list []) set.empty = known ∙ sym (union_empty set.empty) in
     record {
       conditions = λ q. (λ i. condition_at (none q i) (set.contains (nothing i) q))
-          ∙ condition-alone o [] set.empty no_fields refl refl refl refl refl (λ p h. absurd (nothing-in p h)) q;
-      dots = nothing ∙ sym (known-by o [] set.empty refl refl);
+          ∙ condition_alone o [] set.empty no_fields refl refl refl refl refl (λ p h. absurd (nothing_in p h)) q;
+      dots = nothing ∙ sym (known_by o [] set.empty refl refl);
       totals = λ s q.
-          ap (λ e. totals_of e s q) are ∙ ap (λ t. unwrap_or t no_calls) (get-counted site queue calls n some (record { site = s; queue = q }))
+          ap (λ e. totals_of e s q) are ∙ ap (λ t. unwrap_or t no_calls) (get_counted site queue calls n some (record { site = s; queue = q }))
           ∙ ap (λ b. unwrap_or (cond b (Some (alone calls n)) None) no_calls) (same_key s q site queue) ∙ said site queue calls n s q;
       no_zeros = λ key totals e. counted_not_zero site queue calls n some key totals (ap (λ m. map.get m key) (sym are) ∙ e);
     }

@@ -25,8 +25,8 @@ pub same_names : (a b : List ℕ) → Decides (pointwise nat_eq a b) (a ≡ b)
 same_names a b = slice_eq-Decides Decides-eqb a b (pointwise nat_eq a b) refl
 
 -- where a name is found it stands
-pub found-at : (name : List ℕ) (names : List (List ℕ)) (i : ℕ) → Some i ≡ position (pointwise nat_eq name) names → slice_get names i ≡ Some name
-found-at name names i h =
+pub found_at : (name : List ℕ) (names : List (List ℕ)) (i : ℕ) → Some i ≡ position (pointwise nat_eq name) names → slice_get names i ≡ Some name
+found_at name names i h =
     let there = position-Some (pointwise nat_eq name) names i [] (sym h) in
     slice_get-get_or names i [] there.0 ∙ ap Some (sym ((same_names name (slice_index_or names i [])).0 there.1))
 
@@ -35,11 +35,11 @@ fails_later eq y x [] ys h = h.0
 fails_later eq y x (z ∷ xs) ys h = fails_later eq y x xs ys h.1
 
 -- of distinct names none before one is the same
-pub distinct-before : {K : Type 0} {eq : K → K → Bool} → IsEquivalence eq → (x : K) (xs ys : List K) → IsDistinct eq (xs ++ x ∷ ys) → list_any (eq x) xs ≡ false
-distinct-before laws x [] ys h = refl
-distinct-before {K} {eq} laws x (y ∷ xs) ys h =
+pub distinct_before : {K : Type 0} {eq : K → K → Bool} → IsEquivalence eq → (x : K) (xs ys : List K) → IsDistinct eq (xs ++ x ∷ ys) → list_any (eq x) xs ≡ false
+distinct_before laws x [] ys h = refl
+distinct_before {K} {eq} laws x (y ∷ xs) ys h =
     let apart = fails_later eq y x xs ys (IsDistinct-head eq y (xs ++ x ∷ ys) h) in
-    (λ i. (laws.symm x y ∙ apart) i || list_any (eq x) xs) ∙ distinct-before laws x xs ys (IsDistinct-tail eq y (xs ++ x ∷ ys) h)
+    (λ i. (laws.symm x y ∙ apart) i || list_any (eq x) xs) ∙ distinct_before laws x xs ys (IsDistinct-tail eq y (xs ++ x ∷ ys) h)
 
 -- what the loop over the names keeps: those so far are held in their order, and are distinct
 pub record HoldsNames (held front : List (List ℕ)) : Type 0 where
@@ -82,5 +82,5 @@ pub comes_twice : (held names : List (List ℕ)) (i : ℕ) (name : List ℕ) →
 comes_twice held names i name h here is there apart =
     let all : IsDistinct (pointwise nat_eq) names = IsDistinct-from_AllPairs same_names names apart in
     let cut : IsDistinct (pointwise nat_eq) (take i names ++ slice_index_or names i name ∷ drop (suc i) names) = subst (IsDistinct (pointwise nat_eq)) (split_at names i name here) all in
-    let none = distinct-before nat_list_eq_equiv (slice_index_or names i name) (take i names) (drop (suc i) names) cut in
+    let none = distinct_before nat_list_eq_equiv (slice_index_or names i name) (take i names) (drop (suc i) names) cut in
     true≢false (sym there ∙ ap (list_any (pointwise nat_eq name)) h.same ∙ ap (λ n. list_any (pointwise nat_eq n) (take i names)) is ∙ none)

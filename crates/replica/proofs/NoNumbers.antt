@@ -5,7 +5,7 @@ use Rattle.std.proofs.Math.Bool.{or-true}
 use Rattle.std.specs.Ordering.{is_eq}
 use Rattle.std.proofs.lemmas.Cmp.{tied_itself}
 use Rattle.operations.specs.Knowledge.{is_dot}
-use Rattle.general_lemmas.proofs.Membership.{any-in}
+use Rattle.general_lemmas.proofs.Membership.{any_in}
 use Rattle.std.specs.Prelude.{nat_le}
 use Rattle.std.proofs.lemmas.Bool.{and_parts, false_from_ne_true}
 use Rattle.std.proofs.lemmas.Bool.Decides.{nat_tests}
@@ -20,7 +20,7 @@ use Rattle.operations.specs.Conditions.{IsConditionBelow}
 use Rattle.dots.specs.DotSets.{run_count}
 use Rattle.operations.specs.Operations.{Operation, Setting}
 use Rattle.dots.proofs.OneMoreDot.{insert_known}
-use Rattle.dots.proofs.Unions.{union-same}
+use Rattle.dots.proofs.Unions.{union_same}
 use Rattle.dots.proofs.DotOrder.{dots_total}
 use Rattle.member_orset.specs.LiveDots.{live_dots_without, dead_dots_of}
 use Rattle.member_orset.specs.Members.{Holding, IsWithinLimits, condition_at, condition_of}
@@ -33,13 +33,13 @@ use Rattle.replica.specs.Fitting.{is_past_with}
 use Rattle.replica.specs.Keeping.{IsBelow, IsKept}
 use Rattle.replica.specs.Site.{SiteState, view_of}
 use Rattle.replica.specs.SiteViews.{dots_seen, greatest, older_dots}
-use Rattle.replica.proofs.Doing.{exhausted-means, full-means}
-use Rattle.replica.proofs.Fullness.{contains-older, full-add, full-write, older-dead, older-live, older-new, run_count-past, seen-older, too_long-add, too_long-write}
-use Rattle.replica.proofs.SeenOnce.{seen-live, seen-once}
+use Rattle.replica.proofs.Doing.{exhausted_means, full_means}
+use Rattle.replica.proofs.Fullness.{contains_older, full_add, full_write, older_dead, older_live, older_new, run_count_past, seen_older, too_long_add, too_long_write}
+use Rattle.replica.proofs.SeenOnce.{seen_live, seen_once}
 
 -- what is known is below something that is known
-pub below-known : (d e : DeltaState) → IsBelow d e → IsWithinLimits e.members → (q : Dot) → set.contains d.members.known q ≡ true → set.contains e.members.known q ≡ true
-below-known d e below limits q h =
+pub below_known : (d e : DeltaState) → IsBelow d e → IsWithinLimits e.members → (q : Dot) → set.contains d.members.known q ≡ true → set.contains e.members.known q ≡ true
+below_known d e below limits q h =
     by (map.get d.members.live q) (map.get e.members.live q) (set.contains e.members.known q) refl refl
     (subst (λ k. IsConditionBelow (condition_at (map.get d.members.live q) k) (condition_of e.members q)) h (below.conditions q))
   where
@@ -51,8 +51,8 @@ below-known d e below limits q h =
     by None None false live is p = absurd p
 
 -- a dot that is live above isn't dead below
-pub not-dead-below : (d e : DeltaState) → IsBelow d e → (q : Dot) → map.contains_key e.members.live q ≡ true → set.contains d.members.known q ≡ true → map.contains_key d.members.live q ≡ true
-not-dead-below d e below q live known =
+pub not_dead_below : (d e : DeltaState) → IsBelow d e → (q : Dot) → map.contains_key e.members.live q ≡ true → set.contains d.members.known q ≡ true → map.contains_key d.members.live q ≡ true
+not_dead_below d e below q live known =
     by (map.get d.members.live q) (map.get e.members.live q) live
     (subst (λ k. IsConditionBelow (condition_at (map.get d.members.live q) k) (condition_of e.members q)) known (below.conditions q))
   where
@@ -62,15 +62,15 @@ not-dead-below d e below q live known =
     by None None is p = absurd (true≢false (sym is))
 
 -- no dot past the last count is known
-pub own-unknown : (s : SiteState) → IsKept s → set.contains s.state.members.known (record { site = s.site; count = suc s.last_count }) ≡ false
-own-unknown s kept = kept.own_dots (suc s.last_count) (omega arith) ∙ by s.last_count
+pub own_unknown : (s : SiteState) → IsKept s → set.contains s.state.members.known (record { site = s.site; count = suc s.last_count }) ≡ false
+own_unknown s kept = kept.own_dots (suc s.last_count) (omega arith) ∙ by s.last_count
   where
     by : (n : ℕ) → nat_le (suc n) n ≡ false
     by n = grind (arith, nat_tests)
 
 -- all that is known of the site goes up to it
-pub own-counts : (s : SiteState) → IsKept s → (q : Dot) → set.contains s.state.members.known q ≡ true → q.site ≡ s.site → q.count ≤ s.last_count
-own-counts s kept q known own = by q.count refl
+pub own_counts : (s : SiteState) → IsKept s → (q : Dot) → set.contains s.state.members.known q ≡ true → q.site ≡ s.site → q.count ≤ s.last_count
+own_counts s kept q known own = by q.count refl
   where
     test : (n : ℕ) → nat_le n s.last_count ≡ true → n ≤ s.last_count
     test n h = grind (arith, nat_tests)
@@ -95,7 +95,7 @@ module _ (s : SiteState) (kept : IsKept s) (limits : IsWithinLimits s.state.memb
 
   -- they are the older ones
   older-are : older_dots (view_of s s.state) (next ∷ []) ≡ dead
-  older-are = older-dead s s.state s.site s.last_count (own-counts s kept)
+  older-are = older_dead s s.state s.site s.last_count (own_counts s kept)
 
   abbrev stamp_next : Stamp
   stamp_next = record { time = suc s.last_time; site = s.site }
@@ -104,43 +104,43 @@ module _ (s : SiteState) (kept : IsKept s) (limits : IsWithinLimits s.state.memb
   pause_next = record { paused = paused; reason = [] }
 
   -- whether a delta is full with the add
-  pub full-next : (d : DeltaState) → IsWithinLimits d.members → set.contains d.members.known next ≡ false
+  pub full_next : (d : DeltaState) → IsWithinLimits d.members → set.contains d.members.known next ≡ false
       → is_full (view_of s d) added ≡ (nat_lt MOST_LIVE (set.len (live_dots_without d.members dead) + 1) || nat_lt MOST_RUNS (run_count (set.insert (set.union d.members.known dead) next)))
-  full-next d within unknown =
-      full-add s d within next member stamp_next penalty pause_next label (older_dots (view_of s s.state) (next ∷ [])) unknown (older-new s s.state next)
+  full_next d within unknown =
+      full_add s d within next member stamp_next penalty pause_next label (older_dots (view_of s s.state) (next ∷ [])) unknown (older_new s s.state next)
       ∙ (λ i. nat_lt MOST_LIVE (one (set.len (live_dots_without d.members (older-are i))) i) || nat_lt MOST_RUNS (run_count (set.insert (set.union d.members.known (older-are i)) next)))
     where
       one : (n : ℕ) → suc n ≡ n + 1
       one n = omega arith
 
   -- whether it is too long alone
-  pub long-next : is_too_long added ≡ nat_lt MOST_RUNS (run_count (set.insert (set.union dead dead) next))
-  long-next =
-      too_long-add next member stamp_next penalty pause_next label (older_dots (view_of s s.state) (next ∷ []))
-      ∙ (λ i. nat_lt MOST_RUNS (run_count (set.insert ((older-are ∙ sym (union-same dead)) i) next)))
+  pub long_next : is_too_long added ≡ nat_lt MOST_RUNS (run_count (set.insert (set.union dead dead) next))
+  long_next =
+      too_long_add next member stamp_next penalty pause_next label (older_dots (view_of s s.state) (next ∷ []))
+      ∙ (λ i. nat_lt MOST_RUNS (run_count (set.insert ((older-are ∙ sym (union_same dead)) i) next)))
 
   -- so the state and the buffer tell whether they are full
-  pub full-state : is_full (view_of s s.state) added
+  pub full_state : is_full (view_of s s.state) added
       ≡ (nat_lt MOST_LIVE (set.len (live_dots_without s.state.members dead) + 1) || nat_lt MOST_RUNS (run_count (set.insert (set.union s.state.members.known dead) next)))
-  full-state = full-next s.state limits (own-unknown s kept)
+  full_state = full_next s.state limits (own_unknown s kept)
 
-  pub full-pending : is_full (view_of s s.pending) added
+  pub full_pending : is_full (view_of s s.pending) added
       ≡ (nat_lt MOST_LIVE (set.len (live_dots_without s.pending.members dead) + 1) || nat_lt MOST_RUNS (run_count (set.insert (set.union s.pending.members.known dead) next)))
-  full-pending = full-next s.pending limits_pending
-      (false_from_ne_true _ (λ h. true≢false (sym (below-known s.pending s.state kept.below limits next h) ∙ own-unknown s kept)))
+  full_pending = full_next s.pending limits_pending
+      (false_from_ne_true _ (λ h. true≢false (sym (below_known s.pending s.state kept.below limits next h) ∙ own_unknown s kept)))
 
   -- and dead dots of too many runs alone are too many with the next
-  pub dead-too-long : MOST_RUNS < run_count dead → is_too_long added ≡ true
-  dead-too-long many =
-      too_long-add next member stamp_next penalty pause_next label (older_dots (view_of s s.state) (next ∷ []))
+  pub dead_too_long : MOST_RUNS < run_count dead → is_too_long added ≡ true
+  dead_too_long many =
+      too_long_add next member stamp_next penalty pause_next label (older_dots (view_of s s.state) (next ∷ []))
       ∙ (λ i. nat_lt MOST_RUNS (run_count (set.insert (older-are i) next)))
-      ∙ by (run_count dead) (run_count (set.insert dead next)) many (run_count-past dead next (omega arith) less)
+      ∙ by (run_count dead) (run_count (set.insert dead next)) many (run_count_past dead next (omega arith) less)
     where
       less : (q : Dot) → set.contains dead q ≡ true → q.site ≡ s.site → q.count < suc s.last_count
-      less q h own = let most = own-counts s kept q (dead-is-known q h) own in omega arith
+      less q h own = let most = own_counts s kept q (dead_is_known q h) own in omega arith
         where
-          dead-is-known : (q : Dot) → set.contains dead q ≡ true → set.contains s.state.members.known q ≡ true
-          dead-is-known q h = (and_parts (set.contains s.state.members.known q) _ (sym (contains-older s s.state (next ∷ []) q) ∙ ap (λ k. set.contains k q) older-are ∙ h)).0
+          dead_is_known : (q : Dot) → set.contains dead q ≡ true → set.contains s.state.members.known q ≡ true
+          dead_is_known q h = (and_parts (set.contains s.state.members.known q) _ (sym (contains_older s s.state (next ∷ []) q) ∙ ap (λ k. set.contains k q) older-are ∙ h)).0
 
       by : (m n : ℕ) → MOST_RUNS < m → m ≤ n → nat_lt MOST_RUNS n ≡ true
       by m n many le = grind (arith, nat_tests)
@@ -148,11 +148,11 @@ module _ (s : SiteState) (kept : IsKept s) (limits : IsWithinLimits s.state.memb
 -- ---- an add for which no number is left
 
 -- what is told of one
-pub told-full : (s : SiteState) (o : Operation) → (is_full (view_of s s.state) o ≡ true) ⊎ ((is_full (view_of s s.pending) o ≡ true) ⊎ (is_too_long o ≡ true)) → IsToldOf s o MembersFull
-told-full s o h = inr (full-means (view_of s s.state) (view_of s s.pending) o h)
+pub told_full : (s : SiteState) (o : Operation) → (is_full (view_of s s.state) o ≡ true) ⊎ ((is_full (view_of s s.pending) o ≡ true) ⊎ (is_too_long o ≡ true)) → IsToldOf s o MembersFull
+told_full s o h = inr (full_means (view_of s s.state) (view_of s s.pending) o h)
 
-pub told-exhausted : (s : SiteState) (o : Operation) → is_full (view_of s s.state) o ≡ false → is_full (view_of s s.pending) o ≡ false → is_too_long o ≡ false → is_exhausted o ≡ true → IsToldOf s o Exhausted
-told-exhausted s o p q l e = inr (exhausted-means (view_of s s.state) (view_of s s.pending) o p q l e)
+pub told_exhausted : (s : SiteState) (o : Operation) → is_full (view_of s s.state) o ≡ false → is_full (view_of s s.pending) o ≡ false → is_too_long o ≡ false → is_exhausted o ≡ true → IsToldOf s o Exhausted
+told_exhausted s o p q l e = inr (exhausted_means (view_of s s.state) (view_of s s.pending) o p q l e)
 
 -- ---- a write for which none is left
 
@@ -175,135 +175,135 @@ module _ (s : SiteState) (kept : IsKept s) (queue : Option ℕ) (interface : Lis
   abbrev seen : set.FinSet dot_cmp
   seen = dots_seen_below s.state.members its_dots
 
-  length-firsts : (ps : List (Dot × Member)) → length (each (λ p. p.0) ps) ≡ length ps
-  length-firsts [] = refl
-  length-firsts (p ∷ ps) = ap suc (length-firsts ps)
+  length_firsts : (ps : List (Dot × Member)) → length (each (λ p. p.0) ps) ≡ length ps
+  length_firsts [] = refl
+  length_firsts (p ∷ ps) = ap suc (length_firsts ps)
 
   -- each of its dots is among what is seen
-  first-seen : (first : Dot) → Contains its_dots first → set.contains seen first ≡ true
-  first-seen first here =
-      ap (λ k. set.contains k first) (seen-older s s.state its_dots)
+  first_seen : (first : Dot) → Contains its_dots first → set.contains seen first ≡ true
+  first_seen first here =
+      ap (λ k. set.contains k first) (seen_older s s.state its_dots)
       ∙ set.contains-union dots_total (set.from_list its_dots) (older_dots (view_of s s.state) its_dots) first
       ∙ ap (λ b. b || set.contains (older_dots (view_of s s.state) its_dots) first) (set.contains-from_list dots_total its_dots first ∙ among its_dots first here)
     where
       among : (ds : List Dot) (d : Dot) → Contains ds d → list_any (is_dot d) ds ≡ true
-      among ds d h = any-in (is_dot d) ds d h (ap is_eq (tied_itself dots_total d))
+      among ds d h = any_in (is_dot d) ds d h (ap is_eq (tied_itself dots_total d))
 
   -- whether a delta is full with it
-  full-written : (d : DeltaState) → ((p : Dot × Member) → Contains pairs p → set.contains d.members.known p.0 ≡ true → map.contains_key d.members.live p.0 ≡ true)
+  full_written : (d : DeltaState) → ((p : Dot × Member) → Contains pairs p → set.contains d.members.known p.0 ≡ true → map.contains_key d.members.live p.0 ≡ true)
       → (first : Dot) → Contains its_dots first
       → is_full (view_of s d) written
       ≡ (nat_lt MOST_LIVE (set.len (live_dots_without d.members seen) + length its_dots) || nat_lt MOST_RUNS (run_count (set.insert (set.union d.members.known seen) first)))
-  full-written d not_dead first here =
-      full-write s d pairs setting stamp_of (older_dots (view_of s s.state) its_dots) seen (seen-older s s.state its_dots) (seen-once (view_of s s.state).dots queue interface)
-      (λ p h. older-live s s.state its_dots p.0 (seen-live s s.state queue interface p h)) not_dead
-      ∙ (λ i. nat_lt MOST_LIVE (set.len (live_dots_without d.members seen) + sym (length-firsts pairs) i)
+  full_written d not_dead first here =
+      full_write s d pairs setting stamp_of (older_dots (view_of s s.state) its_dots) seen (seen_older s s.state its_dots) (seen_once (view_of s s.state).dots queue interface)
+      (λ p h. older_live s s.state its_dots p.0 (seen_live s s.state queue interface p h)) not_dead
+      ∙ (λ i. nat_lt MOST_LIVE (set.len (live_dots_without d.members seen) + sym (length_firsts pairs) i)
       || nat_lt MOST_RUNS (run_count (sym (insert_known (set.union d.members.known seen) first
-      (set.contains-union dots_total d.members.known seen first ∙ ap (λ b. set.contains d.members.known first || b) (first-seen first here) ∙ or-true (set.contains d.members.known first))) i)))
+      (set.contains-union dots_total d.members.known seen first ∙ ap (λ b. set.contains d.members.known first || b) (first_seen first here) ∙ or-true (set.contains d.members.known first))) i)))
 
-  pub full-state-written : (first : Dot) → Contains its_dots first
+  pub full_state_written : (first : Dot) → Contains its_dots first
       → is_full (view_of s s.state) written
       ≡ (nat_lt MOST_LIVE (set.len (live_dots_without s.state.members seen) + length its_dots) || nat_lt MOST_RUNS (run_count (set.insert (set.union s.state.members.known seen) first)))
-  full-state-written = full-written s.state (λ p h known. seen-live s s.state queue interface p h)
+  full_state_written = full_written s.state (λ p h known. seen_live s s.state queue interface p h)
 
-  pub full-pending-written : (first : Dot) → Contains its_dots first
+  pub full_pending_written : (first : Dot) → Contains its_dots first
       → is_full (view_of s s.pending) written
       ≡ (nat_lt MOST_LIVE (set.len (live_dots_without s.pending.members seen) + length its_dots) || nat_lt MOST_RUNS (run_count (set.insert (set.union s.pending.members.known seen) first)))
-  full-pending-written = full-written s.pending (λ p h. not-dead-below s.pending s.state kept.below p.0 (seen-live s s.state queue interface p h))
+  full_pending_written = full_written s.pending (λ p h. not_dead_below s.pending s.state kept.below p.0 (seen_live s s.state queue interface p h))
 
   -- and whether it is too long alone
-  pub long-written : is_too_long written ≡ nat_lt MOST_RUNS (run_count seen)
-  long-written = too_long-write pairs setting stamp_of (older_dots (view_of s s.state) its_dots) seen (seen-older s s.state its_dots)
+  pub long_written : is_too_long written ≡ nat_lt MOST_RUNS (run_count seen)
+  long_written = too_long_write pairs setting stamp_of (older_dots (view_of s s.state) its_dots) seen (seen_older s s.state its_dots)
 
 -- ---- what is told of all adds and all writes
 
 module _ (s : SiteState) (kept : IsKept s) (limits : IsWithinLimits s.state.members) where
   -- dead dots of too many runs tell of an add that it is full
-  pub adds-long : IsWithinLimits s.pending.members → MOST_RUNS < run_count (dead_dots_of s.state.members s.site) → IsToldOfAdds s MembersFull
-  adds-long limits_pending many member penalty paused label e =
-      told-full s _ (inr (inr (dead-too-long s kept limits limits_pending member penalty paused label many)))
+  pub adds_long : IsWithinLimits s.pending.members → MOST_RUNS < run_count (dead_dots_of s.state.members s.site) → IsToldOfAdds s MembersFull
+  adds_long limits_pending many member penalty paused label e =
+      told_full s _ (inr (inr (dead_too_long s kept limits limits_pending member penalty paused label many)))
 
   module _ (limits_pending : IsWithinLimits s.pending.members) (dots : set.FinSet dot_cmp) (count : ℕ) (are_dead : dots ≡ dead_dots_of s.state.members s.site) (is_next : count ≡ s.last_count + 1) where
     -- a test with these dots and this count is that with the dead ones and the next count
-    same-test : (d : DeltaState) → is_past_with d dots 1 (record { site = s.site; count = count }) ≡ is_past_with d (dead_dots_of s.state.members s.site) 1 (record { site = s.site; count = suc s.last_count })
-    same-test d i = is_past_with d (are_dead i) 1 (record { site = s.site; count = (is_next ∙ one s.last_count) i })
+    same_test : (d : DeltaState) → is_past_with d dots 1 (record { site = s.site; count = count }) ≡ is_past_with d (dead_dots_of s.state.members s.site) 1 (record { site = s.site; count = suc s.last_count })
+    same_test d i = is_past_with d (are_dead i) 1 (record { site = s.site; count = (is_next ∙ one s.last_count) i })
       where
         one : (n : ℕ) → n + 1 ≡ suc n
         one n = omega arith
 
-    same-runs-test : run_count (set.insert (set.union dots dots) (record { site = s.site; count = count }))
+    same_runs_test : run_count (set.insert (set.union dots dots) (record { site = s.site; count = count }))
         ≡ run_count (set.insert (set.union (dead_dots_of s.state.members s.site) (dead_dots_of s.state.members s.site)) (record { site = s.site; count = suc s.last_count }))
-    same-runs-test i = run_count (set.insert (set.union (are_dead i) (are_dead i)) (record { site = s.site; count = (is_next ∙ one s.last_count) i }))
+    same_runs_test i = run_count (set.insert (set.union (are_dead i) (are_dead i)) (record { site = s.site; count = (is_next ∙ one s.last_count) i }))
       where
         one : (n : ℕ) → n + 1 ≡ suc n
         one n = omega arith
 
     -- where the test of the state is true, the site is full
-    pub adds-full : is_past_with s.state dots 1 (record { site = s.site; count = count }) ≡ true → IsToldOfAdds s MembersFull
-    adds-full is member penalty paused label e = told-full s _ (inl (full-state s kept limits limits_pending member penalty paused label ∙ sym (same-test s.state) ∙ is))
+    pub adds_full : is_past_with s.state dots 1 (record { site = s.site; count = count }) ≡ true → IsToldOfAdds s MembersFull
+    adds_full is member penalty paused label e = told_full s _ (inl (full_state s kept limits limits_pending member penalty paused label ∙ sym (same_test s.state) ∙ is))
 
     -- where that of the buffer is
-    pub adds-full-pending : is_past_with s.pending dots 1 (record { site = s.site; count = count }) ≡ true → IsToldOfAdds s MembersFull
-    adds-full-pending is member penalty paused label e = told-full s _ (inr (inl (full-pending s kept limits limits_pending member penalty paused label ∙ sym (same-test s.pending) ∙ is)))
+    pub adds_full_pending : is_past_with s.pending dots 1 (record { site = s.site; count = count }) ≡ true → IsToldOfAdds s MembersFull
+    adds_full_pending is member penalty paused label e = told_full s _ (inr (inl (full_pending s kept limits limits_pending member penalty paused label ∙ sym (same_test s.pending) ∙ is)))
 
     -- where that of the dead dots alone is
-    pub adds-too-long : MOST_RUNS < run_count (set.insert (set.union dots dots) (record { site = s.site; count = count })) → IsToldOfAdds s MembersFull
-    adds-too-long many member penalty paused label e =
-        told-full s _ (inr (inr (long-next s kept limits limits_pending member penalty paused label ∙ ap (nat_lt MOST_RUNS) (sym same-runs-test) ∙ test (run_count (set.insert (set.union dots dots) (record { site = s.site; count = count }))) many)))
+    pub adds_too_long : MOST_RUNS < run_count (set.insert (set.union dots dots) (record { site = s.site; count = count })) → IsToldOfAdds s MembersFull
+    adds_too_long many member penalty paused label e =
+        told_full s _ (inr (inr (long_next s kept limits limits_pending member penalty paused label ∙ ap (nat_lt MOST_RUNS) (sym same_runs_test) ∙ test (run_count (set.insert (set.union dots dots) (record { site = s.site; count = count }))) many)))
       where
         test : (n : ℕ) → MOST_RUNS < n → nat_lt MOST_RUNS n ≡ true
         test n h = grind (arith, nat_tests)
 
     -- and where none is, its numbers are used up
-    pub adds-exhausted : is_past_with s.state dots 1 (record { site = s.site; count = count }) ≡ false → is_past_with s.pending dots 1 (record { site = s.site; count = count }) ≡ false
+    pub adds_exhausted : is_past_with s.state dots 1 (record { site = s.site; count = count }) ≡ false → is_past_with s.pending dots 1 (record { site = s.site; count = count }) ≡ false
         → (MOST_RUNS < run_count (set.insert (set.union dots dots) (record { site = s.site; count = count })) → ⊥) → IsToldOfAdds s Exhausted
-    adds-exhausted p q few member penalty paused label e =
-        told-exhausted s _ (full-state s kept limits limits_pending member penalty paused label ∙ sym (same-test s.state) ∙ p)
-        (full-pending s kept limits limits_pending member penalty paused label ∙ sym (same-test s.pending) ∙ q)
-        (long-next s kept limits limits_pending member penalty paused label ∙ ap (nat_lt MOST_RUNS) (sym same-runs-test) ∙ test (run_count (set.insert (set.union dots dots) (record { site = s.site; count = count }))) few) e
+    adds_exhausted p q few member penalty paused label e =
+        told_exhausted s _ (full_state s kept limits limits_pending member penalty paused label ∙ sym (same_test s.state) ∙ p)
+        (full_pending s kept limits limits_pending member penalty paused label ∙ sym (same_test s.pending) ∙ q)
+        (long_next s kept limits limits_pending member penalty paused label ∙ ap (nat_lt MOST_RUNS) (sym same_runs_test) ∙ test (run_count (set.insert (set.union dots dots) (record { site = s.site; count = count }))) few) e
       where
         test : (n : ℕ) → (MOST_RUNS < n → ⊥) → nat_lt MOST_RUNS n ≡ false
         test n h = grind (arith, nat_tests)
 
 -- memory may be wanting for all
-pub adds-memory : (s : SiteState) → IsToldOfAdds s Memory
-adds-memory s member penalty paused label e = inl refl
+pub adds_memory : (s : SiteState) → IsToldOfAdds s Memory
+adds_memory s member penalty paused label e = inl refl
 
-pub writes-memory : (s : SiteState) (dots : List Dot) → IsToldOfWrites s dots Memory
-writes-memory s dots queue interface setting are e = inl refl
+pub writes_memory : (s : SiteState) (dots : List Dot) → IsToldOfWrites s dots Memory
+writes_memory s dots queue interface setting are e = inl refl
 
 module _ (s : SiteState) (kept : IsKept s) (dots : List Dot) where
   -- given dots that with the older ones have too many runs tell of a write that it is full
-  pub writes-long : MOST_RUNS < run_count (dots_seen_below s.state.members dots) → IsToldOfWrites s dots MembersFull
-  writes-long many queue interface setting are e =
-      told-full s _ (inr (inr (long-written s kept queue interface setting ∙ test (run_count (seen s kept queue interface setting)) (subst (λ ds. MOST_RUNS < run_count (dots_seen_below s.state.members ds)) are many))))
+  pub writes_long : MOST_RUNS < run_count (dots_seen_below s.state.members dots) → IsToldOfWrites s dots MembersFull
+  writes_long many queue interface setting are e =
+      told_full s _ (inr (inr (long_written s kept queue interface setting ∙ test (run_count (seen s kept queue interface setting)) (subst (λ ds. MOST_RUNS < run_count (dots_seen_below s.state.members ds)) are many))))
     where
       test : (n : ℕ) → MOST_RUNS < n → nat_lt MOST_RUNS n ≡ true
       test n h = grind (arith, nat_tests)
 
   module _ (below : set.FinSet dot_cmp) (is_seen : below ≡ dots_seen_below s.state.members dots) (first : Dot) (here : Contains dots first) (few : MOST_RUNS < run_count below → ⊥) where
     -- the test of a delta is whether it is full with the write
-    past-written : (queue : Option ℕ) (interface : List ℕ) (setting : Setting) → dots ≡ its_dots s kept queue interface setting → (d : DeltaState)
+    past_written : (queue : Option ℕ) (interface : List ℕ) (setting : Setting) → dots ≡ its_dots s kept queue interface setting → (d : DeltaState)
         → is_past_with d below (length dots) first ≡ is_past_with d (seen s kept queue interface setting) (length (its_dots s kept queue interface setting)) first
-    past-written queue interface setting are d i = is_past_with d ((is_seen ∙ ap (dots_seen_below s.state.members) are) i) (length (are i)) first
+    past_written queue interface setting are d i = is_past_with d ((is_seen ∙ ap (dots_seen_below s.state.members) are) i) (length (are i)) first
 
-    pub writes-full : is_past_with s.state below (length dots) first ≡ true → IsToldOfWrites s dots MembersFull
-    writes-full is queue interface setting are e =
-        told-full s _ (inl (full-state-written s kept queue interface setting first (subst (λ ds. Contains ds first) are here) ∙ sym (past-written queue interface setting are s.state) ∙ is))
+    pub writes_full : is_past_with s.state below (length dots) first ≡ true → IsToldOfWrites s dots MembersFull
+    writes_full is queue interface setting are e =
+        told_full s _ (inl (full_state_written s kept queue interface setting first (subst (λ ds. Contains ds first) are here) ∙ sym (past_written queue interface setting are s.state) ∙ is))
 
-    pub writes-full-pending : is_past_with s.pending below (length dots) first ≡ true → IsToldOfWrites s dots MembersFull
-    writes-full-pending is queue interface setting are e =
-        told-full s _ (inr (inl (full-pending-written s kept queue interface setting first (subst (λ ds. Contains ds first) are here) ∙ sym (past-written queue interface setting are s.pending) ∙ is)))
+    pub writes_full_pending : is_past_with s.pending below (length dots) first ≡ true → IsToldOfWrites s dots MembersFull
+    writes_full_pending is queue interface setting are e =
+        told_full s _ (inr (inl (full_pending_written s kept queue interface setting first (subst (λ ds. Contains ds first) are here) ∙ sym (past_written queue interface setting are s.pending) ∙ is)))
 
-    pub writes-exhausted : is_past_with s.state below (length dots) first ≡ false → is_past_with s.pending below (length dots) first ≡ false → IsToldOfWrites s dots Exhausted
-    writes-exhausted p q queue interface setting are e =
-        told-exhausted s _ (full-state-written s kept queue interface setting first (subst (λ ds. Contains ds first) are here) ∙ sym (past-written queue interface setting are s.state) ∙ p)
-        (full-pending-written s kept queue interface setting first (subst (λ ds. Contains ds first) are here) ∙ sym (past-written queue interface setting are s.pending) ∙ q)
-        (long-written s kept queue interface setting ∙ test (run_count (seen s kept queue interface setting)) (subst (λ k. MOST_RUNS < run_count k → ⊥) (is_seen ∙ ap (dots_seen_below s.state.members) are) few)) e
+    pub writes_exhausted : is_past_with s.state below (length dots) first ≡ false → is_past_with s.pending below (length dots) first ≡ false → IsToldOfWrites s dots Exhausted
+    writes_exhausted p q queue interface setting are e =
+        told_exhausted s _ (full_state_written s kept queue interface setting first (subst (λ ds. Contains ds first) are here) ∙ sym (past_written queue interface setting are s.state) ∙ p)
+        (full_pending_written s kept queue interface setting first (subst (λ ds. Contains ds first) are here) ∙ sym (past_written queue interface setting are s.pending) ∙ q)
+        (long_written s kept queue interface setting ∙ test (run_count (seen s kept queue interface setting)) (subst (λ k. MOST_RUNS < run_count k → ⊥) (is_seen ∙ ap (dots_seen_below s.state.members) are) few)) e
       where
         test : (n : ℕ) → (MOST_RUNS < n → ⊥) → nat_lt MOST_RUNS n ≡ false
         test n h = grind (arith, nat_tests)
 
 -- the first of given dots is one of them, whatever its numbers were read into
-pub first-in : (dots : List Dot) (first d : Dot) → first ≡ get_or dots 0 first → d ≡ first → 0 < length dots → Contains dots d
-first-in dots first d is same some = subst (Contains dots) (sym same) (0, some, sym is)
+pub first_in : (dots : List Dot) (first d : Dot) → first ≡ get_or dots 0 first → d ≡ first → 0 < length dots → Contains dots d
+first_in dots first d is same some = subst (Contains dots) (sym same) (0, some, sym is)

@@ -20,13 +20,13 @@ use Rattle.replica.specs.Keeping.{IsKept}
 use Rattle.replica.specs.Making.{IsMade}
 use Rattle.replica.specs.declared.planned.Planned.{Planned}
 use Rattle.replica.specs.Planning.{IsPlan, IsUnplanned}
-use Rattle.replica.proofs.SiteChanges.{count-change}
+use Rattle.replica.proofs.SiteChanges.{count_change}
 use Rattle.replica.specs.Queues.{number_of}
 use Rattle.replica.specs.Site.{SiteState, IsUnchanged, meaning_at, view_of}
-use Rattle.replica.proofs.Below.{below-agrees, new-agrees}
-use Rattle.replica.proofs.Doing.{limits-want, made-done, memory-done, refused-done, total-means}
-use Rattle.replica.proofs.Fullness.{full-count, too_long-count}
-use Rattle.replica.proofs.MadeChanges.{count-delta, nothing-held}
+use Rattle.replica.proofs.Below.{below_agrees, new_agrees}
+use Rattle.replica.proofs.Doing.{limits_want, made_done, memory_done, refused_done, total_means}
+use Rattle.replica.proofs.Fullness.{full_count, too_long_count}
+use Rattle.replica.proofs.MadeChanges.{count_delta, nothing_held}
 
 module _ (s : SiteState) (kept : IsKept s) (limits : IsWithinLimits s.state.members) (limits_pending : IsWithinLimits s.pending.members) where
   -- ---- counts
@@ -37,43 +37,43 @@ module _ (s : SiteState) (kept : IsKept s) (limits : IsWithinLimits s.state.memb
     abbrev counting : Operation
     counting = Count s.site number calls (suc so_far)
 
-    count-means : meaning_at s (CountCall queue calls) ≡ within_limits (view_of s s.state) (view_of s s.pending) counting
-    count-means = ap (λ n. in_queue n (λ q. within_limits (view_of s s.state) (view_of s s.pending) (count_at s.site (view_of s s.state) q calls))) numbered
+    count_means : meaning_at s (CountCall queue calls) ≡ within_limits (view_of s s.state) (view_of s s.pending) counting
+    count_means = ap (λ n. in_queue n (λ q. within_limits (view_of s s.state) (view_of s s.pending) (count_at s.site (view_of s s.state) q calls))) numbered
 
     -- a total at its limit is refused
-    pub count-full : MOST_CALLS ≤ so_far → meaning_at s (CountCall queue calls) ≡ Refused TotalFull
-    count-full most =
-        count-means
-        ∙ total-means (view_of s s.state) (view_of s s.pending) counting (full-count s s.state s.site number calls (suc so_far) limits) (full-count s s.pending s.site number calls (suc so_far) limits_pending)
-        (too_long-count s.site number calls (suc so_far)) refl (test so_far most)
+    pub count_full : MOST_CALLS ≤ so_far → meaning_at s (CountCall queue calls) ≡ Refused TotalFull
+    count_full most =
+        count_means
+        ∙ total_means (view_of s s.state) (view_of s s.pending) counting (full_count s s.state s.site number calls (suc so_far) limits) (full_count s s.pending s.site number calls (suc so_far) limits_pending)
+        (too_long_count s.site number calls (suc so_far)) refl (test so_far most)
       where
         test : (n : ℕ) → MOST_CALLS ≤ n → nat_lt MOST_CALLS (suc n) ≡ true
         test n h = grind (arith, nat_tests)
 
     -- one below it isn't past the greatest with one call more
-    below-most : (n : ℕ) → n < MOST_CALLS → nat_lt MOST_CALLS (suc n) ≡ false
-    below-most n h = grind (arith, nat_tests)
+    below_most : (n : ℕ) → n < MOST_CALLS → nat_lt MOST_CALLS (suc n) ≡ false
+    below_most n h = grind (arith, nat_tests)
 
     -- so that memory may be wanting for it
-    pub count-wants : so_far < MOST_CALLS → MayWantMemory (meaning_at s (CountCall queue calls))
-    count-wants less = subst MayWantMemory (sym count-means) (limits-want (view_of s s.state) (view_of s s.pending) counting (below-most so_far less))
+    pub count_wants : so_far < MOST_CALLS → MayWantMemory (meaning_at s (CountCall queue calls))
+    count_wants less = subst MayWantMemory (sym count_means) (limits_want (view_of s s.state) (view_of s s.pending) counting (below_most so_far less))
 
     -- and it is raised
-    pub count-plan : (planned : Planned) (total : ℕ) → so_far < MOST_CALLS → total ≡ so_far + 1 → number < length s.names
+    pub count_plan : (planned : Planned) (total : ℕ) → so_far < MOST_CALLS → total ≡ so_far + 1 → number < length s.names
         → planned.count ≡ s.last_count → planned.time ≡ s.last_time
         → planned.change.members.known ≡ set.empty → planned.change.members.live ≡ map.empty
         → planned.change.totals.entries ≡ join_of map.empty (single (record { site = s.site; queue = number }) (alone calls total))
         → IsWithinLimits planned.change.members → IsPlan s (meaning_at s (CountCall queue calls)) planned
-    count-plan planned total less is within count time known live entries there = record {
+    count_plan planned total less is within count time known live entries there = record {
       operation = counting;
-      means = count-means;
-      stands = count-delta planned.change s.site number calls (suc so_far) (omega arith) known (nothing-held planned.change.members.live live) totals;
+      means = count_means;
+      stands = count_delta planned.change s.site number calls (suc so_far) (omega arith) known (nothing_held planned.change.members.live live) totals;
       not_exhausted = refl;
-      not_past_total = below-most so_far less;
+      not_past_total = below_most so_far less;
       counted = count ∙ omega arith;
       timed = time ∙ omega arith;
       change = subst (λ n. IsChangeOf s n planned.time planned.change) (sym count) (subst (λ t. IsChangeOf s s.last_count t planned.change) (sym time)
-          (count-change s kept planned.change number calls (suc so_far) (omega arith) within known live totals));
+          (count_change s kept planned.change number calls (suc so_far) (omega arith) within known live totals));
       limits = there;
     }
       where
@@ -84,11 +84,11 @@ module _ (s : SiteState) (kept : IsKept s) (limits : IsWithinLimits s.state.memb
         totals = entries ∙ ap (λ n. join_of map.empty (single (record { site = s.site; queue = number }) (alone calls n))) (is ∙ one so_far)
 
 -- what comes of a planned change is what was meant
-pub plan-done : (old new : SiteState) (meant : Meaning) (planned : Planned) (result : Result (Unit {0}) Refusal) → IsKept old → IsWithinLimits old.state.members → IsWithinLimits old.pending.members
+pub plan_done : (old new : SiteState) (meant : Meaning) (planned : Planned) (result : Result (Unit {0}) Refusal) → IsKept old → IsWithinLimits old.state.members → IsWithinLimits old.pending.members
     → IsPlan old meant planned → IsMade old planned.change planned.count planned.time new result → IsDone old meant new result
-plan-done old new meant planned result kept limits limits_pending plan made =
+plan_done old new meant planned result kept limits limits_pending plan made =
     subst (λ m. IsDone old m new result) (sym plan.means)
-    (made-done old new planned.change plan.operation planned.count planned.time (new-agrees old.state planned.change plan.change.is_new) (below-agrees old.pending old.state planned.change kept.below plan.change.is_new)
+    (made_done old new planned.change plan.operation planned.count planned.time (new_agrees old.state planned.change plan.change.is_new) (below_agrees old.pending old.state planned.change kept.below plan.change.is_new)
     limits limits_pending plan.limits plan.stands plan.not_exhausted plan.not_past_total plan.counted plan.timed result made)
 
 -- a site says the same as itself
@@ -99,6 +99,6 @@ itself s = record { site = refl; names = refl; state = delta s.state; pending = 
     delta d = record { members = record { known = refl; live = refl; ids = refl; spent = refl; retired = refl }; totals = refl }
 
 -- where nothing was planned the site stays, and what was told is what was meant
-pub refusal-done : (old : SiteState) (meant : Meaning) (refusal : Refusal) → IsUnplanned meant refusal → IsDone old meant old (Err refusal)
-refusal-done old meant refusal (inl e) = subst (λ r. IsDone old meant old (Err r)) (sym e.0) (memory-done old old meant e.1 (itself old))
-refusal-done old meant refusal (inr e) = refused-done old old meant refusal e (itself old)
+pub refusal_done : (old : SiteState) (meant : Meaning) (refusal : Refusal) → IsUnplanned meant refusal → IsDone old meant old (Err refusal)
+refusal_done old meant refusal (inl e) = subst (λ r. IsDone old meant old (Err r)) (sym e.0) (memory_done old old meant e.1 (itself old))
+refusal_done old meant refusal (inr e) = refused_done old old meant refusal e (itself old)

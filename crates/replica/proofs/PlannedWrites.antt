@@ -8,7 +8,7 @@ use Rattle.dots.specs.declared.member.Member.{Member}
 use Rattle.dots.specs.Values.{Dot, Stamp, IsCount}
 use Rattle.dots.specs.DotSets.{run_count}
 use Rattle.operations.specs.Operations.{Operation, Setting}
-use Rattle.general_lemmas.proofs.Membership.{cases-in, first-in, later-in}
+use Rattle.general_lemmas.proofs.Membership.{cases_in, first_in, later_in}
 use Rattle.member_orset.specs.Members.{IsWithinLimits}
 use Rattle.member_orset.specs.Reads.{dots_seen_below}
 use Rattle.replica.specs.declared.planned.Planned.{Planned}
@@ -24,28 +24,28 @@ use Rattle.replica.specs.SetFields.{fields_written}
 use Rattle.replica.specs.Site.{SiteState, meaning_at, view_of}
 use Rattle.replica.specs.SiteViews.{dots_seen, greatest, older_dots}
 use Rattle.replica.specs.Writing.{written_to}
-use Rattle.replica.proofs.Doing.{full-means, limits-want}
-use Rattle.replica.proofs.Fullness.{older-live, seen-older}
-use Rattle.replica.proofs.MadeChanges.{held_by, known-by, nothing-held, remove-delta, write-delta}
-use Rattle.replica.proofs.PlannedAdds.{not-used-up, used-up}
-use Rattle.replica.proofs.SeenLists.{held-seen, seen-all-live, seen-rise}
-use Rattle.replica.proofs.SeenOnce.{seen-live}
-use Rattle.replica.proofs.SiteChanges.{remove-change}
-use Rattle.replica.proofs.WrittenChanges.{seen-holding, write-change}
-use Rattle.replica.proofs.WrittenDots.{rising-few}
+use Rattle.replica.proofs.Doing.{full_means, limits_want}
+use Rattle.replica.proofs.Fullness.{older_live, seen_older}
+use Rattle.replica.proofs.MadeChanges.{held_by, known_by, nothing_held, remove_delta, write_delta}
+use Rattle.replica.proofs.PlannedAdds.{not_used_up, used_up}
+use Rattle.replica.proofs.SeenLists.{held_seen, seen_all_live, seen_rise}
+use Rattle.replica.proofs.SeenOnce.{seen_live}
+use Rattle.replica.proofs.SiteChanges.{remove_change}
+use Rattle.replica.proofs.WrittenChanges.{seen_holding, write_change}
+use Rattle.replica.proofs.WrittenDots.{rising_few}
 
 -- what is meant where some dot is seen
-where-some : (dots : List (Dot × Member)) (m : Meaning) → dots ≢ [] → where_present dots m ≡ m
-where-some [] m some = absurd (some refl)
-where-some (d ∷ ds) m some = refl
+where_some : (dots : List (Dot × Member)) (m : Meaning) → dots ≢ [] → where_present dots m ≡ m
+where_some [] m some = absurd (some refl)
+where_some (d ∷ ds) m some = refl
 
 -- dots that were listed, and are some, were seen
-pub some-seen : (seen : List (Dot × Member)) (listed : List Dot) (n : ℕ) (b : Bool) → listed ≡ each (λ p. p.0) seen → length listed ≡ n → b ≡ (n == 0) → b ≡ false → seen ≢ []
-some-seen [] listed n b are long test none e = by n (sym long ∙ ap length are) (sym none ∙ test)
+pub some_seen : (seen : List (Dot × Member)) (listed : List Dot) (n : ℕ) (b : Bool) → listed ≡ each (λ p. p.0) seen → length listed ≡ n → b ≡ (n == 0) → b ≡ false → seen ≢ []
+some_seen [] listed n b are long test none e = by n (sym long ∙ ap length are) (sym none ∙ test)
   where
     by : (n : ℕ) → n ≡ 0 → false ≡ (n == 0) → ⊥
     by n zero_is t = true≢false (sym (t ∙ ap (λ m. m == 0) zero_is))
-some-seen (d ∷ ds) listed n b are long test none e = (cc)
+some_seen (d ∷ ds) listed n b are long test none e = (cc)
 
 module _ (s : SiteState) (kept : IsKept s) (limits : IsWithinLimits s.state.members) (queue : Option ℕ) (interface : List ℕ) where
   -- the dots that are seen, each with its member
@@ -56,42 +56,42 @@ module _ (s : SiteState) (kept : IsKept s) (limits : IsWithinLimits s.state.memb
   its_dots = each (λ p. p.0) seen
 
   -- they are few enough
-  pub seen-few : length its_dots ≤ MOST_LIVE
-  seen-few = let few = rising-few s.state.members its_dots (seen-rise (view_of s s.state).dots queue interface) (seen-all-live s.state.members queue interface) in
+  pub seen_few : length its_dots ≤ MOST_LIVE
+  seen_few = let few = rising_few s.state.members its_dots (seen_rise (view_of s s.state).dots queue interface) (seen_all_live s.state.members queue interface) in
       let most = limits.cells in omega arith
 
   -- each of them is known
-  seen-known-here : (q : Dot) → Contains its_dots q → set.contains s.state.members.known q ≡ true
-  seen-known-here q here = by seen q here (λ p h. let g = seen-holding s queue interface p h in (limits.held p.0 (p.1, g.0) g.1).known)
+  seen_known_here : (q : Dot) → Contains its_dots q → set.contains s.state.members.known q ≡ true
+  seen_known_here q here = by seen q here (λ p h. let g = seen_holding s queue interface p h in (limits.held p.0 (p.1, g.0) g.1).known)
     where
       by : (ps : List (Dot × Member)) (q : Dot) → Contains (each (λ p. p.0) ps) q → ((p : Dot × Member) → Contains ps p → set.contains s.state.members.known p.0 ≡ true)
           → set.contains s.state.members.known q ≡ true
       by [] q h known = absurd (omega (arith, h.1))
-      by (p ∷ ps) q h known = elim (cases-in p.0 (each (λ p. p.0) ps) q h) [
-        | inl e ↦ ap (set.contains s.state.members.known) (sym e) ∙ known p (first-in p ps)
-        | inr r ↦ by ps q r (λ x here. known x (later-in p ps x here))
+      by (p ∷ ps) q h known = elim (cases_in p.0 (each (λ p. p.0) ps) q h) [
+        | inl e ↦ ap (set.contains s.state.members.known) (sym e) ∙ known p (first_in p ps)
+        | inr r ↦ by ps q r (λ x here. known x (later_in p ps x here))
       ]
 
   -- ---- a remove of them
 
   -- memory may be wanting for it, where some are seen
-  pub remove-wants : (meant : Meaning) → meant ≡ where_present seen (within_limits (view_of s s.state) (view_of s s.pending) (remove_of seen)) → seen ≢ [] → MayWantMemory meant
-  remove-wants meant means some = subst MayWantMemory (sym (means ∙ where-some seen _ some)) (limits-want (view_of s s.state) (view_of s s.pending) (remove_of seen) refl)
+  pub remove_wants : (meant : Meaning) → meant ≡ where_present seen (within_limits (view_of s s.state) (view_of s s.pending) (remove_of seen)) → seen ≢ [] → MayWantMemory meant
+  remove_wants meant means some = subst MayWantMemory (sym (means ∙ where_some seen _ some)) (limits_want (view_of s s.state) (view_of s s.pending) (remove_of seen) refl)
 
-  pub remove-plan : (meant : Meaning) (planned : Planned) → meant ≡ where_present seen (within_limits (view_of s s.state) (view_of s s.pending) (remove_of seen)) → seen ≢ []
+  pub remove_plan : (meant : Meaning) (planned : Planned) → meant ≡ where_present seen (within_limits (view_of s s.state) (view_of s s.pending) (remove_of seen)) → seen ≢ []
       → planned.count ≡ s.last_count → planned.time ≡ s.last_time
       → planned.change.members.known ≡ set.from_list its_dots → planned.change.members.live ≡ map.empty → planned.change.totals.entries ≡ map.empty
       → IsWithinLimits planned.change.members → IsPlan s meant planned
-  remove-plan meant planned means some count time known live totals there = record {
+  remove_plan meant planned means some count time known live totals there = record {
     operation = remove_of seen;
-    means = means ∙ where-some seen _ some;
-    stands = remove-delta planned.change (set.from_list its_dots) known (nothing-held planned.change.members.live live) totals;
+    means = means ∙ where_some seen _ some;
+    stands = remove_delta planned.change (set.from_list its_dots) known (nothing_held planned.change.members.live live) totals;
     not_exhausted = refl;
     not_past_total = refl;
     counted = count ∙ omega arith;
     timed = time ∙ omega arith;
     change = subst (λ n. IsChangeOf s n planned.time planned.change) (sym count) (subst (λ t. IsChangeOf s s.last_count t planned.change) (sym time)
-        (remove-change s kept planned.change its_dots seen-known-here known live totals));
+        (remove_change s kept planned.change its_dots seen_known_here known live totals));
     limits = there;
   }
 
@@ -111,48 +111,48 @@ module _ (s : SiteState) (kept : IsKept s) (limits : IsWithinLimits s.state.memb
     meant = meaning_of_setting s.site (view_of s s.state) (view_of s s.pending) setting seen
 
     module _ (some : seen ≢ []) where
-      write-means : meant ≡ within_limits (view_of s s.state) (view_of s s.pending) writing
-      write-means = where-some seen _ some
+      write_means : meant ≡ within_limits (view_of s s.state) (view_of s s.pending) writing
+      write_means = where_some seen _ some
 
       -- memory may be wanting for it
-      pub write-wants : MayWantMemory meant
-      write-wants = subst MayWantMemory (sym write-means) (limits-want (view_of s s.state) (view_of s s.pending) writing refl)
+      pub write_wants : MayWantMemory meant
+      write_wants = subst MayWantMemory (sym write_means) (limits_want (view_of s s.state) (view_of s s.pending) writing refl)
 
       -- what is told of writes is told of it, where its time is past the greatest
-      pub write-told : (dots : List Dot) (refusal : Refusal) → dots ≡ its_dots → IsToldOfWrites s dots refusal → (IsCount next_time → ⊥) → IsUnplanned meant refusal
-      write-told dots refusal are told none = by (told queue interface setting are (used-up (max s.last_time (greatest (λ d. time_replaced (view_of s s.state).dots setting d.0) seen)) none))
+      pub write_told : (dots : List Dot) (refusal : Refusal) → dots ≡ its_dots → IsToldOfWrites s dots refusal → (IsCount next_time → ⊥) → IsUnplanned meant refusal
+      write_told dots refusal are told none = by (told queue interface setting are (used_up (max s.last_time (greatest (λ d. time_replaced (view_of s s.state).dots setting d.0) seen)) none))
         where
           by : IsToldOf s writing refusal → IsUnplanned meant refusal
-          by (inl e) = inl (e, write-wants)
-          by (inr e) = inr (write-means ∙ e)
+          by (inl e) = inl (e, write_wants)
+          by (inr e) = inr (write_means ∙ e)
 
       -- a context of too many runs is told of
-      pub write-long : MOST_RUNS < run_count (dots_seen_below s.state.members its_dots) → meant ≡ Refused MembersFull
-      write-long many = write-means ∙ full-means (view_of s s.state) (view_of s s.pending) writing (inr (inr
-          (ap (λ k. nat_lt MOST_RUNS (run_count k)) (known-by writing seen (older_dots (view_of s s.state) its_dots) refl refl ∙ sym (seen-older s s.state its_dots))
+      pub write_long : MOST_RUNS < run_count (dots_seen_below s.state.members its_dots) → meant ≡ Refused MembersFull
+      write_long many = write_means ∙ full_means (view_of s s.state) (view_of s s.pending) writing (inr (inr
+          (ap (λ k. nat_lt MOST_RUNS (run_count k)) (known_by writing seen (older_dots (view_of s s.state) its_dots) refl refl ∙ sym (seen_older s s.state its_dots))
           ∙ test (run_count (dots_seen_below s.state.members its_dots)) many)))
         where
           test : (n : ℕ) → MOST_RUNS < n → nat_lt MOST_RUNS n ≡ true
           test n h = grind (arith, nat_tests)
 
       -- and the plan is that of the write
-      pub write-plan : (planned : Planned) → IsCount next_time → planned.count ≡ s.last_count → planned.time ≡ next_time
+      pub write_plan : (planned : Planned) → IsCount next_time → planned.count ≡ s.last_count → planned.time ≡ next_time
           → planned.change.members.known ≡ dots_seen_below s.state.members its_dots
           → ((q : Dot) → map.get planned.change.members.live q ≡ written_to s.state.members its_dots (fields_written stamp setting) q)
           → planned.change.totals.entries ≡ map.empty → IsWithinLimits planned.change.members → IsPlan s meant planned
-      write-plan planned time_is count time known live totals there =
-          let held : (q : Dot) → map.get planned.change.members.live q ≡ held_by seen (fields_written stamp setting) q = λ q. live q ∙ held-seen s.state.members queue interface (fields_written stamp setting) q in
+      write_plan planned time_is count time known live totals there =
+          let held : (q : Dot) → map.get planned.change.members.live q ≡ held_by seen (fields_written stamp setting) q = λ q. live q ∙ held_seen s.state.members queue interface (fields_written stamp setting) q in
           record {
             operation = writing;
-            means = write-means;
-            stands = write-delta planned.change seen setting stamp (older_dots (view_of s s.state) its_dots)
-                (λ p h. older-live s s.state its_dots p.0 (seen-live s s.state queue interface p h)) (known ∙ seen-older s s.state its_dots) held totals;
-            not_exhausted = not-used-up next_time time_is;
+            means = write_means;
+            stands = write_delta planned.change seen setting stamp (older_dots (view_of s s.state) its_dots)
+                (λ p h. older_live s s.state its_dots p.0 (seen_live s s.state queue interface p h)) (known ∙ seen_older s s.state its_dots) held totals;
+            not_exhausted = not_used_up next_time time_is;
             not_past_total = refl;
             counted = count ∙ omega arith;
             timed = time ∙ own s.site next_time s.last_time (later s.last_time (greatest (λ d. time_replaced (view_of s s.state).dots setting d.0) seen));
             change = subst (λ n. IsChangeOf s n planned.time planned.change) (sym count) (subst (λ t. IsChangeOf s s.last_count t planned.change) (sym time)
-                (write-change s kept limits planned.change queue interface setting time_is.1 known held totals));
+                (write_change s kept limits planned.change queue interface setting time_is.1 known held totals));
             limits = there;
           }
         where
@@ -166,8 +166,8 @@ module _ (s : SiteState) (kept : IsKept s) (limits : IsWithinLimits s.state.memb
               itself n = grind (arith, nat_tests)
 
 -- what a remove means, by the dots of the member
-pub remove-means : (s : SiteState) → IsKept s → (queue interface : List ℕ) (number : ℕ) → number_of s.names queue ≡ Some number
+pub remove_means : (s : SiteState) → IsKept s → (queue interface : List ℕ) (number : ℕ) → number_of s.names queue ≡ Some number
     → meaning_at s (RemoveMember queue interface)
     ≡ where_present (dots_seen (view_of s s.state).dots (Some number) interface) (within_limits (view_of s s.state) (view_of s s.pending) (remove_of (dots_seen (view_of s s.state).dots (Some number) interface)))
-remove-means s kept queue interface number numbered = ap (λ n. in_queue n (λ q. where_present (dots_seen (view_of s s.state).dots (Some q) interface)
+remove_means s kept queue interface number numbered = ap (λ n. in_queue n (λ q. where_present (dots_seen (view_of s s.state).dots (Some q) interface)
     (within_limits (view_of s s.state) (view_of s s.pending) (remove_of (dots_seen (view_of s s.state).dots (Some q) interface))))) numbered

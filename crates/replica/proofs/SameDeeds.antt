@@ -22,51 +22,51 @@ use Rattle.replica.specs.Deeds.{IsCutDeed, IsTakeDeed, IsWholeDeed}
 use Rattle.replica.specs.Site.{IsSameSite, SiteState, meaning_at, rows_of, sums_of, view_of}
 use Rattle.replica.specs.SiteViews.{count_used, time_used}
 use Rattle.replica.specs.Taking.{HasMemberPast, HasTotalPast, IsNotMine, MayTake, SpeaksOfStrangeQueue}
-use Rattle.replica.proofs.SameSites.{delta-through, delta-turned, site-through, site-turned, unchanged-site}
-use Rattle.replica.proofs.StandingSites.{equal-same}
-use Rattle.replica.proofs.TakingIn.{copied-live}
+use Rattle.replica.proofs.SameSites.{delta_through, delta_turned, site_through, site_turned, unchanged_site}
+use Rattle.replica.proofs.StandingSites.{equal_same}
+use Rattle.replica.proofs.TakingIn.{copied_live}
 
 -- ---- deltas that say the same
 
 -- what is empty says the same
-both-empty : (d e : DeltaState) → IsEmpty d → IsEmpty e → IsSame d e
-both-empty d e a b = record { conditions = λ dot. a.conditions dot ∙ sym (b.conditions dot); known = a.known ∙ sym b.known; totals = a.totals ∙ sym b.totals }
+both_empty : (d e : DeltaState) → IsEmpty d → IsEmpty e → IsSame d e
+both_empty d e a b = record { conditions = λ dot. a.conditions dot ∙ sym (b.conditions dot); known = a.known ∙ sym b.known; totals = a.totals ∙ sym b.totals }
 
 -- and what says the same as an empty one is empty
-empty-too : (d e : DeltaState) → IsSame d e → IsEmpty d → IsEmpty e
-empty-too d e same empty = record { conditions = λ dot. sym (same.conditions dot) ∙ empty.conditions dot; known = sym same.known ∙ empty.known; totals = sym same.totals ∙ empty.totals }
+empty_too : (d e : DeltaState) → IsSame d e → IsEmpty d → IsEmpty e
+empty_too d e same empty = record { conditions = λ dot. sym (same.conditions dot) ∙ empty.conditions dot; known = sym same.known ∙ empty.known; totals = sym same.totals ∙ empty.totals }
 
 -- what is equal to two that say the same says the same
-equal-to : (d e f g : DeltaState) → f ≡ d → g ≡ e → IsSame d e → IsSame f g
-equal-to d e f g a b same = subst (λ x. IsSame x g) (sym a) (subst (IsSame d) (sym b) same)
+equal_to : (d e f g : DeltaState) → f ≡ d → g ≡ e → IsSame d e → IsSame f g
+equal_to d e f g a b same = subst (λ x. IsSame x g) (sym a) (subst (IsSame d) (sym b) same)
 
 -- joins of what says the same say the same
-joins-same : (d e x y f g : DeltaState) → IsSame d e → IsSame x y → IsJoinOf d x f → IsJoinOf e y g → IsSame f g
-joins-same d e x y f g a b j k = record {
+joins_same : (d e x y f g : DeltaState) → IsSame d e → IsSame x y → IsJoinOf d x f → IsJoinOf e y g → IsSame f g
+joins_same d e x y f g a b j k = record {
   conditions = λ dot. j.members.conditions dot ∙ (λ i. condition_joined (a.conditions dot i) (b.conditions dot i)) ∙ sym (k.members.conditions dot);
   known = j.members.known ∙ (λ i. set.union (a.known i) (b.known i)) ∙ sym k.members.known;
   totals = j.totals ∙ (λ i. join_of (a.totals i) (b.totals i)) ∙ sym k.totals;
 }
 
 -- so it is where both are joined with one operation
-joined-same : (d e f g : DeltaState) (o : Operation) → IsSame d e → HasJoined d o f → HasJoined e o g → IsSame f g
-joined-same d e f g o same j k = joins-same d e j.change k.change f g same (one_delta j.change k.change _ j.stands k.stands) j.joined k.joined
+joined_same : (d e f g : DeltaState) (o : Operation) → IsSame d e → HasJoined d o f → HasJoined e o g → IsSame f g
+joined_same d e f g o same j k = joins_same d e j.change k.change f g same (one_delta j.change k.change _ j.stands k.stands) j.joined k.joined
 
 -- a join with what says the same has as many live dots
-cells-same : (d e x : DeltaState) → IsSame d e → cells_joined d.members x.members ≡ cells_joined e.members x.members
+cells_same : (d e x : DeltaState) → IsSame d e → cells_joined d.members x.members ≡ cells_joined e.members x.members
 unfolding joined_dots
-cells-same d e x same = λ i. set.len (set.retain (set.union (same.known i) x.members.known) (λ dot. is_live (condition_joined (same.conditions dot i) (condition_of x.members dot))))
+cells_same d e x same = λ i. set.len (set.retain (set.union (same.known i) x.members.known) (λ dot. is_live (condition_joined (same.conditions dot i) (condition_of x.members dot))))
 
 -- and as many runs
-runs-same : (d e x : DeltaState) → IsSame d e → runs_joined d.members x.members ≡ runs_joined e.members x.members
-runs-same d e x same = ap (λ known. run_count (set.union known x.members.known)) same.known
+runs_same : (d e x : DeltaState) → IsSame d e → runs_joined d.members x.members ≡ runs_joined e.members x.members
+runs_same d e x same = ap (λ known. run_count (set.union known x.members.known)) same.known
 
 -- ---- two sites
 
 module _ (s t : SiteState) (same : IsSameSite s t) where
   -- what is read of deltas that say the same is the same
-  view-same : (d e : DeltaState) → IsSame d e → view_of s d ≡ view_of t e
-  view-same d e alike = let live = copied-live d e alike in λ i. record {
+  view_same : (d e : DeltaState) → IsSame d e → view_of s d ≡ view_of t e
+  view_same d e alike = let live = copied_live d e alike in λ i. record {
     dots = sets.view_of (live i);
     known = alike.known i;
     totals = λ site queue calls. number_of_calls calls (totals_of (alike.totals i) site queue);
@@ -75,84 +75,84 @@ module _ (s t : SiteState) (same : IsSameSite s t) where
   }
 
   -- so a command means the same
-  pub means-same : (change : Change) → meaning_at s change ≡ meaning_at t change
-  means-same change = λ i. meaning (sym same.site i) (sym same.names i) (view-same s.state t.state same.state i) (view-same s.pending t.pending same.pending i) change
+  pub means_same : (change : Change) → meaning_at s change ≡ meaning_at t change
+  means_same change = λ i. meaning (sym same.site i) (sym same.names i) (view_same s.state t.state same.state i) (view_same s.pending t.pending same.pending i) change
 
   -- a queue has the same rows
-  pub rows-same : (queue : ℕ) → rows_of s queue ≡ rows_of t queue
-  rows-same queue = ap (λ live. rows_read (sets.view_of live) queue) (copied-live s.state t.state same.state)
+  pub rows_same : (queue : ℕ) → rows_of s queue ≡ rows_of t queue
+  rows_same queue = ap (λ live. rows_read (sets.view_of live) queue) (copied_live s.state t.state same.state)
 
   -- and the same totals
-  pub sums-same : (queue : ℕ) → sums_of s queue ≡ sums_of t queue
-  sums-same queue = ap (λ entries. sum_of entries queue) same.state.totals
+  pub sums_same : (queue : ℕ) → sums_of s queue ≡ sums_of t queue
+  sums_same queue = ap (λ entries. sum_of entries queue) same.state.totals
 
   -- one buffer is empty where the other is
-  pub pending-same : IsEmpty s.pending → IsEmpty t.pending
-  pending-same = empty-too s.pending t.pending same.pending
+  pub pending_same : IsEmpty s.pending → IsEmpty t.pending
+  pending_same = empty_too s.pending t.pending same.pending
 
   -- what one site hasn't made the other hasn't
-  not-mine : (d : DeltaState) → IsNotMine t d → IsNotMine s d
-  not-mine d (inl past) = inl
+  not_mine : (d : DeltaState) → IsNotMine t d → IsNotMine s d
+  not_mine d (inl past) = inl
       (subst (λ n. HasMemberPast n s.last_count s.last_time d.members) same.site
       (subst (λ n. HasMemberPast t.site n s.last_time d.members) same.last_count
       (subst (λ n. HasMemberPast t.site t.last_count n d.members) same.last_time past)))
-  not-mine d (inr past) = inr
+  not_mine d (inr past) = inr
       (subst (λ n. HasTotalPast n s.state.totals.entries d.totals.entries) same.site
       (subst (λ entries. HasTotalPast t.site entries d.totals.entries) (sym same.state.totals) past))
 
   -- so both may take the same
-  pub may-same : (d : DeltaState) → MayTake s d → MayTake t d
-  may-same d may = record {
+  pub may_same : (d : DeltaState) → MayTake s d → MayTake t d
+  may_same d may = record {
     joins = record {
       hears = record {
         queues = λ strange. may.joins.hears.queues (subst (λ names. SpeaksOfStrangeQueue (length names) d) same.names strange);
-        own = λ past. may.joins.hears.own (not-mine d past);
+        own = λ past. may.joins.hears.own (not_mine d past);
       };
       agree = λ dot. subst (λ c. ConditionsAgree c (condition_of d.members dot)) (same.state.conditions dot) (may.joins.agree dot);
     };
-    cells = subst (λ n. n ≤ MOST_LIVE) (cells-same s.state t.state d same.state) may.cells;
-    runs = subst (λ n. n ≤ MOST_RUNS) (runs-same s.state t.state d same.state) may.runs;
+    cells = subst (λ n. n ≤ MOST_LIVE) (cells_same s.state t.state d same.state) may.cells;
+    runs = subst (λ n. n ≤ MOST_RUNS) (runs_same s.state t.state d same.state) may.runs;
   }
 
   module _ (new after : SiteState) where
     -- what comes of one meaning is the same
-    meant-same : (m : Meaning) (result other : Result (Unit {0}) Refusal) → Follows s m new result → Follows t m after other → (result ≡ other) × IsSameSite new after
-    meant-same (Makes o) result other (done, made) (also, makes) = (
+    meant_same : (m : Meaning) (result other : Result (Unit {0}) Refusal) → Follows s m new result → Follows t m after other → (result ≡ other) × IsSameSite new after
+    meant_same (Makes o) result other (done, made) (also, makes) = (
       done ∙ sym also,
       record {
         site = makes.site ∙ same.site ∙ sym made.site;
         names = makes.names ∙ same.names ∙ sym made.names;
-        state = joined-same s.state t.state new.state after.state o same.state made.state makes.state;
-        pending = joined-same s.pending t.pending new.pending after.pending o same.pending made.pending makes.pending;
+        state = joined_same s.state t.state new.state after.state o same.state made.state makes.state;
+        pending = joined_same s.pending t.pending new.pending after.pending o same.pending made.pending makes.pending;
         last_count = makes.last_count ∙ (λ i. max (count_used (same.site i) o) (same.last_count i)) ∙ sym made.last_count;
         last_time = makes.last_time ∙ (λ i. max (time_used (same.site i) o) (same.last_time i)) ∙ sym made.last_time;
         frames = makes.frames ∙ same.frames ∙ sym made.frames;
       },
     )
-    meant-same (Refused refusal) result other (refused, kept) (also, keeps) = (
+    meant_same (Refused refusal) result other (refused, kept) (also, keeps) = (
       refused ∙ sym also,
-      site-through new s after (site-turned s new (unchanged-site s new kept)) (site-through s t after same (unchanged-site t after keeps)),
+      site_through new s after (site_turned s new (unchanged_site s new kept)) (site_through s t after same (unchanged_site t after keeps)),
     )
 
     -- and so is what comes of one command
-    pub follows-same : (change : Change) (result other : Result (Unit {0}) Refusal) → Follows s (meaning_at s change) new result → Follows t (meaning_at t change) after other
+    pub follows_same : (change : Change) (result other : Result (Unit {0}) Refusal) → Follows s (meaning_at s change) new result → Follows t (meaning_at t change) after other
         → (result ≡ other) × IsSameSite new after
-    follows-same change result other follows also =
-        meant-same (meaning_at s change) result other follows (subst (λ m. Follows t m after other) (sym (means-same change)) also)
+    follows_same change result other follows also =
+        meant_same (meaning_at s change) result other follows (subst (λ m. Follows t m after other) (sym (means_same change)) also)
 
     -- frames that are cut of both say the same
-    pub cut-same : (frame other : Frame) → IsCutDeed s frame new → IsCutDeed t other after → IsSameFrame frame other × IsSameSite new after
-    cut-same frame other deed also = let a = deed.made in let b = also.made in (
+    pub cut_same : (frame other : Frame) → IsCutDeed s frame new → IsCutDeed t other after → IsSameFrame frame other × IsSameSite new after
+    cut_same frame other deed also = let a = deed.made in let b = also.made in (
       record {
         maker = a.heading.maker ∙ sym same.site ∙ sym b.heading.maker;
         number = a.heading.number ∙ ap suc (sym same.frames) ∙ sym b.heading.number;
-        delta = equal-to s.pending t.pending frame.delta other.delta a.delta b.delta same.pending;
+        delta = equal_to s.pending t.pending frame.delta other.delta a.delta b.delta same.pending;
       },
       record {
         site = b.site ∙ same.site ∙ sym a.site;
         names = b.names ∙ same.names ∙ sym a.names;
-        state = equal-to s.state t.state new.state after.state a.state b.state same.state;
-        pending = both-empty new.pending after.pending a.pending b.pending;
+        state = equal_to s.state t.state new.state after.state a.state b.state same.state;
+        pending = both_empty new.pending after.pending a.pending b.pending;
         last_count = b.last_count ∙ same.last_count ∙ sym a.last_count;
         last_time = b.last_time ∙ same.last_time ∙ sym a.last_time;
         frames = b.frames ∙ ap suc same.frames ∙ sym a.frames;
@@ -160,18 +160,18 @@ module _ (s t : SiteState) (same : IsSameSite s t) where
     )
 
     -- and so do frames of all
-    pub whole-same : (frame other : Frame) → IsWholeDeed s frame new → IsWholeDeed t other after → IsSameFrame frame other × IsSameSite new after
-    whole-same frame other deed also = let a = deed.made in let b = also.made in (
+    pub whole_same : (frame other : Frame) → IsWholeDeed s frame new → IsWholeDeed t other after → IsSameFrame frame other × IsSameSite new after
+    whole_same frame other deed also = let a = deed.made in let b = also.made in (
       record {
         maker = a.heading.maker ∙ sym same.site ∙ sym b.heading.maker;
         number = a.heading.number ∙ ap suc (sym same.frames) ∙ sym b.heading.number;
-        delta = delta-through frame.delta s.state other.delta (delta-turned s.state frame.delta a.delta) (delta-through s.state t.state other.delta same.state b.delta);
+        delta = delta_through frame.delta s.state other.delta (delta_turned s.state frame.delta a.delta) (delta_through s.state t.state other.delta same.state b.delta);
       },
       record {
         site = b.site ∙ same.site ∙ sym a.site;
         names = b.names ∙ same.names ∙ sym a.names;
-        state = equal-to s.state t.state new.state after.state a.state b.state same.state;
-        pending = equal-to s.pending t.pending new.pending after.pending a.pending b.pending same.pending;
+        state = equal_to s.state t.state new.state after.state a.state b.state same.state;
+        pending = equal_to s.pending t.pending new.pending after.pending a.pending b.pending same.pending;
         last_count = b.last_count ∙ same.last_count ∙ sym a.last_count;
         last_time = b.last_time ∙ same.last_time ∙ sym a.last_time;
         frames = b.frames ∙ ap suc same.frames ∙ sym a.frames;
@@ -179,12 +179,12 @@ module _ (s t : SiteState) (same : IsSameSite s t) where
     )
 
     -- and what has taken one delta
-    pub take-same : (d : DeltaState) → IsTakeDeed s d new → IsTakeDeed t d after → IsSameSite new after
-    take-same d deed also = let a = deed.taken in let b = also.taken in record {
+    pub take_same : (d : DeltaState) → IsTakeDeed s d new → IsTakeDeed t d after → IsSameSite new after
+    take_same d deed also = let a = deed.taken in let b = also.taken in record {
       site = b.site ∙ same.site ∙ sym a.site;
       names = b.names ∙ same.names ∙ sym a.names;
-      state = joins-same s.state t.state d d new.state after.state same.state (equal-same d d refl) a.state b.state;
-      pending = equal-to s.pending t.pending new.pending after.pending a.pending b.pending same.pending;
+      state = joins_same s.state t.state d d new.state after.state same.state (equal_same d d refl) a.state b.state;
+      pending = equal_to s.pending t.pending new.pending after.pending a.pending b.pending same.pending;
       last_count = b.last_count ∙ same.last_count ∙ sym a.last_count;
       last_time = b.last_time ∙ same.last_time ∙ sym a.last_time;
       frames = b.frames ∙ same.frames ∙ sym a.frames;

@@ -4,69 +4,69 @@ use Rattle.delta.specs.DeltaStates.{DeltaState, IsSame}
 use Rattle.replica.specs.Site.{IsSameSite, IsUnchanged, SiteState}
 use Rattle.replica.specs.Standing.{StandsFor}
 use Rattle.replica.specs.Steps.{SiteKnowledge}
-use Rattle.replica.proofs.StandingSites.{equal-same, same-stands, unchanged-same}
+use Rattle.replica.proofs.StandingSites.{equal_same, same-stands, unchanged_same}
 
 -- deltas say the same both ways
-pub delta-turned : (d e : DeltaState) → IsSame d e → IsSame e d
-delta-turned d e same = record { conditions = λ dot. sym (same.conditions dot); known = sym same.known; totals = sym same.totals }
+pub delta_turned : (d e : DeltaState) → IsSame d e → IsSame e d
+delta_turned d e same = record { conditions = λ dot. sym (same.conditions dot); known = sym same.known; totals = sym same.totals }
 
 -- and from one to the next
-pub delta-through : (d e f : DeltaState) → IsSame d e → IsSame e f → IsSame d f
-delta-through d e f one two = record { conditions = λ dot. one.conditions dot ∙ two.conditions dot; known = one.known ∙ two.known; totals = one.totals ∙ two.totals }
+pub delta_through : (d e f : DeltaState) → IsSame d e → IsSame e f → IsSame d f
+delta_through d e f one two = record { conditions = λ dot. one.conditions dot ∙ two.conditions dot; known = one.known ∙ two.known; totals = one.totals ∙ two.totals }
 
 -- a site says the same as itself
-pub site-itself : (s : SiteState) → IsSameSite s s
-site-itself s = record {
+pub site_itself : (s : SiteState) → IsSameSite s s
+site_itself s = record {
   site = refl;
   names = refl;
-  state = equal-same s.state s.state refl;
-  pending = equal-same s.pending s.pending refl;
+  state = equal_same s.state s.state refl;
+  pending = equal_same s.pending s.pending refl;
   last_count = refl;
   last_time = refl;
   frames = refl;
 }
 
 -- both ways
-pub site-turned : (s t : SiteState) → IsSameSite s t → IsSameSite t s
-site-turned s t same = record {
+pub site_turned : (s t : SiteState) → IsSameSite s t → IsSameSite t s
+site_turned s t same = record {
   site = sym same.site;
   names = sym same.names;
-  state = delta-turned s.state t.state same.state;
-  pending = delta-turned s.pending t.pending same.pending;
+  state = delta_turned s.state t.state same.state;
+  pending = delta_turned s.pending t.pending same.pending;
   last_count = sym same.last_count;
   last_time = sym same.last_time;
   frames = sym same.frames;
 }
 
 -- and from one to the next
-pub site-through : (s t u : SiteState) → IsSameSite s t → IsSameSite t u → IsSameSite s u
-site-through s t u one two = record {
+pub site_through : (s t u : SiteState) → IsSameSite s t → IsSameSite t u → IsSameSite s u
+site_through s t u one two = record {
   site = two.site ∙ one.site;
   names = two.names ∙ one.names;
-  state = delta-through s.state t.state u.state one.state two.state;
-  pending = delta-through s.pending t.pending u.pending one.pending two.pending;
+  state = delta_through s.state t.state u.state one.state two.state;
+  pending = delta_through s.pending t.pending u.pending one.pending two.pending;
   last_count = two.last_count ∙ one.last_count;
   last_time = two.last_time ∙ one.last_time;
   frames = two.frames ∙ one.frames;
 }
 
 -- one that is unchanged says the same
-pub unchanged-site : (old new : SiteState) → IsUnchanged old new → IsSameSite old new
-unchanged-site old new same = record {
+pub unchanged_site : (old new : SiteState) → IsUnchanged old new → IsSameSite old new
+unchanged_site old new same = record {
   site = same.site;
   names = same.names;
-  state = unchanged-same old.state new.state same.state;
-  pending = unchanged-same old.pending new.pending same.pending;
+  state = unchanged_same old.state new.state same.state;
+  pending = unchanged_same old.pending new.pending same.pending;
   last_count = same.last_count;
   last_time = same.last_time;
   frames = same.frames;
 }
 
 -- and so does one that is equal
-pub equal-site : (old new : SiteState) → new ≡ old → IsSameSite old new
-equal-site old new e = subst (IsSameSite old) (sym e) (site-itself old)
+pub equal_site : (old new : SiteState) → new ≡ old → IsSameSite old new
+equal_site old new e = subst (IsSameSite old) (sym e) (site_itself old)
 
 -- what says the same stands for the same
-pub same-site-stands : (old new : SiteState) (s : SiteKnowledge) → StandsFor old s → IsSameSite old new → StandsFor new s
-same-site-stands old new s stands same =
+pub same_site_stands : (old new : SiteState) (s : SiteKnowledge) → StandsFor old s → IsSameSite old new → StandsFor new s
+same_site_stands old new s stands same =
     same-stands old new s s.frames stands same.site same.state same.pending same.last_count same.last_time (stands.frames ∙ sym same.frames)

@@ -18,7 +18,7 @@ use Rattle.std.specs.Ordering.{eq_by_cmp, is_eq}
 use Rattle.std.proofs.lemmas.Cmp.{tied_itself}
 use Rattle.operations.specs.Operations.{entry_under}
 use Rattle.operations.specs.Totals.{key_cmp}
-use Rattle.general_lemmas.proofs.Membership.{in-any, only-in}
+use Rattle.general_lemmas.proofs.Membership.{in_any, only_in}
 use Rattle.dots.proofs.DotOrder.{dots_total}
 use Rattle.member_orset.proofs.DotTests.{one_dot}
 use Rattle.site_totals.specs.Raising.{alone}
@@ -30,44 +30,44 @@ use Rattle.replica.specs.Changing.{IsChangeOf, IsNewTo}
 use Rattle.replica.specs.Keeping.{AreWrittenBy, HasOwnStamps, IsKept, IsWrittenBy}
 use Rattle.replica.specs.Site.{SiteState, view_of}
 use Rattle.replica.specs.SiteViews.{older_dots, own_time}
-use Rattle.replica.proofs.Fullness.{contains-older, seen-older}
-use Rattle.replica.proofs.KeptJoins.{condition-live}
-use Rattle.replica.proofs.MadeChanges.{get-counted, nothing-held, same_key}
-use Rattle.replica.proofs.NoNumbers.{own-counts, own-unknown}
+use Rattle.replica.proofs.Fullness.{contains_older, seen_older}
+use Rattle.replica.proofs.KeptJoins.{condition_live}
+use Rattle.replica.proofs.MadeChanges.{get_counted, nothing_held, same_key}
+use Rattle.replica.proofs.NoNumbers.{own_counts, own_unknown}
 
 -- ---- changes in which no dot is live
 
 module _ (x : DeltaState) (none : (q : Dot) → map.get x.members.live q ≡ None) where
-  no-holding : (q : Dot) (h : Holding) → map.get x.members.live q ≡ Some h → ⊥
-  no-holding q h e = let n = none q in (cc)
+  no_holding : (q : Dot) (h : Holding) → map.get x.members.live q ≡ Some h → ⊥
+  no_holding q h e = let n = none q in (cc)
 
   -- they are new to everything
-  pub none-new : (d : DeltaState) → IsNewTo d x
-  none-new d = record { room = λ dot m f e. absurd (no-holding dot (m, f) (condition-live x dot m f e)) }
+  pub none_new : (d : DeltaState) → IsNewTo d x
+  none_new d = record { room = λ dot m f e. absurd (no_holding dot (m, f) (condition_live x dot m f e)) }
 
   -- and have no stamps
-  pub none-stamped : (site time : ℕ) → HasOwnStamps site time x
-  none-stamped site time dot h live = absurd (no-holding dot h live)
+  pub none_stamped : (site time : ℕ) → HasOwnStamps site time x
+  none_stamped site time dot h live = absurd (no_holding dot h live)
 
 -- totals that are empty are of all queues
-pub none-totalled : {X : Type 0} (x : DeltaState) → x.totals.entries ≡ map.empty → (key : Key) (totals : CallTotals) → map.get x.totals.entries key ≡ Some totals → X
-none-totalled x empty key totals here = absurd (let no = sym (ap (λ e. map.get e key) empty ∙ map.get-empty _ key) ∙ here in cc)
+pub none_totalled : {X : Type 0} (x : DeltaState) → x.totals.entries ≡ map.empty → (key : Key) (totals : CallTotals) → map.get x.totals.entries key ≡ Some totals → X
+none_totalled x empty key totals here = absurd (let no = sym (ap (λ e. map.get e key) empty ∙ map.get-empty _ key) ∙ here in cc)
 
 -- a count is a change of its site
-pub count-change : (s : SiteState) → IsKept s → (x : DeltaState) (queue : ℕ) (calls : Calls) (n : ℕ) → 1 ≤ n → queue < length s.names
+pub count_change : (s : SiteState) → IsKept s → (x : DeltaState) (queue : ℕ) (calls : Calls) (n : ℕ) → 1 ≤ n → queue < length s.names
     → x.members.known ≡ set.empty → x.members.live ≡ map.empty
     → x.totals.entries ≡ join_of map.empty (single (record { site = s.site; queue = queue }) (alone calls n))
     → IsChangeOf s s.last_count s.last_time x
-count-change s kept x queue calls n some within known live entries =
-    let none = nothing-held x.members.live live in
+count_change s kept x queue calls n some within known live entries =
+    let none = nothing_held x.members.live live in
     record {
-      is_new = none-new x none s.state;
+      is_new = none_new x none s.state;
       queues = record {
-        members = λ dot h here. absurd (no-holding x none dot h here);
+        members = λ dot h here. absurd (no_holding x none dot h here);
         totals = λ key totals here.
-            by key totals (eq_by_cmp key_cmp key (record { site = s.site; queue = queue })) refl (sym (get-counted s.site queue calls n some key) ∙ ap (λ e. map.get e key) (sym entries) ∙ here);
+            by key totals (eq_by_cmp key_cmp key (record { site = s.site; queue = queue })) refl (sym (get_counted s.site queue calls n some key) ∙ ap (λ e. map.get e key) (sym entries) ∙ here);
       };
-      stamps = none-stamped x none s.site s.last_time;
+      stamps = none_stamped x none s.site s.last_time;
       later = omega arith;
       times = kept.times;
       counts = kept.counts;
@@ -79,46 +79,46 @@ count-change s kept x queue calls n some within known live entries =
     by key totals false is e = absurd (cc)
 
 -- a remove is one
-pub remove-change : (s : SiteState) → IsKept s → (x : DeltaState) (dots : List Dot) → ((q : Dot) → Contains dots q → set.contains s.state.members.known q ≡ true)
+pub remove_change : (s : SiteState) → IsKept s → (x : DeltaState) (dots : List Dot) → ((q : Dot) → Contains dots q → set.contains s.state.members.known q ≡ true)
     → x.members.known ≡ set.from_list dots → x.members.live ≡ map.empty → x.totals.entries ≡ map.empty
     → IsChangeOf s s.last_count s.last_time x
-remove-change s kept x dots seen known live entries =
-    let none = nothing-held x.members.live live in
+remove_change s kept x dots seen known live entries =
+    let none = nothing_held x.members.live live in
     record {
-      is_new = none-new x none s.state;
+      is_new = none_new x none s.state;
       queues = record {
-        members = λ dot h here. absurd (no-holding x none dot h here);
-        totals = λ key totals here. none-totalled x entries key totals here;
+        members = λ dot h here. absurd (no_holding x none dot h here);
+        totals = λ key totals here. none_totalled x entries key totals here;
       };
-      stamps = none-stamped x none s.site s.last_time;
+      stamps = none_stamped x none s.site s.last_time;
       later = omega arith;
       times = kept.times;
       counts = kept.counts;
-      dots = inl (refl, record { counts = λ count first here. own-counts s kept (record { site = s.site; count = count }) (known-here (record { site = s.site; count = count }) (sym (ap (λ k. set.contains k (record { site = s.site; count = count })) known) ∙ here)) refl });
+      dots = inl (refl, record { counts = λ count first here. own_counts s kept (record { site = s.site; count = count }) (known_here (record { site = s.site; count = count }) (sym (ap (λ k. set.contains k (record { site = s.site; count = count })) known) ∙ here)) refl });
     }
   where
-    known-here : (q : Dot) → set.contains (set.from_list {R = dot_cmp} dots) q ≡ true → set.contains s.state.members.known q ≡ true
-    known-here q h = let found = in-any (is_dot q) dots (sym (set.contains-from_list dots_total dots q) ∙ h) in ap (set.contains s.state.members.known) (one_dot q found.0 found.2) ∙ seen found.0 found.1
+    known_here : (q : Dot) → set.contains (set.from_list {R = dot_cmp} dots) q ≡ true → set.contains s.state.members.known q ≡ true
+    known_here q h = let found = in_any (is_dot q) dots (sym (set.contains-from_list dots_total dots q) ∙ h) in ap (set.contains s.state.members.known) (one_dot q found.0 found.2) ∙ seen found.0 found.1
 
 -- ---- an add
 
 -- a site's own time of a stamp is no greater than the stamp's
-own-time-least : (site : ℕ) (stamp : Stamp) → own_time site stamp ≤ stamp.time
-own-time-least site stamp = by (nat_eq stamp.site site)
+own_time_least : (site : ℕ) (stamp : Stamp) → own_time site stamp ≤ stamp.time
+own_time_least site stamp = by (nat_eq stamp.site site)
   where
     by : (b : Bool) → (if b then stamp.time else 0) ≤ stamp.time
     by true = omega arith
     by false = omega arith
 
 -- what is written under one stamp is written up to its time
-pub written-under : {T : Type 0} (site : ℕ) (stamp : Stamp) (value : Option T) → IsWrittenBy site stamp.time (entry_under stamp value)
-written-under site stamp None entry e = absurd (cc)
-written-under site stamp (Some value) entry e = let is : stamp ≡ entry.stamp = cc in subst (λ t. own_time site t ≤ stamp.time) is (own-time-least site stamp)
+pub written_under : {T : Type 0} (site : ℕ) (stamp : Stamp) (value : Option T) → IsWrittenBy site stamp.time (entry_under stamp value)
+written_under site stamp None entry e = absurd (cc)
+written_under site stamp (Some value) entry e = let is : stamp ≡ entry.stamp = cc in subst (λ t. own_time site t ≤ stamp.time) is (own_time_least site stamp)
 
 -- what is seen below given dots is given, or known
-pub seen-known : (s : SiteState) (given : List Dot) (q : Dot) → set.contains (dots_seen_below s.state.members given) q ≡ true
+pub seen_known : (s : SiteState) (given : List Dot) (q : Dot) → set.contains (dots_seen_below s.state.members given) q ≡ true
     → (list_any (is_dot q) given ≡ true) ⊎ (set.contains s.state.members.known q ≡ true)
-seen-known s given q h = by (list_any (is_dot q) given) refl
+seen_known s given q h = by (list_any (is_dot q) given) refl
   where
     either : (a b : Bool) → (a || b) ≡ true → a ≡ false → b ≡ true
     either true b e f = absurd (true≢false f)
@@ -127,36 +127,36 @@ seen-known s given q h = by (list_any (is_dot q) given) refl
     by : (b : Bool) → list_any (is_dot q) given ≡ b → (list_any (is_dot q) given ≡ true) ⊎ (set.contains s.state.members.known q ≡ true)
     by true e = inl e
     by false e = inr (and_parts (set.contains s.state.members.known q) _
-        (sym (contains-older s s.state given q)
+        (sym (contains_older s s.state given q)
         ∙ either (set.contains (set.from_list given) q) (set.contains (older_dots (view_of s s.state) given) q)
-        (sym (set.contains-union dots_total (set.from_list given) (older_dots (view_of s s.state) given) q) ∙ ap (λ k. set.contains k q) (sym (seen-older s s.state given)) ∙ h)
+        (sym (set.contains-union dots_total (set.from_list given) (older_dots (view_of s s.state) given) q) ∙ ap (λ k. set.contains k q) (sym (seen_older s s.state given)) ∙ h)
         (set.contains-from_list dots_total given q ∙ e))).0
 
 -- a dot that isn't known has no condition
-unknown-none : (d : DeltaState) → IsWithinLimits d.members → (q : Dot) → set.contains d.members.known q ≡ false → condition_of d.members q ≡ None
-unknown-none d limits q unknown = by (map.get d.members.live q) refl
+unknown_none : (d : DeltaState) → IsWithinLimits d.members → (q : Dot) → set.contains d.members.known q ≡ false → condition_of d.members q ≡ None
+unknown_none d limits q unknown = by (map.get d.members.live q) refl
   where
     by : (held : Option Holding) → map.get d.members.live q ≡ held → condition_of d.members q ≡ None
     by None e = λ i. condition_at (e i) (unknown i)
     by (Some h) e = absurd (true≢false (sym (limits.held q h e).known ∙ unknown))
 
 -- an add is a change of its site
-pub add-change : (s : SiteState) → IsKept s → IsWithinLimits s.state.members → (x : DeltaState) (member : Member) (penalty : ℕ) (pause : PauseState) (label : Label)
+pub add_change : (s : SiteState) → IsKept s → IsWithinLimits s.state.members → (x : DeltaState) (member : Member) (penalty : ℕ) (pause : PauseState) (label : Label)
     → let next : Dot = record { site = s.site; count = suc s.last_count } in let stamp : Stamp = record { time = suc s.last_time; site = s.site } in
     member.queue < length s.names → suc s.last_count ≤ MOST_COUNT → suc s.last_time ≤ MOST_COUNT
     → x.members.known ≡ dots_seen_below s.state.members (next ∷ []) → x.members.live ≡ map.insert map.empty next (member, fields_added stamp penalty pause label) → x.totals.entries ≡ map.empty
     → IsChangeOf s (suc s.last_count) (suc s.last_time) x
-add-change s kept limits x member penalty pause label within count_within time_within known live entries = record {
-  is_new = record { room = λ dot m f e. inl (ap (condition_of s.state.members) (holding-is dot (m, f) (condition-live x dot m f e)).0 ∙ unknown-none s.state limits next (own-unknown s kept)) };
+add_change s kept limits x member penalty pause label within count_within time_within known live entries = record {
+  is_new = record { room = λ dot m f e. inl (ap (condition_of s.state.members) (holding_is dot (m, f) (condition_live x dot m f e)).0 ∙ unknown_none s.state limits next (own_unknown s kept)) };
   queues = record {
-    members = λ dot h here. subst (λ (h : Holding). h.0.queue < length s.names) (holding-is dot h here).1 within;
-    totals = λ key totals here. none-totalled x entries key totals here;
+    members = λ dot h here. subst (λ (h : Holding). h.0.queue < length s.names) (holding_is dot h here).1 within;
+    totals = λ key totals here. none_totalled x entries key totals here;
   };
-  stamps = λ dot h here. subst (λ (h : Holding). AreWrittenBy s.site (suc s.last_time) h.1) (holding-is dot h here).1 written;
+  stamps = λ dot h here. subst (λ (h : Holding). AreWrittenBy s.site (suc s.last_time) h.1) (holding_is dot h here).1 written;
   later = omega arith;
   times = time_within;
   counts = count_within;
-  dots = inr (refl, (ap (λ k. set.contains k next) known ∙ next-seen, record { counts = λ count first here. up-to count (sym (ap (λ k. set.contains k (record { site = s.site; count = count })) known) ∙ here) }));
+  dots = inr (refl, (ap (λ k. set.contains k next) known ∙ next_seen, record { counts = λ count first here. up_to count (sym (ap (λ k. set.contains k (record { site = s.site; count = count })) known) ∙ here) }));
 }
   where
     next : Dot
@@ -169,25 +169,25 @@ add-change s kept limits x member penalty pause label within count_within time_w
     held = (member, fields_added stamp penalty pause label)
 
     written : AreWrittenBy s.site (suc s.last_time) (fields_added stamp penalty pause label)
-    written = record { penalty = written-under s.site stamp (Some penalty); pause = written-under s.site stamp (Some pause); label = written-under s.site stamp (Some label) }
+    written = record { penalty = written_under s.site stamp (Some penalty); pause = written_under s.site stamp (Some pause); label = written_under s.site stamp (Some label) }
 
-    holding-is : (dot : Dot) (h : Holding) → map.get x.members.live dot ≡ Some h → (dot ≡ next) × (held ≡ h)
-    holding-is dot h e = by (is_dot dot next) refl (sym (ap (λ m. map.get m dot) live ∙ map.get-insert dots_total map.empty next held dot ∙ ap (cond (is_dot dot next) (Some held)) (map.get-empty dot_cmp dot)) ∙ e)
+    holding_is : (dot : Dot) (h : Holding) → map.get x.members.live dot ≡ Some h → (dot ≡ next) × (held ≡ h)
+    holding_is dot h e = by (is_dot dot next) refl (sym (ap (λ m. map.get m dot) live ∙ map.get-insert dots_total map.empty next held dot ∙ ap (cond (is_dot dot next) (Some held)) (map.get-empty dot_cmp dot)) ∙ e)
       where
         by : (b : Bool) → is_dot dot next ≡ b → cond b (Some held) None ≡ Some h → (dot ≡ next) × (held ≡ h)
         by true is f = (one_dot dot next is, (cc))
         by false is f = absurd (cc)
 
-    next-seen : set.contains (dots_seen_below s.state.members (next ∷ [])) next ≡ true
-    next-seen =
-        ap (λ k. set.contains k next) (seen-older s s.state (next ∷ []))
+    next_seen : set.contains (dots_seen_below s.state.members (next ∷ [])) next ≡ true
+    next_seen =
+        ap (λ k. set.contains k next) (seen_older s s.state (next ∷ []))
         ∙ set.contains-union dots_total (set.from_list (next ∷ [])) (older_dots (view_of s s.state) (next ∷ [])) next
         ∙ ap (λ b. b || set.contains (older_dots (view_of s s.state) (next ∷ [])) next) (set.contains-from_list dots_total (next ∷ []) next ∙ ap (λ b. b || false) (ap is_eq (tied_itself dots_total next)))
 
-    up-to : (count : ℕ) → set.contains (dots_seen_below s.state.members (next ∷ [])) (record { site = s.site; count = count }) ≡ true → count ≤ suc s.last_count
-    up-to count h = elim (seen-known s (next ∷ []) (record { site = s.site; count = count }) h) [
-      | inl is ↦ let found = in-any (is_dot (record { site = s.site; count = count })) (next ∷ []) is in
-          let same : record { site = s.site; count = count } ≡ next = one_dot (record { site = s.site; count = count }) found.0 found.2 ∙ sym (only-in next found.0 found.1) in
+    up_to : (count : ℕ) → set.contains (dots_seen_below s.state.members (next ∷ [])) (record { site = s.site; count = count }) ≡ true → count ≤ suc s.last_count
+    up_to count h = elim (seen_known s (next ∷ []) (record { site = s.site; count = count }) h) [
+      | inl is ↦ let found = in_any (is_dot (record { site = s.site; count = count })) (next ∷ []) is in
+          let same : record { site = s.site; count = count } ≡ next = one_dot (record { site = s.site; count = count }) found.0 found.2 ∙ sym (only_in next found.0 found.1) in
           let count_is : count ≡ suc s.last_count = ap (λ (d : Dot). d.count) same in omega (arith, count_is)
-      | inr here ↦ let most = own-counts s kept (record { site = s.site; count = count }) here refl in omega arith
+      | inr here ↦ let most = own_counts s kept (record { site = s.site; count = count }) here refl in omega arith
     ]

@@ -5,14 +5,14 @@ use Rattle.operations.specs.Operations.{Operation}
 use Rattle.operations.specs.Knowledge.{Knowledge}
 use Rattle.operations.specs.Totals.{totals_of}
 use Rattle.operations.specs.Traces.{LeavesTrace, LeaveTraces}
-use Rattle.general_lemmas.proofs.Membership.{cases-in, nothing-in}
-use Rattle.operations.proofs.StandingJoins.{represents-none}
+use Rattle.general_lemmas.proofs.Membership.{cases_in, nothing_in}
+use Rattle.operations.proofs.StandingJoins.{represents_none}
 use Rattle.delta.specs.DeltaStates as deltas
 use Rattle.delta.specs.DeltaStates.{DeltaState, IsEmpty, IsSame}
 use Rattle.delta.specs.Joining.{Agree, IsJoinOf}
 use Rattle.delta.specs.Standing.{IsDeltaOf}
 use Rattle.delta.proofs.Merging.{turned}
-use Rattle.delta.proofs.ShownDeltas.{read-as}
+use Rattle.delta.proofs.ShownDeltas.{read_as}
 use Rattle.delta.proofs.StandingDeltas.{empty_where, same_stands, stands_for_both}
 use Rattle.replica.specs.declared.refusal.Refusal.{Refusal}
 use Rattle.replica.specs.Changes.{Change, Makes, Meaning, Refused, meaning}
@@ -22,34 +22,34 @@ use Rattle.replica.specs.Site.{IsUnchanged, SiteState, meaning_at, view_of}
 use Rattle.replica.specs.SiteViews.{count_used, greatest, site_view, time_used}
 use Rattle.replica.specs.Standing.{IsMeant, StandsFor, result_of}
 use Rattle.replica.specs.Steps.{Do, SiteKnowledge, after_meaning, new_site, step}
-use Rattle.replica.proofs.AlikeSites.{means-alike}
-use Rattle.replica.proofs.Below.{unchanged-condition}
-use Rattle.replica.proofs.TracesMade.{makes-traces}
+use Rattle.replica.proofs.AlikeSites.{means_alike}
+use Rattle.replica.proofs.Below.{unchanged_condition}
+use Rattle.replica.proofs.TracesMade.{makes_traces}
 
 -- ---- deltas that say the same
 
 -- a delta that is unchanged says the same
-pub unchanged-same : (old new : DeltaState) → deltas.IsUnchanged old new → IsSame old new
-unchanged-same old new same = record { conditions = λ dot. sym (unchanged-condition old new same dot); known = sym same.members.known; totals = sym same.totals }
+pub unchanged_same : (old new : DeltaState) → deltas.IsUnchanged old new → IsSame old new
+unchanged_same old new same = record { conditions = λ dot. sym (unchanged_condition old new same dot); known = sym same.members.known; totals = sym same.totals }
 
 -- so does one that is equal
-pub equal-same : (old new : DeltaState) → new ≡ old → IsSame old new
-equal-same old new e = subst (λ d. IsSame d new) e (record { conditions = λ dot. refl; known = refl; totals = refl })
+pub equal_same : (old new : DeltaState) → new ≡ old → IsSame old new
+equal_same old new e = subst (λ d. IsSame d new) e (record { conditions = λ dot. refl; known = refl; totals = refl })
 
 -- an empty delta is that of no operation
-pub empty-stands : (d : DeltaState) → IsEmpty d → IsDeltaOf d []
-empty-stands d empty = record {
+pub empty_stands : (d : DeltaState) → IsEmpty d → IsDeltaOf d []
+empty_stands d empty = record {
   conditions = empty.conditions;
-  dots = empty.known ∙ represents-none.dots;
-  totals = λ site queue. ap (λ e. totals_of e site queue) empty.totals ∙ represents-none.totals site queue;
-  no_zeros = λ key p e. represents-none.no_zeros key p (ap (λ t. map.get t key) (sym empty.totals) ∙ e);
+  dots = empty.known ∙ represents_none.dots;
+  totals = λ site queue. ap (λ e. totals_of e site queue) empty.totals ∙ represents_none.totals site queue;
+  no_zeros = λ key p e. represents_none.no_zeros key p (ap (λ t. map.get t key) (sym empty.totals) ∙ e);
 }
 
 -- ---- what commands mean
 
 -- what a site stands for reads alike
-reads-alike : (state : SiteState) (s : SiteKnowledge) → StandsFor state s → AreAlike (view_of state state.state) (site_view state.site s.known)
-reads-alike state s stands = let read = read-as state.state s.known stands.known in record {
+reads_alike : (state : SiteState) (s : SiteKnowledge) → StandsFor state s → AreAlike (view_of state state.state) (site_view state.site s.known)
+reads_alike state s stands = let read = read_as state.state s.known stands.known in record {
   dots = read.dots;
   known = stands.known.dots;
   totals = read.totals;
@@ -58,36 +58,36 @@ reads-alike state s stands = let read = read-as state.state s.known stands.known
 }
 
 -- and its buffer is as full
-reads-as-full : (state : SiteState) (s : SiteKnowledge) → StandsFor state s → AreAsFull (view_of state state.pending) (site_view state.site s.buffer)
-reads-as-full state s stands = record { visible = (read-as state.pending s.buffer stands.buffer).dots.visible; known = stands.buffer.dots }
+reads_as_full : (state : SiteState) (s : SiteKnowledge) → StandsFor state s → AreAsFull (view_of state state.pending) (site_view state.site s.buffer)
+reads_as_full state s stands = record { visible = (read_as state.pending s.buffer stands.buffer).dots.visible; known = stands.buffer.dots }
 
 -- a change means at a site what it means at what the site stands for
-pub means-what-it-knows : (state : SiteState) (s : SiteKnowledge) (change : Change) → StandsFor state s
+pub means_what_it_knows : (state : SiteState) (s : SiteKnowledge) (change : Change) → StandsFor state s
     → meaning_at state change ≡ meaning state.site state.names (site_view state.site s.known) (site_view state.site s.buffer) change
-means-what-it-knows state s change stands =
-    (means-alike (view_of state state.state) (site_view state.site s.known) (view_of state state.pending) (site_view state.site s.buffer)
-    (reads-alike state s stands) (reads-as-full state s stands)).meanings state.site state.names change
+means_what_it_knows state s change stands =
+    (means_alike (view_of state state.state) (site_view state.site s.known) (view_of state state.pending) (site_view state.site s.buffer)
+    (reads_alike state s stands) (reads_as_full state s stands)).meanings state.site state.names change
 
 -- ---- one operation more
 
 -- a delta joined with that of one operation stands for one operation more
-pub joined-stands : (old new : DeltaState) (o : Operation) (k : Knowledge) → IsDeltaOf old k → HasJoined old o new → IsDeltaOf new (o ∷ k)
-joined-stands old new o k stands made = stands_for_both made.change old new (o ∷ []) k made.stands stands (turned old made.change new made.agrees made.joined)
+pub joined_stands : (old new : DeltaState) (o : Operation) (k : Knowledge) → IsDeltaOf old k → HasJoined old o new → IsDeltaOf new (o ∷ k)
+joined_stands old new o k stands made = stands_for_both made.change old new (o ∷ []) k made.stands stands (turned old made.change new made.agrees made.joined)
 
 -- a buffer with one operation more that leaves a trace
-traces-more : (o : Operation) (buffer : Knowledge) → LeavesTrace o → LeaveTraces buffer → LeaveTraces (o ∷ buffer)
-traces-more o buffer leaves all p here = elim (cases-in o buffer p here) [
+traces_more : (o : Operation) (buffer : Knowledge) → LeavesTrace o → LeaveTraces buffer → LeaveTraces (o ∷ buffer)
+traces_more o buffer leaves all p here = elim (cases_in o buffer p here) [
   | inl e ↦ subst LeavesTrace e leaves
   | inr rest ↦ all p rest
 ]
 
 -- a site that has made an operation stands for that with what it stood for
-pub made-stands : (old new : SiteState) (s : SiteKnowledge) (o : Operation) → StandsFor old s → HasMade old o new → LeavesTrace o
+pub made_stands : (old new : SiteState) (s : SiteKnowledge) (o : Operation) → StandsFor old s → HasMade old o new → LeavesTrace o
     → StandsFor new (record { known = o ∷ s.known; buffer = o ∷ s.buffer; frames = s.frames })
-made-stands old new s o stands made leaves = record {
-  known = joined-stands old.state new.state o s.known stands.known made.state;
-  buffer = joined-stands old.pending new.pending o s.buffer stands.buffer made.pending;
-  traces = traces-more o s.buffer leaves stands.traces;
+made_stands old new s o stands made leaves = record {
+  known = joined_stands old.state new.state o s.known stands.known made.state;
+  buffer = joined_stands old.pending new.pending o s.buffer stands.buffer made.pending;
+  traces = traces_more o s.buffer leaves stands.traces;
   last_count = ap (λ n. greatest (count_used n) (o ∷ s.known)) made.site ∙ ap (max (count_used old.site o)) stands.last_count ∙ sym made.last_count;
   last_time = ap (λ n. greatest (time_used n) (o ∷ s.known)) made.site ∙ ap (max (time_used old.site o)) stands.last_time ∙ sym made.last_time;
   frames = stands.frames ∙ sym made.frames;
@@ -108,86 +108,86 @@ same-stands old new s frames stands site state pending count time number = recor
 }
 
 -- a site that is unchanged stands for the same
-pub unchanged-stands : (old new : SiteState) (s : SiteKnowledge) → StandsFor old s → IsUnchanged old new → StandsFor new s
-unchanged-stands old new s stands same =
-    same-stands old new s s.frames stands same.site (unchanged-same old.state new.state same.state) (unchanged-same old.pending new.pending same.pending)
+pub unchanged_stands : (old new : SiteState) (s : SiteKnowledge) → StandsFor old s → IsUnchanged old new → StandsFor new s
+unchanged_stands old new s stands same =
+    same-stands old new s s.frames stands same.site (unchanged_same old.state new.state same.state) (unchanged_same old.pending new.pending same.pending)
     same.last_count same.last_time (stands.frames ∙ sym same.frames)
 
 -- ---- commands
 
 -- what follows from a meaning stands for what is meant
-pub follows-means : (old new : SiteState) (s : SiteKnowledge) (change : Change) (result : Result (Unit {0}) Refusal) → StandsFor old s → Follows old (meaning_at old change) new result
+pub follows_means : (old new : SiteState) (s : SiteKnowledge) (change : Change) (result : Result (Unit {0}) Refusal) → StandsFor old s → Follows old (meaning_at old change) new result
     → StandsFor new (step old.site old.names s (Do change)).0 × (result ≡ result_of (step old.site old.names s (Do change)).1)
-follows-means old new s change result stands follows =
-    subst (λ m. StandsFor new (after_meaning s m).0 × (result ≡ result_of (after_meaning s m).1)) (means-what-it-knows old s change stands)
-    (by (meaning_at old change) (makes-traces old.site old.names change (view_of old old.state) (view_of old old.pending)) follows)
+follows_means old new s change result stands follows =
+    subst (λ m. StandsFor new (after_meaning s m).0 × (result ≡ result_of (after_meaning s m).1)) (means_what_it_knows old s change stands)
+    (by (meaning_at old change) (makes_traces old.site old.names change (view_of old old.state) (view_of old old.pending)) follows)
   where
     by : (m : Meaning) → ((o : Operation) → m ≡ Makes o → LeavesTrace o) → Follows old m new result → StandsFor new (after_meaning s m).0 × (result ≡ result_of (after_meaning s m).1)
-    by (Makes o) leaves follows = (made-stands old new s o stands follows.1 (leaves o refl), follows.0)
-    by (Refused refusal) leaves follows = (unchanged-stands old new s stands follows.1, follows.0)
+    by (Makes o) leaves follows = (made_stands old new s o stands follows.1 (leaves o refl), follows.0)
+    by (Refused refusal) leaves follows = (unchanged_stands old new s stands follows.1, follows.0)
 
 -- what is done stands for what is meant
-pub done-means : (old new : SiteState) (s : SiteKnowledge) (change : Change) (result : Result (Unit {0}) Refusal) → StandsFor old s
+pub done_means : (old new : SiteState) (s : SiteKnowledge) (change : Change) (result : Result (Unit {0}) Refusal) → StandsFor old s
     → IsDone old (meaning_at old change) new result → IsMeant old new result (step old.site old.names s (Do change))
-done-means old new s change result stands (inl follows) = inl (follows-means old new s change result stands follows)
-done-means old new s change result stands (inr other) = inr (other.0, other.1)
+done_means old new s change result stands (inl follows) = inl (follows_means old new s change result stands follows)
+done_means old new s change result stands (inr other) = inr (other.0, other.1)
 
 -- ---- frames
 
 -- a buffer is empty exactly where it stands for no operation
-pub empty-buffer : (state : SiteState) (s : SiteKnowledge) → StandsFor state s → IsEmpty state.pending ↔ (s.buffer ≡ [])
-empty-buffer state s stands = empty_where state.pending s.buffer stands.traces stands.buffer
+pub empty_buffer : (state : SiteState) (s : SiteKnowledge) → StandsFor state s → IsEmpty state.pending ↔ (s.buffer ≡ [])
+empty_buffer state s stands = empty_where state.pending s.buffer stands.traces stands.buffer
 
 -- no operation is without a trace where there is none
-traces-nothing : LeaveTraces []
-traces-nothing o here = absurd (nothing-in o here)
+traces_nothing : LeaveTraces []
+traces_nothing o here = absurd (nothing_in o here)
 
 -- a site that has cut its buffer stands for what it knew, with an empty buffer and one frame more
-pub cut-stands : (old new : SiteState) (s : SiteKnowledge) → StandsFor old s → new.site ≡ old.site → IsSame old.state new.state → IsEmpty new.pending
+pub cut_stands : (old new : SiteState) (s : SiteKnowledge) → StandsFor old s → new.site ≡ old.site → IsSame old.state new.state → IsEmpty new.pending
     → new.last_count ≡ old.last_count → new.last_time ≡ old.last_time → new.frames ≡ suc old.frames
     → StandsFor new (record { known = s.known; buffer = []; frames = suc s.frames })
-cut-stands old new s stands site state empty count time frames = record {
+cut_stands old new s stands site state empty count time frames = record {
   known = same_stands old.state new.state s.known state stands.known;
-  buffer = empty-stands new.pending empty;
-  traces = traces-nothing;
+  buffer = empty_stands new.pending empty;
+  traces = traces_nothing;
   last_count = ap (λ n. greatest (count_used n) s.known) site ∙ stands.last_count ∙ sym count;
   last_time = ap (λ n. greatest (time_used n) s.known) site ∙ stands.last_time ∙ sym time;
   frames = ap suc stands.frames ∙ sym frames;
 }
 
 -- a site that has made a frame of all that it knows stands for the same, with one frame more
-pub whole-stands : (old new : SiteState) (s : SiteKnowledge) → StandsFor old s → new.site ≡ old.site → IsSame old.state new.state → IsSame old.pending new.pending
+pub whole_stands : (old new : SiteState) (s : SiteKnowledge) → StandsFor old s → new.site ≡ old.site → IsSame old.state new.state → IsSame old.pending new.pending
     → new.last_count ≡ old.last_count → new.last_time ≡ old.last_time → new.frames ≡ suc old.frames
     → StandsFor new (record { known = s.known; buffer = s.buffer; frames = suc s.frames })
-whole-stands old new s stands site state pending count time frames = same-stands old new s (suc s.frames) stands site state pending count time (ap suc stands.frames ∙ sym frames)
+whole_stands old new s stands site state pending count time frames = same-stands old new s (suc s.frames) stands site state pending count time (ap suc stands.frames ∙ sym frames)
 
 -- the greatest of two lists together is the greater of both
-pub greatest-both : {X : Type 0} (f : X → ℕ) (xs ys : List X) → greatest f (xs ++ ys) ≡ max (greatest f xs) (greatest f ys)
-greatest-both f [] ys = omega arith
-greatest-both f (x ∷ xs) ys = let rest = greatest-both f xs ys in omega (arith, rest)
+pub greatest_both : {X : Type 0} (f : X → ℕ) (xs ys : List X) → greatest f (xs ++ ys) ≡ max (greatest f xs) (greatest f ys)
+greatest_both f [] ys = omega arith
+greatest_both f (x ∷ xs) ys = let rest = greatest_both f xs ys in omega (arith, rest)
 
 -- a site that has taken a frame stands for that with what it stood for, where the frame has no later numbers of its own
-pub taken-stands : (old new : SiteState) (s : SiteKnowledge) (frame : DeltaState) (k : Knowledge) → StandsFor old s → IsDeltaOf frame k → Agree old.state frame → IsJoinOf old.state frame new.state
+pub taken_stands : (old new : SiteState) (s : SiteKnowledge) (frame : DeltaState) (k : Knowledge) → StandsFor old s → IsDeltaOf frame k → Agree old.state frame → IsJoinOf old.state frame new.state
     → new.site ≡ old.site → IsSame old.pending new.pending → new.last_count ≡ old.last_count → new.last_time ≡ old.last_time → new.frames ≡ old.frames
     → greatest (count_used old.site) k ≤ old.last_count → greatest (time_used old.site) k ≤ old.last_time
     → StandsFor new (record { known = k ++ s.known; buffer = s.buffer; frames = s.frames })
-taken-stands old new s frame k stands is agree joined site pending count time frames counts times = record {
+taken_stands old new s frame k stands is agree joined site pending count time frames counts times = record {
   known = stands_for_both frame old.state new.state k s.known is stands.known (turned old.state frame new.state agree joined);
   buffer = same_stands old.pending new.pending s.buffer pending stands.buffer;
   traces = stands.traces;
-  last_count = ap (λ n. greatest (count_used n) (k ++ s.known)) site ∙ (let own = stands.last_count in omega (arith, greatest-both (count_used old.site) k s.known));
-  last_time = ap (λ n. greatest (time_used n) (k ++ s.known)) site ∙ (let own = stands.last_time in omega (arith, greatest-both (time_used old.site) k s.known));
+  last_count = ap (λ n. greatest (count_used n) (k ++ s.known)) site ∙ (let own = stands.last_count in omega (arith, greatest_both (count_used old.site) k s.known));
+  last_time = ap (λ n. greatest (time_used n) (k ++ s.known)) site ∙ (let own = stands.last_time in omega (arith, greatest_both (time_used old.site) k s.known));
   frames = stands.frames ∙ sym frames;
 }
 
 -- ---- a new site
 
 -- a site that knows nothing, and has used no number, stands for a new one
-pub new-stands : (it : SiteState) → IsEmpty it.state → IsEmpty it.pending → it.last_count ≡ 0 → it.last_time ≡ 0 → it.frames ≡ 0 → StandsFor it new_site
-new-stands it state pending count time frames = record {
-  known = empty-stands it.state state;
-  buffer = empty-stands it.pending pending;
-  traces = traces-nothing;
+pub new_stands : (it : SiteState) → IsEmpty it.state → IsEmpty it.pending → it.last_count ≡ 0 → it.last_time ≡ 0 → it.frames ≡ 0 → StandsFor it new_site
+new_stands it state pending count time frames = record {
+  known = empty_stands it.state state;
+  buffer = empty_stands it.pending pending;
+  traces = traces_nothing;
   last_count = sym count;
   last_time = sym time;
   frames = sym frames;

@@ -14,16 +14,16 @@ use Rattle.sites_world.specs.declared.outcome.Outcome.TheVariants.{NoMemory}
 use Rattle.sites_world.specs.Promises.{LeadsOn}
 use Rattle.sites_world.specs.Worlds.{IsReached, World, happens}
 use Rattle.sites_world.specs.WorldStates.{HasHappened, IsFrameOf, IsSiteOf, StandsForWorld, WorldState}
-use Rattle.sites_world.proofs.Lists.{correspond-get, correspond-none-get}
+use Rattle.sites_world.proofs.Lists.{correspond_get, correspond_none_get}
 use Rattle.scripts.specs.Answers.{frame_text, no_entry, outcome_text}
 use Rattle.scripts.specs.Script.{IsShown, Place, given_by_event, given_by_reaction, text_of_offer, waited_reply}
 use Rattle.scripts.specs.LineSteps.{Holds, IsHappening, StandsAt}
 
 -- one event has happened, and memory was not wanting
-pub one-happened : LeadsOn → (place : Place) (old new : WorldState) (w : World) (e : Event) (o : Outcome) → place.names ≡ old.names → new.names ≡ old.names → length new.sites ≡ length old.sites
+pub one_happened : LeadsOn → (place : Place) (old new : WorldState) (w : World) (e : Event) (o : Outcome) → place.names ≡ old.names → new.names ≡ old.names → length new.sites ≡ length old.sites
     → StandsAt old w → HasHappened new w e o → (o ≡ NoMemory → ⊥) → IsHappening place w e new o
-one-happened leads place old new w e o names kept count at (inr wanting) done = absurd (done wanting.0)
-one-happened leads place old new w e o names kept count at (inl happened) done = record {
+one_happened leads place old new w e o names kept count at (inr wanting) done = absurd (done wanting.0)
+one_happened leads place old new w e o names kept count at (inl happened) done = record {
   stands = record {
     reached = subst (λ n. IsReached new.names n (happens place.names w e).0) (sym count)
         (subst (λ names. IsReached names (length old.sites) (happens place.names w e).0) (sym kept)
@@ -34,39 +34,39 @@ one-happened leads place old new w e o names kept count at (inl happened) done =
 }
 
 -- what is written of an event
-pub event-given : (place : Place) (w : World) (e : Event) (new : WorldState) (o : Outcome) (text : List ℕ) → IsHappening place w e new o → text ≡ outcome_text o
+pub event_given : (place : Place) (w : World) (e : Event) (new : WorldState) (o : Outcome) (text : List ℕ) → IsHappening place w e new o → text ≡ outcome_text o
     → Holds (given_by_event place w e) new text
-event-given place w e new o text happening is = record { stands = happening.stands; is = is ∙ ap outcome_text happening.is }
+event_given place w e new o text happening is = record { stands = happening.stands; is = is ∙ ap outcome_text happening.is }
 
 -- what is written of an ask, for which a message waits
-pub ask-given : (place : Place) (w : World) (site : ℕ) (ask : Ask) (waiting : Waiting) (new : WorldState) (o : Outcome) (text : List ℕ)
+pub ask_given : (place : Place) (w : World) (site : ℕ) (ask : Ask) (waiting : Waiting) (new : WorldState) (o : Outcome) (text : List ℕ)
     → IsHappening place w (event.Ask site ask) new o → text ≡ waited_reply waiting o → Holds (given_by_reaction place w site (Asks ask waiting)) new text
-ask-given place w site ask waiting new o text happening is = record { stands = happening.stands; is = is ∙ ap (waited_reply waiting) happening.is }
+ask_given place w site ask waiting new o text happening is = record { stands = happening.stands; is = is ∙ ap (waited_reply waiting) happening.is }
 
 -- what a queue offers at a site that is there
-pub offered-some : (state : WorldState) (w : World) (site : ℕ) (replica : SiteState) (queue : Option (List ℕ)) (tried : List (List ℕ)) (text : List ℕ) → StandsAt state w
+pub offered_some : (state : WorldState) (w : World) (site : ℕ) (replica : SiteState) (queue : Option (List ℕ)) (tried : List (List ℕ)) (text : List ℕ) → StandsAt state w
     → Some replica ≡ slice_get state.sites site
     → ((s : SiteKnowledge) → StandsFor replica s → text ≡ text_of_offer replica.names (Some s) queue tried)
     → text ≡ text_of_offer state.names (slice_get w.sites site) queue tried
-offered-some state w site replica queue tried text at is offers =
-    let found = correspond-get (IsSiteOf state.names) state.sites w.sites at.stands.sites site replica (sym is) in
+offered_some state w site replica queue tried text at is offers =
+    let found = correspond_get (IsSiteOf state.names) state.sites w.sites at.stands.sites site replica (sym is) in
     offers found.0 found.2.stands ∙ (λ i. text_of_offer (found.2.names_are i) (sym found.1 i) queue tried)
 
 -- and at one that isn't
-pub offered-none : (state : WorldState) (w : World) (site : ℕ) (queue : Option (List ℕ)) (tried : List (List ℕ)) (text : List ℕ) → StandsAt state w
+pub offered_none : (state : WorldState) (w : World) (site : ℕ) (queue : Option (List ℕ)) (tried : List (List ℕ)) (text : List ℕ) → StandsAt state w
     → None ≡ slice_get state.sites site → text ≡ [] → text ≡ text_of_offer state.names (slice_get w.sites site) queue tried
-offered-none state w site queue tried text at is empty =
-    empty ∙ ap (λ s. text_of_offer state.names s queue tried) (sym (correspond-none-get (IsSiteOf state.names) state.sites w.sites at.stands.sites site (sym is)))
+offered_none state w site queue tried text at is empty =
+    empty ∙ ap (λ s. text_of_offer state.names s queue tried) (sym (correspond_none_get (IsSiteOf state.names) state.sites w.sites at.stands.sites site (sym is)))
 
 -- an entry that is shown
-pub shown-some : (state : WorldState) (w : World) (place : ℕ) (frame : Frame) (text : List ℕ) → StandsAt state w → Some frame ≡ slice_get state.pool place
+pub shown_some : (state : WorldState) (w : World) (place : ℕ) (frame : Frame) (text : List ℕ) → StandsAt state w → Some frame ≡ slice_get state.pool place
     → (bytes : List ℕ) × Spells frame bytes × (text ≡ frame_text bytes) → IsShown place (slice_get w.pool place) text
-shown-some state w place frame text at is shown =
-    let found = correspond-get IsFrameOf state.pool w.pool at.stands.pool place frame (sym is) in
+shown_some state w place frame text at is shown =
+    let found = correspond_get IsFrameOf state.pool w.pool at.stands.pool place frame (sym is) in
     subst (λ entry. IsShown place entry text) (sym found.1) (shown.0, (record { frame = frame; is = found.2; spells = shown.1 }), shown.2)
 
 -- and one that isn't there
-pub shown-none : (state : WorldState) (w : World) (place : ℕ) (text : List ℕ) → StandsAt state w → None ≡ slice_get state.pool place → text ≡ no_entry
+pub shown_none : (state : WorldState) (w : World) (place : ℕ) (text : List ℕ) → StandsAt state w → None ≡ slice_get state.pool place → text ≡ no_entry
     → IsShown place (slice_get w.pool place) text
-shown-none state w place text at is none =
-    subst (λ entry. IsShown place entry text) (sym (correspond-none-get IsFrameOf state.pool w.pool at.stands.pool place (sym is))) none
+shown_none state w place text at is none =
+    subst (λ entry. IsShown place entry text) (sym (correspond_none_get IsFrameOf state.pool w.pool at.stands.pool place (sym is))) none

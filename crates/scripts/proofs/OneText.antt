@@ -31,9 +31,9 @@ abbrev pub HasOneSpelling : Type 0
 HasOneSpelling = (x y : Frame) (a b : List ℕ) → IsSameFrame x y → Spells x a → Spells y b → a ≡ b
 
 -- an entry is shown in one way
-one-shown : HasOneDelta → HasOneSpelling → (place : ℕ) (entry : Option Entry) (text other : List ℕ) → IsShown place entry text → IsShown place entry other → other ≡ text
-one-shown delta spelling place None text other a b = b ∙ sym a
-one-shown delta spelling place (Some entry) text other a b =
+one_shown : HasOneDelta → HasOneSpelling → (place : ℕ) (entry : Option Entry) (text other : List ℕ) → IsShown place entry text → IsShown place entry other → other ≡ text
+one_shown delta spelling place None text other a b = b ∙ sym a
+one_shown delta spelling place (Some entry) text other a b =
     let x = a.1.frame in
     let y = b.1.frame in
     let same : IsSameFrame y x = record {
@@ -44,53 +44,53 @@ one-shown delta spelling place (Some entry) text other a b =
     b.2 ∙ ap frame_text (spelling y x b.0 a.0 same b.1.spells a.1.spells) ∙ sym a.2
 
 -- each line gives one thing
-one-given : OneList → HasOneDelta → HasOneSpelling → (place : Place) (w : World) (number : ℕ) (sense : Sense) (given other : Given)
+one_given : OneList → HasOneDelta → HasOneSpelling → (place : Place) (w : World) (number : ℕ) (sense : Sense) (given other : Given)
     → Gives place w number sense given → Gives place w number sense other → other ≡ given
-one-given one delta spelling place w number Nothing given other a b = b ∙ sym a
-one-given one delta spelling place w number Unknown given other a b = b ∙ sym a
-one-given one delta spelling place w number (Count site calls queue) given other a b = b ∙ sym a
-one-given one delta spelling place w number (Offer site parts) given other a b = b ∙ sym a
-one-given one delta spelling place w number (Cut site) given other a b = b ∙ sym a
-one-given one delta spelling place w number (Whole site) given other a b = b ∙ sym a
-one-given one delta spelling place w number (Take site entry) given other a b = b ∙ sym a
-one-given one delta spelling place w number (Show entry) given other a b =
-    b.2 ∙ ap (written_alone w) (one-shown delta spelling entry (slice_get w.pool entry) a.0 b.0 a.1 b.1) ∙ sym a.2
-one-given one delta spelling place w number (Message site fields) given other (inl a) (inl b) =
+one_given one delta spelling place w number Nothing given other a b = b ∙ sym a
+one_given one delta spelling place w number Unknown given other a b = b ∙ sym a
+one_given one delta spelling place w number (Count site calls queue) given other a b = b ∙ sym a
+one_given one delta spelling place w number (Offer site parts) given other a b = b ∙ sym a
+one_given one delta spelling place w number (Cut site) given other a b = b ∙ sym a
+one_given one delta spelling place w number (Whole site) given other a b = b ∙ sym a
+one_given one delta spelling place w number (Take site entry) given other a b = b ∙ sym a
+one_given one delta spelling place w number (Show entry) given other a b =
+    b.2 ∙ ap (written_alone w) (one_shown delta spelling entry (slice_get w.pool entry) a.0 b.0 a.1 b.1) ∙ sym a.2
+one_given one delta spelling place w number (Message site fields) given other (inl a) (inl b) =
     b.2 ∙ ap (given_by_message place w site) (head-eq_of_cons-eq (one (stream_of fields) (b.0 ∷ []) (a.0 ∷ []) (Rest b.1.0) (Rest a.1.0) b.1.1 a.1.1)) ∙ sym a.2
-one-given one delta spelling place w number (Message site fields) given other (inl a) (inr b) = absurd (b.0 a.0 a.1)
-one-given one delta spelling place w number (Message site fields) given other (inr a) (inl b) = absurd (a.0 b.0 b.1)
-one-given one delta spelling place w number (Message site fields) given other (inr a) (inr b) = b.1 ∙ sym a.1
+one_given one delta spelling place w number (Message site fields) given other (inl a) (inr b) = absurd (b.0 a.0 a.1)
+one_given one delta spelling place w number (Message site fields) given other (inr a) (inl b) = absurd (a.0 b.0 b.1)
+one_given one delta spelling place w number (Message site fields) given other (inr a) (inr b) = b.1 ∙ sym a.1
 
 -- and so do lines
 module _ (one : OneList) (delta : HasOneDelta) (spelling : HasOneSpelling) where
-  pub text-one : (place : Place) (w : World) (number : ℕ) (lines : List (List ℕ)) (text other : List ℕ) (unknown others : ℕ)
+  pub text_one : (place : Place) (w : World) (number : ℕ) (lines : List (List ℕ)) (text other : List ℕ) (unknown others : ℕ)
       → AreGiven place w number lines text unknown → AreGiven place w number lines other others → (other ≡ text) × (others ≡ unknown)
-  text-one place w number [] text other unknown others a b = (b.0 ∙ sym a.0, b.1 ∙ sym a.1)
-  text-one place w number (line ∷ lines) text other unknown others a b =
-      let same = one-given one delta spelling place w number (sense_of place.sites line) a.0 b.0 a.3 b.3 in
+  text_one place w number [] text other unknown others a b = (b.0 ∙ sym a.0, b.1 ∙ sym a.1)
+  text_one place w number (line ∷ lines) text other unknown others a b =
+      let same = one_given one delta spelling place w number (sense_of place.sites line) a.0 b.0 a.3 b.3 in
       let moved = subst (λ (g : Given). AreGiven place g.after (number + 1) lines b.1 b.2) same b.4 in
-      let rest = text-one place a.0.after (number + 1) lines a.1 b.1 a.2 b.2 a.4 moved in (
+      let rest = text_one place a.0.after (number + 1) lines a.1 b.1 a.2 b.2 a.4 moved in (
         b.5 ∙ (λ i. (same i).text ++ rest.0 i) ∙ sym a.5,
         b.6 ∙ (λ i. unknown_in (same i) + rest.1 i) ∙ sym a.6,
       )
 
   -- what was begun of lines is a front of their text
-  pub begun-front : (place : Place) (w : World) (number : ℕ) (lines : List (List ℕ)) (text front : List ℕ) (unknown : ℕ)
+  pub begun_front : (place : Place) (w : World) (number : ℕ) (lines : List (List ℕ)) (text front : List ℕ) (unknown : ℕ)
       → AreGiven place w number lines text unknown → AreBegun place w number lines front → IsFront front text
-  begun-front place w number [] text front unknown a b = ([], a.0 ∙ sym b ∙ sym (append-nil front))
-  begun-front place w number (line ∷ lines) text front unknown a (inl nothing) = (text, ap (λ f. f ++ text) (sym nothing))
-  begun-front place w number (line ∷ lines) text front unknown a (inr (given, gives, inl part)) =
-      let same : given ≡ a.0 = one-given one delta spelling place w number (sense_of place.sites line) a.0 given a.3 gives in
+  begun_front place w number [] text front unknown a b = ([], a.0 ∙ sym b ∙ sym (append-nil front))
+  begun_front place w number (line ∷ lines) text front unknown a (inl nothing) = (text, ap (λ f. f ++ text) (sym nothing))
+  begun_front place w number (line ∷ lines) text front unknown a (inr (given, gives, inl part)) =
+      let same : given ≡ a.0 = one_given one delta spelling place w number (sense_of place.sites line) a.0 given a.3 gives in
       (part.0 ++ a.1, a.5 ∙ ap (λ (g : Given). g.text ++ a.1) (sym same) ∙ ap (λ t. t ++ a.1) part.1 ∙ append_assoc front part.0 a.1)
-  begun-front place w number (line ∷ lines) text front unknown a (inr (given, gives, inr (more, begun, is))) =
-      let same : given ≡ a.0 = one-given one delta spelling place w number (sense_of place.sites line) a.0 given a.3 gives in
+  begun_front place w number (line ∷ lines) text front unknown a (inr (given, gives, inr (more, begun, is))) =
+      let same : given ≡ a.0 = one_given one delta spelling place w number (sense_of place.sites line) a.0 given a.3 gives in
       let moved = subst (λ (g : Given). AreBegun place g.after (number + 1) lines more) same begun in
-      let rest = begun-front place a.0.after (number + 1) lines a.1 more a.2 a.4 moved in
+      let rest = begun_front place a.0.after (number + 1) lines a.1 more a.2 a.4 moved in
       (rest.0, a.5 ∙ (λ i. (sym same i).text ++ rest.1 i) ∙ sym (append_assoc given.text more rest.0) ∙ ap (λ t. t ++ rest.0) (sym is))
 
-  pub one-text : (place : Place) (w : World) (number : ℕ) (lines : List (List ℕ)) → HaveOneText place w number lines
-  one-text place w number lines = record {
-    text = λ text other unknown others a b. (text-one place w number lines text other unknown others a b).0;
-    unknown = λ text other unknown others a b. (text-one place w number lines text other unknown others a b).1;
-    begun = begun-front place w number lines;
+  pub one_text : (place : Place) (w : World) (number : ℕ) (lines : List (List ℕ)) → HaveOneText place w number lines
+  one_text place w number lines = record {
+    text = λ text other unknown others a b. (text_one place w number lines text other unknown others a b).0;
+    unknown = λ text other unknown others a b. (text_one place w number lines text other unknown others a b).1;
+    begun = begun_front place w number lines;
   }

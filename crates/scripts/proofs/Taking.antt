@@ -2,13 +2,13 @@
 use Rattle.std.proofs.Common.{◌≤◌, ℕ, List, ◌++◌, take, Option, length, ◌+◌, arith, length-append, length-take-le}
 use Rattle.std.specs.Io.KnownBytes.{Consumes}
 use Rattle.ami_text.specs.Devices.{HasGiven}
-use Rattle.ami_text.proofs.Taking.{given-grows}
+use Rattle.ami_text.proofs.Taking.{given_grows}
 
 -- a device has given what is held, and then the front of a piece
-pub given-more : (before now after : Option (List ℕ)) (held piece : List ℕ) (n least : ℕ) → Consumes before now held → Consumes now after (take n piece)
+pub given_more : (before now after : Option (List ℕ)) (held piece : List ℕ) (n least : ℕ) → Consumes before now held → Consumes now after (take n piece)
     → n ≤ length piece → least ≤ length held + n → HasGiven before after least
-given-more before now after held piece n least is more within many = record {
+given_more before now after held piece n least is more within many = record {
   bytes = held ++ take n piece;
-  given = given-grows before now after held (take n piece) is more;
+  given = given_grows before now after held (take n piece) is more;
   many = omega (arith, many, length-append held (take n piece), length-take-le n piece within);
 }

@@ -10,30 +10,30 @@ use Rattle.serve.specs.declared.serve_fault.ServeFault.TheVariants.{Write}
 use Rattle.serve.specs.Steps.{BreaksOff, HasDone, HasSaid, IsUnsaid}
 
 -- the reply upon the answer is to be written
-pub ask-done : {D : Type 0} (Answers : D → Ask → Answer → D → Type 0) (ask : Ask) (waiting : Waiting) (answer : Answer) (d e : D) (text : List ℕ)
+pub ask_done : {D : Type 0} (Answers : D → Ask → Answer → D → Type 0) (ask : Ask) (waiting : Waiting) (answer : Answer) (d e : D) (text : List ℕ)
     → Answers d ask answer e → text ≡ answer_reply waiting answer → HasDone Answers (Asks ask waiting) d e text
-ask-done Answers ask waiting answer d e text answered is = record {
+ask_done Answers ask waiting answer d e text answered is = record {
   answers = answer ∷ [];
   run = (e, answered, refl);
   is = is ∙ sym (append-nil (answer_reply waiting answer));
 }
 
 -- it was written
-pub all-said : {D T E : Type 0} (Answers : D → Ask → Answer → D → Type 0) (r : Reaction) (d e : D) (old new : Option (List ℕ)) (text : List ℕ) (result : Result T E)
+pub all_said : {D T E : Type 0} (Answers : D → Ask → Answer → D → Type 0) (r : Reaction) (d e : D) (old new : Option (List ℕ)) (text : List ℕ) (result : Result T E)
     → HasDone Answers r d e text → OnOk result (Appends old new text) → OnOk result (HasSaid Answers r d e old new)
-all-said Answers r d e old new text (Ok x) done taken = record { text = text; done = done; taken = taken }
-all-said Answers r d e old new text (Err f) done taken = tt
+all_said Answers r d e old new text (Ok x) done taken = record { text = text; done = done; taken = taken }
+all_said Answers r d e old new text (Err f) done taken = tt
 
 -- or a front of it was
-pub front-said : {D T : Type 0} (Answers : D → Ask → Answer → D → Type 0) (Refuses : D → Ask → D → Type 0) (r : Reaction) (d e : D) (old new : Option (List ℕ)) (text : List ℕ)
+pub front_said : {D T : Type 0} (Answers : D → Ask → Answer → D → Type 0) (Refuses : D → Ask → D → Type 0) (r : Reaction) (d e : D) (old new : Option (List ℕ)) (text : List ℕ)
     (result : Result T ServeFault) → HasDone Answers r d e text → IfErr result (λ fault. fault ≡ Write) → OnErr result (HasTaken old new text)
     → IfErr result (λ fault. BreaksOff Answers Refuses r d e old new fault)
-front-said Answers Refuses r d e old new text (Ok x) done is taken = tt
-front-said Answers Refuses r d e old new text (Err f) done is taken =
+front_said Answers Refuses r d e old new text (Ok x) done is taken = tt
+front_said Answers Refuses r d e old new text (Err f) done is taken =
     subst (λ fault. BreaksOff Answers Refuses r d e old new fault) (sym is) (record { text = text; done = done; taken = taken })
 
 -- or nothing was
-pub none-said : {D : Type 0} (Answers : D → Ask → Answer → D → Type 0) (ask : Ask) (waiting : Waiting) (answer : Answer) (d e : D) (old : Option (List ℕ))
+pub none_said : {D : Type 0} (Answers : D → Ask → Answer → D → Type 0) (ask : Ask) (waiting : Waiting) (answer : Answer) (d e : D) (old : Option (List ℕ))
     → Answers d ask answer e → IsUnsaid Answers (Asks ask waiting) d e old old
-none-said Answers ask waiting answer d e old answered =
+none_said Answers ask waiting answer d e old answered =
     record { taken = refl; desk = inr (record { ask = ask; waiting = waiting; asked = refl; answer = answer; answered = answered }) }

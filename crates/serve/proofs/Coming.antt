@@ -1,6 +1,6 @@
 -- What comes of a stream, read by read.
 use Rattle.std.proofs.Common.{◌≡◌, ◌≤◌, ◌+◌, ◌⊎◌, ⊎_elim, inl, inr, ℕ, Bool, true, Result, Ok, Err, Some, None, List, [], ◌++◌, sym, ap, subst, arith, append_assoc, append-nil, length, length-append, Option}
-use Rattle.ami_text.proofs.Taking.{given-grows, given-none}
+use Rattle.ami_text.proofs.Taking.{given_grows, given_none}
 use Rattle.ami_text.specs.Lines.{lines_text}
 use Rattle.ami_text.specs.MessageFields.{NameAndValue}
 use Rattle.ami_text.specs.declared.feed_fault.FeedFault.{FeedFault}
@@ -21,35 +21,35 @@ abbrev pub LaterFollows : Type 0
 LaterFollows = (bytes held rest : List ℕ) (messages later : List (List NameAndValue)) → Gives bytes messages held → Gives held later rest → Gives bytes (messages ++ later) rest
 
 -- nothing has come
-pub come-none : (given : Option (List ℕ)) (held : List ℕ) (reads : ℕ) → ((bytes : List ℕ) → Gives bytes [] bytes) → HasCome given given held reads reads (λ stream. Gives stream [] held × IsWanted held stream)
-come-none given held reads none = record {
+pub come_none : (given : Option (List ℕ)) (held : List ℕ) (reads : ℕ) → ((bytes : List ℕ) → Gives bytes [] bytes) → HasCome given given held reads reads (λ stream. Gives stream [] held × IsWanted held stream)
+come_none given held reads none = record {
   bytes = [];
-  given = given-none given;
+  given = given_none given;
   many = omega arith;
   few = omega arith;
   holds = (subst (λ t. Gives t [] held) (sym (append-nil held)) (none held), inl (append-nil held));
 }
 
 -- what holds of the stream
-pub come-so : (given after : Option (List ℕ)) (held : List ℕ) (reads left : ℕ) (H K : List ℕ → Type 0) → ((stream : List ℕ) → H stream → K stream)
+pub come_so : (given after : Option (List ℕ)) (held : List ℕ) (reads left : ℕ) (H K : List ℕ → Type 0) → ((stream : List ℕ) → H stream → K stream)
     → HasCome given after held reads left H → HasCome given after held reads left K
-come-so given after held reads left H K so come = record { bytes = come.bytes; given = come.given; many = come.many; few = come.few; holds = so (held ++ come.bytes) come.holds }
+come_so given after held reads left H K so come = record { bytes = come.bytes; given = come.given; many = come.many; few = come.few; holds = so (held ++ come.bytes) come.holds }
 
 -- and then more has
-pub come-more : (given now after : Option (List ℕ)) (held rest : List ℕ) (reads left last : ℕ) (K : List ℕ → Type 0) → MoreStays
+pub come_more : (given now after : Option (List ℕ)) (held rest : List ℕ) (reads left last : ℕ) (K : List ℕ → Type 0) → MoreStays
     → HasCome given now held reads left (λ stream. Gives stream [] rest) → HasCome now after rest left last K
     → HasCome given after held reads last (λ stream. (piece : List ℕ) × Gives stream [] (rest ++ piece) × K (rest ++ piece))
-come-more given now after held rest reads left last K stays come more = record {
+come_more given now after held rest reads left last K stays come more = record {
   bytes = come.bytes ++ more.bytes;
-  given = given-grows given now after come.bytes more.bytes come.given more.given;
+  given = given_grows given now after come.bytes more.bytes come.given more.given;
   many = omega (arith, come.many, more.many, length-append come.bytes more.bytes);
   few = omega (arith, come.few, more.few, length-append come.bytes more.bytes);
   holds = (more.bytes, subst (λ t. Gives t [] (rest ++ more.bytes)) (append_assoc held come.bytes more.bytes) (stays (held ++ come.bytes) more.bytes rest [] come.holds), more.holds);
 }
 
 -- what is left of a stream is no longer than it
-pub left-within : (bytes rest : List ℕ) → Gives bytes [] rest → length rest ≤ length bytes
-left-within bytes rest gives = omega (arith, ap (length {A = ℕ}) gives.2, length-append (lines_text gives.0) rest)
+pub left_within : (bytes rest : List ℕ) → Gives bytes [] rest → length rest ≤ length bytes
+left_within bytes rest gives = omega (arith, ap (length {A = ℕ}) gives.2, length-append (lines_text gives.0) rest)
 
 -- what was held before a piece is no message, so that it was wanted
 wanted : (held rest came piece : List ℕ) → Gives (held ++ came) [] rest → IsRest rest → length piece ≤ 1024 → IsWanted held (held ++ (came ++ piece))
@@ -63,12 +63,12 @@ wanted held rest came piece gives is_rest short = inr (record {
 })
 
 -- a piece came, and what was held before it is no message
-pub piece-came : (given now after : Option (List ℕ)) (held rest more : List ℕ) (reads left last : ℕ) → MoreStays → IsRest rest → length more ≤ length rest + 1024
+pub piece_came : (given now after : Option (List ℕ)) (held rest more : List ℕ) (reads left last : ℕ) → MoreStays → IsRest rest → length more ≤ length rest + 1024
     → HasCome given now held reads left (λ stream. Gives stream [] rest) → HasCome now after rest left last (IsHeld (Ok true) rest more)
     → HasCome given after held reads last (λ stream. Gives stream [] more × IsWanted held stream)
-piece-came given now after held rest more reads left last stays is_rest short come piece = record {
+piece_came given now after held rest more reads left last stays is_rest short come piece = record {
   bytes = come.bytes ++ piece.bytes;
-  given = given-grows given now after come.bytes piece.bytes come.given piece.given;
+  given = given_grows given now after come.bytes piece.bytes come.given piece.given;
   many = omega (arith, come.many, piece.many, length-append come.bytes piece.bytes);
   few = omega (arith, come.few, piece.few, length-append come.bytes piece.bytes);
   holds = (
@@ -79,57 +79,57 @@ piece-came given now after held rest more reads left last stays is_rest short co
 }
 
 -- a piece came for which there was no memory
-piece-lost : (given now after : Option (List ℕ)) (held rest more : List ℕ) (reads left last : ℕ) → IsRest rest
+piece_lost : (given now after : Option (List ℕ)) (held rest more : List ℕ) (reads left last : ℕ) → IsRest rest
     → HasCome given now held reads left (λ stream. Gives stream [] rest) → HasCome now after rest left last (IsHeld (Err Memory) rest more)
     → HasCome given after held reads last (IsWanted held)
-piece-lost given now after held rest more reads left last is_rest come piece =
+piece_lost given now after held rest more reads left last is_rest come piece =
     let short : length (rest ++ piece.bytes) ≤ length rest + 1024 = piece.holds in
     record {
       bytes = come.bytes ++ piece.bytes;
-      given = given-grows given now after come.bytes piece.bytes come.given piece.given;
+      given = given_grows given now after come.bytes piece.bytes come.given piece.given;
       many = omega (arith, come.many, piece.many, length-append come.bytes piece.bytes);
       few = omega (arith, come.few, piece.few, length-append come.bytes piece.bytes);
       holds = wanted held rest come.bytes piece.bytes come.holds is_rest (omega (arith, short, length-append rest piece.bytes));
     }
 
 -- none came, and what is held is no message
-pub none-came : (given now after : Option (List ℕ)) (held rest more : List ℕ) (reads left last : ℕ) → MoreStays → IsRest rest
+pub none_came : (given now after : Option (List ℕ)) (held rest more : List ℕ) (reads left last : ℕ) → MoreStays → IsRest rest
     → HasCome given now held reads left (λ stream. Gives stream [] rest) → HasCome now after rest left last (λ stream. (more ≡ stream) × (more ≡ rest))
     → HasCome given after held reads last (λ stream. Reads stream [] (Rest more))
-none-came given now after held rest more reads left last stays is_rest come piece =
-    come-so given after held reads last _ _ (λ stream x. (subst (λ t. Gives stream [] t) (sym x.2.0) x.1, subst IsRest (sym x.2.1) is_rest))
-    (come-more given now after held rest reads left last _ stays come piece)
+none_came given now after held rest more reads left last stays is_rest come piece =
+    come_so given after held reads last _ _ (λ stream x. (subst (λ t. Gives stream [] t) (sym x.2.0) x.1, subst IsRest (sym x.2.1) is_rest))
+    (come_more given now after held rest reads left last _ stays come piece)
 
 -- reading broke off
-pub broken-came : (fault : ServeFault) (given now after : Option (List ℕ)) (held rest more : List ℕ) (reads left last : ℕ) → MoreStays → IsRest rest
+pub broken_came : (fault : ServeFault) (given now after : Option (List ℕ)) (held rest more : List ℕ) (reads left last : ℕ) → MoreStays → IsRest rest
     → HasCome given now held reads left (λ stream. Gives stream [] rest) → HasCome now after rest left last (IsHeld (Err fault) rest more)
     → HasCome given after held reads last (IsNext (Err fault) held more)
-broken-came Read given now after held rest more reads left last stays is_rest come piece = none-came given now after held rest more reads left last stays is_rest come piece
-broken-came Turns given now after held rest more reads left last stays is_rest come piece = none-came given now after held rest more reads left last stays is_rest come piece
-broken-came Memory given now after held rest more reads left last stays is_rest come piece = piece-lost given now after held rest more reads left last is_rest come piece
-broken-came Write given now after held rest more reads left last stays is_rest come piece = absurd piece.holds
-broken-came LineTooLong given now after held rest more reads left last stays is_rest come piece = absurd piece.holds
-broken-came TooManyFields given now after held rest more reads left last stays is_rest come piece = absurd piece.holds
-broken-came DeskDown given now after held rest more reads left last stays is_rest come piece = absurd piece.holds
+broken_came Read given now after held rest more reads left last stays is_rest come piece = none_came given now after held rest more reads left last stays is_rest come piece
+broken_came Turns given now after held rest more reads left last stays is_rest come piece = none_came given now after held rest more reads left last stays is_rest come piece
+broken_came Memory given now after held rest more reads left last stays is_rest come piece = piece_lost given now after held rest more reads left last is_rest come piece
+broken_came Write given now after held rest more reads left last stays is_rest come piece = absurd piece.holds
+broken_came LineTooLong given now after held rest more reads left last stays is_rest come piece = absurd piece.holds
+broken_came TooManyFields given now after held rest more reads left last stays is_rest come piece = absurd piece.holds
+broken_came DeskDown given now after held rest more reads left last stays is_rest come piece = absurd piece.holds
 
 -- a read's result, told
-pub held-so : (now after : Option (List ℕ)) (rest more : List ℕ) (left last : ℕ) (result told : Result Bool ServeFault) → result ≡ told
+pub held_so : (now after : Option (List ℕ)) (rest more : List ℕ) (left last : ℕ) (result told : Result Bool ServeFault) → result ≡ told
     → HasCome now after rest left last (IsHeld result rest more) → HasCome now after rest left last (IsHeld told rest more)
-held-so now after rest more left last result told is come = subst (λ r. HasCome now after rest left last (IsHeld r rest more)) is come
+held_so now after rest more left last result told is come = subst (λ r. HasCome now after rest left last (IsHeld r rest more)) is come
 
 -- what came, told
-pub next-so : (now after : Option (List ℕ)) (held rest : List ℕ) (reads left : ℕ) (result told : Result (Option (List NameAndValue)) ServeFault) → result ≡ told
+pub next_so : (now after : Option (List ℕ)) (held rest : List ℕ) (reads left : ℕ) (result told : Result (Option (List NameAndValue)) ServeFault) → result ≡ told
     → HasCome now after held reads left (IsNext result held rest) → HasCome now after held reads left (IsNext told held rest)
-next-so now after held rest reads left result told is come = subst (λ r. HasCome now after held reads left (IsNext r held rest)) is come
+next_so now after held rest reads left result told is come = subst (λ r. HasCome now after held reads left (IsNext r held rest)) is come
 
-not-both : (o : Option FeedFault) (fault : FeedFault) → o ≡ None → o ≡ Some fault → ⊥
-not-both o fault none some = cc
+not_both : (o : Option FeedFault) (fault : FeedFault) → o ≡ None → o ≡ Some fault → ⊥
+not_both o fault none some = cc
 
 -- what a feed shows that fails
-pub fault-next : (fault : FeedFault) (told : ServeFault) (was : FeedState) (old held stream : List ℕ) → told ≡ session_fault fault → was.fault ≡ None
+pub fault_next : (fault : FeedFault) (told : ServeFault) (was : FeedState) (old held stream : List ℕ) → told ≡ session_fault fault → was.fault ≡ None
     → (IsStreamFault (Some fault) → (was.fault ≡ Some fault) ⊎ HasFault fault was.held) → Gives stream [] was.held → IsWanted old stream → IsNext (Err told) old held stream
-fault-next stream_fault.LineTooLong told was old held stream is works shows gives wants =
-    subst (λ f. IsNext (Err f) old held stream) (sym is) (was.held, gives, ⊎_elim (λ failed. absurd (not-both was.fault stream_fault.LineTooLong works failed)) (λ has. has) (shows tt))
-fault-next stream_fault.TooManyFields told was old held stream is works shows gives wants =
-    subst (λ f. IsNext (Err f) old held stream) (sym is) (was.held, gives, ⊎_elim (λ failed. absurd (not-both was.fault stream_fault.TooManyFields works failed)) (λ has. has) (shows tt))
-fault-next stream_fault.Memory told was old held stream is works shows gives wants = subst (λ f. IsNext (Err f) old held stream) (sym is) wants
+fault_next stream_fault.LineTooLong told was old held stream is works shows gives wants =
+    subst (λ f. IsNext (Err f) old held stream) (sym is) (was.held, gives, ⊎_elim (λ failed. absurd (not_both was.fault stream_fault.LineTooLong works failed)) (λ has. has) (shows tt))
+fault_next stream_fault.TooManyFields told was old held stream is works shows gives wants =
+    subst (λ f. IsNext (Err f) old held stream) (sym is) (was.held, gives, ⊎_elim (λ failed. absurd (not_both was.fault stream_fault.TooManyFields works failed)) (λ has. has) (shows tt))
+fault_next stream_fault.Memory told was old held stream is works shows gives wants = subst (λ f. IsNext (Err f) old held stream) (sym is) wants

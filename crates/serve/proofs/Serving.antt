@@ -3,7 +3,7 @@ use Rattle.std.proofs.Common.{◌≡◌, ◌≢◌, ◌≤◌, ⊎_elim, inl, in
 use Rattle.std.proofs.lemmas.List.{append_cancel_left}
 use Rattle.std.proofs.lemmas.List.Elements.{All-nil}
 use Rattle.std.specs.Io.KnownBytes.{Appends}
-use Rattle.ami_text.proofs.Taking.{given-grows, given-none, taken-grows}
+use Rattle.ami_text.proofs.Taking.{given_grows, given_none, taken_grows}
 use Rattle.ami_text.specs.Devices.{HasEnded, HasGiven, HasGivenUpTo, HasTaken}
 use Rattle.ami_text.specs.Lines.{IsFullLine}
 use Rattle.ami_text.specs.Stream.{Ending, Gives, IsRest, Reads, Rest}
@@ -17,7 +17,7 @@ use Rattle.serve.specs.declared.serve_fault.ServeFault.TheVariants.{Read, Write,
 use Rattle.serve.specs.Sessions.{AreAnswered, Carries, EndsInPiece, HasText, IsBegun, IsLeftBy, IsRefused, IsServed, IsUnfinished}
 use Rattle.serve.specs.Steps.{BreaksOff, HasAnswered, HasBegun, HasCome, HasSaid, IsDown, IsNext, IsUnsaid, IsWanted, WantsPiece}
 use Rattle.serve.proofs.Coming.{LaterFollows, MoreStays}
-use Rattle.serve.proofs.TextSteps.{after-one, over-one, text-one}
+use Rattle.serve.proofs.TextSteps.{after_one, over_one, text_one}
 
 -- the stream of two pieces has the messages of the one, and then those of what that leaves and the other
 abbrev pub PiecesJoin : Type 0
@@ -35,8 +35,8 @@ pub record Going {D : Type 0} (Answers : D → Ask → Answer → D → Type 0) 
   pub in_piece : EndsInPiece messages bytes
 
 -- no bytes are no message
-none-rest : IsRest []
-none-rest = record {
+none_rest : IsRest []
+none_rest = record {
   lines = [];
   part = [];
   each_full = All-nil IsFullLine;
@@ -47,13 +47,13 @@ none-rest = record {
 }
 
 -- no piece came yet
-no-piece : Gives [] [] [] → EndsInPiece [] []
-no-piece none = record { before = []; piece = []; is = refl; short = omega arith; earlier = []; later = []; are = refl; rest = []; reads = (none, none-rest) }
+no_piece : Gives [] [] [] → EndsInPiece [] []
+no_piece none = record { before = []; piece = []; is = refl; short = omega arith; earlier = []; later = []; are = refl; rest = []; reads = (none, none_rest) }
 
 -- a piece that came was wanted
-piece-wanted : (first piece held : List ℕ) (messages : List Fields) → PiecesJoin → Gives first messages held
+piece_wanted : (first piece held : List ℕ) (messages : List Fields) → PiecesJoin → Gives first messages held
     → EndsInPiece messages first → IsWanted held (held ++ piece) → EndsInPiece messages (first ++ piece)
-piece-wanted first piece held messages join gives last wanted = ⊎_elim
+piece_wanted first piece held messages join gives last wanted = ⊎_elim
     (λ (none : held ++ piece ≡ held). subst (λ t. EndsInPiece messages t)
     (sym (ap (λ t. first ++ t) (append_cancel_left held piece [] (none ∙ sym (append-nil held))) ∙ append-nil first)) last)
     (λ (x : WantsPiece held (held ++ piece)). record {
@@ -70,8 +70,8 @@ piece-wanted first piece held messages join gives last wanted = ⊎_elim
     wanted
 
 -- one message more is answered, and no piece came
-piece-stays : (messages : List Fields) (message : Fields) (bytes : List ℕ) → EndsInPiece messages bytes → EndsInPiece (messages ++ message ∷ []) bytes
-piece-stays messages message bytes x = record {
+piece_stays : (messages : List Fields) (message : Fields) (bytes : List ℕ) → EndsInPiece messages bytes → EndsInPiece (messages ++ message ∷ []) bytes
+piece_stays messages message bytes x = record {
   before = x.before;
   piece = x.piece;
   is = x.is;
@@ -88,12 +88,12 @@ greeted : {D : Type 0} (Answers : D → Ask → Answer → D → Type 0) (s : Se
 greeted Answers s d = record { answers = []; run = refl; is = sym (append-nil (greeting s)) }
 
 -- it begins with the greeting
-pub going-start : {D : Type 0} (Answers : D → Ask → Answer → D → Type 0) (s : SessionState) (d : D) (given old new : Option (List ℕ)) (held : List ℕ) (reads : ℕ) → ((bytes : List ℕ) → Gives bytes [] bytes)
+pub going_start : {D : Type 0} (Answers : D → Ask → Answer → D → Type 0) (s : SessionState) (d : D) (given old new : Option (List ℕ)) (held : List ℕ) (reads : ℕ) → ((bytes : List ℕ) → Gives bytes [] bytes)
     → held ≡ [] → reads ≡ 1000000 → Appends old new (greeting s) → Carries given given old new (Going Answers s d d s held reads)
-going-start Answers s d given old new held reads none is_held is_reads taken = record {
+going_start Answers s d given old new held reads none is_held is_reads taken = record {
   bytes = [];
   text = greeting s;
-  given = given-none given;
+  given = given_none given;
   taken = taken;
   holds = record {
     messages = [];
@@ -103,17 +103,17 @@ going-start Answers s d given old new held reads none is_held is_reads taken = r
     has_text = greeted Answers s d;
     many = omega (arith, is_reads);
     few = omega (arith, is_reads);
-    in_piece = no-piece (none []);
+    in_piece = no_piece (none []);
   };
 }
 
 -- which may break off
-greeting-begun : {D : Type 0} (Answers : D → Ask → Answer → D → Type 0) (s : SessionState) (d : D) (given old new : Option (List ℕ)) → ((bytes : List ℕ) → Gives bytes [] bytes)
+greeting_begun : {D : Type 0} (Answers : D → Ask → Answer → D → Type 0) (s : SessionState) (d : D) (given old new : Option (List ℕ)) → ((bytes : List ℕ) → Gives bytes [] bytes)
     → HasTaken old new (greeting s) → Carries given given old new (IsBegun Answers s d d)
-greeting-begun Answers s d given old new none taken = record {
+greeting_begun Answers s d given old new none taken = record {
   bytes = [];
   text = taken.front;
-  given = given-none given;
+  given = given_none given;
   taken = taken.taken;
   holds = record {
     messages = [];
@@ -125,15 +125,15 @@ greeting-begun Answers s d given old new none taken = record {
   };
 }
 
-pub greeting-breaks : {D : Type 0} (Answers : D → Ask → Answer → D → Type 0) (Refuses : D → Ask → D → Type 0) (fault : ServeFault) (s : SessionState) (d : D) (given old new : Option (List ℕ))
+pub greeting_breaks : {D : Type 0} (Answers : D → Ask → Answer → D → Type 0) (Refuses : D → Ask → D → Type 0) (fault : ServeFault) (s : SessionState) (d : D) (given old new : Option (List ℕ))
     → ((bytes : List ℕ) → Gives bytes [] bytes) → fault ≡ Write → HasTaken old new (greeting s) → Carries given given old new (IsLeftBy Answers Refuses s d d fault)
-greeting-breaks Answers Refuses fault s d given old new none is taken =
-    subst (λ f. Carries given given old new (IsLeftBy Answers Refuses s d d f)) (sym is) (greeting-begun Answers s d given old new none taken)
+greeting_breaks Answers Refuses fault s d given old new none is taken =
+    subst (λ f. Carries given given old new (IsLeftBy Answers Refuses s d d f)) (sym is) (greeting_begun Answers s d given old new none taken)
 
 -- what was read and written, and what holds of it
-carries-so : (given given_new old new : Option (List ℕ)) (H K : List ℕ → List ℕ → Type 0) → ((bytes text : List ℕ) → H bytes text → K bytes text)
+carries_so : (given given_new old new : Option (List ℕ)) (H K : List ℕ → List ℕ → Type 0) → ((bytes text : List ℕ) → H bytes text → K bytes text)
     → Carries given given_new old new H → Carries given given_new old new K
-carries-so given given_new old new H K so c = record { bytes = c.bytes; text = c.text; given = c.given; taken = c.taken; holds = so c.bytes c.text c.holds }
+carries_so given given_new old new H K so c = record { bytes = c.bytes; text = c.text; given = c.given; taken = c.taken; holds = so c.bytes c.text c.holds }
 
 -- bytes of which one part was served, and this holds of what was held behind it and the other part
 record ReadOn (held : List ℕ) (reads left : ℕ) (H : List ℕ → List ℕ → Type 0) (K : List ℕ → Type 0) (bytes text : List ℕ) : Type 0 where
@@ -145,21 +145,21 @@ record ReadOn (held : List ℕ) (reads left : ℕ) (H : List ℕ → List ℕ �
   pub many : reads ≤ left + length piece
   pub few : length piece + 1024 * left ≤ 1024 * reads
 
-reads-on : (given now after old new : Option (List ℕ)) (held : List ℕ) (reads left : ℕ) (H : List ℕ → List ℕ → Type 0) (K : List ℕ → Type 0)
+reads_on : (given now after old new : Option (List ℕ)) (held : List ℕ) (reads left : ℕ) (H : List ℕ → List ℕ → Type 0) (K : List ℕ → Type 0)
     → Carries given now old new H → HasCome now after held reads left K → Carries given after old new (ReadOn held reads left H K)
-reads-on given now after old new held reads left H K c come = record {
+reads_on given now after old new held reads left H K c come = record {
   bytes = c.bytes ++ come.bytes;
   text = c.text;
-  given = given-grows given now after c.bytes come.bytes c.given come.given;
+  given = given_grows given now after c.bytes come.bytes c.given come.given;
   taken = c.taken;
   holds = record { first = c.bytes; piece = come.bytes; is = refl; before = c.holds; more = come.holds; many = come.many; few = come.few };
 }
 
 -- the stream has no further message, and an ending
-ended-by : {D : Type 0} (Answers : D → Ask → Answer → D → Type 0) (s now : SessionState) (d e : D) (held : List ℕ) (reads left : ℕ) (K : List ℕ → Type 0) (bytes text : List ℕ) (ending : Ending)
+ended_by : {D : Type 0} (Answers : D → Ask → Answer → D → Type 0) (s now : SessionState) (d e : D) (held : List ℕ) (reads left : ℕ) (K : List ℕ → Type 0) (bytes text : List ℕ) (ending : Ending)
     → PiecesJoin → ((stream : List ℕ) → K stream → Reads stream [] ending)
     → ReadOn held reads left (Going Answers s d e now held reads) K bytes text → AreAnswered Answers s d e ending bytes text
-ended-by Answers s now d e held reads left K bytes text ending join so x =
+ended_by Answers s now d e held reads left K bytes text ending join so x =
     let going = x.before in
     let all = join x.first x.piece held going.messages [] ending going.gives (so (held ++ x.piece) x.more) in
     record {
@@ -178,7 +178,7 @@ unfinished Answers s now d e held reads left bytes text join stays x =
       messages = going.messages;
       rest = held ++ x.piece;
       gives = subst (λ t. Gives t going.messages (held ++ x.piece)) (sym x.is) (stays x.first x.piece held going.messages going.gives);
-      in_piece = subst (λ t. EndsInPiece going.messages t) (sym x.is) (piece-wanted x.first x.piece held going.messages join going.gives going.in_piece x.more);
+      in_piece = subst (λ t. EndsInPiece going.messages t) (sym x.is) (piece_wanted x.first x.piece held going.messages join going.gives going.in_piece x.more);
       goes_on = going.goes_on;
       left = e;
       has_text = going.has_text;
@@ -186,63 +186,63 @@ unfinished Answers s now d e held reads left bytes text join stays x =
     }
 
 -- the reader has ended
-pub served-at-end : {D : Type 0} (Answers : D → Ask → Answer → D → Type 0) (s now : SessionState) (d e : D) (given before after old new : Option (List ℕ)) (held rest : List ℕ)
+pub served_at_end : {D : Type 0} (Answers : D → Ask → Answer → D → Type 0) (s now : SessionState) (d e : D) (given before after old new : Option (List ℕ)) (held rest : List ℕ)
     (reads left : ℕ) (ended : Bool) → PiecesJoin → HasEnded ended after
     → Carries given before old new (Going Answers s d e now held reads) → HasCome before after held reads left (IsNext (Ok None) held rest)
     → Carries given after old new (IsServed Answers s d e ended after)
-served-at-end Answers s now d e given before after old new held rest reads left ended join is c come =
-    carries-so given after old new _ _
+served_at_end Answers s now d e given before after old new held rest reads left ended join is c come =
+    carries_so given after old new _ _
     (λ bytes text x.
-    let all = ended-by Answers s now d e held reads left (IsNext (Ok None) held rest) bytes text (Rest rest) join (λ stream more. more) x in
+    let all = ended_by Answers s now d e held reads left (IsNext (Ok None) held rest) bytes text (Rest rest) join (λ stream more. more) x in
     record { messages = all.messages; rest = rest; gives = all.reads.0; has_text = all.has_text; at_end = inr (all.reads.1, is) })
-    (reads-on given before after old new held reads left _ _ c come)
+    (reads_on given before after old new held reads left _ _ c come)
 
 -- reading broke off
-pub reading-breaks : {D : Type 0} (Answers : D → Ask → Answer → D → Type 0) (Refuses : D → Ask → D → Type 0) (fault : ServeFault) (s now : SessionState) (d e : D)
+pub reading_breaks : {D : Type 0} (Answers : D → Ask → Answer → D → Type 0) (Refuses : D → Ask → D → Type 0) (fault : ServeFault) (s now : SessionState) (d e : D)
     (given before after old new : Option (List ℕ)) (held rest : List ℕ) (reads left : ℕ) → PiecesJoin → MoreStays
     → Carries given before old new (Going Answers s d e now held reads) → HasCome before after held reads left (IsNext (Err fault) held rest)
     → Carries given after old new (IsLeftBy Answers Refuses s d e fault)
-reading-breaks Answers Refuses Read s now d e given before after old new held rest reads left join stays c come =
-    carries-so given after old new _ _ (λ bytes text x. (rest, ended-by Answers s now d e held reads left (IsNext (Err Read) held rest) bytes text _ join (λ stream more. more) x))
-    (reads-on given before after old new held reads left _ _ c come)
-reading-breaks Answers Refuses Turns s now d e given before after old new held rest reads left join stays c come =
-    carries-so given after old new _ _ (λ bytes text x. (rest, ended-by Answers s now d e held reads left (IsNext (Err Turns) held rest) bytes text _ join (λ stream more. more) x))
-    (reads-on given before after old new held reads left _ _ c come)
-reading-breaks Answers Refuses LineTooLong s now d e given before after old new held rest reads left join stays c come =
-    carries-so given after old new _ _ (λ bytes text x. ended-by Answers s now d e held reads left (IsNext (Err LineTooLong) held rest) bytes text _ join (λ stream more. more) x)
-    (reads-on given before after old new held reads left _ _ c come)
-reading-breaks Answers Refuses TooManyFields s now d e given before after old new held rest reads left join stays c come =
-    carries-so given after old new _ _ (λ bytes text x. ended-by Answers s now d e held reads left (IsNext (Err TooManyFields) held rest) bytes text _ join (λ stream more. more) x)
-    (reads-on given before after old new held reads left _ _ c come)
-reading-breaks Answers Refuses Memory s now d e given before after old new held rest reads left join stays c come =
-    carries-so given after old new _ _ (λ bytes text x. unfinished Answers s now d e held reads left bytes text join stays x)
-    (reads-on given before after old new held reads left _ _ c come)
-reading-breaks Answers Refuses Write s now d e given before after old new held rest reads left join stays c come = absurd come.holds
-reading-breaks Answers Refuses DeskDown s now d e given before after old new held rest reads left join stays c come = absurd come.holds
+reading_breaks Answers Refuses Read s now d e given before after old new held rest reads left join stays c come =
+    carries_so given after old new _ _ (λ bytes text x. (rest, ended_by Answers s now d e held reads left (IsNext (Err Read) held rest) bytes text _ join (λ stream more. more) x))
+    (reads_on given before after old new held reads left _ _ c come)
+reading_breaks Answers Refuses Turns s now d e given before after old new held rest reads left join stays c come =
+    carries_so given after old new _ _ (λ bytes text x. (rest, ended_by Answers s now d e held reads left (IsNext (Err Turns) held rest) bytes text _ join (λ stream more. more) x))
+    (reads_on given before after old new held reads left _ _ c come)
+reading_breaks Answers Refuses LineTooLong s now d e given before after old new held rest reads left join stays c come =
+    carries_so given after old new _ _ (λ bytes text x. ended_by Answers s now d e held reads left (IsNext (Err LineTooLong) held rest) bytes text _ join (λ stream more. more) x)
+    (reads_on given before after old new held reads left _ _ c come)
+reading_breaks Answers Refuses TooManyFields s now d e given before after old new held rest reads left join stays c come =
+    carries_so given after old new _ _ (λ bytes text x. ended_by Answers s now d e held reads left (IsNext (Err TooManyFields) held rest) bytes text _ join (λ stream more. more) x)
+    (reads_on given before after old new held reads left _ _ c come)
+reading_breaks Answers Refuses Memory s now d e given before after old new held rest reads left join stays c come =
+    carries_so given after old new _ _ (λ bytes text x. unfinished Answers s now d e held reads left bytes text join stays x)
+    (reads_on given before after old new held reads left _ _ c come)
+reading_breaks Answers Refuses Write s now d e given before after old new held rest reads left join stays c come = absurd come.holds
+reading_breaks Answers Refuses DeskDown s now d e given before after old new held rest reads left join stays c come = absurd come.holds
 
 -- 1,000,000 reads gave a byte each
-pub turns-over : {D : Type 0} (Answers : D → Ask → Answer → D → Type 0) (s now : SessionState) (d e : D) (given before after old new : Option (List ℕ)) (held : List ℕ)
+pub turns_over : {D : Type 0} (Answers : D → Ask → Answer → D → Type 0) (s now : SessionState) (d e : D) (given before after old new : Option (List ℕ)) (held : List ℕ)
     (reads left : ℕ) (K : List ℕ → Type 0) → left ≡ 0 → Carries given before old new (Going Answers s d e now held reads) → HasCome before after held reads left K
     → HasGiven given after 1000000
-turns-over Answers s now d e given before after old new held reads left K none c come = record {
+turns_over Answers s now d e given before after old new held reads left K none c come = record {
   bytes = c.bytes ++ come.bytes;
-  given = given-grows given before after c.bytes come.bytes c.given come.given;
+  given = given_grows given before after c.bytes come.bytes c.given come.given;
   many = omega (arith, c.holds.many, come.many, none, length-append c.bytes come.bytes);
 }
 
 -- no more bytes came than the reads may give
-pub given-few : {D : Type 0} (Answers : D → Ask → Answer → D → Type 0) (s now : SessionState) (d e : D) (given before after old new : Option (List ℕ)) (held : List ℕ)
+pub given_few : {D : Type 0} (Answers : D → Ask → Answer → D → Type 0) (s now : SessionState) (d e : D) (given before after old new : Option (List ℕ)) (held : List ℕ)
     (reads left : ℕ) (K : List ℕ → Type 0) → Carries given before old new (Going Answers s d e now held reads) → HasCome before after held reads left K
     → HasGivenUpTo given after 1024000000
-given-few Answers s now d e given before after old new held reads left K c come = record {
+given_few Answers s now d e given before after old new held reads left K c come = record {
   bytes = c.bytes ++ come.bytes;
-  given = given-grows given before after c.bytes come.bytes c.given come.given;
+  given = given_grows given before after c.bytes come.bytes c.given come.given;
   few = omega (arith, c.holds.few, come.few, length-append c.bytes come.bytes);
 }
 
 -- none came
-pub given-nothing : (given : Option (List ℕ)) → HasGivenUpTo given given 1024000000
-given-nothing given = record { bytes = []; given = given-none given; few = omega arith }
+pub given_nothing : (given : Option (List ℕ)) → HasGivenUpTo given given 1024000000
+given_nothing given = record { bytes = []; given = given_none given; few = omega arith }
 
 -- a message came
 record MessageCame {D : Type 0} (Answers : D → Ask → Answer → D → Type 0) (s : SessionState) (d e : D) (now : SessionState) (message : Fields) (rest : List ℕ) (left : ℕ) (bytes text : List ℕ) : Type 0 where
@@ -258,12 +258,12 @@ record MessageCame {D : Type 0} (Answers : D → Ask → Answer → D → Type 0
   pub in_piece : EndsInPiece messages bytes
 
 -- what was written, and then this
-message-came : {D : Type 0} (Answers : D → Ask → Answer → D → Type 0) (s now : SessionState) (d e : D) (given before after old new : Option (List ℕ)) (held rest : List ℕ) (message : Fields)
+message_came : {D : Type 0} (Answers : D → Ask → Answer → D → Type 0) (s now : SessionState) (d e : D) (given before after old new : Option (List ℕ)) (held rest : List ℕ) (message : Fields)
     (reads left : ℕ) → PiecesJoin → MoreStays → LaterFollows
     → Carries given before old new (Going Answers s d e now held reads) → HasCome before after held reads left (IsNext (Ok (Some message)) held rest)
     → Carries given after old new (MessageCame Answers s d e now message rest left)
-message-came Answers s now d e given before after old new held rest message reads left join stays later c come =
-    carries-so given after old new _ _
+message_came Answers s now d e given before after old new held rest message reads left join stays later c come =
+    carries_so given after old new _ _
     (λ bytes text x.
     let going = x.before in
     let more = stays x.first x.piece held going.messages going.gives in
@@ -278,9 +278,9 @@ message-came Answers s now d e given before after old new held rest message read
       has_text = going.has_text;
       many = omega (arith, going.many, x.many, length-append x.first x.piece, ap (length {A = ℕ}) x.is);
       few = omega (arith, going.few, x.few, length-append x.first x.piece, ap (length {A = ℕ}) x.is);
-      in_piece = subst (λ t. EndsInPiece going.messages t) (sym x.is) (piece-wanted x.first x.piece held going.messages join going.gives going.in_piece x.more.1);
+      in_piece = subst (λ t. EndsInPiece going.messages t) (sym x.is) (piece_wanted x.first x.piece held going.messages join going.gives going.in_piece x.more.1);
     })
-    (reads-on given before after old new held reads left _ _ c come)
+    (reads_on given before after old new held reads left _ _ c come)
 
 -- the text of what was read, and of a message more
 record Said {D : Type 0} (Answers : D → Ask → Answer → D → Type 0) (s : SessionState) (d e : D) (now : SessionState) (message : Fields) (rest : List ℕ) (left : ℕ) (bytes text : List ℕ) : Type 0 where
@@ -302,13 +302,13 @@ said Answers s now d mid e given after old before new rest message left c has =
       bytes = c.bytes;
       text = c.text ++ has.text;
       given = c.given;
-      taken = taken-grows old before new c.text has.text c.taken has.taken;
+      taken = taken_grows old before new c.text has.text c.taken has.taken;
       holds = record {
         messages = x.messages;
         gives = x.gives;
         goes_on = x.goes_on;
         is_now = x.is_now;
-        has_text = text-one Answers s now d mid e x.messages message c.text has.text x.goes_on x.is_now x.has_text has.done;
+        has_text = text_one Answers s now d mid e x.messages message c.text has.text x.goes_on x.is_now x.has_text has.done;
         many = x.many;
         few = x.few;
         in_piece = x.in_piece;
@@ -316,33 +316,33 @@ said Answers s now d mid e given after old before new rest message left c has =
     }
 
 -- it is answered, and the session goes on
-pub going-on : {D : Type 0} (Answers : D → Ask → Answer → D → Type 0) (s now next : SessionState) (d mid e : D) (given before after old written new : Option (List ℕ)) (held rest : List ℕ) (message : Fields)
+pub going_on : {D : Type 0} (Answers : D → Ask → Answer → D → Type 0) (s now next : SessionState) (d mid e : D) (given before after old written new : Option (List ℕ)) (held rest : List ℕ) (message : Fields)
     (reads left : ℕ) → PiecesJoin → MoreStays → LaterFollows
     → Carries given before old written (Going Answers s d mid now held reads) → HasCome before after held reads left (IsNext (Ok (Some message)) held rest)
     → HasSaid Answers (reaction now message) mid e written new → next ≡ session_after now message → is_end (reaction now message) ≡ false
     → Carries given after old new (Going Answers s d e next rest left)
-going-on Answers s now next d mid e given before after old written new held rest message reads left join stays later c come has is on =
-    carries-so given after old new _ _
+going_on Answers s now next d mid e given before after old written new held rest message reads left join stays later c come has is on =
+    carries_so given after old new _ _
     (λ bytes text x. record {
       messages = x.messages ++ message ∷ [];
       gives = x.gives;
-      goes_on = over-one x.messages s message x.goes_on ∙ ap (λ t. is_end (reaction t message)) (sym x.is_now) ∙ on;
-      is_now = is ∙ ap (λ t. session_after t message) x.is_now ∙ sym (after-one x.messages s message);
+      goes_on = over_one x.messages s message x.goes_on ∙ ap (λ t. is_end (reaction t message)) (sym x.is_now) ∙ on;
+      is_now = is ∙ ap (λ t. session_after t message) x.is_now ∙ sym (after_one x.messages s message);
       has_text = x.has_text;
       many = x.many;
       few = x.few;
-      in_piece = piece-stays x.messages message bytes x.in_piece;
+      in_piece = piece_stays x.messages message bytes x.in_piece;
     })
-    (said Answers s now d mid e given after old written new rest message left (message-came Answers s now d mid given before after old written held rest message reads left join stays later c come) has)
+    (said Answers s now d mid e given after old written new rest message left (message_came Answers s now d mid given before after old written held rest message reads left join stays later c come) has)
 
 -- or ends
-pub served-by-end : {D : Type 0} (Answers : D → Ask → Answer → D → Type 0) (s now : SessionState) (d mid e : D) (given before after old written new : Option (List ℕ)) (held rest : List ℕ) (message : Fields)
+pub served_by_end : {D : Type 0} (Answers : D → Ask → Answer → D → Type 0) (s now : SessionState) (d mid e : D) (given before after old written new : Option (List ℕ)) (held rest : List ℕ) (message : Fields)
     (reads left : ℕ) (ended : Bool) → PiecesJoin → MoreStays → LaterFollows
     → Carries given before old written (Going Answers s d mid now held reads) → HasCome before after held reads left (IsNext (Ok (Some message)) held rest)
     → HasSaid Answers (reaction now message) mid e written new → is_end (reaction now message) ≡ true
     → Carries given after old new (IsServed Answers s d e ended after)
-served-by-end Answers s now d mid e given before after old written new held rest message reads left ended join stays later c come has over =
-    carries-so given after old new _ _
+served_by_end Answers s now d mid e given before after old written new held rest message reads left ended join stays later c come has over =
+    carries_so given after old new _ _
     (λ bytes text x. record {
       messages = x.messages ++ message ∷ [];
       rest = rest;
@@ -353,11 +353,11 @@ served-by-end Answers s now d mid e given before after old written new held rest
         last = message;
         are = refl;
         goes_on = x.goes_on;
-        over = over-one x.messages s message x.goes_on ∙ ap (λ t. is_end (reaction t message)) (sym x.is_now) ∙ over;
+        over = over_one x.messages s message x.goes_on ∙ ap (λ t. is_end (reaction t message)) (sym x.is_now) ∙ over;
         in_piece = x.in_piece;
       });
     })
-    (said Answers s now d mid e given after old written new rest message left (message-came Answers s now d mid given before after old written held rest message reads left join stays later c come) has)
+    (said Answers s now d mid e given after old written new rest message left (message_came Answers s now d mid given before after old written held rest message reads left join stays later c come) has)
 
 -- a front of its text was written
 begun : {D : Type 0} (Answers : D → Ask → Answer → D → Type 0) (s now : SessionState) (d mid e : D) (given after old before new : Option (List ℕ)) (rest : List ℕ) (message : Fields) (left : ℕ)
@@ -365,12 +365,12 @@ begun : {D : Type 0} (Answers : D → Ask → Answer → D → Type 0) (s now : 
     → Carries given after old new (IsBegun Answers s d e)
 begun Answers s now d mid e given after old before new rest message left c has =
     let x = c.holds in
-    let all = text-one Answers s now d mid e x.messages message c.text has.text x.goes_on x.is_now x.has_text has.done in
+    let all = text_one Answers s now d mid e x.messages message c.text has.text x.goes_on x.is_now x.has_text has.done in
     record {
       bytes = c.bytes;
       text = c.text ++ has.taken.front;
       given = c.given;
-      taken = taken-grows old before new c.text has.taken.front c.taken has.taken.taken;
+      taken = taken_grows old before new c.text has.taken.front c.taken has.taken.taken;
       holds = record {
         messages = x.messages ++ message ∷ [];
         rest = rest;
@@ -455,17 +455,17 @@ refused Answers Refuses s now d mid e given after old before new rest message le
     }
 
 -- answering it broke off
-pub answering-breaks : {D : Type 0} (Answers : D → Ask → Answer → D → Type 0) (Refuses : D → Ask → D → Type 0) (fault : ServeFault) (s now : SessionState) (d mid e : D)
+pub answering_breaks : {D : Type 0} (Answers : D → Ask → Answer → D → Type 0) (Refuses : D → Ask → D → Type 0) (fault : ServeFault) (s now : SessionState) (d mid e : D)
     (given before after old written new : Option (List ℕ)) (held rest : List ℕ) (message : Fields) (reads left : ℕ) → PiecesJoin → MoreStays → LaterFollows
     → Carries given before old written (Going Answers s d mid now held reads) → HasCome before after held reads left (IsNext (Ok (Some message)) held rest)
     → BreaksOff Answers Refuses (reaction now message) mid e written new fault → Carries given after old new (IsLeftBy Answers Refuses s d e fault)
-answering-breaks Answers Refuses Write s now d mid e given before after old written new held rest message reads left join stays later c come broken =
-    begun Answers s now d mid e given after old written new rest message left (message-came Answers s now d mid given before after old written held rest message reads left join stays later c come) broken
-answering-breaks Answers Refuses Memory s now d mid e given before after old written new held rest message reads left join stays later c come broken =
-    unsaid Answers s now d mid e given after old written new rest message left (message-came Answers s now d mid given before after old written held rest message reads left join stays later c come) broken
-answering-breaks Answers Refuses DeskDown s now d mid e given before after old written new held rest message reads left join stays later c come broken =
-    refused Answers Refuses s now d mid e given after old written new rest message left (message-came Answers s now d mid given before after old written held rest message reads left join stays later c come) broken
-answering-breaks Answers Refuses Read s now d mid e given before after old written new held rest message reads left join stays later c come broken = absurd broken
-answering-breaks Answers Refuses LineTooLong s now d mid e given before after old written new held rest message reads left join stays later c come broken = absurd broken
-answering-breaks Answers Refuses TooManyFields s now d mid e given before after old written new held rest message reads left join stays later c come broken = absurd broken
-answering-breaks Answers Refuses Turns s now d mid e given before after old written new held rest message reads left join stays later c come broken = absurd broken
+answering_breaks Answers Refuses Write s now d mid e given before after old written new held rest message reads left join stays later c come broken =
+    begun Answers s now d mid e given after old written new rest message left (message_came Answers s now d mid given before after old written held rest message reads left join stays later c come) broken
+answering_breaks Answers Refuses Memory s now d mid e given before after old written new held rest message reads left join stays later c come broken =
+    unsaid Answers s now d mid e given after old written new rest message left (message_came Answers s now d mid given before after old written held rest message reads left join stays later c come) broken
+answering_breaks Answers Refuses DeskDown s now d mid e given before after old written new held rest message reads left join stays later c come broken =
+    refused Answers Refuses s now d mid e given after old written new rest message left (message_came Answers s now d mid given before after old written held rest message reads left join stays later c come) broken
+answering_breaks Answers Refuses Read s now d mid e given before after old written new held rest message reads left join stays later c come broken = absurd broken
+answering_breaks Answers Refuses LineTooLong s now d mid e given before after old written new held rest message reads left join stays later c come broken = absurd broken
+answering_breaks Answers Refuses TooManyFields s now d mid e given before after old written new held rest message reads left join stays later c come broken = absurd broken
+answering_breaks Answers Refuses Turns s now d mid e given before after old written new held rest message reads left join stays later c come broken = absurd broken

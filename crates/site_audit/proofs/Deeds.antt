@@ -12,18 +12,18 @@ use Rattle.replica.specs.Framing.{IsFramed}
 use Rattle.replica.specs.Site.{IsSameSite, SiteState, meaning_at}
 use Rattle.replica.specs.Standing.{StandsFor, result_of}
 use Rattle.replica.specs.Steps.{Do, Outcome, SiteKnowledge, after_frame, cut, step, take}
-use Rattle.replica.proofs.FramedSites.{cut-means, nothing-cut, whole-means}
-use Rattle.replica.proofs.SameSites.{same-site-stands}
-use Rattle.replica.proofs.StandingSites.{follows-means}
-use Rattle.replica.proofs.TakenCopies.{taken-same}
-use Rattle.replica.proofs.TakenSites.{take-meant}
+use Rattle.replica.proofs.FramedSites.{cut_means, nothing_cut, whole_means}
+use Rattle.replica.proofs.SameSites.{same_site_stands}
+use Rattle.replica.proofs.StandingSites.{follows_means}
+use Rattle.replica.proofs.TakenCopies.{taken_same}
+use Rattle.replica.proofs.TakenSites.{take_meant}
 use Rattle.status_report.specs.declared.asks.Answer.{Answer}
 use Rattle.status_report.specs.declared.asks.Answer.TheVariants.{Report}
 use Rattle.status_report.specs.declared.asks.Ask.{Ask}
 use Rattle.status_report.specs.declared.asks.Ask.TheVariants as ask
 use Rattle.status_report.specs.Answers.{answer_of}
 use Rattle.status_report.specs.Knowing.{answer_in, status_in}
-use Rattle.status_report.proofs.AskLemmas.{report-is}
+use Rattle.status_report.proofs.AskLemmas.{report_is}
 use Rattle.site_journal.specs.declared.step.StepDeed.{StepDeed}
 use Rattle.site_journal.specs.declared.step.StepDeed.TheVariants.{Asked, Took, Cut, Whole}
 use Rattle.site_journal.specs.Legal.{IsAsked, IsCut, IsTook, IsWhole, Leads}
@@ -36,8 +36,8 @@ use Rattle.sites_world.specs.WorldStates.{IsSiteOf}
 use Rattle.site_audit.specs.Places.{AreSpelled}
 use Rattle.site_audit.specs.Replays.{made_by}
 use Rattle.site_audit.specs.Runs.{Gives, IsSpelling, IsSpelledAt, MakesBytes}
-use Rattle.site_audit.proofs.Lists.{get-last}
-use Rattle.site_audit.proofs.Advance.{happens-known}
+use Rattle.site_audit.proofs.Lists.{get_last}
+use Rattle.site_audit.proofs.Advance.{happens_known}
 
 -- what comes of an event is what a deed has
 pub record Comes (names : List (List ℕ)) (w : World) (s : SiteKnowledge) (e : Event) (deed : StepDeed) (to : SiteState) : Type 0 where
@@ -46,82 +46,82 @@ pub record Comes (names : List (List ℕ)) (w : World) (s : SiteKnowledge) (e : 
   pub added : AreSpelled (made_by deed) (happens_at names w.pool s e).added
 
 -- a site that says the same
-pub same-site-of : (names : List (List ℕ)) (site : ℕ) (old new : SiteState) (s : SiteKnowledge) → IsSiteOf names site old s → IsSameSite old new → IsSiteOf names site new s
-same-site-of names site old new s is same = record { site = same.site ∙ is.site; names_are = same.names ∙ is.names_are; stands = same-site-stands old new s is.stands same }
+pub same_site_of : (names : List (List ℕ)) (site : ℕ) (old new : SiteState) (s : SiteKnowledge) → IsSiteOf names site old s → IsSameSite old new → IsSiteOf names site new s
+same_site_of names site old new s is same = record { site = same.site ∙ is.site; names_are = same.names ∙ is.names_are; stands = same_site_stands old new s is.stands same }
 
 -- what follows a meaning is at the same site, with the same queues
-follows-site : (old new : SiteState) (meant : Meaning) (result : Result (Unit {0}) Refusal) → Follows old meant new result → (new.site ≡ old.site) × (new.names ≡ old.names)
-follows-site old new (Makes o) result f = (f.1.site, f.1.names)
-follows-site old new (Refused refusal) result f = (f.1.site, f.1.names)
+follows_site : (old new : SiteState) (meant : Meaning) (result : Result (Unit {0}) Refusal) → Follows old meant new result → (new.site ≡ old.site) × (new.names ≡ old.names)
+follows_site old new (Makes o) result f = (f.1.site, f.1.names)
+follows_site old new (Refused refusal) result f = (f.1.site, f.1.names)
 
 module _ (names : List (List ℕ)) (w : World) (s : SiteKnowledge) (site : ℕ) (from to : SiteState) (knows : slice_get w.sites site ≡ Some s) (is : IsSiteOf names site from s) where
   -- a site after a step, of the same number and queues
   after : (old new : SiteState) (t : SiteKnowledge) → IsSiteOf names site old s → new.site ≡ old.site → new.names ≡ old.names → StandsFor new t → IsSameSite new to → IsSiteOf names site to t
-  after old new t was number list stands same = same-site-of names site new to t (record { site = number ∙ was.site; names_are = list ∙ was.names_are; stands = stands }) same
+  after old new t was number list stands same = same_site_of names site new to t (record { site = number ∙ was.site; names_are = list ∙ was.names_are; stands = stands }) same
 
   -- a frame that was made
-  made-comes : (e : Event) (deed : StepDeed) (bytes : List ℕ) (frame : Frame) (done : SiteKnowledge × Outcome) → site_of e ≡ site
+  made_comes : (e : Event) (deed : StepDeed) (bytes : List ℕ) (frame : Frame) (done : SiteKnowledge × Outcome) → site_of e ≡ site
       → happens_at names w.pool s e ≡ framed (site_of e) (length w.pool) done → (MakesBytes names w e bytes → Gives names w e deed) → made_by deed ≡ Some bytes
       → IsSiteOf names site to done.0 → IsFramed frame done.1 → frame.maker ≡ site → Spells frame bytes → Comes names w s e deed to
-  made-comes e deed bytes frame done of happening gives made stands said maker spelled =
+  made_comes e deed bytes frame done of happening gives made stands said maker spelled =
       let entry : Entry = record { maker = site_of e; number = frame.number; carried = said.says } in
       let spelling : IsSpelling bytes entry = record { frame = frame; maker = maker ∙ sym of; number = refl; says = said.stands; spelled = spelled } in
       let at : slice_get w.sites (site_of e) ≡ Some s = ap (slice_get w.sites) of ∙ knows in
       let added : (happens_at names w.pool s e).added ≡ entry ∷ [] = ap (λ h. h.added) happening ∙ ap (entries_of (site_of e)) said.outcome_is in
-      let now : (happens names w e).0.pool ≡ w.pool ++ entry ∷ [] = ap (λ x. x.0.pool) (happens-known names w e s at) ∙ ap (λ a. w.pool ++ a) added in
+      let now : (happens names w e).0.pool ≡ w.pool ++ entry ∷ [] = ap (λ x. x.0.pool) (happens_known names w e s at) ∙ ap (λ a. w.pool ++ a) added in
       record {
         gives = gives (record {
           place = length w.pool;
-          told = ap (λ x. x.1) (happens-known names w e s at) ∙ ap (λ h. h.outcome) happening ∙ ap (λ o. outcome.Cut (frame_told (length w.pool) o)) said.outcome_is;
-          spelled = record { entry = entry; is = ap (λ p. slice_get p (length w.pool)) now ∙ get-last w.pool entry; spelling = spelling };
+          told = ap (λ x. x.1) (happens_known names w e s at) ∙ ap (λ h. h.outcome) happening ∙ ap (λ o. outcome.Cut (frame_told (length w.pool) o)) said.outcome_is;
+          spelled = record { entry = entry; is = ap (λ p. slice_get p (length w.pool)) now ∙ get_last w.pool entry; spelling = spelling };
         });
         is = subst (λ n. IsSiteOf names n to (happens_at names w.pool s e).site) (sym of) (subst (λ h. IsSiteOf names site to h.site) (sym happening) stands);
         added = subst (λ m. AreSpelled m (happens_at names w.pool s e).added) (sym made) (entry, added, spelling);
       }
 
   -- a cut with a frame
-  pub cut-comes : (bytes : List ℕ) → Leads from (Cut (Some bytes)) to → Comes names w s (event.Cut site) (Cut (Some bytes)) to
-  cut-comes bytes l =
+  pub cut_comes : (bytes : List ℕ) → Leads from (Cut (Some bytes)) to → Comes names w s (event.Cut site) (Cut (Some bytes)) to
+  cut_comes bytes l =
       let d : IsCut l.old bytes l.new = l.done in
-      let was = same-site-of names site from l.old s is l.before in
-      let c = cut-means l.old l.old l.new d.frame s refl was.stands d.done.some d.done.left d.done.made in
-      made-comes (event.Cut site) (Cut (Some bytes)) bytes d.frame (cut s s.buffer) refl refl (λ m. m) refl
+      let was = same_site_of names site from l.old s is l.before in
+      let c = cut_means l.old l.old l.new d.frame s refl was.stands d.done.some d.done.left d.done.made in
+      made_comes (event.Cut site) (Cut (Some bytes)) bytes d.frame (cut s s.buffer) refl refl (λ m. m) refl
       (after l.old l.new (cut s s.buffer).0 was d.done.made.site d.done.made.names c.0 l.after) c.1 (d.done.made.heading.maker ∙ was.site) d.spelled
 
   -- a frame of all
-  pub whole-comes : (bytes : List ℕ) → Leads from (Whole bytes) to → Comes names w s (event.Whole site) (Whole bytes) to
-  whole-comes bytes l =
+  pub whole_comes : (bytes : List ℕ) → Leads from (Whole bytes) to → Comes names w s (event.Whole site) (Whole bytes) to
+  whole_comes bytes l =
       let d : IsWhole l.old bytes l.new = l.done in
-      let was = same-site-of names site from l.old s is l.before in
-      let c = whole-means l.old l.old l.new d.frame s refl was.stands d.done.left d.done.made in
-      made-comes (event.Whole site) (Whole bytes) bytes d.frame (after_frame s s.known s.buffer) refl refl (λ m. m) refl
+      let was = same_site_of names site from l.old s is l.before in
+      let c = whole_means l.old l.old l.new d.frame s refl was.stands d.done.left d.done.made in
+      made_comes (event.Whole site) (Whole bytes) bytes d.frame (after_frame s s.known s.buffer) refl refl (λ m. m) refl
       (after l.old l.new (after_frame s s.known s.buffer).0 was d.done.made.site d.done.made.names c.0 l.after) c.1 (d.done.made.heading.maker ∙ was.site) d.spelled
 
   -- a cut of nothing
-  pub empty-comes : Leads from (Cut None) to → Comes names w s (event.Cut site) (Cut None) to
-  empty-comes l =
-      let was = same-site-of names site from l.old s is l.before in
-      let c = nothing-cut l.old s was.stands l.done.0 in
-      let all : IsSiteOf names site to s = same-site-of names site l.new to s (same-site-of names site l.old l.new s was l.done.1) l.after in
+  pub empty_comes : Leads from (Cut None) to → Comes names w s (event.Cut site) (Cut None) to
+  empty_comes l =
+      let was = same_site_of names site from l.old s is l.before in
+      let c = nothing_cut l.old s was.stands l.done.0 in
+      let all : IsSiteOf names site to s = same_site_of names site l.new to s (same_site_of names site l.old l.new s was l.done.1) l.after in
       record {
-        gives = ap (λ x. x.1) (happens-known names w (event.Cut site) s knows) ∙ ap (λ (a : SiteKnowledge × Outcome). outcome.Cut (frame_told (length w.pool) a.1)) c;
+        gives = ap (λ x. x.1) (happens_known names w (event.Cut site) s knows) ∙ ap (λ (a : SiteKnowledge × Outcome). outcome.Cut (frame_told (length w.pool) a.1)) c;
         is = subst (λ (a : SiteKnowledge × Outcome). IsSiteOf names site to a.0) (sym c) all;
         added = ap (λ (a : SiteKnowledge × Outcome). entries_of site a.1) c;
       }
 
   -- a take of the entry that these bytes spell
-  pub take-comes : MayTakeEntries → (sites : ℕ) → IsReached names sites w → (bytes : List ℕ) (place : ℕ) → IsSpelledAt w.pool place bytes → Leads from (Took bytes) to
+  pub take_comes : MayTakeEntries → (sites : ℕ) → IsReached names sites w → (bytes : List ℕ) (place : ℕ) → IsSpelledAt w.pool place bytes → Leads from (Took bytes) to
       → Comes names w s (event.Take site place) (Took bytes) to
-  take-comes may sites reached bytes place found l =
+  take_comes may sites reached bytes place found l =
       let d : IsTook l.old bytes l.new = l.done in
-      let was = same-site-of names site from l.old s is l.before in
+      let was = same_site_of names site from l.old s is l.before in
       let same = one_frame d.frame found.spelling.frame bytes d.spelled found.spelling.spelled in
-      let deed : IsTakeDeed l.old found.spelling.frame.delta l.new = taken-same d.frame.delta found.spelling.frame.delta same.delta l.old l.new d.done in
+      let deed : IsTakeDeed l.old found.spelling.frame.delta l.new = taken_same d.frame.delta found.spelling.frame.delta same.delta l.old l.new d.done in
       let later = (may names sites w site place l.old s found.entry reached knows was found.is).none_later in
-      let c = take-meant l.old found.spelling.frame.delta s found.entry.carried was.stands found.spelling.says l.new deed.may deed.taken later in
+      let c = take_meant l.old found.spelling.frame.delta s found.entry.carried was.stands found.spelling.says l.new deed.may deed.taken later in
       record {
         gives = (
-          ap (λ x. x.1) (happens-known names w (event.Take site place) s knows) ∙ ap (λ o. (taken s o).outcome) found.is ∙ ap (λ o. outcome.Took (take_told o)) c.1,
+          ap (λ x. x.1) (happens_known names w (event.Take site place) s knows) ∙ ap (λ o. (taken s o).outcome) found.is ∙ ap (λ o. outcome.Took (take_told o)) c.1,
           found,
         );
         is = subst (λ o. IsSiteOf names site to (taken s o).site) (sym found.is)
@@ -130,15 +130,15 @@ module _ (names : List (List ℕ)) (w : World) (s : SiteKnowledge) (site : ℕ) 
       }
 
   -- an ask
-  pub ask-comes : (asked : Ask) (answer : Answer) → Leads from (Asked asked answer) to → Comes names w s (event.Ask site asked) (Asked asked answer) to
-  ask-comes asked answer l = record {
-    gives = (refl, ap (λ x. x.1) (happens-known names w (event.Ask site asked) s knows) ∙ ap outcome.Answered (by asked l.done).0);
-    is = same-site-of names site l.new to _ (by asked l.done).1 l.after;
+  pub ask_comes : (asked : Ask) (answer : Answer) → Leads from (Asked asked answer) to → Comes names w s (event.Ask site asked) (Asked asked answer) to
+  ask_comes asked answer l = record {
+    gives = (refl, ap (λ x. x.1) (happens_known names w (event.Ask site asked) s knows) ∙ ap outcome.Answered (by asked l.done).0);
+    is = same_site_of names site l.new to _ (by asked l.done).1 l.after;
     added = refl;
   }
     where
       was : IsSiteOf names site l.old s
-      was = same-site-of names site from l.old s is l.before
+      was = same_site_of names site from l.old s is l.before
 
       -- a command that was answered by its meaning
       done : (command : Command) (result : Result (Unit {0}) Refusal) → answer ≡ answer_of result
@@ -154,8 +154,8 @@ module _ (names : List (List ℕ)) (w : World) (s : SiteKnowledge) (site : ℕ) 
 
       by : (a : Ask) → IsAsked l.old a answer l.new → ((answer_in site names s a).1 ≡ answer) × IsSiteOf names site l.new (answer_in site names s a).0
       by (ask.Command command) (result, told, some, inl follows) =
-          let kept = follows-site l.old l.new (meaning_at l.old (change_of command)) result follows in
-          done command result told (follows-means l.old l.new s (change_of command) result was.stands follows) kept.0 kept.1
+          let kept = follows_site l.old l.new (meaning_at l.old (change_of command)) result follows in
+          done command result told (follows_means l.old l.new s (change_of command) result was.stands follows) kept.0 kept.1
       by (ask.Command command) (result, told, some, inr none) = absurd (some none.1)
       by (ask.Status request) h =
-          (sym (h.0 ∙ ap Report (report-is l.old s was.stands request ∙ ap (λ n. status_in s.known n request) was.names_are)), same-site-of names site l.old l.new s was h.1)
+          (sym (h.0 ∙ ap Report (report_is l.old s was.stands request ∙ ap (λ n. status_in s.known n request) was.names_are)), same_site_of names site l.old l.new s was h.1)

@@ -1,7 +1,7 @@
 -- Receipts and faults of a step under the lock, whose states a caller doesn't see.
 use Rattle.std.specs.Prelude.{ℕ, List, Result, Ok, Err, IfOk}
 use Rattle.std.proofs.Common.{subst, sym}
-use Rattle.replica.proofs.SameSites.{site-itself}
+use Rattle.replica.proofs.SameSites.{site_itself}
 use Rattle.replica.specs.Site.{SiteState}
 use Rattle.replica.specs.declared.take_fault.TakeFault.{TakeFault}
 use Rattle.site_journal.specs.Journals.{HasAdded, IsAnswerTo, IsOfSite, IsRefusedFrame, JournalState}
@@ -39,9 +39,9 @@ deed_of_answer site names asked (Asked told answer) is = record {
   leads = record {
     old = is.old;
     new = is.new;
-    before = site-itself is.old;
+    before = site_itself is.old;
     done = subst (λ ask. IsAsked is.old ask answer is.new) (sym is.answers.0) is.answers.1;
-    after = site-itself is.new;
+    after = site_itself is.new;
   };
 }
 deed_of_answer site names asked (Took bytes) is = absurd is.answers

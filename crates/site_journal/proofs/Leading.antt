@@ -7,7 +7,7 @@ use Rattle.replica.specs.Changes.{Meaning, Makes, Refused as refused_meaning, ch
 use Rattle.replica.specs.Commands.{IsDone}
 use Rattle.replica.specs.Site as sites
 use Rattle.replica.specs.Site.{IsSameSite, SiteState, meaning_at}
-use Rattle.replica.proofs.SameSites.{equal-site, site-itself, site-through}
+use Rattle.replica.proofs.SameSites.{equal_site, site_itself, site_through}
 use Rattle.status_report.specs.Answers.{AnswersCommand, AnswersStatus, KeepsAtStatus, answer_of}
 use Rattle.status_report.specs.declared.asks.Answer.{Answer}
 use Rattle.status_report.specs.declared.asks.Answer.TheVariants.{Done, Refused}
@@ -22,12 +22,12 @@ use Rattle.site_journal.specs.Legal.{IsAsked, IsDeed, LeadAll, Leads}
 
 -- one step more
 pub lead_on : (from mid to : SiteState) (steps : List Step) (step : Step) → LeadAll from steps mid → Leads mid step.deed to → LeadAll from (steps ++ step ∷ []) to
-lead_on from mid to [] step h l = (to, record { old = l.old; new = l.new; before = site-through from mid l.old h l.before; done = l.done; after = l.after }, site-itself to)
+lead_on from mid to [] step h l = (to, record { old = l.old; new = l.new; before = site_through from mid l.old h l.before; done = l.done; after = l.after }, site_itself to)
 lead_on from mid to (s ∷ steps) step h l = (h.0, h.1, lead_on h.0 mid to steps step h.2 l)
 
 -- a state that says the same
 pub lead_same : (from a b : SiteState) (steps : List Step) → LeadAll from steps a → IsSameSite a b → LeadAll from steps b
-lead_same from a b [] h same = site-through from a b h same
+lead_same from a b [] h same = site_through from a b h same
 lead_same from a b (s ∷ steps) h same = (h.0, h.1, lead_same h.0 a b steps h.2 same)
 
 -- a journal with one step more
@@ -48,7 +48,7 @@ one_more j step new i l room = record {
 pub answered : (old new : SiteState) (asked : Ask) (answer : Answer) → AnswersCommand old asked new answer → AnswersStatus old asked answer → KeepsAtStatus old asked new
     → (answer ≡ Refused Memory → ⊥) → IsAsked old asked answer new
 answered old new (asked_command command) answer h s keeps other = (h.0, h.1, (λ e. other (h.1 ∙ ap answer_of e)), h.2)
-answered old new (Status request) answer h (inl s) keeps other = (s, equal-site old new keeps)
+answered old new (Status request) answer h (inl s) keeps other = (s, equal_site old new keeps)
 answered old new (Status request) answer h (inr s) keeps other = absurd (other s)
 
 -- a command was refused
@@ -82,7 +82,7 @@ kept_at old new (Status request) answer h keeps other = subst (sites.IsUnchanged
 
 -- what is done at a state itself leads from it
 pub does : (old new : SiteState) (deed : StepDeed) → IsDeed old deed new → Leads old deed new
-does old new deed h = record { old = old; new = new; before = site-itself old; done = h; after = site-itself new }
+does old new deed h = record { old = old; new = new; before = site_itself old; done = h; after = site_itself new }
 
 -- a journal is unchanged that is the same
 pub unmoved : (j : JournalState) → IsUnchanged j j

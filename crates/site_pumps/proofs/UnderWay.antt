@@ -10,46 +10,46 @@ use Rattle.site_pumps.specs.Outgoing.{IsUnderWay, IsFrontOf}
 use Rattle.site_pumps.specs.Plans.{deed_at, sent_for, held_after, held_from, planned, sent_from}
 use Rattle.site_pumps.proofs.Carrying.{each_nothing, each_more, each_begun, each_longer, each_fewer}
 
-pub cut_frames-append : (xs ys : List Receipt) → cut_frames (xs ++ ys) ≡ cut_frames xs ++ cut_frames ys
-cut_frames-append [] ys = refl
-cut_frames-append (x ∷ xs) ys = ap (λ l. cut_frame x.deed ++ l) (cut_frames-append xs ys) ∙ sym (append_assoc (cut_frame x.deed) (cut_frames xs) (cut_frames ys))
+pub cut_frames_append : (xs ys : List Receipt) → cut_frames (xs ++ ys) ≡ cut_frames xs ++ cut_frames ys
+cut_frames_append [] ys = refl
+cut_frames_append (x ∷ xs) ys = ap (λ l. cut_frame x.deed ++ l) (cut_frames_append xs ys) ∙ sym (append_assoc (cut_frame x.deed) (cut_frames xs) (cut_frames ys))
 
-pub whole_frames-append : (xs ys : List Receipt) → whole_frames (xs ++ ys) ≡ whole_frames xs ++ whole_frames ys
-whole_frames-append [] ys = refl
-whole_frames-append (x ∷ xs) ys = ap (λ l. whole_frame x.deed ++ l) (whole_frames-append xs ys) ∙ sym (append_assoc (whole_frame x.deed) (whole_frames xs) (whole_frames ys))
+pub whole_frames_append : (xs ys : List Receipt) → whole_frames (xs ++ ys) ≡ whole_frames xs ++ whole_frames ys
+whole_frames_append [] ys = refl
+whole_frames_append (x ∷ xs) ys = ap (λ l. whole_frame x.deed ++ l) (whole_frames_append xs ys) ∙ sym (append_assoc (whole_frame x.deed) (whole_frames xs) (whole_frames ys))
 
 -- ---- what a plan makes of one frame more
 
-sent_from-append : (plan : List Deed) (number : ℕ) (held frames : List (List ℕ)) (frame : List ℕ)
+sent_from_append : (plan : List Deed) (number : ℕ) (held frames : List (List ℕ)) (frame : List ℕ)
     → sent_from plan number held (frames ++ frame ∷ []) ≡ sent_from plan number held frames ++ sent_for (deed_at plan (number + length frames)) (held_from plan number held frames) frame
-sent_from-append plan number held [] frame = let same : number ≡ number + 0 = omega arith in append-nil (sent_for (deed_at plan number) held frame) ∙ ap (λ n. sent_for (deed_at plan n) held frame) same
-sent_from-append plan number held (x ∷ xs) frame =
+sent_from_append plan number held [] frame = let same : number ≡ number + 0 = omega arith in append-nil (sent_for (deed_at plan number) held frame) ∙ ap (λ n. sent_for (deed_at plan n) held frame) same
+sent_from_append plan number held (x ∷ xs) frame =
     let now = sent_for (deed_at plan number) held x in
     let after = held_after (deed_at plan number) held x in
     let rest = sent_from plan (number + 1) after xs in
     let last = held_from plan (number + 1) after xs in
     let same : (number + 1) + length xs ≡ number + length (x ∷ xs) = omega arith in
-    ap (λ l. now ++ l) (sent_from-append plan (number + 1) after xs frame) ∙ sym (append_assoc now rest (sent_for (deed_at plan ((number + 1) + length xs)) last frame))
+    ap (λ l. now ++ l) (sent_from_append plan (number + 1) after xs frame) ∙ sym (append_assoc now rest (sent_for (deed_at plan ((number + 1) + length xs)) last frame))
     ∙ ap (λ n. (now ++ rest) ++ sent_for (deed_at plan n) last frame) same
 
-held_from-append : (plan : List Deed) (number : ℕ) (held frames : List (List ℕ)) (frame : List ℕ)
+held_from_append : (plan : List Deed) (number : ℕ) (held frames : List (List ℕ)) (frame : List ℕ)
     → held_from plan number held (frames ++ frame ∷ []) ≡ held_after (deed_at plan (number + length frames)) (held_from plan number held frames) frame
-held_from-append plan number held [] frame = let same : number ≡ number + 0 = omega arith in ap (λ n. held_after (deed_at plan n) held frame) same
-held_from-append plan number held (x ∷ xs) frame =
+held_from_append plan number held [] frame = let same : number ≡ number + 0 = omega arith in ap (λ n. held_after (deed_at plan n) held frame) same
+held_from_append plan number held (x ∷ xs) frame =
     let after = held_after (deed_at plan number) held x in
     let same : (number + 1) + length xs ≡ number + length (x ∷ xs) = omega arith in
-    held_from-append plan (number + 1) after xs frame ∙ ap (λ n. held_after (deed_at plan n) (held_from plan (number + 1) after xs) frame) same
+    held_from_append plan (number + 1) after xs frame ∙ ap (λ n. held_after (deed_at plan n) (held_from plan (number + 1) after xs) frame) same
 
 -- the frames of receipts and one more
 one_more : (receipts : List Receipt) (r : Receipt) (frame : List ℕ) → cut_frame r.deed ≡ frame ∷ [] → cut_frames (receipts ++ r ∷ []) ≡ cut_frames receipts ++ frame ∷ []
-one_more receipts r frame is = cut_frames-append receipts (r ∷ []) ∙ ap (λ l. cut_frames receipts ++ (l ++ [])) is
+one_more receipts r frame is = cut_frames_append receipts (r ∷ []) ∙ ap (λ l. cut_frames receipts ++ (l ++ [])) is
 
 -- the frames of receipts and one that has none
 no_more : (receipts : List Receipt) (r : Receipt) → cut_frame r.deed ≡ [] → cut_frames (receipts ++ r ∷ []) ≡ cut_frames receipts
-no_more receipts r none = cut_frames-append receipts (r ∷ []) ∙ ap (λ l. cut_frames receipts ++ (l ++ [])) none ∙ append-nil (cut_frames receipts)
+no_more receipts r none = cut_frames_append receipts (r ∷ []) ∙ ap (λ l. cut_frames receipts ++ (l ++ [])) none ∙ append-nil (cut_frames receipts)
 
 no_whole_more : (receipts : List Receipt) (r : Receipt) → whole_frame r.deed ≡ [] → whole_frames receipts ≡ [] → whole_frames (receipts ++ r ∷ []) ≡ []
-no_whole_more receipts r bare none = whole_frames-append receipts (r ∷ []) ∙ ap (λ l. l ++ (whole_frame r.deed ++ [])) none ∙ ap (λ l. l ++ []) bare
+no_whole_more receipts r bare none = whole_frames_append receipts (r ∷ []) ∙ ap (λ l. l ++ (whole_frame r.deed ++ [])) none ∙ ap (λ l. l ++ []) bare
 
 -- what is sent for these receipts' frames and one more
 sent_more : (plan : List Deed) (receipts : List Receipt) (r : Receipt) (frame : List ℕ) (used : ℕ) (held : List (List ℕ)) (start links : List Sending)
@@ -57,7 +57,7 @@ sent_more : (plan : List Deed) (receipts : List Receipt) (r : Receipt) (frame : 
     → sent_from plan 0 [] (cut_frames (receipts ++ r ∷ [])) ≡ sent_from plan 0 [] (cut_frames receipts) ++ sent_for (deed_at plan used) held frame
 sent_more plan receipts r frame used held start links is w = let frames = cut_frames receipts in
     let place : 0 + length frames ≡ used = omega (arith, w.used_is) in
-    ap (sent_from plan 0 []) (one_more receipts r frame is) ∙ sent_from-append plan 0 [] frames frame
+    ap (sent_from plan 0 []) (one_more receipts r frame is) ∙ sent_from_append plan 0 [] frames frame
     ∙ ap (λ n. sent_from plan 0 [] frames ++ sent_for (deed_at plan n) (held_from plan 0 [] frames) frame) place
     ∙ ap (λ h. sent_from plan 0 [] frames ++ sent_for (deed_at plan used) h frame) (sym w.held_is)
 
@@ -86,7 +86,7 @@ one_frame plan receipts r frame used held start links news is bare w c = let fra
     let place : 0 + length frames ≡ used = omega (arith, w.used_is) in
     record {
       used_is = (let long = ap length all in omega (arith, long, w.used_is, length-append frames (frame ∷ [])));
-      held_is = sym (ap (held_from plan 0 []) all ∙ held_from-append plan 0 [] frames frame
+      held_is = sym (ap (held_from plan 0 []) all ∙ held_from_append plan 0 [] frames frame
           ∙ ap (λ n. held_after (deed_at plan n) (held_from plan 0 [] frames) frame) place ∙ ap (λ h. held_after (deed_at plan used) h frame) (sym w.held_is));
       carried = subst (λ l. EachLink (Carries l) start news) (sym (sent_more plan receipts r frame used held start links is w))
           (each_more (sent_from plan 0 [] frames) (sent_for (deed_at plan used) held frame) start links news w.carried c);
@@ -119,7 +119,7 @@ planned_whole : (plan : List Deed) (receipts : List Receipt) (r : Receipt) (used
     → cut_frame r.deed ≡ [] → IsUnderWay plan receipts used held start links
     → planned plan (cut_frames (receipts ++ r ∷ [])) (whole_frames (receipts ++ r ∷ [])) ≡ (sent_from plan 0 [] (cut_frames receipts) ++ held) ++ whole_frame r.deed
 planned_whole plan receipts r used held start links bare w = let wholes : whole_frames (receipts ++ r ∷ []) ≡ whole_frame r.deed =
-    whole_frames-append receipts (r ∷ []) ∙ ap (λ l. l ++ (whole_frame r.deed ++ [])) w.no_whole ∙ append-nil (whole_frame r.deed) in
+    whole_frames_append receipts (r ∷ []) ∙ ap (λ l. l ++ (whole_frame r.deed ++ [])) w.no_whole ∙ append-nil (whole_frame r.deed) in
     ap (λ l. planned plan l (whole_frames (receipts ++ r ∷ []))) (no_more receipts r bare)
     ∙ ap (λ h. (sent_from plan 0 [] (cut_frames receipts) ++ h) ++ whole_frames (receipts ++ r ∷ [])) (sym w.held_is)
     ∙ ap (λ l. (sent_from plan 0 [] (cut_frames receipts) ++ held) ++ l) wholes

@@ -16,7 +16,7 @@ use Rattle.dots.specs.CountedCalls.{no_calls, is_zero}
 use Rattle.operations.specs.Totals.{Key, key_cmp, Entries, greater, totals_at, join_of, single, count_missing, IsTotal, InLimits}
 use Rattle.general_lemmas.proofs.SortedEntries.{find_at}
 use Rattle.general_lemmas.proofs.TruthTables.{fact, truth}
-use Rattle.operations.proofs.TotalsLaws.{keys_total, joined_single, joined_limits, count_missing-single, same_totals, is_key, one_key, totals_at_limit}
+use Rattle.operations.proofs.TotalsLaws.{keys_total, joined_single, joined_limits, count_missing_single, same_totals, is_key, one_key, totals_at_limit}
 use Rattle.dots.specs.Values.{IsSite}
 use Rattle.site_totals.specs.Raising.{number_of, one_more, raised_totals}
 use Rattle.site_totals.specs.TotalLists.{Row, IsKept, row_totals, entries_of}
@@ -39,16 +39,16 @@ entries_put rows h key totals = map.entries-insert keys_total (entries_of rows) 
 pub rising_put : (rows : List Row) → IsRising key_cmp rows → (key : Key) (totals : CallTotals) → IsRising key_cmp (map.put key_cmp key totals rows)
 rising_put rows h key totals = fact _ (subst (λ es. T (map.is_sorted key_cmp es)) (entries_put rows h key totals) (map.entries_sorted (map.insert (entries_of rows) key totals)))
 
-pub entries_of-put : (rows : List Row) → IsRising key_cmp rows → (key : Key) (totals : CallTotals) → entries_of (map.put key_cmp key totals rows) ≡ map.insert (entries_of rows) key totals
-entries_of-put rows h key totals = map.same_entries_map _ _ (entries_are _ (rising_put rows h key totals) ∙ sym (entries_put rows h key totals))
+pub entries_of_put : (rows : List Row) → IsRising key_cmp rows → (key : Key) (totals : CallTotals) → entries_of (map.put key_cmp key totals rows) ≡ map.insert (entries_of rows) key totals
+entries_of_put rows h key totals = map.same_entries_map _ _ (entries_are _ (rising_put rows h key totals) ∙ sym (entries_put rows h key totals))
 
 more_if : (o : Option CallTotals) (n : ℕ) → cond (is_some o) n (n + 1) ≡ n + cond (is_none o) 1 0
 more_if None n = refl
 more_if (Some p) n = omega arith
 
 -- a key that is missing makes the list longer by one
-pub length-put : (rows : List Row) → IsRising key_cmp rows → (key : Key) (totals : CallTotals) → length (map.put key_cmp key totals rows) ≡ length rows + cond (is_none (map.find key_cmp key rows)) 1 0
-length-put rows h key totals =
+pub length_put : (rows : List Row) → IsRising key_cmp rows → (key : Key) (totals : CallTotals) → length (map.put key_cmp key totals rows) ≡ length rows + cond (is_none (map.find key_cmp key rows)) 1 0
+length_put rows h key totals =
     sym (ap length (entries_put rows h key totals)) ∙ sym (map.len-entries (map.insert (entries_of rows) key totals))
     ∙ map.len-insert keys_total (entries_of rows) key totals
     ∙ more_if (map.get (entries_of rows) key) (map.len (entries_of rows))
@@ -58,12 +58,12 @@ length-put rows h key totals =
 module _ (rows : List Row) (h : IsRising key_cmp rows) (key : Key) (totals : CallTotals) (some : is_zero totals ≡ false) where
   pub joined_by_put : entries_of (map.put key_cmp key (greater (row_totals rows key) totals) rows) ≡ join_of (entries_of rows) (single key totals)
   joined_by_put =
-      entries_of-put rows h key (greater (row_totals rows key) totals)
+      entries_of_put rows h key (greater (row_totals rows key) totals)
       ∙ ap (λ p. map.insert (entries_of rows) key (greater p totals)) (sym (totals_read rows h key))
       ∙ sym (joined_single (entries_of rows) key totals some)
 
   pub missing_one : count_missing (entries_of rows) (single key totals) ≡ cond (is_none (map.find key_cmp key rows)) 1 0
-  missing_one = count_missing-single (entries_of rows) key totals some ∙ ap (λ o. cond (is_none o) 1 0) (get_is rows h key)
+  missing_one = count_missing_single (entries_of rows) key totals some ∙ ap (λ o. cond (is_none o) 1 0) (get_is rows h key)
 
 -- it stays within the limits
 pub kept_by_put : (rows : List Row) → IsKept rows → (key : Key) (totals : CallTotals) → is_zero totals ≡ false → InLimits (single key totals) → IsKept (map.put key_cmp key (greater (row_totals rows key) totals) rows)
@@ -115,9 +115,9 @@ number_limit Completed totals limit = limit.0
 number_limit Abandoned totals limit = limit.1
 
 -- the number of one more is one more
-pub number_of-one_more : (calls : Calls) (totals : CallTotals) → number_of calls (one_more calls totals) ≡ number_of calls totals + 1
-number_of-one_more Completed totals = refl
-number_of-one_more Abandoned totals = refl
+pub number_of_one_more : (calls : Calls) (totals : CallTotals) → number_of calls (one_more calls totals) ≡ number_of calls totals + 1
+number_of_one_more Completed totals = refl
+number_of_one_more Abandoned totals = refl
 
 insert_limits : (x : Entries) → InLimits x → (key : Key) (totals : CallTotals) → IsTotal key totals → InLimits (map.insert x key totals)
 insert_limits x h key totals total q p e =
@@ -132,12 +132,12 @@ insert_limits x h key totals total q p e =
 pub kept_by_raise : (rows : List Row) → IsKept rows → (key : Key) (calls : Calls) → number_of calls (row_totals rows key) < MOST_CALLS → IsSite key.site → key.queue < QUEUES → IsKept (map.put key_cmp key (one_more calls (row_totals rows key)) rows)
 kept_by_raise rows h key calls few site queue = record {
   rising = rising_put rows h.rising key (one_more calls (row_totals rows key));
-  limits = subst InLimits (sym (entries_of-put rows h.rising key (one_more calls (row_totals rows key))))
+  limits = subst InLimits (sym (entries_of_put rows h.rising key (one_more calls (row_totals rows key))))
       (insert_limits (entries_of rows) h.limits key (one_more calls (row_totals rows key))
       (below_full calls key (row_totals rows key) few (subst (λ (p : CallTotals). (p.completed ≤ MOST_CALLS) × (p.abandoned ≤ MOST_CALLS)) (totals_read rows h.rising key) (totals_at_limit (entries_of rows) h.limits key)) site queue));
 }
 
 pub raised_by_put : (rows : List Row) → IsRising key_cmp rows → (key : Key) (calls : Calls) → entries_of (map.put key_cmp key (one_more calls (row_totals rows key)) rows) ≡ raised_totals (entries_of rows) key calls
 raised_by_put rows h key calls =
-    entries_of-put rows h key (one_more calls (row_totals rows key))
+    entries_of_put rows h key (one_more calls (row_totals rows key))
     ∙ ap (λ p. map.insert (entries_of rows) key (one_more calls p)) (sym (totals_read rows h key))

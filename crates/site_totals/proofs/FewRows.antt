@@ -8,7 +8,7 @@ use Rattle.general_lemmas.specs.SortedEntries.{IsRising}
 use Rattle.dots.specs.CountedCalls.{is_zero}
 use Rattle.operations.specs.Totals.{Entries, count_missing, join_of, key_cmp, single}
 use Rattle.general_lemmas.proofs.SortedEntries.{find_below, rising_head, rising_tail}
-use Rattle.operations.proofs.TotalsLaws.{count_missing-single, either, either_none, get-joined, get-single_some, is_key, keys_total, none_either, one_key, same_totals}
+use Rattle.operations.proofs.TotalsLaws.{count_missing_single, either, either_none, get_joined, get_single_some, is_key, keys_total, none_either, one_key, same_totals}
 use Rattle.site_totals.specs.TotalLists.{Row, entries_of}
 use Rattle.site_totals.proofs.EntryLemmas.{count_missing_is, get_is}
 
@@ -24,8 +24,8 @@ front_joined row rows h some = same_totals _ _ (λ q.
     get_is (row ∷ rows) h q
     ∙ front (is_key q row.0) row.1 (map.find key_cmp q rows) (λ same.
     ap (λ key. map.find key_cmp key rows) (one_key q row.0 same) ∙ find_below key_cmp keys_total row.0 rows (rising_head key_cmp keys_total row rows h))
-    ∙ (λ i. either (sym (get-single_some row.0 row.1 q some) i) (sym (get_is rows (rising_tail key_cmp keys_total row rows h) q) i))
-    ∙ sym (get-joined (single row.0 row.1) (entries_of rows) q))
+    ∙ (λ i. either (sym (get_single_some row.0 row.1 q some) i) (sym (get_is rows (rising_tail key_cmp keys_total row rows h) q) i))
+    ∙ sym (get_joined (single row.0 row.1) (entries_of rows) q))
   where
     front : (b : Bool) (v : CallTotals) (o : Option CallTotals) → (b ≡ true → o ≡ None) → cond b (Some v) o ≡ either (cond b (Some v) None) o
     front true v o absent = sym (either_none (Some v)) ∙ ap (either (Some v)) (sym (absent refl))
@@ -42,14 +42,14 @@ missing_after x y [] = omega arith
 missing_after x y (row ∷ rows) =
     let after = sum_by-cons (λ (row : Row). cond (is_none (map.get (join_of x y) row.0)) 1 0) row rows in
     let before = sum_by-cons (λ (row : Row). cond (is_none (map.get x row.0)) 1 0) row rows in
-    let one = ap {B = ℕ} (λ o. cond (is_none o) 1 0) (get-joined x y row.0) in
+    let one = ap {B = ℕ} (λ o. cond (is_none o) 1 0) (get_joined x y row.0) in
     omega (arith, after, before, one, fewer (map.get x row.0) (map.get y row.0), missing_after x y rows)
 
 -- so much is missing of a first entry, and of those that follow once it is joined in
 pub front_missing : (x : Entries) (row : Row) (rows : List Row) → IsRising key_cmp (row ∷ rows) → is_zero row.1 ≡ false
     → count_missing x (single row.0 row.1) + count_missing (join_of x (single row.0 row.1)) (entries_of rows) ≤ count_missing x (entries_of (row ∷ rows))
 front_missing x row rows h some =
-    let one = count_missing-single x row.0 row.1 some in
+    let one = count_missing_single x row.0 row.1 some in
     let left = count_missing_is (join_of x (single row.0 row.1)) rows (rising_tail key_cmp keys_total row rows h) in
     let all = count_missing_is x (row ∷ rows) h in
     let parts = sum_by-cons (λ (row : Row). cond (is_none (map.get x row.0)) 1 0) row rows in

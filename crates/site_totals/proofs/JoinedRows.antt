@@ -12,15 +12,15 @@ use Rattle.general_lemmas.specs.SortedEntries.{IsRising}
 use Rattle.operations.specs.Totals.{Key, key_cmp, greater, join_of, count_missing, InLimits}
 use Rattle.general_lemmas.proofs.Fronts.{open_at}
 use Rattle.general_lemmas.proofs.SortedEntries.{less_back, greater_back, rising_head, rising_tail, below_first, find_below}
-use Rattle.operations.proofs.TotalsLaws.{keys_total, exact_keys, is_key, one_key, either, either_none, none_either, get-joined, same_totals, joined_limits}
+use Rattle.operations.proofs.TotalsLaws.{keys_total, exact_keys, is_key, one_key, either, either_none, none_either, get_joined, same_totals, joined_limits}
 use Rattle.general_lemmas.proofs.TruthTables.{less_of}
 use Rattle.site_totals.specs.TotalLists.{Row, IsKept, entries_of, joined_rows, next_order}
 use Rattle.site_totals.proofs.EntryLemmas.{get_is, count_missing_in}
 
 -- nothing joined in changes nothing
-pub joined_rows-none : (rows : List Row) → joined_rows rows [] ≡ rows
-joined_rows-none [] = refl
-joined_rows-none (row ∷ rows) = ap (λ rest. row ∷ rest) (joined_rows-none rows)
+pub joined_rows_none : (rows : List Row) → joined_rows rows [] ≡ rows
+joined_rows_none [] = refl
+joined_rows_none (row ∷ rows) = ap (λ rest. row ∷ rest) (joined_rows_none rows)
 
 -- ---- one entry after the other
 
@@ -98,7 +98,7 @@ module _ (q : Key) where
   find_from : (row : Row) (rows : List Row) → IsRising key_cmp (row ∷ rows)
       → ((others : List Row) → IsRising key_cmp others → map.find key_cmp q (joined_rows rows others) ≡ either (map.find key_cmp q rows) (map.find key_cmp q others))
       → (others : List Row) → IsRising key_cmp others → map.find key_cmp q (joined_rows (row ∷ rows) others) ≡ either (map.find key_cmp q (row ∷ rows)) (map.find key_cmp q others)
-  find_from row rows h rest [] k = ap (map.find key_cmp q) (joined_rows-none (row ∷ rows)) ∙ sym (either_none (map.find key_cmp q (row ∷ rows)))
+  find_from row rows h rest [] k = ap (map.find key_cmp q) (joined_rows_none (row ∷ rows)) ∙ sym (either_none (map.find key_cmp q (row ∷ rows)))
   find_from row rows h rest (other ∷ others) k =
       elim (key_cmp row.0 other.0) as (λ o. key_cmp row.0 other.0 ≡ o
       → map.find key_cmp q (by_order o (row ∷ joined_rows rows (other ∷ others)) ((row.0, greater row.1 other.1) ∷ joined_rows rows others) (other ∷ joined_rows (row ∷ rows) others))
@@ -119,9 +119,9 @@ module _ (q : Key) where
             ∙ find_below key_cmp keys_total other.0 (row ∷ rows) (below_first key_cmp keys_total other.0 row rows (greater_back key_cmp keys_total row.0 other.0 more) h))
       ] refl
 
-  find-joined_rows : (rows others : List Row) → IsRising key_cmp rows → IsRising key_cmp others → map.find key_cmp q (joined_rows rows others) ≡ either (map.find key_cmp q rows) (map.find key_cmp q others)
-  find-joined_rows [] others h k = sym (none_either (map.find key_cmp q others))
-  find-joined_rows (row ∷ rows) others h k = find_from row rows h (λ left. find-joined_rows rows left (rising_tail key_cmp keys_total row rows h)) others k
+  find_joined_rows : (rows others : List Row) → IsRising key_cmp rows → IsRising key_cmp others → map.find key_cmp q (joined_rows rows others) ≡ either (map.find key_cmp q rows) (map.find key_cmp q others)
+  find_joined_rows [] others h k = sym (none_either (map.find key_cmp q others))
+  find_joined_rows (row ∷ rows) others h k = find_from row rows h (λ left. find_joined_rows rows left (rising_tail key_cmp keys_total row rows h)) others k
 
 -- ---- its keys rise
 
@@ -130,7 +130,7 @@ module _ (key : Key) where
   below_from_row : (row : Row) (rows : List Row) → below_all key_cmp key (row ∷ rows) ≡ true
       → ((others : List Row) → below_all key_cmp key others ≡ true → below_all key_cmp key (joined_rows rows others) ≡ true)
       → (others : List Row) → below_all key_cmp key others ≡ true → below_all key_cmp key (joined_rows (row ∷ rows) others) ≡ true
-  below_from_row row rows h rest [] k = ap (below_all key_cmp key) (joined_rows-none (row ∷ rows)) ∙ h
+  below_from_row row rows h rest [] k = ap (below_all key_cmp key) (joined_rows_none (row ∷ rows)) ∙ h
   below_from_row row rows h rest (other ∷ others) k =
       let own = and_parts (is_lt (key_cmp key row.0)) (below_all key_cmp key rows) h in
       let theirs = and_parts (is_lt (key_cmp key other.0)) (below_all key_cmp key others) k in
@@ -140,13 +140,13 @@ module _ (key : Key) where
         | Greater ↦ and_from (is_lt (key_cmp key other.0)) (below_all key_cmp key (joined_rows (row ∷ rows) others)) theirs.0 (below_from_row row rows h rest others theirs.1)
       ]
 
-  below-joined_rows : (rows others : List Row) → below_all key_cmp key rows ≡ true → below_all key_cmp key others ≡ true → below_all key_cmp key (joined_rows rows others) ≡ true
-  below-joined_rows [] others h k = k
-  below-joined_rows (row ∷ rows) others h k =
-      below_from_row row rows h (λ left. below-joined_rows rows left (and_parts (is_lt (key_cmp key row.0)) (below_all key_cmp key rows) h).1) others k
+  below_joined_rows : (rows others : List Row) → below_all key_cmp key rows ≡ true → below_all key_cmp key others ≡ true → below_all key_cmp key (joined_rows rows others) ≡ true
+  below_joined_rows [] others h k = k
+  below_joined_rows (row ∷ rows) others h k =
+      below_from_row row rows h (λ left. below_joined_rows rows left (and_parts (is_lt (key_cmp key row.0)) (below_all key_cmp key rows) h).1) others k
 
 rising_from : (row : Row) (rows : List Row) → IsRising key_cmp (row ∷ rows) → ((others : List Row) → IsRising key_cmp others → IsRising key_cmp (joined_rows rows others)) → (others : List Row) → IsRising key_cmp others → IsRising key_cmp (joined_rows (row ∷ rows) others)
-rising_from row rows h rest [] k = ap (map.is_sorted key_cmp) (joined_rows-none (row ∷ rows)) ∙ h
+rising_from row rows h rest [] k = ap (map.is_sorted key_cmp) (joined_rows_none (row ∷ rows)) ∙ h
 rising_from row rows h rest (other ∷ others) k =
     let own = rising_head key_cmp keys_total row rows h in
     let theirs = rising_head key_cmp keys_total other others k in
@@ -154,11 +154,11 @@ rising_from row rows h rest (other ∷ others) k =
     elim (key_cmp row.0 other.0) as (λ o. key_cmp row.0 other.0 ≡ o
     → IsRising key_cmp (by_order o (row ∷ joined_rows rows (other ∷ others)) ((row.0, greater row.1 other.1) ∷ joined_rows rows others) (other ∷ joined_rows (row ∷ rows) others))) [
       | Less ↦ λ less. and_from (below_all key_cmp row.0 (joined_rows rows (other ∷ others))) (map.is_sorted key_cmp (joined_rows rows (other ∷ others)))
-          (below-joined_rows row.0 rows (other ∷ others) own (below_first key_cmp keys_total row.0 other others less k)) (rest (other ∷ others) k)
+          (below_joined_rows row.0 rows (other ∷ others) own (below_first key_cmp keys_total row.0 other others less k)) (rest (other ∷ others) k)
       | Equal ↦ λ equal. and_from (below_all key_cmp row.0 (joined_rows rows others)) (map.is_sorted key_cmp (joined_rows rows others))
-          (below-joined_rows row.0 rows others own (subst (λ key. below_all key_cmp key others ≡ true) (sym (exact_keys row.0 other.0 equal)) theirs)) (rest others left)
+          (below_joined_rows row.0 rows others own (subst (λ key. below_all key_cmp key others ≡ true) (sym (exact_keys row.0 other.0 equal)) theirs)) (rest others left)
       | Greater ↦ λ more. and_from (below_all key_cmp other.0 (joined_rows (row ∷ rows) others)) (map.is_sorted key_cmp (joined_rows (row ∷ rows) others))
-          (below-joined_rows other.0 (row ∷ rows) others (below_first key_cmp keys_total other.0 row rows (greater_back key_cmp keys_total row.0 other.0 more) h) theirs)
+          (below_joined_rows other.0 (row ∷ rows) others (below_first key_cmp keys_total other.0 row rows (greater_back key_cmp keys_total row.0 other.0 more) h) theirs)
           (rising_from row rows h rest others left)
     ] refl
 
@@ -170,9 +170,9 @@ rising_joined (row ∷ rows) others h k = rising_from row rows h (λ left. risin
 pub joined_rows_are : (rows others : List Row) → IsRising key_cmp rows → IsRising key_cmp others → entries_of (joined_rows rows others) ≡ join_of (entries_of rows) (entries_of others)
 joined_rows_are rows others h k = same_totals _ _ (λ q.
     get_is (joined_rows rows others) (rising_joined rows others h k) q
-    ∙ find-joined_rows q rows others h k
+    ∙ find_joined_rows q rows others h k
     ∙ (λ i. either (sym (get_is rows h q) i) (sym (get_is others k q) i))
-    ∙ sym (get-joined (entries_of rows) (entries_of others) q))
+    ∙ sym (get_joined (entries_of rows) (entries_of others) q))
 
 pub kept_joined : (rows others : List Row) → IsKept rows → IsKept others → IsKept (joined_rows rows others)
 kept_joined rows others h k = record {
@@ -186,18 +186,18 @@ kept_joined rows others h k = record {
 abbrev missing_in : List Row → List Row → ℕ
 missing_in rows others = count_by (λ (other : Row). is_none (map.find key_cmp other.0 rows)) others
 
-missing-cons : (rows : List Row) (other : Row) (others : List Row) → missing_in rows (other ∷ others) ≡ cond (is_none (map.find key_cmp other.0 rows)) 1 0 + missing_in rows others
-missing-cons rows other others = sum_by-cons (λ (other : Row). cond (is_none (map.find key_cmp other.0 rows)) 1 0) other others
+missing_cons : (rows : List Row) (other : Row) (others : List Row) → missing_in rows (other ∷ others) ≡ cond (is_none (map.find key_cmp other.0 rows)) 1 0 + missing_in rows others
+missing_cons rows other others = sum_by-cons (λ (other : Row). cond (is_none (map.find key_cmp other.0 rows)) 1 0) other others
 
 missing_found : (rows : List Row) (other : Row) (others : List Row) → is_none (map.find key_cmp other.0 rows) ≡ false → missing_in rows (other ∷ others) ≡ missing_in rows others
-missing_found rows other others found = missing-cons rows other others ∙ ap (λ b. cond b 1 0 + missing_in rows others) found ∙ zero-add _
+missing_found rows other others found = missing_cons rows other others ∙ ap (λ b. cond b 1 0 + missing_in rows others) found ∙ zero-add _
 
 missing_absent : (rows : List Row) (other : Row) (others : List Row) → is_none (map.find key_cmp other.0 rows) ≡ true → missing_in rows (other ∷ others) ≡ suc (missing_in rows others)
-missing_absent rows other others absent = let one = missing-cons rows other others ∙ ap (λ b. cond b 1 0 + missing_in rows others) absent in omega (arith, one)
+missing_absent rows other others absent = let one = missing_cons rows other others ∙ ap (λ b. cond b 1 0 + missing_in rows others) absent in omega (arith, one)
 
 missing_all : (others : List Row) → missing_in [] others ≡ length others
 missing_all [] = refl
-missing_all (other ∷ others) = omega (arith, missing-cons [] other others, missing_all others)
+missing_all (other ∷ others) = omega (arith, missing_cons [] other others, missing_all others)
 
 -- a key that lies before the others is none of theirs
 missing_past : (row : Row) (rows others : List Row) → below_all key_cmp row.0 others ≡ true → missing_in (row ∷ rows) others ≡ missing_in rows others
@@ -205,15 +205,15 @@ missing_past row rows [] h = refl
 missing_past row rows (other ∷ others) h =
     let parts = and_parts (is_lt (key_cmp row.0 other.0)) (below_all key_cmp row.0 others) h in
     let apart : is_key other.0 row.0 ≡ false = ap is_eq (less_back key_cmp keys_total row.0 other.0 (less_of _ parts.0)) in
-    missing-cons (row ∷ rows) other others
+    missing_cons (row ∷ rows) other others
     ∙ (λ i. cond (is_none (cond (apart i) (Some row.1) (map.find key_cmp other.0 rows))) 1 0 + missing_past row rows others parts.1 i)
-    ∙ sym (missing-cons rows other others)
+    ∙ sym (missing_cons rows other others)
 
 abbrev IsLonger : List Row → List Row → List Row → Type 0
 IsLonger rows others whole = length whole ≡ length rows + missing_in rows others
 
 longer_from : (row : Row) (rows : List Row) → IsRising key_cmp (row ∷ rows) → ((others : List Row) → IsRising key_cmp others → IsLonger rows others (joined_rows rows others)) → (others : List Row) → IsRising key_cmp others → IsLonger (row ∷ rows) others (joined_rows (row ∷ rows) others)
-longer_from row rows h rest [] k = let none = ap length (joined_rows-none (row ∷ rows)) in omega (arith, none)
+longer_from row rows h rest [] k = let none = ap length (joined_rows_none (row ∷ rows)) in omega (arith, none)
 longer_from row rows h rest (other ∷ others) k =
     let theirs = rising_head key_cmp keys_total other others k in
     let left = rising_tail key_cmp keys_total other others k in
@@ -237,5 +237,5 @@ longer : (rows others : List Row) → IsRising key_cmp rows → IsRising key_cmp
 longer [] others h k = sym (missing_all others) ∙ sym (zero-add _)
 longer (row ∷ rows) others h k = longer_from row rows h (λ left. longer rows left (rising_tail key_cmp keys_total row rows h)) others k
 
-pub length-joined_rows : (rows others : List Row) → IsRising key_cmp rows → IsRising key_cmp others → length (joined_rows rows others) ≡ length rows + count_missing (entries_of rows) (entries_of others)
-length-joined_rows rows others h k = longer rows others h k ∙ ap (λ n. length rows + n) (sym (count_missing_in rows others h k))
+pub length_joined_rows : (rows others : List Row) → IsRising key_cmp rows → IsRising key_cmp others → length (joined_rows rows others) ≡ length rows + count_missing (entries_of rows) (entries_of others)
+length_joined_rows rows others h k = longer rows others h k ∙ ap (λ n. length rows + n) (sym (count_missing_in rows others h k))

@@ -4,7 +4,7 @@ use Rattle.std.specs.List.{All}
 use Rattle.std.proofs.Math.ListN.{get_or-append}
 use Rattle.std.proofs.Math.Seq.{get_or-append_seam}
 use Rattle.std.proofs.lemmas.Bool.{cases_lt}
-use Rattle.sites_world.proofs.Lists.{none-some, one-some}
+use Rattle.sites_world.proofs.Lists.{none_some, one_some}
 use Rattle.site_journal.specs.declared.desk_fault.DeskFault.{DeskFault}
 use Rattle.site_journal.specs.declared.receipt.Receipt.{Receipt}
 use Rattle.site_journal.specs.Journals.{JournalState}
@@ -20,13 +20,13 @@ use Rattle.site_worker.proofs.Workings.{mapped_long}
 
 -- the mapped element at a place
 pub mapped_at : {A B : Type 0} (f : A → B) (xs : List A) (place : ℕ) (x : A) (none : B) → slice_get xs place ≡ Some x → slice_index_or (map f xs) place none ≡ f x
-mapped_at f [] place x none is = absurd (none-some x is)
-mapped_at f (y ∷ ys) zero x none is = ap f (one-some y x is)
+mapped_at f [] place x none is = absurd (none_some x is)
+mapped_at f (y ∷ ys) zero x none is = ap f (one_some y x is)
 mapped_at f (y ∷ ys) (suc place) x none is = mapped_at f ys place x none is
 
 got_push : {E : Type 0} (xs : List E) (e x : E) (place : ℕ) → slice_get (xs ++ e ∷ []) place ≡ Some x → (slice_get xs place ≡ Some x) ⊎ ((place ≡ length xs) × (e ≡ x))
-got_push [] e x zero is = inr (refl, one-some e x is)
-got_push [] e x (suc place) is = absurd (none-some x is)
+got_push [] e x zero is = inr (refl, one_some e x is)
+got_push [] e x (suc place) is = absurd (none_some x is)
 got_push (y ∷ ys) e x zero is = inl is
 got_push (y ∷ ys) e x (suc place) is = elim (got_push ys e x place is) [
   | inl there ↦ inl there
@@ -61,8 +61,8 @@ got_last (y ∷ ys) x = got_last ys x
 
 -- what is mapped at a place
 pub got_mapped : {A B : Type 0} (f : A → B) (xs : List A) (place : ℕ) (x : A) → slice_get xs place ≡ Some x → slice_get (map f xs) place ≡ Some (f x)
-got_mapped f [] place x is = absurd (none-some x is)
-got_mapped f (y ∷ ys) zero x is = ap (λ z. Some (f z)) (one-some y x is)
+got_mapped f [] place x is = absurd (none_some x is)
+got_mapped f (y ∷ ys) zero x is = ap (λ z. Some (f z)) (one_some y x is)
 got_mapped f (y ∷ ys) (suc place) x is = got_mapped f ys place x is
 
 -- the gate of the last work
@@ -134,4 +134,4 @@ run_kept names asks gates site p journal lists fault is run =
 -- and the gate that was promised
 pub gate_kept : {G : Type 0} (Called : G → ℕ → G → Type 0) (names : List (List ℕ)) (asks : List (List Ask)) (gates : List G) (site : ℕ) (p : EndOf G) (lists : List (List Receipt)) (fault : Option DeskFault) (new gate : G)
     → IsPromised names asks gates site p → slice_get gates site ≡ Some gate → IsGatedBy Called p.gate.value lists fault new → IsGatedBy Called gate lists fault new
-gate_kept Called names asks gates site p lists fault new gate is at gated = subst (λ x. IsGatedBy Called x lists fault new) (one-some p.gate.value gate (sym is.gate_is ∙ at)) gated
+gate_kept Called names asks gates site p lists fault new gate is at gated = subst (λ x. IsGatedBy Called x lists fault new) (one_some p.gate.value gate (sym is.gate_is ∙ at)) gated

@@ -6,7 +6,7 @@ use Rattle.std.proofs.Math.ListN.{get_or-append, get_or-eq_default}
 use Rattle.std.proofs.Math.Seq.{get_or-append_seam}
 use Rattle.std.proofs.lemmas.List.Elements.{All-cons, All-nil, All-push}
 use Rattle.std.proofs.lemmas.List.Sums.{sum_by-cons}
-use Rattle.sites_world.proofs.Lists.{none-some, one-some}
+use Rattle.sites_world.proofs.Lists.{none_some, one_some}
 use Rattle.site_desk.specs.Deeds.{IsLegalAnswer, IsLegalDeed}
 use Rattle.site_desk.specs.Passes.{AreAll, HasDone, PassState, fresh_pass, shares_of}
 use Rattle.site_desk.specs.Ports.{Ascend, HasDoneAll}
@@ -45,8 +45,8 @@ done_push site names old mid new receipts all r is was done legal =
 
 answered_next : (site : ℕ) (names : List (List ℕ)) (asks : List Ask) (receipts : List Receipt) (ask : Ask) (r : Receipt) → slice_get asks (length receipts) ≡ Some ask
     → IsLegalAnswer site names ask r.deed → AnswerFront site names asks receipts → AnswerFront site names asks (receipts ++ r ∷ [])
-answered_next site names [] [] ask r there of front = absurd (none-some ask there)
-answered_next site names (a ∷ asks) [] ask r there of front = (subst (λ x. IsLegalAnswer site names x r.deed) (sym (one-some a ask there)) of, tt)
+answered_next site names [] [] ask r there of front = absurd (none_some ask there)
+answered_next site names (a ∷ asks) [] ask r there of front = (subst (λ x. IsLegalAnswer site names x r.deed) (sym (one_some a ask there)) of, tt)
 answered_next site names [] (x ∷ xs) ask r there of front = absurd front
 answered_next site names (a ∷ asks) (x ∷ xs) ask r there of front = (front.0, answered_next site names asks xs ask r there of front.1)
 

@@ -14,65 +14,65 @@ use Rattle.operations.specs.Operations.{Operation, asserted_by}
 use Rattle.operations.specs.Knowledge.{Knowledge, all_asserted, asserts, is_asserted, is_dot, is_named, member_of, visible_dots}
 use Rattle.dots.proofs.DotOrder.{dots_exact, dots_total}
 use Rattle.operations.proofs.FieldLaws.{found_pair}
-use Rattle.operations.proofs.JoinedKnowledge.{member-some}
-use Rattle.general_lemmas.proofs.Membership.{any-in, in-any, in-part, part-in}
+use Rattle.operations.proofs.JoinedKnowledge.{member_some}
+use Rattle.general_lemmas.proofs.Membership.{any_in, in_any, in_part, part_in}
 use Rattle.general_lemmas.proofs.TruthTables.{equal_of}
-use Rattle.operations.proofs.VisibleLaws.{visible-dot}
-use Rattle.sites_world.proofs.Lists.{none-some, one-some}
+use Rattle.operations.proofs.VisibleLaws.{visible_dot}
+use Rattle.sites_world.proofs.Lists.{none_some, one_some}
 
 -- ---- what is asserted
 
 -- an operation asserts the dots of its pairs
-pub asserts-in : (o : Operation) (dot : Dot) (m : Member) → Contains (asserted_by o) (dot, m) → asserts dot o ≡ true
-asserts-in o dot m here = any-in (λ p. is_dot dot p.0) (asserted_by o) (dot, m) here (ap is_eq (tied_itself dots_total dot))
+pub asserts_in : (o : Operation) (dot : Dot) (m : Member) → Contains (asserted_by o) (dot, m) → asserts dot o ≡ true
+asserts_in o dot m here = any_in (λ p. is_dot dot p.0) (asserted_by o) (dot, m) here (ap is_eq (tied_itself dots_total dot))
 
 -- and so does its knowledge
 pub is-asserted : (k : Knowledge) (dot : Dot) (m : Member) → Contains (all_asserted k) (dot, m) → is_asserted k dot ≡ true
 is-asserted k dot m here =
-    let o = in-part asserted_by k (dot, m) here in any-in (asserts dot) k o.0 o.1 (asserts-in o.0 dot m o.2)
+    let o = in_part asserted_by k (dot, m) here in any_in (asserts dot) k o.0 o.1 (asserts_in o.0 dot m o.2)
 
 -- a dot that is asserted stands in a pair
-pub pair-of : (k : Knowledge) (dot : Dot) → is_asserted k dot ≡ true → (m : Member) × Contains (all_asserted k) (dot, m)
-pair-of k dot is =
-    let o = in-any (asserts dot) k is in
-    let p = in-any (λ q. is_dot dot q.0) (asserted_by o.0) o.2 in
+pub pair_of : (k : Knowledge) (dot : Dot) → is_asserted k dot ≡ true → (m : Member) × Contains (all_asserted k) (dot, m)
+pair_of k dot is =
+    let o = in_any (asserts dot) k is in
+    let p = in_any (λ q. is_dot dot q.0) (asserted_by o.0) o.2 in
     let same : dot ≡ p.0.0 = dots_exact dot p.0.0 (equal_of (dot_cmp dot p.0.0) p.2) in
-    (p.0.1, part-in asserted_by k o.0 (dot, p.0.1) o.1 (subst (λ d. Contains (asserted_by o.0) (d, p.0.1)) (sym same) p.1))
+    (p.0.1, part_in asserted_by k o.0 (dot, p.0.1) o.1 (subst (λ d. Contains (asserted_by o.0) (d, p.0.1)) (sym same) p.1))
 
 -- ---- members
 
 -- the member that is told of a dot stands with it
-pub member-in : (k : Knowledge) (dot : Dot) (m : Member) → member_of k dot ≡ Some m → Contains (all_asserted k) (dot, m)
-member-in k dot m is = by (find (λ p. is_dot dot p.0) (all_asserted k)) refl is
+pub member_in : (k : Knowledge) (dot : Dot) (m : Member) → member_of k dot ≡ Some m → Contains (all_asserted k) (dot, m)
+member_in k dot m is = by (find (λ p. is_dot dot p.0) (all_asserted k)) refl is
   where
     by : (o : Option (Dot × Member)) → find (λ p. is_dot dot p.0) (all_asserted k) ≡ o → option_map (λ p. p.1) o ≡ Some m → Contains (all_asserted k) (dot, m)
-    by None e h = absurd (none-some m h)
-    by (Some p) e h = subst (λ n. Contains (all_asserted k) (dot, n)) (one-some p.1 m h) (found_pair k dot p e)
+    by None e h = absurd (none_some m h)
+    by (Some p) e h = subst (λ n. Contains (all_asserted k) (dot, n)) (one_some p.1 m h) (found_pair k dot p e)
 
 -- where a dot is of one member, that is the one that is told
-pub member-is : (k : Knowledge) (dot : Dot) (m : Member) → Contains (all_asserted k) (dot, m)
+pub member_is : (k : Knowledge) (dot : Dot) (m : Member) → Contains (all_asserted k) (dot, m)
     → ((n : Member) → Contains (all_asserted k) (dot, n) → n ≡ m) → member_of k dot ≡ Some m
-member-is k dot m here one = by (member_of k dot) refl (member-some k dot ∙ is-asserted k dot m here)
+member_is k dot m here one = by (member_of k dot) refl (member_some k dot ∙ is-asserted k dot m here)
   where
     by : (o : Option Member) → member_of k dot ≡ o → is_some o ≡ true → member_of k dot ≡ Some m
     by None e some = absurd (true≢false (sym some))
-    by (Some n) e some = e ∙ ap Some (one n (member-in k dot n e))
+    by (Some n) e some = e ∙ ap Some (one n (member_in k dot n e))
 
 -- ---- visible dots
 
-pub visible-parts : (k : Knowledge) (dot : Dot) → set.contains (visible_dots k) dot ≡ true → (is_asserted k dot ≡ true) × (is_named k dot ≡ false)
-visible-parts k dot is = by (is_asserted k dot) (is_named k dot) refl refl (sym (visible-dot k dot) ∙ is)
+pub visible_parts : (k : Knowledge) (dot : Dot) → set.contains (visible_dots k) dot ≡ true → (is_asserted k dot ≡ true) × (is_named k dot ≡ false)
+visible_parts k dot is = by (is_asserted k dot) (is_named k dot) refl refl (sym (visible_dot k dot) ∙ is)
   where
     by : (a n : Bool) → is_asserted k dot ≡ a → is_named k dot ≡ n → (a && not n) ≡ true → (is_asserted k dot ≡ true) × (is_named k dot ≡ false)
     by true true e f h = absurd (true≢false (sym h))
     by true false e f h = (e, f)
     by false n e f h = absurd (true≢false (sym h))
 
-pub visible-of : (k : Knowledge) (dot : Dot) → is_asserted k dot ≡ true → is_named k dot ≡ false → set.contains (visible_dots k) dot ≡ true
-visible-of k dot a n = visible-dot k dot ∙ (λ i. a i && not (n i))
+pub visible_of : (k : Knowledge) (dot : Dot) → is_asserted k dot ≡ true → is_named k dot ≡ false → set.contains (visible_dots k) dot ≡ true
+visible_of k dot a n = visible_dot k dot ∙ (λ i. a i && not (n i))
 
 -- ---- older dots
 
 -- a dot of the site of one of these, with a lesser count, is older
-pub older-than : (dots : List Dot) (dot earlier : Dot) → Contains dots dot → earlier.site ≡ dot.site → earlier.count < dot.count → is_older dots earlier ≡ true
-older-than dots dot earlier here site less = any-in (λ d. nat_eq d.site earlier.site && nat_lt earlier.count d.count) dots dot here (grind (arith, nat_tests, site, less))
+pub older_than : (dots : List Dot) (dot earlier : Dot) → Contains dots dot → earlier.site ≡ dot.site → earlier.count < dot.count → is_older dots earlier ≡ true
+older_than dots dot earlier here site less = any_in (λ d. nat_eq d.site earlier.site && nat_lt earlier.count d.count) dots dot here (grind (arith, nat_tests, site, less))

@@ -17,10 +17,10 @@ use Rattle.sites_world.specs.declared.event.Event.TheVariants as event
 use Rattle.sites_world.specs.Histories.{IsPartOf}
 use Rattle.sites_world.specs.Holding.{EventsGrow, HasGrown, RunsGrow, TakenStaysKnown}
 use Rattle.sites_world.specs.Worlds.{Entry, Happening, World, happens, happens_at, happens_where, run, site_of, taken}
-use Rattle.sites_world.proofs.Lists.{get-set-other, get-set-same, one-some}
+use Rattle.sites_world.proofs.Lists.{get_set_other, get_set_same, one_some}
 use Rattle.sites_world.proofs.OutcomeLaws.{frame_by, take_by}
-use Rattle.sites_world.proofs.Parts.{second-part}
-use Rattle.sites_world.proofs.TakenEntries.{taken-gives}
+use Rattle.sites_world.proofs.Parts.{second_part}
+use Rattle.sites_world.proofs.TakenEntries.{taken_gives}
 
 -- ---- one site
 
@@ -29,116 +29,116 @@ level : (n : ℕ) → n ≤ n
 level n = omega arith
 
 -- or than the next one
-next-level : (n : ℕ) → n ≤ suc n
-next-level n = omega arith
+next_level : (n : ℕ) → n ≤ suc n
+next_level n = omega arith
 
 -- and it is so from one to the next
-level-through : (a b c : ℕ) → a ≤ b → b ≤ c → a ≤ c
-level-through a b c p q = omega (arith, p, q)
+level_through : (a b c : ℕ) → a ≤ b → b ≤ c → a ≤ c
+level_through a b c p q = omega (arith, p, q)
 
 -- a site knows what another knows, and has made no fewer frames
 abbrev KnowsOn : SiteKnowledge → SiteKnowledge → Type 0
 KnowsOn s t = IsPartOf s.known t.known × (s.frames ≤ t.frames)
 
-itself-on : (s : SiteKnowledge) → KnowsOn s s
-itself-on s = (λ o here. here, level s.frames)
+itself_on : (s : SiteKnowledge) → KnowsOn s s
+itself_on s = (λ o here. here, level s.frames)
 
 -- an answer leaves what the site knew
-ask-more : (site : ℕ) (names : List (List ℕ)) (s : SiteKnowledge) (asked : Ask) → KnowsOn s (answer_in site names s asked).0
-ask-more site names s (Status request) = itself-on s
-ask-more site names s (asked_command command) = by (meaning site names (site_view site s.known) (site_view site s.buffer) (change_of command))
+ask_more : (site : ℕ) (names : List (List ℕ)) (s : SiteKnowledge) (asked : Ask) → KnowsOn s (answer_in site names s asked).0
+ask_more site names s (Status request) = itself_on s
+ask_more site names s (asked_command command) = by (meaning site names (site_view site s.known) (site_view site s.buffer) (change_of command))
   where
     by : (m : Meaning) → KnowsOn s (after_meaning s m).0
-    by (Makes o) = (second-part (o ∷ []) s.known, level s.frames)
-    by (Refused refusal) = itself-on s
+    by (Makes o) = (second_part (o ∷ []) s.known, level s.frames)
+    by (Refused refusal) = itself_on s
 
 -- so does a frame that is made
-frame-more : (s : SiteKnowledge) (frame buffer : Knowledge) → KnowsOn s (after_frame s frame buffer).0
-frame-more s frame buffer = by (nat_lt MOST_COUNT (suc s.frames))
+frame_more : (s : SiteKnowledge) (frame buffer : Knowledge) → KnowsOn s (after_frame s frame buffer).0
+frame_more s frame buffer = by (nat_lt MOST_COUNT (suc s.frames))
   where
     by : (b : Bool) → KnowsOn s (frame_by s frame buffer b).0
-    by true = itself-on s
-    by false = (λ o here. here, next-level s.frames)
+    by true = itself_on s
+    by false = (λ o here. here, next_level s.frames)
 
 -- be it of a buffer
-cut-more : (s : SiteKnowledge) (buffer : Knowledge) → KnowsOn s (cut s buffer).0
-cut-more s [] = itself-on s
-cut-more s (o ∷ os) = frame-more s (o ∷ os) []
+cut_more : (s : SiteKnowledge) (buffer : Knowledge) → KnowsOn s (cut s buffer).0
+cut_more s [] = itself_on s
+cut_more s (o ∷ os) = frame_more s (o ∷ os) []
 
 -- and a frame that is taken
-take-more : (s : SiteKnowledge) (frame : Knowledge) → KnowsOn s (take s frame).0
-take-more s frame = by (nat_lt MOST_LIVE (set.len (visible_dots (frame ++ s.known)))) (nat_lt MOST_RUNS (run_count (known_dots (frame ++ s.known))))
+take_more : (s : SiteKnowledge) (frame : Knowledge) → KnowsOn s (take s frame).0
+take_more s frame = by (nat_lt MOST_LIVE (set.len (visible_dots (frame ++ s.known)))) (nat_lt MOST_RUNS (run_count (known_dots (frame ++ s.known))))
   where
     by : (cells runs : Bool) → KnowsOn s (take_by s frame cells runs).0
-    by true runs = itself-on s
-    by false true = itself-on s
-    by false false = (second-part frame s.known, level s.frames)
+    by true runs = itself_on s
+    by false true = itself_on s
+    by false false = (second_part frame s.known, level s.frames)
 
-taken-more : (s : SiteKnowledge) (found : Option Entry) → KnowsOn s (taken s found).site
-taken-more s None = itself-on s
-taken-more s (Some entry) = take-more s entry.carried
+taken_more : (s : SiteKnowledge) (found : Option Entry) → KnowsOn s (taken s found).site
+taken_more s None = itself_on s
+taken_more s (Some entry) = take_more s entry.carried
 
-at-more : (names : List (List ℕ)) (pool : List Entry) (s : SiteKnowledge) (e : Event) → KnowsOn s (happens_at names pool s e).site
-at-more names pool s (event.Ask site asked) = ask-more site names s asked
-at-more names pool s (event.Cut site) = cut-more s s.buffer
-at-more names pool s (event.Whole site) = frame-more s s.known s.buffer
-at-more names pool s (event.Take site place) = taken-more s (slice_get pool place)
+at_more : (names : List (List ℕ)) (pool : List Entry) (s : SiteKnowledge) (e : Event) → KnowsOn s (happens_at names pool s e).site
+at_more names pool s (event.Ask site asked) = ask_more site names s asked
+at_more names pool s (event.Cut site) = cut_more s s.buffer
+at_more names pool s (event.Whole site) = frame_more s s.known s.buffer
+at_more names pool s (event.Take site place) = taken_more s (slice_get pool place)
 
 -- ---- worlds
 
 -- a world is a later one of itself
-grown-itself : (w : World) → HasGrown w w
-grown-itself w = record { count = refl; known = λ site s was. (s, was, λ o here. here, level s.frames); added = []; pool = sym (append-nil w.pool) }
+grown_itself : (w : World) → HasGrown w w
+grown_itself w = record { count = refl; known = λ site s was. (s, was, λ o here. here, level s.frames); added = []; pool = sym (append-nil w.pool) }
 
 -- a later one of a later one is
-grown-through : (w mid after : World) → HasGrown w mid → HasGrown mid after → HasGrown w after
-grown-through w mid after one two = record {
+grown_through : (w mid after : World) → HasGrown w mid → HasGrown mid after → HasGrown w after
+grown_through w mid after one two = record {
   count = two.count ∙ one.count;
   known = λ site s was. let first = one.known site s was in let last = two.known site first.0 first.1 in
-      (last.0, last.1, λ o here. last.2 o (first.2 o here), level-through s.frames first.0.frames last.0.frames first.3 last.3);
+      (last.0, last.1, λ o here. last.2 o (first.2 o here), level_through s.frames first.0.frames last.0.frames first.3 last.3);
   added = one.added ++ two.added;
   pool = two.pool ∙ ap (λ pool. pool ++ two.added) one.pool ∙ append_assoc w.pool one.added two.added;
 }
 
 -- so is one in which a site knows more
-grown-at : (w : World) (at : ℕ) (s : SiteKnowledge) (h : Happening) → slice_get w.sites at ≡ Some s → KnowsOn s h.site
+grown_at : (w : World) (at : ℕ) (s : SiteKnowledge) (h : Happening) → slice_get w.sites at ≡ Some s → KnowsOn s h.site
     → HasGrown w (record { sites = slice_set w.sites at h.site; pool = w.pool ++ h.added })
-grown-at w at s h is more = record {
+grown_at w at s h is more = record {
   count = length-set w.sites at h.site;
-  known = λ site u was. by site u was (same-place site);
+  known = λ site u was. by site u was (same_place site);
   added = h.added;
   pool = refl;
 }
   where
-    same-place : (site : ℕ) → (site ≡ at) ⊎ (site ≡ at → ⊥)
-    same-place site = grind arith
+    same_place : (site : ℕ) → (site ≡ at) ⊎ (site ≡ at → ⊥)
+    same_place site = grind arith
 
     by : (site : ℕ) (u : SiteKnowledge) → slice_get w.sites site ≡ Some u → ((site ≡ at) ⊎ (site ≡ at → ⊥))
         → (t : SiteKnowledge) × (slice_get (slice_set w.sites at h.site) site ≡ Some t) × IsPartOf u.known t.known × (u.frames ≤ t.frames)
     by site u was (inl same) =
-        let one : u ≡ s = one-some u s (sym was ∙ ap (slice_get w.sites) same ∙ is) in (
+        let one : u ≡ s = one_some u s (sym was ∙ ap (slice_get w.sites) same ∙ is) in (
           h.site,
-          ap (slice_get (slice_set w.sites at h.site)) same ∙ get-set-same w.sites at h.site (slice_get_within w.sites at s is),
+          ap (slice_get (slice_set w.sites at h.site)) same ∙ get_set_same w.sites at h.site (slice_get_within w.sites at s is),
           λ o here. more.0 o (subst (λ v. Contains v.known o) one here),
           subst (λ (v : SiteKnowledge). v.frames ≤ h.site.frames) (sym one) more.1,
         )
-    by site u was (inr apart) = (u, get-set-other w.sites at site h.site apart ∙ was, λ o here. here, level u.frames)
+    by site u was (inr apart) = (u, get_set_other w.sites at site h.site apart ∙ was, λ o here. here, level u.frames)
 
-pub event-grows : EventsGrow
-event-grows names w e = by (slice_get w.sites (site_of e)) refl
+pub event_grows : EventsGrow
+event_grows names w e = by (slice_get w.sites (site_of e)) refl
   where
     by : (found : Option SiteKnowledge) → slice_get w.sites (site_of e) ≡ found → HasGrown w (happens_where names w (site_of e) found e).0
-    by None is = grown-itself w
-    by (Some s) is = grown-at w (site_of e) s (happens_at names w.pool s e) is (at-more names w.pool s e)
+    by None is = grown_itself w
+    by (Some s) is = grown_at w (site_of e) s (happens_at names w.pool s e) is (at_more names w.pool s e)
 
-pub run-grows : RunsGrow
-run-grows names w [] = grown-itself w
-run-grows names w (e ∷ es) = grown-through w (happens names w e).0 (run names (happens names w e).0 es).0 (event-grows names w e) (run-grows names (happens names w e).0 es)
+pub run_grows : RunsGrow
+run_grows names w [] = grown_itself w
+run_grows names w (e ∷ es) = grown_through w (happens names w e).0 (run names (happens names w e).0 es).0 (event_grows names w e) (run_grows names (happens names w e).0 es)
 
-pub taken-stays : TakenStaysKnown
-taken-stays names w site place entry later t told found now o here =
+pub taken_stays : TakenStaysKnown
+taken_stays names w site place entry later t told found now o here =
     let after = (happens names w (event.Take site place)).0 in
-    let has = taken-gives names w site place told in
-    let last = (run-grows names after later).known site has.now has.is in
-    subst (λ v. Contains v.known o) (one-some last.0 t (sym last.1 ∙ now))
-    (last.2 o (has.given o (subst (λ x. Contains x.carried o) (one-some entry has.entry (sym found ∙ has.carried)) here)))
+    let has = taken_gives names w site place told in
+    let last = (run_grows names after later).known site has.now has.is in
+    subst (λ v. Contains v.known o) (one_some last.0 t (sym last.1 ∙ now))
+    (last.2 o (has.given o (subst (λ x. Contains x.carried o) (one_some entry has.entry (sym found ∙ has.carried)) here)))

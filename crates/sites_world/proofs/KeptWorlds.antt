@@ -13,24 +13,24 @@ use Rattle.sites_world.specs.Telling.{IsAsk}
 use Rattle.sites_world.specs.WithinLimits.{HasValuesWithinLimits, KnowsWithinLimits}
 use Rattle.sites_world.specs.Worlds.{IsReached, World, happens, new_world}
 use Rattle.sites_world.specs.WorldStates.{HasHappened, IsWorld, StandsForWorld, WorldState}
-use Rattle.sites_world.proofs.Happenings.{reached-more}
-use Rattle.sites_world.proofs.WithinLimits.{events-keep-limits, new-within}
+use Rattle.sites_world.proofs.Happenings.{reached_more}
+use Rattle.sites_world.proofs.WithinLimits.{events_keep_limits, new_within}
 
 -- what an event asks for whose copy memory is wanting, which no command is, has values within their limits
-pub status-within : (e : Event) → IsAsk e → ((site : ℕ) (command : Command) → e ≡ event.Ask site (asked_command command) → ⊥) → HasValuesWithinLimits e
-status-within (event.Ask site (asked_command command)) is status = absurd (status site command refl)
-status-within (event.Ask site (Status request)) is status = tt
-status-within (event.Cut site) is status = tt
-status-within (event.Whole site) is status = tt
-status-within (event.Take site place) is status = tt
+pub status_within : (e : Event) → IsAsk e → ((site : ℕ) (command : Command) → e ≡ event.Ask site (asked_command command) → ⊥) → HasValuesWithinLimits e
+status_within (event.Ask site (asked_command command)) is status = absurd (status site command refl)
+status_within (event.Ask site (Status request)) is status = tt
+status_within (event.Cut site) is status = tt
+status_within (event.Whole site) is status = tt
+status_within (event.Take site place) is status = tt
 
 -- after an event of values within their limits there is still a world that the sites stand for
-pub world-after-event : (names_of_queues : List (List ℕ)) (sites new_sites : List SiteState) (pool new_pool : List Frame) (e : Event) (o : Outcome)
+pub world_after_event : (names_of_queues : List (List ℕ)) (sites new_sites : List SiteState) (pool new_pool : List Frame) (e : Event) (o : Outcome)
     → IsWorld (record { names = names_of_queues; sites = sites; pool = pool }) → length new_sites ≡ length sites → HasValuesWithinLimits e
     → ((w : World) → IsReached names_of_queues (length sites) w → StandsForWorld (record { names = names_of_queues; sites = sites; pool = pool }) w
     → HasHappened (record { names = names_of_queues; sites = new_sites; pool = new_pool }) w e o)
     → IsWorld (record { names = names_of_queues; sites = new_sites; pool = new_pool })
-world-after-event names_of_queues sites new_sites pool new_pool e o is count values happened = by (happened is.world is.reached is.stands)
+world_after_event names_of_queues sites new_sites pool new_pool e o is count values happened = by (happened is.world is.reached is.stands)
   where
     after : WorldState
     after = record { names = names_of_queues; sites = new_sites; pool = new_pool }
@@ -47,22 +47,22 @@ world-after-event names_of_queues sites new_sites pool new_pool e o is count val
 
     by : HasHappened after is.world e o → IsWorld after
     by (inl (done, outcome_is, stands)) =
-        standing (happens names_of_queues is.world e).0 (reached-more names_of_queues (length sites) is.world (e ∷ []) is.reached)
-        (events-keep-limits names_of_queues is.world e is.queues (subst (λ n. n ≤ SITES) is.stands.sites.lengths is.few) values is.within) stands
+        standing (happens names_of_queues is.world e).0 (reached_more names_of_queues (length sites) is.world (e ∷ []) is.reached)
+        (events_keep_limits names_of_queues is.world e is.queues (subst (λ n. n ≤ SITES) is.stands.sites.lengths is.few) values is.within) stands
     by (inr (none, there, stands)) = standing is.world is.reached is.within stands
 
 -- a new one is reached by no event
-new-reached : (names_of_queues : List (List ℕ)) (sites : ℕ) → IsReached names_of_queues sites (new_world sites)
-new-reached names_of_queues sites = record { events = []; is = refl }
+new_reached : (names_of_queues : List (List ℕ)) (sites : ℕ) → IsReached names_of_queues sites (new_world sites)
+new_reached names_of_queues sites = record { events = []; is = refl }
 
 -- so what stands for it is one that events lead to
-pub new-is-world : (names_of_queues : List (List ℕ)) (sites : List SiteState) (pool : List Frame) (count : ℕ) → AreQueues names_of_queues → count ≤ SITES → length sites ≡ count
+pub new_is_world : (names_of_queues : List (List ℕ)) (sites : List SiteState) (pool : List Frame) (count : ℕ) → AreQueues names_of_queues → count ≤ SITES → length sites ≡ count
     → StandsForWorld (record { names = names_of_queues; sites = sites; pool = pool }) (new_world count) → IsWorld (record { names = names_of_queues; sites = sites; pool = pool })
-new-is-world names_of_queues sites pool count queues few long stands = record {
+new_is_world names_of_queues sites pool count queues few long stands = record {
   queues = queues;
   few = subst (λ n. n ≤ SITES) (sym long) few;
   world = new_world count;
-  reached = subst (λ n. IsReached names_of_queues n (new_world count)) (sym long) (new-reached names_of_queues count);
-  within = new-within count;
+  reached = subst (λ n. IsReached names_of_queues n (new_world count)) (sym long) (new_reached names_of_queues count);
+  within = new_within count;
   stands = stands;
 }

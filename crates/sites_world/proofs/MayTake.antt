@@ -17,9 +17,9 @@ use Rattle.operations.specs.Registers.{Entry}
 use Rattle.operations.specs.Knowledge.{Knowledge, field_of, is_named, known_dots, member_of}
 use Rattle.dots.specs.CountedCalls.{is_zero, no_calls}
 use Rattle.operations.specs.Totals.{totals_of}
-use Rattle.operations.proofs.FieldLaws.{field-is}
-use Rattle.general_lemmas.proofs.Membership.{first-in, later-in, part-in}
-use Rattle.operations.proofs.ShownLaws.{is-greatest}
+use Rattle.operations.proofs.FieldLaws.{field_is}
+use Rattle.general_lemmas.proofs.Membership.{first_in, later_in, part_in}
+use Rattle.operations.proofs.ShownLaws.{is_greatest}
 use Rattle.site_totals.specs.Raising.{number_of}
 use Rattle.member_orset.specs.Members.{Holding, condition_at}
 use Rattle.member_orset.proofs.Agreeing.{sets_apart}
@@ -33,50 +33,50 @@ use Rattle.replica.specs.Taking.{HasDotPast, HasStampPast, HasStrangeMember, Has
 use Rattle.sites_world.specs.Histories.{IsHistory, IsOf, IsPartOf, IsSiteIn, stamp_of}
 use Rattle.sites_world.specs.Telling.{MayBeTaken}
 use Rattle.sites_world.specs.WorldStates.{IsSiteOf}
-use Rattle.sites_world.proofs.Lists.{none-some}
-use Rattle.sites_world.proofs.Dots.{is-asserted, member-in}
-use Rattle.sites_world.proofs.MadeHistories.{below-greatest, count-used, stamped-of, stamped-time}
-use Rattle.sites_world.proofs.Parts.{IsStamped, asserted-part, both-part, consistent-part, known-asserted, known-part, label-stamped, pause-stamped, penalty-stamped, set-by}
+use Rattle.sites_world.proofs.Lists.{none_some}
+use Rattle.sites_world.proofs.Dots.{is-asserted, member_in}
+use Rattle.sites_world.proofs.MadeHistories.{below_greatest, count-used, stamped_of, stamped_time}
+use Rattle.sites_world.proofs.Parts.{IsStamped, asserted_part, both_part, consistent_part, known_asserted, known_part, label_stamped, pause_stamped, penalty_stamped, set_by}
 
 -- ---- what a delta says, its knowledge says
 
 -- a live condition of a knowledge has its member and its fields
-live-condition : (k : Knowledge) (dot : Dot) (m : Member) (f : DotFields) → condition_in k dot ≡ Some (Live m f) → (member_of k dot ≡ Some m) × (f ≡ fields_in k dot)
-live-condition k dot m f is = by (is_named k dot) (member_of k dot) refl is
+live_condition : (k : Knowledge) (dot : Dot) (m : Member) (f : DotFields) → condition_in k dot ≡ Some (Live m f) → (member_of k dot ≡ Some m) × (f ≡ fields_in k dot)
+live_condition k dot m f is = by (is_named k dot) (member_of k dot) refl is
   where
     dead : Some Dead ≡ Some (Live m f) → ⊥
     dead e = (cc)
 
-    the-member : (n : Member) → Some (Live n (fields_in k dot)) ≡ Some (Live m f) → n ≡ m
-    the-member n e = cc
+    the_member : (n : Member) → Some (Live n (fields_in k dot)) ≡ Some (Live m f) → n ≡ m
+    the_member n e = cc
 
-    the-fields : (n : Member) → Some (Live n (fields_in k dot)) ≡ Some (Live m f) → f ≡ fields_in k dot
-    the-fields n e = cc
+    the_fields : (n : Member) → Some (Live n (fields_in k dot)) ≡ Some (Live m f) → f ≡ fields_in k dot
+    the_fields n e = cc
 
     by : (b : Bool) (o : Option Member) → member_of k dot ≡ o → (if b then Some Dead else option_map (λ member. Live member (fields_in k dot)) o) ≡ Some (Live m f)
         → (member_of k dot ≡ Some m) × (f ≡ fields_in k dot)
     by true o e h = absurd (dead h)
-    by false None e h = absurd (none-some (Live m f) h)
-    by false (Some n) e h = (e ∙ ap Some (the-member n h), the-fields n h)
+    by false None e h = absurd (none_some (Live m f) h)
+    by false (Some n) e h = (e ∙ ap Some (the_member n h), the_fields n h)
 
 -- of a live dot too
-live-dot : (d : DeltaState) (k : Knowledge) (dot : Dot) (held : Holding) → IsDeltaOf d k → map.get d.members.live dot ≡ Some held → (member_of k dot ≡ Some held.0) × (held.1 ≡ fields_in k dot)
-live-dot d k dot held is live =
-    live-condition k dot held.0 held.1 (sym (is.conditions dot) ∙ ap (λ o. condition_at o (set.contains d.members.known dot)) live)
+live_dot : (d : DeltaState) (k : Knowledge) (dot : Dot) (held : Holding) → IsDeltaOf d k → map.get d.members.live dot ≡ Some held → (member_of k dot ≡ Some held.0) × (held.1 ≡ fields_in k dot)
+live_dot d k dot held is live =
+    live_condition k dot held.0 held.1 (sym (is.conditions dot) ∙ ap (λ o. condition_at o (set.contains d.members.known dot)) live)
 
 -- a total that isn't 0 was counted
-counted-by : (k : Knowledge) (site queue : ℕ) (calls : Calls) → 0 < site_total k site queue calls → (o : Operation) × Contains k o × (count_in site queue calls o ≡ site_total k site queue calls)
-counted-by k site queue calls some = elim (is-greatest k site queue calls).is_one [
+counted_by : (k : Knowledge) (site queue : ℕ) (calls : Calls) → 0 < site_total k site queue calls → (o : Operation) × Contains k o × (count_in site queue calls o ≡ site_total k site queue calls)
+counted_by k site queue calls some = elim (is_greatest k site queue calls).is_one [
   | inl zero_is ↦ absurd (omega (arith, some, zero_is))
   | inr one ↦ one
 ]
 
 -- what counts calls of a site and a queue is a count of these
-count-of : (site queue : ℕ) (calls : Calls) (o : Operation) → 0 < count_in site queue calls o → (total : ℕ) × ((c : Calls) × (o ≡ Count site queue c total))
-count-of site queue calls (Add dot member stamp penalty pause label older) some = absurd (omega (arith, some))
-count-of site queue calls (Write dots setting stamp older) some = absurd (omega (arith, some))
-count-of site queue calls (Remove dots) some = absurd (omega (arith, some))
-count-of site queue calls (Count s q c total) some = by (nat_eq s site) (nat_eq q queue) refl refl some
+count_of : (site queue : ℕ) (calls : Calls) (o : Operation) → 0 < count_in site queue calls o → (total : ℕ) × ((c : Calls) × (o ≡ Count site queue c total))
+count_of site queue calls (Add dot member stamp penalty pause label older) some = absurd (omega (arith, some))
+count_of site queue calls (Write dots setting stamp older) some = absurd (omega (arith, some))
+count_of site queue calls (Remove dots) some = absurd (omega (arith, some))
+count_of site queue calls (Count s q c total) some = by (nat_eq s site) (nat_eq q queue) refl refl some
   where
     same : (a b : ℕ) → nat_eq a b ≡ true → a ≡ b
     same a b e = grind (arith, nat_tests, e)
@@ -87,96 +87,96 @@ count-of site queue calls (Count s q c total) some = by (nat_eq s site) (nat_eq 
     by false y e f h = absurd (omega (arith, h))
 
 -- the numbers of totals
-number-is : (calls : Calls) (t : CallTotals) (k : Knowledge) (site queue : ℕ) → t ≡ record { completed = site_total k site queue Completed; abandoned = site_total k site queue Abandoned }
+number_is : (calls : Calls) (t : CallTotals) (k : Knowledge) (site queue : ℕ) → t ≡ record { completed = site_total k site queue Completed; abandoned = site_total k site queue Abandoned }
     → number_of calls t ≡ site_total k site queue calls
-number-is Completed t k site queue e = ap (λ x. x.completed) e
-number-is Abandoned t k site queue e = ap (λ x. x.abandoned) e
+number_is Completed t k site queue e = ap (λ x. x.completed) e
+number_is Abandoned t k site queue e = ap (λ x. x.abandoned) e
 
 -- totals that aren't both 0 have one that isn't
-not-zero : (t : CallTotals) → is_zero t ≡ false → (0 < t.completed) ⊎ (0 < t.abandoned)
-not-zero t h = grind (arith, nat_tests, h)
+not_zero : (t : CallTotals) → is_zero t ≡ false → (0 < t.completed) ⊎ (0 < t.abandoned)
+not_zero t h = grind (arith, nat_tests, h)
 
 -- ---- a part of a history at one of its sites
 
 module _ (names_of_queues : List (List ℕ)) (sites site : ℕ) (h : Knowledge) (s : SiteKnowledge) (made : IsHistory names_of_queues sites h) (own : IsSiteIn h site s) (there : site < sites)
     (k : Knowledge) (part : IsPartOf k h) where
   -- an operation of the part with a stamp of the site is of no later time
-  time-below : (o : Operation) (stamp : Stamp) → Contains k o → stamp_of o ≡ Some stamp → stamp.site ≡ site → stamp.time ≤ greatest (time_used site) s.known
-  time-below o stamp here e is =
-      let known = own.own o (part o here) (stamped-of site o stamp e is) in
-      let used = below-greatest (time_used site) s.known o known in
-      let time = stamped-time site o stamp e is in
+  time_below : (o : Operation) (stamp : Stamp) → Contains k o → stamp_of o ≡ Some stamp → stamp.site ≡ site → stamp.time ≤ greatest (time_used site) s.known
+  time_below o stamp here e is =
+      let known = own.own o (part o here) (stamped_of site o stamp e is) in
+      let used = below_greatest (time_used site) s.known o known in
+      let time = stamped_time site o stamp e is in
       omega (arith, used, time)
 
   -- the part says nothing of members in other queues
-  no-strange-member : (d : DeltaState) → IsDeltaOf d k → HasStrangeMember (length names_of_queues) d.members → ⊥
-  no-strange-member d is strange =
-      let member = (live-dot d k strange.dot strange.held is strange.live).0 in
-      let in_list = made.queues strange.dot strange.held.0 (asserted-part k h part (strange.dot, strange.held.0) (member-in k strange.dot strange.held.0 member)) in
+  no_strange_member : (d : DeltaState) → IsDeltaOf d k → HasStrangeMember (length names_of_queues) d.members → ⊥
+  no_strange_member d is strange =
+      let member = (live_dot d k strange.dot strange.held is strange.live).0 in
+      let in_list = made.queues strange.dot strange.held.0 (asserted_part k h part (strange.dot, strange.held.0) (member_in k strange.dot strange.held.0 member)) in
       let past = strange.strange in
       omega (arith, in_list, past)
 
   -- what it counts is of a queue in the list
-  counted-in-list : (at queue : ℕ) (calls : Calls) → 0 < site_total k at queue calls → queue < length names_of_queues
-  counted-in-list at queue calls some =
-      let o = counted-by k at queue calls some in
-      let c = count-of at queue calls o.0 (let same = o.2 in omega (arith, some, same)) in
+  counted_in_list : (at queue : ℕ) (calls : Calls) → 0 < site_total k at queue calls → queue < length names_of_queues
+  counted_in_list at queue calls some =
+      let o = counted_by k at queue calls some in
+      let c = count_of at queue calls o.0 (let same = o.2 in omega (arith, some, same)) in
       made.counts at queue c.1.0 c.0 (subst (Contains h) c.1.1 (part o.0 o.1))
 
   -- and so are its totals
-  no-strange-total : (d : DeltaState) → IsDeltaOf d k → HasStrangeTotal (length names_of_queues) d.totals.entries → ⊥
-  no-strange-total d is strange =
+  no_strange_total : (d : DeltaState) → IsDeltaOf d k → HasStrangeTotal (length names_of_queues) d.totals.entries → ⊥
+  no_strange_total d is strange =
       let past = strange.strange in
-      elim (not-zero strange.totals (is.no_zeros strange.key strange.totals strange.counted)) [
-        | inl some ↦ let lt = counted-in-list strange.key.site strange.key.queue Completed (let same = ap (λ t. t.completed) same-totals in omega (arith, some, same)) in omega (arith, lt, past)
-        | inr some ↦ let lt = counted-in-list strange.key.site strange.key.queue Abandoned (let same = ap (λ t. t.abandoned) same-totals in omega (arith, some, same)) in omega (arith, lt, past)
+      elim (not_zero strange.totals (is.no_zeros strange.key strange.totals strange.counted)) [
+        | inl some ↦ let lt = counted_in_list strange.key.site strange.key.queue Completed (let same = ap (λ t. t.completed) same_totals in omega (arith, some, same)) in omega (arith, lt, past)
+        | inr some ↦ let lt = counted_in_list strange.key.site strange.key.queue Abandoned (let same = ap (λ t. t.abandoned) same_totals in omega (arith, some, same)) in omega (arith, lt, past)
       ]
     where
-      same-totals : strange.totals ≡ record { completed = site_total k strange.key.site strange.key.queue Completed; abandoned = site_total k strange.key.site strange.key.queue Abandoned }
-      same-totals = ap (λ o. unwrap_or o no_calls) (sym strange.counted) ∙ is.totals strange.key.site strange.key.queue
+      same_totals : strange.totals ≡ record { completed = site_total k strange.key.site strange.key.queue Completed; abandoned = site_total k strange.key.site strange.key.queue Abandoned }
+      same_totals = ap (λ o. unwrap_or o no_calls) (sym strange.counted) ∙ is.totals strange.key.site strange.key.queue
 
   -- its dots of the site are of counts that the site has used
-  no-dot-past : (d : DeltaState) → IsDeltaOf d k → HasDotPast site (greatest (count_used site) s.known) d.members.known → ⊥
-  no-dot-past d is past =
+  no_dot_past : (d : DeltaState) → IsDeltaOf d k → HasDotPast site (greatest (count_used site) s.known) d.members.known → ⊥
+  no_dot_past d is past =
       let dot : Dot = record { site = site; count = past.count } in
-      let known = known-part k h dot part (ap (λ dots. set.contains dots dot) (sym is.dots) ∙ past.known_dot) in
+      let known = known_part k h dot part (ap (λ dots. set.contains dots dot) (sym is.dots) ∙ past.known_dot) in
       let used = count-used names_of_queues sites site h s made own there dot known refl in
       let later = past.past in
       omega (arith, used, later)
 
   -- no field that is set there by the site is of a later time
-  no-field-past : {T : Type 0} (field : Field T) → IsStamped field → (dot : Dot) (held : Option (Entry T)) → held ≡ field_of field k dot → IsWrittenPast site (greatest (time_used site) s.known) held → ⊥
-  no-field-past field stamped dot held same past =
-      let given = (field-is field k dot past.entry (sym same ∙ past.set)).given in
-      let o = set-by field k dot past.entry given in
-      let below = time-below o.0 past.entry.stamp o.1 (stamped o.0 past.entry o.2) past.own in
+  no_field_past : {T : Type 0} (field : Field T) → IsStamped field → (dot : Dot) (held : Option (Entry T)) → held ≡ field_of field k dot → IsWrittenPast site (greatest (time_used site) s.known) held → ⊥
+  no_field_past field stamped dot held same past =
+      let given = (field_is field k dot past.entry (sym same ∙ past.set)).given in
+      let o = set_by field k dot past.entry given in
+      let below = time_below o.0 past.entry.stamp o.1 (stamped o.0 past.entry o.2) past.own in
       let later = past.past in
       omega (arith, below, later)
 
-  no-stamp-past : (d : DeltaState) → IsDeltaOf d k → HasStampPast site (greatest (time_used site) s.known) d.members → ⊥
-  no-stamp-past d is past = by past.past
+  no_stamp_past : (d : DeltaState) → IsDeltaOf d k → HasStampPast site (greatest (time_used site) s.known) d.members → ⊥
+  no_stamp_past d is past = by past.past
     where
       fields : past.held.1 ≡ fields_in k past.dot
-      fields = (live-dot d k past.dot past.held is past.live).1
+      fields = (live_dot d k past.dot past.held is past.live).1
 
       by : (IsWrittenPast site (greatest (time_used site) s.known) past.held.1.penalty ⊎ (IsWrittenPast site (greatest (time_used site) s.known) past.held.1.pause ⊎ IsWrittenPast site (greatest (time_used site) s.known) past.held.1.label)) → ⊥
-      by (inl p) = no-field-past penalty_field penalty-stamped past.dot past.held.1.penalty (ap (λ f. f.penalty) fields) p
-      by (inr (inl p)) = no-field-past pause_field pause-stamped past.dot past.held.1.pause (ap (λ f. f.pause) fields) p
-      by (inr (inr p)) = no-field-past label_field label-stamped past.dot past.held.1.label (ap (λ f. f.label) fields) p
+      by (inl p) = no_field_past penalty_field penalty_stamped past.dot past.held.1.penalty (ap (λ f. f.penalty) fields) p
+      by (inr (inl p)) = no_field_past pause_field pause_stamped past.dot past.held.1.pause (ap (λ f. f.pause) fields) p
+      by (inr (inr p)) = no_field_past label_field label_stamped past.dot past.held.1.label (ap (λ f. f.label) fields) p
 
   -- no total of the site is greater than its own
-  total-below : (queue : ℕ) (calls : Calls) → site_total k site queue calls ≤ site_total s.known site queue calls
-  total-below queue calls = by (nat_eq (site_total k site queue calls) 0) refl
+  total_below : (queue : ℕ) (calls : Calls) → site_total k site queue calls ≤ site_total s.known site queue calls
+  total_below queue calls = by (nat_eq (site_total k site queue calls) 0) refl
     where
       by : (b : Bool) → nat_eq (site_total k site queue calls) 0 ≡ b → site_total k site queue calls ≤ site_total s.known site queue calls
       by true e = grind (arith, nat_tests, e)
       by false e =
           let some : 0 < site_total k site queue calls = grind (arith, nat_tests, e) in
-          let o = counted-by k site queue calls some in
+          let o = counted_by k site queue calls some in
           let same = o.2 in
-          let c = count-of site queue calls o.0 (omega (arith, some, same)) in
+          let c = count_of site queue calls o.0 (omega (arith, some, same)) in
           let known = own.own o.0 (part o.0 o.1) (subst (IsOf site) (sym c.1.1) refl) in
-          let least = (is-greatest s.known site queue calls).at_least o.0 known in
+          let least = (is_greatest s.known site queue calls).at_least o.0 known in
           omega (arith, least, same)
 
   -- none of its counts and times of the site is later
@@ -187,14 +187,14 @@ module _ (names_of_queues : List (List ℕ)) (sites site : ℕ) (h : Knowledge) 
       same a b e = grind (arith, nat_tests, e)
 
       asserted : set.contains (known_dots h) dot ≡ true
-      asserted = known-asserted h dot (is-asserted h dot member (part-in asserted_by h (Add dot member stamp penalty pause label older) (dot, member) (part _ here) (first-in (dot, member) [])))
+      asserted = known_asserted h dot (is-asserted h dot member (part_in asserted_by h (Add dot member stamp penalty pause label older) (dot, member) (part _ here) (first_in (dot, member) [])))
 
       count : (b : Bool) → nat_eq dot.site site ≡ b → (if b then dot.count else 0) ≤ greatest (count_used site) s.known
       count true e = count-used names_of_queues sites site h s made own there dot asserted (same dot.site site e)
       count false e = omega arith
 
       time : (b : Bool) → nat_eq stamp.site site ≡ b → (if b then stamp.time else 0) ≤ greatest (time_used site) s.known
-      time true e = time-below (Add dot member stamp penalty pause label older) stamp here refl (same stamp.site site e)
+      time true e = time_below (Add dot member stamp penalty pause label older) stamp here refl (same stamp.site site e)
       time false e = omega arith
   none-later (Write dots setting stamp older) here = (omega arith, time (nat_eq stamp.site site) refl)
     where
@@ -202,30 +202,30 @@ module _ (names_of_queues : List (List ℕ)) (sites site : ℕ) (h : Knowledge) 
       same a b e = grind (arith, nat_tests, e)
 
       time : (b : Bool) → nat_eq stamp.site site ≡ b → (if b then stamp.time else 0) ≤ greatest (time_used site) s.known
-      time true e = time-below (Write dots setting stamp older) stamp here refl (same stamp.site site e)
+      time true e = time_below (Write dots setting stamp older) stamp here refl (same stamp.site site e)
       time false e = omega arith
   none-later (Remove dots) here = (omega arith, omega arith)
   none-later (Count at queue calls total) here = (omega arith, omega arith)
 
 -- the greatest of a list is no more than what none is above
-greatest-below : {X : Type 0} (f : X → ℕ) (xs : List X) (most : ℕ) → ((x : X) → Contains xs x → f x ≤ most) → greatest f xs ≤ most
-greatest-below f [] most all = omega arith
-greatest-below f (x ∷ xs) most all =
-    let first = all x (first-in x xs) in
-    let rest = greatest-below f xs most (λ y here. all y (later-in x xs y here)) in
+greatest_below : {X : Type 0} (f : X → ℕ) (xs : List X) (most : ℕ) → ((x : X) → Contains xs x → f x ≤ most) → greatest f xs ≤ most
+greatest_below f [] most all = omega arith
+greatest_below f (x ∷ xs) most all =
+    let first = all x (first_in x xs) in
+    let rest = greatest_below f xs most (λ y here. all y (later_in x xs y here)) in
     omega (arith, first, rest)
 
 -- a site may take each part of the history
-pub may-take : (names_of_queues : List (List ℕ)) (sites site : ℕ) (h : Knowledge) (s : SiteKnowledge) (state : SiteState) (k : Knowledge) → IsHistory names_of_queues sites h → IsSiteIn h site s → site < sites
+pub may_take : (names_of_queues : List (List ℕ)) (sites site : ℕ) (h : Knowledge) (s : SiteKnowledge) (state : SiteState) (k : Knowledge) → IsHistory names_of_queues sites h → IsSiteIn h site s → site < sites
     → IsSiteOf names_of_queues site state s → IsPartOf k h → MayBeTaken state k
-may-take names_of_queues sites site h s state k made own there is part = record {
-  queues = λ d of strange. strange-queue d of (subst (λ n. SpeaksOfStrangeQueue (length n) d) is.names_are strange);
+may_take names_of_queues sites site h s state k made own there is part = record {
+  queues = λ d of strange. strange_queue d of (subst (λ n. SpeaksOfStrangeQueue (length n) d) is.names_are strange);
   own = λ d of not_mine. mine d of not_mine;
   agrees = λ d of conflict. sets_apart state.state.members d.members
-      (consistent_agree state.state d s.known k (consistent-part names_of_queues sites h (s.known ++ k) made (both-part s.known k h own.known part)) is.stands.known of) conflict;
+      (consistent_agree state.state d s.known k (consistent_part names_of_queues sites h (s.known ++ k) made (both_part s.known k h own.known part)) is.stands.known of) conflict;
   none_later = record {
-    counts = subst (λ n. greatest (count_used n) k ≤ state.last_count) (sym is.site) (subst (λ n. greatest (count_used site) k ≤ n) last_count (greatest-below (count_used site) k _ (λ o here. (later o here).0)));
-    times = subst (λ n. greatest (time_used n) k ≤ state.last_time) (sym is.site) (subst (λ n. greatest (time_used site) k ≤ n) last_time (greatest-below (time_used site) k _ (λ o here. (later o here).1)));
+    counts = subst (λ n. greatest (count_used n) k ≤ state.last_count) (sym is.site) (subst (λ n. greatest (count_used site) k ≤ n) last_count (greatest_below (count_used site) k _ (λ o here. (later o here).0)));
+    times = subst (λ n. greatest (time_used n) k ≤ state.last_time) (sym is.site) (subst (λ n. greatest (time_used site) k ≤ n) last_time (greatest_below (time_used site) k _ (λ o here. (later o here).1)));
   };
 }
   where
@@ -238,25 +238,25 @@ may-take names_of_queues sites site h s state k made own there is part = record 
     last_time : greatest (time_used site) s.known ≡ state.last_time
     last_time = ap (λ n. greatest (time_used n) s.known) (sym is.site) ∙ is.stands.last_time
 
-    strange-queue : (d : DeltaState) → IsDeltaOf d k → SpeaksOfStrangeQueue (length names_of_queues) d → ⊥
-    strange-queue d of (inl p) = no-strange-member names_of_queues sites site h s made own there k part d of p
-    strange-queue d of (inr p) = no-strange-total names_of_queues sites site h s made own there k part d of p
+    strange_queue : (d : DeltaState) → IsDeltaOf d k → SpeaksOfStrangeQueue (length names_of_queues) d → ⊥
+    strange_queue d of (inl p) = no_strange_member names_of_queues sites site h s made own there k part d of p
+    strange_queue d of (inr p) = no_strange_total names_of_queues sites site h s made own there k part d of p
 
-    dot-past : (d : DeltaState) → HasDotPast state.site state.last_count d.members.known → HasDotPast site (greatest (count_used site) s.known) d.members.known
-    dot-past d p = subst (λ n. HasDotPast n (greatest (count_used site) s.known) d.members.known) is.site (subst (λ n. HasDotPast state.site n d.members.known) (sym last_count) p)
+    dot_past : (d : DeltaState) → HasDotPast state.site state.last_count d.members.known → HasDotPast site (greatest (count_used site) s.known) d.members.known
+    dot_past d p = subst (λ n. HasDotPast n (greatest (count_used site) s.known) d.members.known) is.site (subst (λ n. HasDotPast state.site n d.members.known) (sym last_count) p)
 
-    stamp-past : (d : DeltaState) → HasStampPast state.site state.last_time d.members → HasStampPast site (greatest (time_used site) s.known) d.members
-    stamp-past d p = subst (λ n. HasStampPast n (greatest (time_used site) s.known) d.members) is.site (subst (λ n. HasStampPast state.site n d.members) (sym last_time) p)
+    stamp_past : (d : DeltaState) → HasStampPast state.site state.last_time d.members → HasStampPast site (greatest (time_used site) s.known) d.members
+    stamp_past d p = subst (λ n. HasStampPast n (greatest (time_used site) s.known) d.members) is.site (subst (λ n. HasStampPast state.site n d.members) (sym last_time) p)
 
-    no-total-past : (d : DeltaState) → IsDeltaOf d k → HasTotalPast state.site state.state.totals.entries d.totals.entries → ⊥
-    no-total-past d of p =
-        let below = total-below names_of_queues sites site h s made own there k part p.queue p.calls in
-        let ours = number-is p.calls _ s.known site p.queue (ap (λ n. totals_of state.state.totals.entries n p.queue) is.site ∙ is.stands.known.totals site p.queue) in
-        let theirs = number-is p.calls _ k site p.queue (ap (λ n. totals_of d.totals.entries n p.queue) is.site ∙ of.totals site p.queue) in
+    no_total_past : (d : DeltaState) → IsDeltaOf d k → HasTotalPast state.site state.state.totals.entries d.totals.entries → ⊥
+    no_total_past d of p =
+        let below = total_below names_of_queues sites site h s made own there k part p.queue p.calls in
+        let ours = number_is p.calls _ s.known site p.queue (ap (λ n. totals_of state.state.totals.entries n p.queue) is.site ∙ is.stands.known.totals site p.queue) in
+        let theirs = number_is p.calls _ k site p.queue (ap (λ n. totals_of d.totals.entries n p.queue) is.site ∙ of.totals site p.queue) in
         let past = p.past in
         omega (arith, below, ours, theirs, past)
 
     mine : (d : DeltaState) → IsDeltaOf d k → IsNotMine state d → ⊥
-    mine d of (inl (inl p)) = no-dot-past names_of_queues sites site h s made own there k part d of (dot-past d p)
-    mine d of (inl (inr p)) = no-stamp-past names_of_queues sites site h s made own there k part d of (stamp-past d p)
-    mine d of (inr p) = no-total-past d of p
+    mine d of (inl (inl p)) = no_dot_past names_of_queues sites site h s made own there k part d of (dot_past d p)
+    mine d of (inl (inr p)) = no_stamp_past names_of_queues sites site h s made own there k part d of (stamp_past d p)
+    mine d of (inr p) = no_total_past d of p

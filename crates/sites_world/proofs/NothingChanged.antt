@@ -21,99 +21,99 @@ use Rattle.sites_world.specs.Conditions.{ComesAt, ComesOfAsk, ComesOfCut, ComesO
 use Rattle.sites_world.specs.Outcomes.{changes_nothing}
 use Rattle.sites_world.specs.Worlds.{site_of}
 use Rattle.sites_world.specs.WorldStates.{Correspond, IsUnchanged, WorldState}
-use Rattle.sites_world.proofs.Lists.{correspond-get}
-use Rattle.sites_world.proofs.ToldByConditions.{refused-follows}
-use Rattle.sites_world.proofs.Unchanged.{equal-unchanged, site-unchanged, sites-unchanged}
+use Rattle.sites_world.proofs.Lists.{correspond_get}
+use Rattle.sites_world.proofs.ToldByConditions.{refused_follows}
+use Rattle.sites_world.proofs.Unchanged.{equal_unchanged, site_unchanged, sites_unchanged}
 
 -- ---- at one site
 
-ask-nothing : (old new : SiteState) (asked : Ask) (o : Outcome) → ComesOfAsk old asked o new → changes_nothing o ≡ true → replica.IsUnchanged old new
-ask-nothing old new (asked_command command) (Answered answer) (result, is, follows) nothing = by result is follows
+ask_nothing : (old new : SiteState) (asked : Ask) (o : Outcome) → ComesOfAsk old asked o new → changes_nothing o ≡ true → replica.IsUnchanged old new
+ask_nothing old new (asked_command command) (Answered answer) (result, is, follows) nothing = by result is follows
   where
     by : (result : Result (Unit {0}) Refusal) → answer ≡ answer_of result → Follows old (meaning_at old (change_of command)) new result → replica.IsUnchanged old new
     by (Ok u) is follows = absurd (true≢false (sym nothing ∙ ap (λ a. changes_nothing (Answered a)) is))
-    by (Err refusal) is follows = refused-follows old new (meaning_at old (change_of command)) refusal follows
-ask-nothing old new (asked_command command) NoMemory comes nothing = comes.0
-ask-nothing old new (asked_command command) (Cut r) comes nothing = absurd comes
-ask-nothing old new (asked_command command) (Took r) comes nothing = absurd comes
-ask-nothing old new (asked_command command) NoSite comes nothing = absurd comes
-ask-nothing old new (asked_command command) NoEntry comes nothing = absurd comes
-ask-nothing old new (Status request) (Answered answer) comes nothing = equal-unchanged old new comes.1
-ask-nothing old new (Status request) NoMemory comes nothing = comes
-ask-nothing old new (Status request) (Cut r) comes nothing = absurd comes
-ask-nothing old new (Status request) (Took r) comes nothing = absurd comes
-ask-nothing old new (Status request) NoSite comes nothing = absurd comes
-ask-nothing old new (Status request) NoEntry comes nothing = absurd comes
+    by (Err refusal) is follows = refused_follows old new (meaning_at old (change_of command)) refusal follows
+ask_nothing old new (asked_command command) NoMemory comes nothing = comes.0
+ask_nothing old new (asked_command command) (Cut r) comes nothing = absurd comes
+ask_nothing old new (asked_command command) (Took r) comes nothing = absurd comes
+ask_nothing old new (asked_command command) NoSite comes nothing = absurd comes
+ask_nothing old new (asked_command command) NoEntry comes nothing = absurd comes
+ask_nothing old new (Status request) (Answered answer) comes nothing = equal_unchanged old new comes.1
+ask_nothing old new (Status request) NoMemory comes nothing = comes
+ask_nothing old new (Status request) (Cut r) comes nothing = absurd comes
+ask_nothing old new (Status request) (Took r) comes nothing = absurd comes
+ask_nothing old new (Status request) NoSite comes nothing = absurd comes
+ask_nothing old new (Status request) NoEntry comes nothing = absurd comes
 
-cut-nothing : (entries : ℕ) (old new : SiteState) (o : Outcome) (added : List Frame) → ComesOfCut entries old o new added → changes_nothing o ≡ true → (new ≡ old) × (added ≡ [])
-cut-nothing entries old new (Cut (Ok None)) added (empty, same, none) nothing = (same, none)
-cut-nothing entries old new (Cut (Ok (Some place))) added comes nothing = absurd (true≢false (sym nothing))
-cut-nothing entries old new (Cut (Err fault)) added (is, some, most, same, none) nothing = (same, none)
-cut-nothing entries old new NoMemory added comes nothing = comes
-cut-nothing entries old new (Answered answer) added comes nothing = absurd comes
-cut-nothing entries old new (Took r) added comes nothing = absurd comes
-cut-nothing entries old new NoSite added comes nothing = absurd comes
-cut-nothing entries old new NoEntry added comes nothing = absurd comes
+cut_nothing : (entries : ℕ) (old new : SiteState) (o : Outcome) (added : List Frame) → ComesOfCut entries old o new added → changes_nothing o ≡ true → (new ≡ old) × (added ≡ [])
+cut_nothing entries old new (Cut (Ok None)) added (empty, same, none) nothing = (same, none)
+cut_nothing entries old new (Cut (Ok (Some place))) added comes nothing = absurd (true≢false (sym nothing))
+cut_nothing entries old new (Cut (Err fault)) added (is, some, most, same, none) nothing = (same, none)
+cut_nothing entries old new NoMemory added comes nothing = comes
+cut_nothing entries old new (Answered answer) added comes nothing = absurd comes
+cut_nothing entries old new (Took r) added comes nothing = absurd comes
+cut_nothing entries old new NoSite added comes nothing = absurd comes
+cut_nothing entries old new NoEntry added comes nothing = absurd comes
 
-whole-nothing : (entries : ℕ) (old new : SiteState) (o : Outcome) (added : List Frame) → ComesOfWhole entries old o new added → changes_nothing o ≡ true → (new ≡ old) × (added ≡ [])
-whole-nothing entries old new (Cut (Ok None)) added comes nothing = absurd comes
-whole-nothing entries old new (Cut (Ok (Some place))) added comes nothing = absurd (true≢false (sym nothing))
-whole-nothing entries old new (Cut (Err fault)) added (is, most, same, none) nothing = (same, none)
-whole-nothing entries old new NoMemory added comes nothing = comes
-whole-nothing entries old new (Answered answer) added comes nothing = absurd comes
-whole-nothing entries old new (Took r) added comes nothing = absurd comes
-whole-nothing entries old new NoSite added comes nothing = absurd comes
-whole-nothing entries old new NoEntry added comes nothing = absurd comes
+whole_nothing : (entries : ℕ) (old new : SiteState) (o : Outcome) (added : List Frame) → ComesOfWhole entries old o new added → changes_nothing o ≡ true → (new ≡ old) × (added ≡ [])
+whole_nothing entries old new (Cut (Ok None)) added comes nothing = absurd comes
+whole_nothing entries old new (Cut (Ok (Some place))) added comes nothing = absurd (true≢false (sym nothing))
+whole_nothing entries old new (Cut (Err fault)) added (is, most, same, none) nothing = (same, none)
+whole_nothing entries old new NoMemory added comes nothing = comes
+whole_nothing entries old new (Answered answer) added comes nothing = absurd comes
+whole_nothing entries old new (Took r) added comes nothing = absurd comes
+whole_nothing entries old new NoSite added comes nothing = absurd comes
+whole_nothing entries old new NoEntry added comes nothing = absurd comes
 
-delta-nothing : (old new : SiteState) (d : DeltaState) (o : Outcome) → ComesOfDelta old d o new → changes_nothing o ≡ true → replica.IsUnchanged old new
-delta-nothing old new d (Took (Ok u)) comes nothing = absurd (true≢false (sym nothing))
-delta-nothing old new d (Took (Err take_fault.CellsFull)) comes nothing = comes.2
-delta-nothing old new d (Took (Err take_fault.RunsFull)) (joins, few, many, same) nothing = same
-delta-nothing old new d (Took (Err take_fault.NoSuchQueue)) comes nothing = absurd comes
-delta-nothing old new d (Took (Err take_fault.NotMine)) comes nothing = absurd comes
-delta-nothing old new d (Took (Err take_fault.Conflict)) comes nothing = absurd comes
-delta-nothing old new d (Took (Err take_fault.Memory)) comes nothing = absurd comes
-delta-nothing old new d NoMemory comes nothing = comes
-delta-nothing old new d (Answered answer) comes nothing = absurd comes
-delta-nothing old new d (Cut r) comes nothing = absurd comes
-delta-nothing old new d NoSite comes nothing = absurd comes
-delta-nothing old new d NoEntry comes nothing = absurd comes
+delta_nothing : (old new : SiteState) (d : DeltaState) (o : Outcome) → ComesOfDelta old d o new → changes_nothing o ≡ true → replica.IsUnchanged old new
+delta_nothing old new d (Took (Ok u)) comes nothing = absurd (true≢false (sym nothing))
+delta_nothing old new d (Took (Err take_fault.CellsFull)) comes nothing = comes.2
+delta_nothing old new d (Took (Err take_fault.RunsFull)) (joins, few, many, same) nothing = same
+delta_nothing old new d (Took (Err take_fault.NoSuchQueue)) comes nothing = absurd comes
+delta_nothing old new d (Took (Err take_fault.NotMine)) comes nothing = absurd comes
+delta_nothing old new d (Took (Err take_fault.Conflict)) comes nothing = absurd comes
+delta_nothing old new d (Took (Err take_fault.Memory)) comes nothing = absurd comes
+delta_nothing old new d NoMemory comes nothing = comes
+delta_nothing old new d (Answered answer) comes nothing = absurd comes
+delta_nothing old new d (Cut r) comes nothing = absurd comes
+delta_nothing old new d NoSite comes nothing = absurd comes
+delta_nothing old new d NoEntry comes nothing = absurd comes
 
-entry-nothing : (found : Option Frame) (old new : SiteState) (o : Outcome) → ComesOfEntry found old o new → changes_nothing o ≡ true → replica.IsUnchanged old new
-entry-nothing None old new o comes nothing = equal-unchanged old new comes.1
-entry-nothing (Some frame) old new o comes nothing = delta-nothing old new comes.0 o comes.2 nothing
+entry_nothing : (found : Option Frame) (old new : SiteState) (o : Outcome) → ComesOfEntry found old o new → changes_nothing o ≡ true → replica.IsUnchanged old new
+entry_nothing None old new o comes nothing = equal_unchanged old new comes.1
+entry_nothing (Some frame) old new o comes nothing = delta_nothing old new comes.0 o comes.2 nothing
 
 -- what tells so of an event leaves the site, and adds nothing
-at-nothing : (pool : List Frame) (old new : SiteState) (e : Event) (o : Outcome) (added : List Frame) → ComesAt pool old e o new added → changes_nothing o ≡ true
+at_nothing : (pool : List Frame) (old new : SiteState) (e : Event) (o : Outcome) (added : List Frame) → ComesAt pool old e o new added → changes_nothing o ≡ true
     → replica.IsUnchanged old new × (added ≡ [])
-at-nothing pool old new (event.Ask site asked) o added comes nothing = (ask-nothing old new asked o comes.0 nothing, comes.1)
-at-nothing pool old new (event.Cut site) o added comes nothing = let is = cut-nothing (length pool) old new o added comes nothing in (equal-unchanged old new is.0, is.1)
-at-nothing pool old new (event.Whole site) o added comes nothing = let is = whole-nothing (length pool) old new o added comes nothing in (equal-unchanged old new is.0, is.1)
-at-nothing pool old new (event.Take site place) o added comes nothing = (entry-nothing (slice_get pool place) old new o comes.0 nothing, comes.1)
+at_nothing pool old new (event.Ask site asked) o added comes nothing = (ask_nothing old new asked o comes.0 nothing, comes.1)
+at_nothing pool old new (event.Cut site) o added comes nothing = let is = cut_nothing (length pool) old new o added comes nothing in (equal_unchanged old new is.0, is.1)
+at_nothing pool old new (event.Whole site) o added comes nothing = let is = whole_nothing (length pool) old new o added comes nothing in (equal_unchanged old new is.0, is.1)
+at_nothing pool old new (event.Take site place) o added comes nothing = (entry_nothing (slice_get pool place) old new o comes.0 nothing, comes.1)
 
 -- ---- worlds
 
 -- a world is as it is
-unchanged-itself : (w : WorldState) → IsUnchanged w w
-unchanged-itself w = record { names = refl; sites = sites-unchanged w.sites; pool = refl }
+unchanged_itself : (w : WorldState) → IsUnchanged w w
+unchanged_itself w = record { names = refl; sites = sites_unchanged w.sites; pool = refl }
 
 -- an event that tells so leaves what is said
-leads-nothing : (from to : WorldState) (e : Event) (o : Outcome) → Leads from e o to → changes_nothing o ≡ true → IsUnchanged from to
-leads-nothing from to e o leads nothing = by (slice_get from.sites (site_of e)) refl leads
+leads_nothing : (from to : WorldState) (e : Event) (o : Outcome) → Leads from e o to → changes_nothing o ≡ true → IsUnchanged from to
+leads_nothing from to e o leads nothing = by (slice_get from.sites (site_of e)) refl leads
   where
     by : (found : Option SiteState) → slice_get from.sites (site_of e) ≡ found → LeadsWhere from e o to found → IsUnchanged from to
-    by None here nowhere = subst (IsUnchanged from) (sym nowhere.1) (unchanged-itself from)
+    by None here nowhere = subst (IsUnchanged from) (sym nowhere.1) (unchanged_itself from)
     by (Some old) here at =
-        let is = at-nothing from.pool old at.new e o at.comes.added at.comes.comes nothing in
+        let is = at_nothing from.pool old at.new e o at.comes.added at.comes.comes nothing in
         record {
           names = at.names;
-          sites = subst (Correspond (λ site. replica.IsUnchanged) from.sites) (sym at.sites) (site-unchanged from.sites (site_of e) old at.new here is.0);
+          sites = subst (Correspond (λ site. replica.IsUnchanged) from.sites) (sym at.sites) (site_unchanged from.sites (site_of e) old at.new here is.0);
           pool = at.comes.is ∙ ap (λ added. from.pool ++ added) is.1 ∙ append-nil from.pool;
         }
 
 -- what is unchanged of what is unchanged is
-delta-through : (x y z : DeltaState) → deltas.IsUnchanged x y → deltas.IsUnchanged y z → deltas.IsUnchanged x z
-delta-through x y z one two = record {
+delta_through : (x y z : DeltaState) → deltas.IsUnchanged x y → deltas.IsUnchanged y z → deltas.IsUnchanged x z
+delta_through x y z one two = record {
   members = record {
     known = two.members.known ∙ one.members.known;
     live = two.members.live ∙ one.members.live;
@@ -124,33 +124,33 @@ delta-through x y z one two = record {
   totals = two.totals ∙ one.totals;
 }
 
-site-through : (s t u : SiteState) → replica.IsUnchanged s t → replica.IsUnchanged t u → replica.IsUnchanged s u
-site-through s t u one two = record {
+site_through : (s t u : SiteState) → replica.IsUnchanged s t → replica.IsUnchanged t u → replica.IsUnchanged s u
+site_through s t u one two = record {
   site = two.site ∙ one.site;
   names = two.names ∙ one.names;
-  state = delta-through s.state t.state u.state one.state two.state;
-  pending = delta-through s.pending t.pending u.pending one.pending two.pending;
+  state = delta_through s.state t.state u.state one.state two.state;
+  pending = delta_through s.pending t.pending u.pending one.pending two.pending;
   last_count = two.last_count ∙ one.last_count;
   last_time = two.last_time ∙ one.last_time;
   frames = two.frames ∙ one.frames;
 }
 
-world-through : (w mid to : WorldState) → IsUnchanged w mid → IsUnchanged mid to → IsUnchanged w to
-world-through w mid to one two = record {
+world_through : (w mid to : WorldState) → IsUnchanged w mid → IsUnchanged mid to → IsUnchanged w to
+world_through w mid to one two = record {
   names = two.names ∙ one.names;
   sites = record {
     lengths = one.sites.lengths ∙ two.sites.lengths;
     each = λ site old new here there.
-        let between = correspond-get (λ site. replica.IsUnchanged) w.sites mid.sites one.sites site old here in
-        site-through old between.0 new between.2 (two.sites.each site between.0 new between.1 there);
+        let between = correspond_get (λ site. replica.IsUnchanged) w.sites mid.sites one.sites site old here in
+        site_through old between.0 new between.2 (two.sites.each site between.0 new between.1 there);
   };
   pool = two.pool ∙ one.pool;
 }
 
 -- events that tell so leave what is said
-pub all-nothing : (from to : WorldState) (events : List Event) (outcomes : List Outcome) → LeadAll from events outcomes to → AllByRecursion (λ o. changes_nothing o ≡ true) outcomes
+pub all_nothing : (from to : WorldState) (events : List Event) (outcomes : List Outcome) → LeadAll from events outcomes to → AllByRecursion (λ o. changes_nothing o ≡ true) outcomes
     → IsUnchanged from to
-all-nothing from to [] [] all nothing = subst (IsUnchanged from) (sym all) (unchanged-itself from)
-all-nothing from to [] (o ∷ os) all nothing = absurd all
-all-nothing from to (e ∷ es) [] all nothing = absurd all
-all-nothing from to (e ∷ es) (o ∷ os) (mid, first, rest) nothing = world-through from mid to (leads-nothing from mid e o first nothing.0) (all-nothing mid to es os rest nothing.1)
+all_nothing from to [] [] all nothing = subst (IsUnchanged from) (sym all) (unchanged_itself from)
+all_nothing from to [] (o ∷ os) all nothing = absurd all
+all_nothing from to (e ∷ es) [] all nothing = absurd all
+all_nothing from to (e ∷ es) (o ∷ os) (mid, first, rest) nothing = world_through from mid to (leads_nothing from mid e o first nothing.0) (all_nothing mid to es os rest nothing.1)

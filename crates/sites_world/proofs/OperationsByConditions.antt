@@ -24,7 +24,7 @@ use Rattle.replica.specs.Standing.{StandsFor, result_of}
 use Rattle.replica.specs.Steps as steps
 use Rattle.replica.specs.Steps.{SiteKnowledge, step}
 use Rattle.replica.specs.Taking.{HasNoneLater}
-use Rattle.replica.proofs.StandingSites.{unchanged-stands}
+use Rattle.replica.proofs.StandingSites.{unchanged_stands}
 use Rattle.status_report.specs.declared.asks.Ask.{Ask}
 use Rattle.status_report.specs.declared.asks.Ask.TheVariants.{Command as asked_command, Status}
 use Rattle.status_report.specs.declared.asks.Answer.TheVariants.{Report}
@@ -41,13 +41,13 @@ use Rattle.sites_world.specs.Telling.{HasEntry, HasHappenedAt, IsAnsweredSo, IsF
 use Rattle.sites_world.specs.WithinLimits.{HasValuesWithinLimits}
 use Rattle.sites_world.specs.Worlds.{Entry, Happening, IsReached, World, answered, done_of, happens, happens_at, is_done, is_there, outcomes_of, run, site_of, take_told, taken}
 use Rattle.sites_world.specs.WorldStates.{Correspond, HasHappened, HaveHappened, IsFrameOf, IsWorld, StandsForWorld, WorldState, are_there}
-use Rattle.sites_world.proofs.GrowingStates.{at-grows, lead-all-grows, leads-grow}
-use Rattle.sites_world.proofs.Happenings.{asked-happened, at-site-happened, framed-happened, may-take-all, missing-happened, no-site-happened, none-happened, reached-more, taken-found, taken-happened}
-use Rattle.sites_world.proofs.KeptWorlds.{world-after-event}
-use Rattle.sites_world.proofs.Lists.{at-least, correspond-get, correspond-none-get, some-within}
-use Rattle.sites_world.proofs.MayTake.{may-take}
-use Rattle.sites_world.proofs.SteppedHistories.{reached-history}
-use Rattle.sites_world.proofs.ToldAnswers.{told-frame}
+use Rattle.sites_world.proofs.GrowingStates.{at_grows, lead_all_grows, leads_grow}
+use Rattle.sites_world.proofs.Happenings.{asked_happened, at_site_happened, framed_happened, may_take_all, missing_happened, no_site_happened, none_happened, reached_more, taken_found, taken_happened}
+use Rattle.sites_world.proofs.KeptWorlds.{world_after_event}
+use Rattle.sites_world.proofs.Lists.{at_least, correspond_get, correspond_none_get, some_within}
+use Rattle.sites_world.proofs.MayTake.{may_take}
+use Rattle.sites_world.proofs.SteppedHistories.{reached_history}
+use Rattle.sites_world.proofs.ToldAnswers.{told_frame}
 
 -- the laws of one site of which the others follow: what is done at a replica is the step of the site that it stands for, be it done or refused, and its report is the
 -- status text of what that knows
@@ -71,12 +71,12 @@ pub record StandForSteps : Type 0 where
       → MOST_RUNS < runs_joined state.state.members d.members → step state.site state.names s (steps.Take k) ≡ (s, steps.RunsFull)
 
 -- a pool that gets nothing is as it was
-same-pool : (pool added : List Frame) → added ≡ [] → pool ++ added ≡ pool
-same-pool pool added none = ap (λ frames. pool ++ frames) none ∙ append-nil pool
+same_pool : (pool added : List Frame) → added ≡ [] → pool ++ added ≡ pool
+same_pool pool added none = ap (λ frames. pool ++ frames) none ∙ append-nil pool
 
 -- a site's next frame of what may be taken is within the ranges of the format, while a number is left
-next-in-ranges : (old : SiteState) (k : Knowledge) (frame : Frame) → AreQueues old.names → old.frames < MOST_COUNT → IsNextOf old frame → MayBeTaken old k → IsDeltaOf frame.delta k → IsInRanges frame
-next-in-ranges old k frame queues left next may says = record {
+next_in_ranges : (old : SiteState) (k : Knowledge) (frame : Frame) → AreQueues old.names → old.frames < MOST_COUNT → IsNextOf old frame → MayBeTaken old k → IsDeltaOf frame.delta k → IsInRanges frame
+next_in_ranges old k frame queues left next may says = record {
   number = let is = next.number in (omega (arith, is), omega (arith, is, left));
   queues = λ dot held live. at held.0.queue (λ past. may.queues frame.delta says (inl (record { dot = dot; held = held; live = live; strange = past })));
 }
@@ -91,129 +91,129 @@ module _ (laws : StandForSteps) where
   -- ---- at one site
 
   -- what comes of an ask is answered so
-  ask-told : (old new : SiteState) (s : SiteKnowledge) (asked : Ask) (o : Outcome) → StandsFor old s → ComesOfAsk old asked o new → IsAnsweredSo new s (answer_in old.site old.names s asked) o
-  ask-told old new s (asked_command command) (Answered answer) stands (result, is, follows) =
+  ask_told : (old new : SiteState) (s : SiteKnowledge) (asked : Ask) (o : Outcome) → StandsFor old s → ComesOfAsk old asked o new → IsAnsweredSo new s (answer_in old.site old.names s asked) o
+  ask_told old new s (asked_command command) (Answered answer) stands (result, is, follows) =
       let after = laws.command old new s (change_of command) result stands follows in inl (ap Answered (is ∙ ap answer_of after.1), after.0)
-  ask-told old new s (asked_command command) NoMemory stands comes = inr (refl, unchanged-stands old new s stands comes.0)
-  ask-told old new s (asked_command command) (Cut r) stands comes = absurd comes
-  ask-told old new s (asked_command command) (Took r) stands comes = absurd comes
-  ask-told old new s (asked_command command) NoSite stands comes = absurd comes
-  ask-told old new s (asked_command command) NoEntry stands comes = absurd comes
-  ask-told old new s (Status request) (Answered answer) stands (is, same) =
+  ask_told old new s (asked_command command) NoMemory stands comes = inr (refl, unchanged_stands old new s stands comes.0)
+  ask_told old new s (asked_command command) (Cut r) stands comes = absurd comes
+  ask_told old new s (asked_command command) (Took r) stands comes = absurd comes
+  ask_told old new s (asked_command command) NoSite stands comes = absurd comes
+  ask_told old new s (asked_command command) NoEntry stands comes = absurd comes
+  ask_told old new s (Status request) (Answered answer) stands (is, same) =
       inl (ap Answered (is ∙ ap Report (laws.report old s request stands)), subst (λ (t : SiteState). StandsFor t s) (sym same) stands)
-  ask-told old new s (Status request) NoMemory stands comes = inr (refl, unchanged-stands old new s stands comes)
-  ask-told old new s (Status request) (Cut r) stands comes = absurd comes
-  ask-told old new s (Status request) (Took r) stands comes = absurd comes
-  ask-told old new s (Status request) NoSite stands comes = absurd comes
-  ask-told old new s (Status request) NoEntry stands comes = absurd comes
+  ask_told old new s (Status request) NoMemory stands comes = inr (refl, unchanged_stands old new s stands comes)
+  ask_told old new s (Status request) (Cut r) stands comes = absurd comes
+  ask_told old new s (Status request) (Took r) stands comes = absurd comes
+  ask_told old new s (Status request) NoSite stands comes = absurd comes
+  ask_told old new s (Status request) NoEntry stands comes = absurd comes
 
   module _ (old new : SiteState) (s : SiteKnowledge) (pool added : List Frame) (stands : StandsFor old s) (queues : AreQueues old.names) where
     -- where nothing is changed the site stands for what it stood for
-    stands-still : new ≡ old → StandsFor new s
-    stands-still same = subst (λ (t : SiteState). StandsFor t s) (sym same) stands
+    stands_still : new ≡ old → StandsFor new s
+    stands_still same = subst (λ (t : SiteState). StandsFor t s) (sym same) stands
 
     -- and no frame was made
-    framed-nothing : (after : SiteKnowledge × steps.Outcome) → after ≡ (s, steps.Nothing) → new ≡ old → added ≡ [] → IsFramedSo new s pool (pool ++ added) after (Cut (Ok None))
-    framed-nothing after is same none =
-        subst (λ x. IsFramedSo new s pool (pool ++ added) x (Cut (Ok None))) (sym is) (inl (refl, stands-still same, same-pool pool added none))
+    framed_nothing : (after : SiteKnowledge × steps.Outcome) → after ≡ (s, steps.Nothing) → new ≡ old → added ≡ [] → IsFramedSo new s pool (pool ++ added) after (Cut (Ok None))
+    framed_nothing after is same none =
+        subst (λ x. IsFramedSo new s pool (pool ++ added) x (Cut (Ok None))) (sym is) (inl (refl, stands_still same, same_pool pool added none))
 
-    framed-exhausted : (after : SiteKnowledge × steps.Outcome) → after ≡ (s, steps.NoNumber) → new ≡ old → added ≡ [] → IsFramedSo new s pool (pool ++ added) after (Cut (Err Exhausted))
-    framed-exhausted after is same none =
-        subst (λ x. IsFramedSo new s pool (pool ++ added) x (Cut (Err Exhausted))) (sym is) (inl (refl, stands-still same, same-pool pool added none))
+    framed_exhausted : (after : SiteKnowledge × steps.Outcome) → after ≡ (s, steps.NoNumber) → new ≡ old → added ≡ [] → IsFramedSo new s pool (pool ++ added) after (Cut (Err Exhausted))
+    framed_exhausted after is same none =
+        subst (λ x. IsFramedSo new s pool (pool ++ added) x (Cut (Err Exhausted))) (sym is) (inl (refl, stands_still same, same_pool pool added none))
 
     -- what comes of a cut is told so
-    cut-told : (o : Outcome) → MayBeTaken old s.buffer → ComesOfCut (length pool) old o new added → IsFramedSo new s pool (pool ++ added) (step old.site old.names s steps.Cut) o
-    cut-told (Cut (Ok None)) may (empty, same, none) = framed-nothing (step old.site old.names s steps.Cut) (laws.nothing old s stands empty) same none
-    cut-told (Cut (Ok (Some place))) may (at, frame, is, deed) =
+    cut_told : (o : Outcome) → MayBeTaken old s.buffer → ComesOfCut (length pool) old o new added → IsFramedSo new s pool (pool ++ added) (step old.site old.names s steps.Cut) o
+    cut_told (Cut (Ok None)) may (empty, same, none) = framed_nothing (step old.site old.names s steps.Cut) (laws.nothing old s stands empty) same none
+    cut_told (Cut (Ok (Some place))) may (at, frame, is, deed) =
         let after = laws.cut old new frame s stands deed in
         let says = subst (λ d. IsDeltaOf d s.buffer) (sym deed.made.delta) stands.buffer in
         subst (λ n. IsFramedSo new s pool (pool ++ added) (step old.site old.names s steps.Cut) (Cut (Ok (Some n)))) (sym at)
-        (told-frame new s pool (pool ++ added) (step old.site old.names s steps.Cut) frame after.0 after.1 (deed.made.heading.maker ∙ sym deed.made.site)
-        (next-in-ranges old s.buffer frame queues deed.left deed.made.heading may says) (ap (λ frames. pool ++ frames) is))
-    cut-told (Cut (Err fault)) may (is, some, most, same, none) =
-        subst (λ f. IsFramedSo new s pool (pool ++ added) (step old.site old.names s steps.Cut) (Cut (Err f))) (sym is) (framed-exhausted (step old.site old.names s steps.Cut) (laws.no_cut old s stands some most) same none)
-    cut-told NoMemory may (same, none) = inr (refl, stands-still same, same-pool pool added none)
-    cut-told (Answered answer) may comes = absurd comes
-    cut-told (Took r) may comes = absurd comes
-    cut-told NoSite may comes = absurd comes
-    cut-told NoEntry may comes = absurd comes
+        (told_frame new s pool (pool ++ added) (step old.site old.names s steps.Cut) frame after.0 after.1 (deed.made.heading.maker ∙ sym deed.made.site)
+        (next_in_ranges old s.buffer frame queues deed.left deed.made.heading may says) (ap (λ frames. pool ++ frames) is))
+    cut_told (Cut (Err fault)) may (is, some, most, same, none) =
+        subst (λ f. IsFramedSo new s pool (pool ++ added) (step old.site old.names s steps.Cut) (Cut (Err f))) (sym is) (framed_exhausted (step old.site old.names s steps.Cut) (laws.no_cut old s stands some most) same none)
+    cut_told NoMemory may (same, none) = inr (refl, stands_still same, same_pool pool added none)
+    cut_told (Answered answer) may comes = absurd comes
+    cut_told (Took r) may comes = absurd comes
+    cut_told NoSite may comes = absurd comes
+    cut_told NoEntry may comes = absurd comes
 
     -- and of a frame of all
-    whole-told : (o : Outcome) → MayBeTaken old s.known → ComesOfWhole (length pool) old o new added → IsFramedSo new s pool (pool ++ added) (step old.site old.names s steps.Whole) o
-    whole-told (Cut (Ok None)) may comes = absurd comes
-    whole-told (Cut (Ok (Some place))) may (at, frame, is, deed) =
+    whole_told : (o : Outcome) → MayBeTaken old s.known → ComesOfWhole (length pool) old o new added → IsFramedSo new s pool (pool ++ added) (step old.site old.names s steps.Whole) o
+    whole_told (Cut (Ok None)) may comes = absurd comes
+    whole_told (Cut (Ok (Some place))) may (at, frame, is, deed) =
         let after = laws.whole old new frame s stands deed in
         let says = same_stands old.state frame.delta s.known deed.made.delta stands.known in
         subst (λ n. IsFramedSo new s pool (pool ++ added) (step old.site old.names s steps.Whole) (Cut (Ok (Some n)))) (sym at)
-        (told-frame new s pool (pool ++ added) (step old.site old.names s steps.Whole) frame after.0 after.1 (deed.made.heading.maker ∙ sym deed.made.site)
-        (next-in-ranges old s.known frame queues deed.left deed.made.heading may says) (ap (λ frames. pool ++ frames) is))
-    whole-told (Cut (Err fault)) may (is, most, same, none) =
-        subst (λ f. IsFramedSo new s pool (pool ++ added) (step old.site old.names s steps.Whole) (Cut (Err f))) (sym is) (framed-exhausted (step old.site old.names s steps.Whole) (laws.no_whole old s stands most) same none)
-    whole-told NoMemory may (same, none) = inr (refl, stands-still same, same-pool pool added none)
-    whole-told (Answered answer) may comes = absurd comes
-    whole-told (Took r) may comes = absurd comes
-    whole-told NoSite may comes = absurd comes
-    whole-told NoEntry may comes = absurd comes
+        (told_frame new s pool (pool ++ added) (step old.site old.names s steps.Whole) frame after.0 after.1 (deed.made.heading.maker ∙ sym deed.made.site)
+        (next_in_ranges old s.known frame queues deed.left deed.made.heading may says) (ap (λ frames. pool ++ frames) is))
+    whole_told (Cut (Err fault)) may (is, most, same, none) =
+        subst (λ f. IsFramedSo new s pool (pool ++ added) (step old.site old.names s steps.Whole) (Cut (Err f))) (sym is) (framed_exhausted (step old.site old.names s steps.Whole) (laws.no_whole old s stands most) same none)
+    whole_told NoMemory may (same, none) = inr (refl, stands_still same, same_pool pool added none)
+    whole_told (Answered answer) may comes = absurd comes
+    whole_told (Took r) may comes = absurd comes
+    whole_told NoSite may comes = absurd comes
+    whole_told NoEntry may comes = absurd comes
 
   -- and of a take
-  delta-told : (old new : SiteState) (s : SiteKnowledge) (d : DeltaState) (k : Knowledge) (o : Outcome) → StandsFor old s → IsDeltaOf d k → MayBeTaken old k → ComesOfDelta old d o new
+  delta_told : (old new : SiteState) (s : SiteKnowledge) (d : DeltaState) (k : Knowledge) (o : Outcome) → StandsFor old s → IsDeltaOf d k → MayBeTaken old k → ComesOfDelta old d o new
       → IsTakenSo new s (steps.take s k) o
-  delta-told old new s d k (Took (Ok u)) stands says may deed =
+  delta_told old new s d k (Took (Ok u)) stands says may deed =
       let after = laws.take old new d s k stands says may.none_later deed in inl (ap (λ x. Took (take_told x)) (sym after.1), after.0)
-  delta-told old new s d k (Took (Err take_fault.CellsFull)) stands says may (joins, many, same) =
-      subst (λ x. IsTakenSo new s x (Took (Err take_fault.CellsFull))) (sym (laws.cells_full old d s k stands says many)) (inl (refl, unchanged-stands old new s stands same))
-  delta-told old new s d k (Took (Err take_fault.RunsFull)) stands says may (joins, few, many, same) =
-      subst (λ x. IsTakenSo new s x (Took (Err take_fault.RunsFull))) (sym (laws.runs_full old d s k stands says few many)) (inl (refl, unchanged-stands old new s stands same))
-  delta-told old new s d k (Took (Err take_fault.NoSuchQueue)) stands says may comes = absurd comes
-  delta-told old new s d k (Took (Err take_fault.NotMine)) stands says may comes = absurd comes
-  delta-told old new s d k (Took (Err take_fault.Conflict)) stands says may comes = absurd comes
-  delta-told old new s d k (Took (Err take_fault.Memory)) stands says may comes = absurd comes
-  delta-told old new s d k NoMemory stands says may comes = inr (refl, unchanged-stands old new s stands comes)
-  delta-told old new s d k (Answered answer) stands says may comes = absurd comes
-  delta-told old new s d k (Cut r) stands says may comes = absurd comes
-  delta-told old new s d k NoSite stands says may comes = absurd comes
-  delta-told old new s d k NoEntry stands says may comes = absurd comes
+  delta_told old new s d k (Took (Err take_fault.CellsFull)) stands says may (joins, many, same) =
+      subst (λ x. IsTakenSo new s x (Took (Err take_fault.CellsFull))) (sym (laws.cells_full old d s k stands says many)) (inl (refl, unchanged_stands old new s stands same))
+  delta_told old new s d k (Took (Err take_fault.RunsFull)) stands says may (joins, few, many, same) =
+      subst (λ x. IsTakenSo new s x (Took (Err take_fault.RunsFull))) (sym (laws.runs_full old d s k stands says few many)) (inl (refl, unchanged_stands old new s stands same))
+  delta_told old new s d k (Took (Err take_fault.NoSuchQueue)) stands says may comes = absurd comes
+  delta_told old new s d k (Took (Err take_fault.NotMine)) stands says may comes = absurd comes
+  delta_told old new s d k (Took (Err take_fault.Conflict)) stands says may comes = absurd comes
+  delta_told old new s d k (Took (Err take_fault.Memory)) stands says may comes = absurd comes
+  delta_told old new s d k NoMemory stands says may comes = inr (refl, unchanged_stands old new s stands comes)
+  delta_told old new s d k (Answered answer) stands says may comes = absurd comes
+  delta_told old new s d k (Cut r) stands says may comes = absurd comes
+  delta_told old new s d k NoSite stands says may comes = absurd comes
+  delta_told old new s d k NoEntry stands says may comes = absurd comes
 
   -- what comes of an event at a site has happened there
   module _ (old new : SiteState) (s : SiteKnowledge) (pool : List Frame) (entries : List Entry) (stands : StandsFor old s) (queues : AreQueues old.names)
       (corresponds : Correspond IsFrameOf pool entries) (may : (place : ℕ) (entry : Entry) → slice_get entries place ≡ Some entry → MayBeTaken old entry.carried)
       (may_known : MayBeTaken old s.known) (may_buffer : MayBeTaken old s.buffer) where
     -- an event that adds no entry
-    nothing-more : (h : Happening) (o : Outcome) (added : List Frame) → added ≡ [] → HasHappenedAt new s pool pool entries h o → HasHappenedAt new s pool (pool ++ added) entries h o
-    nothing-more h o added none = subst (λ grown. HasHappenedAt new s pool grown entries h o) (sym (same-pool pool added none))
+    nothing_more : (h : Happening) (o : Outcome) (added : List Frame) → added ≡ [] → HasHappenedAt new s pool pool entries h o → HasHappenedAt new s pool (pool ++ added) entries h o
+    nothing_more h o added none = subst (λ grown. HasHappenedAt new s pool grown entries h o) (sym (same_pool pool added none))
 
-    entry-told : (place : ℕ) (found : Option Frame) (o : Outcome) → slice_get pool place ≡ found → ComesOfEntry found old o new
+    entry_told : (place : ℕ) (found : Option Frame) (o : Outcome) → slice_get pool place ≡ found → ComesOfEntry found old o new
         → HasHappenedAt new s pool pool entries (taken s (slice_get entries place)) o
-    entry-told place None o here (is, same) =
-        subst (λ found. HasHappenedAt new s pool pool entries (taken s found) o) (sym (correspond-none-get IsFrameOf pool entries corresponds place here))
+    entry_told place None o here (is, same) =
+        subst (λ found. HasHappenedAt new s pool pool entries (taken s found) o) (sym (correspond_none_get IsFrameOf pool entries corresponds place here))
         (subst (λ x. HasHappenedAt new s pool pool entries (taken s None) x) (sym is)
-        (missing-happened new s pool entries corresponds (subst (λ (t : SiteState). StandsFor t s) (sym same) stands)))
-    entry-told place (Some frame) o here (copy, alike, comes) =
-        let found = correspond-get IsFrameOf pool entries corresponds place frame here in
+        (missing_happened new s pool entries corresponds (subst (λ (t : SiteState). StandsFor t s) (sym same) stands)))
+    entry_told place (Some frame) o here (copy, alike, comes) =
+        let found = correspond_get IsFrameOf pool entries corresponds place frame here in
         let says = same_stands frame.delta copy found.0.carried alike found.2.delta in
         subst (λ x. HasHappenedAt new s pool pool entries (taken s x) o) (sym found.1)
-        (taken-happened new s pool entries found.0 o corresponds (delta-told old new s copy found.0.carried o stands says (may place found.0 found.1) comes))
+        (taken_happened new s pool entries found.0 o corresponds (delta_told old new s copy found.0.carried o stands says (may place found.0 found.1) comes))
 
-    at-told : (e : Event) (o : Outcome) (added : List Frame) → old.site ≡ site_of e → ComesAt pool old e o new added
+    at_told : (e : Event) (o : Outcome) (added : List Frame) → old.site ≡ site_of e → ComesAt pool old e o new added
         → HasHappenedAt new s pool (pool ++ added) entries (happens_at old.names entries s e) o
-    at-told (event.Ask site asked) o added at (comes, none) =
-        nothing-more (answered (answer_in site old.names s asked)) o added none
-        (asked-happened new s pool entries (answer_in site old.names s asked) o corresponds
-        (subst (λ n. IsAnsweredSo new s (answer_in n old.names s asked) o) at (ask-told old new s asked o stands comes)))
-    at-told (event.Cut site) o added at comes =
-        framed-happened new s pool (pool ++ added) entries site (steps.cut s s.buffer) o ((at-grows pool old new (event.Cut site) o added comes).site ∙ at) corresponds
-        (cut-told old new s pool added stands queues o may_buffer comes)
-    at-told (event.Whole site) o added at comes =
-        framed-happened new s pool (pool ++ added) entries site (steps.after_frame s s.known s.buffer) o ((at-grows pool old new (event.Whole site) o added comes).site ∙ at) corresponds
-        (whole-told old new s pool added stands queues o may_known comes)
-    at-told (event.Take site place) o added at (comes, none) = nothing-more (taken s (slice_get entries place)) o added none (entry-told place (slice_get pool place) o refl comes)
+    at_told (event.Ask site asked) o added at (comes, none) =
+        nothing_more (answered (answer_in site old.names s asked)) o added none
+        (asked_happened new s pool entries (answer_in site old.names s asked) o corresponds
+        (subst (λ n. IsAnsweredSo new s (answer_in n old.names s asked) o) at (ask_told old new s asked o stands comes)))
+    at_told (event.Cut site) o added at comes =
+        framed_happened new s pool (pool ++ added) entries site (steps.cut s s.buffer) o ((at_grows pool old new (event.Cut site) o added comes).site ∙ at) corresponds
+        (cut_told old new s pool added stands queues o may_buffer comes)
+    at_told (event.Whole site) o added at comes =
+        framed_happened new s pool (pool ++ added) entries site (steps.after_frame s s.known s.buffer) o ((at_grows pool old new (event.Whole site) o added comes).site ∙ at) corresponds
+        (whole_told old new s pool added stands queues o may_known comes)
+    at_told (event.Take site place) o added at (comes, none) = nothing_more (taken s (slice_get entries place)) o added none (entry_told place (slice_get pool place) o refl comes)
 
   -- where memory was wanting for a take there is its entry
-  wanting-entry : (pool : List Frame) (old new : SiteState) (e : Event) (o : Outcome) (added : List Frame) → ComesAt pool old e o new added → o ≡ NoMemory → HasEntry pool e
-  wanting-entry pool old new (event.Ask site asked) o added comes wanting = tt
-  wanting-entry pool old new (event.Cut site) o added comes wanting = tt
-  wanting-entry pool old new (event.Whole site) o added comes wanting = tt
-  wanting-entry pool old new (event.Take site place) o added comes wanting = by (slice_get pool place) refl comes.0
+  wanting_entry : (pool : List Frame) (old new : SiteState) (e : Event) (o : Outcome) (added : List Frame) → ComesAt pool old e o new added → o ≡ NoMemory → HasEntry pool e
+  wanting_entry pool old new (event.Ask site asked) o added comes wanting = tt
+  wanting_entry pool old new (event.Cut site) o added comes wanting = tt
+  wanting_entry pool old new (event.Whole site) o added comes wanting = tt
+  wanting_entry pool old new (event.Take site place) o added comes wanting = by (slice_get pool place) refl comes.0
     where
       no : o ≡ NoEntry → ⊥
       no other = (cc)
@@ -226,38 +226,38 @@ module _ (laws : StandForSteps) where
 
   module _ (from to : WorldState) (w : World) (queues : AreQueues from.names) (reached : IsReached from.names (length from.sites) w) (stands : StandsForWorld from w) where
     -- an event that leads from what stands for a world has happened there
-    pub event-happens : (e : Event) (o : Outcome) → Leads from e o to → HasHappened to w e o
-    event-happens e o leads = by (slice_get from.sites (site_of e)) refl leads
+    pub event_happens : (e : Event) (o : Outcome) → Leads from e o to → HasHappened to w e o
+    event_happens e o leads = by (slice_get from.sites (site_of e)) refl leads
       where
         by : (found : Option SiteState) → slice_get from.sites (site_of e) ≡ found → LeadsWhere from e o to found → HasHappened to w e o
         by None here (is, same) =
             subst (λ (t : WorldState). HasHappened t w e o) (sym same)
             (subst (λ x. HasHappened from w e x) (sym is)
-            (no-site-happened from.names from.sites from.pool w stands e (at-least (site_of e) (length from.sites) (λ within. some-within from.sites (site_of e) within here))))
+            (no_site_happened from.names from.sites from.pool w stands e (at_least (site_of e) (length from.sites) (λ within. some_within from.sites (site_of e) within here))))
         by (Some old) here at =
             let comes = at.comes.comes in
-            let grows = at-grows from.pool old at.new e o at.comes.added comes in
+            let grows = at_grows from.pool old at.new e o at.comes.added comes in
             let there : WorldState = record { names = from.names; sites = slice_set from.sites (site_of e) at.new; pool = from.pool ++ at.comes.added } in
             let same : to ≡ there = λ i. record { names = at.names i; sites = at.sites i; pool = at.comes.is i } in
             subst (λ (t : WorldState). HasHappened t w e o) (sym same)
-            (at-site-happened from.names from.sites from.pool w stands e (site_of e) old at.new (from.pool ++ at.comes.added) o refl here grows.site grows.names
-            (λ wanting. taken-found e from.pool w stands.pool (wanting-entry from.pool old at.new e o at.comes.added comes wanting)) (happened at.new at.comes.added comes))
+            (at_site_happened from.names from.sites from.pool w stands e (site_of e) old at.new (from.pool ++ at.comes.added) o refl here grows.site grows.names
+            (λ wanting. taken_found e from.pool w stands.pool (wanting_entry from.pool old at.new e o at.comes.added comes wanting)) (happened at.new at.comes.added comes))
           where
             happened : (new : SiteState) (added : List Frame) → ComesAt from.pool old e o new added → (s : SiteKnowledge) → slice_get w.sites (site_of e) ≡ Some s
                 → HasHappenedAt new s from.pool (from.pool ++ added) w.pool (happens_at old.names w.pool s e) o
             happened new added comes s known =
-                let has = reached-history from.names (length from.sites) w reached in
+                let has = reached_history from.names (length from.sites) w reached in
                 let of = stands.sites.each (site_of e) old s here known in
                 let own = has.is.sites (site_of e) s known in
                 let there = slice_get_within w.sites (site_of e) s known in
-                let part = may-take from.names (length w.sites) (site_of e) has.made s old in
-                at-told old new s from.pool w.pool of.stands (subst AreQueues (sym of.names_are) queues) stands.pool (may-take-all from.names from.sites from.pool w stands has (site_of e) old s here known)
+                let part = may_take from.names (length w.sites) (site_of e) has.made s old in
+                at_told old new s from.pool w.pool of.stands (subst AreQueues (sym of.names_are) queues) stands.pool (may_take_all from.names from.sites from.pool w stands has (site_of e) old s here known)
                 (part s.known has.is.history own there of own.known) (part s.buffer has.is.history own there of (λ p is. own.known p (own.buffer p is))) e o added of.site comes
 
   -- an event that was done comes before others
-  done-before : (new : WorldState) (w : World) (e : Event) (o : Outcome) (es : List Event) (os : List Outcome) → is_done o ≡ true → (happens new.names w e).1 ≡ o
+  done_before : (new : WorldState) (w : World) (e : Event) (o : Outcome) (es : List Event) (os : List Outcome) → is_done o ≡ true → (happens new.names w e).1 ≡ o
       → HaveHappened new (happens new.names w e).0 es os → HaveHappened new w (e ∷ es) (o ∷ os)
-  done-before new w e o es os done told rest = record {
+  done_before new w e o es os done told rest = record {
     one_each = let same = rest.one_each in omega (arith, same);
     there = ap (λ b. if b then are_there new.names (happens new.names w e).0 es os else is_there w e && are_there new.names w es os) done ∙ rest.there;
     outcomes_are = ap (λ b. if b then o ∷ outcomes_of os else outcomes_of os) done
@@ -267,9 +267,9 @@ module _ (laws : StandForSteps) where
   }
 
   -- and so does one for which memory was wanting
-  wanting-before : (new : WorldState) (w : World) (e : Event) (o : Outcome) (es : List Event) (os : List Outcome) → is_done o ≡ false → is_there w e ≡ true → HaveHappened new w es os
+  wanting_before : (new : WorldState) (w : World) (e : Event) (o : Outcome) (es : List Event) (os : List Outcome) → is_done o ≡ false → is_there w e ≡ true → HaveHappened new w es os
       → HaveHappened new w (e ∷ es) (o ∷ os)
-  wanting-before new w e o es os undone here rest = record {
+  wanting_before new w e o es os undone here rest = record {
     one_each = let same = rest.one_each in omega (arith, same);
     there = ap (λ b. if b then are_there new.names (happens new.names w e).0 es os else is_there w e && are_there new.names w es os) undone ∙ (λ i. here i && rest.there i);
     outcomes_are = ap (λ b. if b then o ∷ outcomes_of os else outcomes_of os) undone
@@ -279,49 +279,49 @@ module _ (laws : StandForSteps) where
   }
 
   -- events that lead from what stands for a world have happened there
-  pub events-happen : (from to : WorldState) (w : World) (es : List Event) (os : List Outcome) → AreQueues from.names → IsReached from.names (length from.sites) w → StandsForWorld from w
+  pub events_happen : (from to : WorldState) (w : World) (es : List Event) (os : List Outcome) → AreQueues from.names → IsReached from.names (length from.sites) w → StandsForWorld from w
       → LeadAll from es os to → HaveHappened to w es os
-  events-happen from to w [] [] queues reached stands all = subst (λ (t : WorldState). HaveHappened t w [] []) (sym all) (none-happened from w [] refl stands)
-  events-happen from to w [] (o ∷ os) queues reached stands all = absurd all
-  events-happen from to w (e ∷ es) [] queues reached stands all = absurd all
-  events-happen from to w (e ∷ es) (o ∷ os) queues reached stands (mid, first, rest) =
-      by (λ v there standing. events-happen mid to v es os (subst AreQueues (sym kept) queues) (reached-there v there) standing rest)
-      (event-happens from mid w queues reached stands e o first)
+  events_happen from to w [] [] queues reached stands all = subst (λ (t : WorldState). HaveHappened t w [] []) (sym all) (none_happened from w [] refl stands)
+  events_happen from to w [] (o ∷ os) queues reached stands all = absurd all
+  events_happen from to w (e ∷ es) [] queues reached stands all = absurd all
+  events_happen from to w (e ∷ es) (o ∷ os) queues reached stands (mid, first, rest) =
+      by (λ v there standing. events_happen mid to v es os (subst AreQueues (sym kept) queues) (reached_there v there) standing rest)
+      (event_happens from mid w queues reached stands e o first)
     where
       kept : mid.names ≡ from.names
-      kept = (leads-grow from mid e o first).names
+      kept = (leads_grow from mid e o first).names
 
       after : to.names ≡ mid.names
-      after = (lead-all-grows mid to es os rest).names
+      after = (lead_all_grows mid to es os rest).names
 
-      reached-there : (v : World) → IsReached from.names (length from.sites) v → IsReached mid.names (length mid.sites) v
-      reached-there v there =
-          subst (λ names. IsReached names (length mid.sites) v) (sym kept) (subst (λ n. IsReached from.names n v) (leads-grow from mid e o first).sites.lengths there)
+      reached_there : (v : World) → IsReached from.names (length from.sites) v → IsReached mid.names (length mid.sites) v
+      reached_there v there =
+          subst (λ names. IsReached names (length mid.sites) v) (sym kept) (subst (λ n. IsReached from.names n v) (leads_grow from mid e o first).sites.lengths there)
 
       by : ((v : World) → IsReached from.names (length from.sites) v → StandsForWorld mid v → HaveHappened to v es os) → HasHappened mid w e o → HaveHappened to w (e ∷ es) (o ∷ os)
       by others (inl (done, told, standing)) =
-          let next = reached-more from.names (length from.sites) w (e ∷ []) reached in
-          done-before to w e o es os done (subst (λ names. (happens names w e).1 ≡ o) (sym after) told)
+          let next = reached_more from.names (length from.sites) w (e ∷ []) reached in
+          done_before to w e o es os done (subst (λ names. (happens names w e).1 ≡ o) (sym after) told)
           (subst (λ names. HaveHappened to (happens names w e).0 es os) (sym (after ∙ kept))
           (others (happens from.names w e).0 next (subst (λ names. StandsForWorld mid (happens names w e).0) kept standing)))
-      by others (inr (is, here, standing)) = wanting-before to w e o es os (ap is_done is) here (others w reached standing)
+      by others (inr (is, here, standing)) = wanting_before to w e o es os (ap is_done is) here (others w reached standing)
 
   -- so an event of values within their limits leads on to what stands for a world that events lead to
-  pub world-leads : (from to : WorldState) (e : Event) (o : Outcome) → IsWorld from → HasValuesWithinLimits e → Leads from e o to → IsWorld to
-  world-leads from to e o is values leads =
-      let grows = leads-grow from to e o leads in
+  pub world_leads : (from to : WorldState) (e : Event) (o : Outcome) → IsWorld from → HasValuesWithinLimits e → Leads from e o to → IsWorld to
+  world_leads from to e o is values leads =
+      let grows = leads_grow from to e o leads in
       let there : WorldState = record { names = from.names; sites = to.sites; pool = to.pool } in
       let same : to ≡ there = λ i. record { names = grows.names i; sites = to.sites; pool = to.pool } in
       subst IsWorld (sym same)
-      (world-after-event from.names from.sites to.sites from.pool to.pool e o is (sym grows.sites.lengths) values
-      (λ w reached stands. event-happens from there w is.queues reached stands e o (subst (Leads from e o) same leads)))
+      (world_after_event from.names from.sites to.sites from.pool to.pool e o is (sym grows.sites.lengths) values
+      (λ w reached stands. event_happens from there w is.queues reached stands e o (subst (Leads from e o) same leads)))
 
   -- and so do events in turn
-  worlds-lead-by : (from to : WorldState) (es : List Event) (os : List Outcome) → IsWorld from → AllByRecursion HasValuesWithinLimits es → LeadAll from es os to → IsWorld to
-  worlds-lead-by from to [] [] is values all = subst IsWorld (sym all) is
-  worlds-lead-by from to [] (o ∷ os) is values all = absurd all
-  worlds-lead-by from to (e ∷ es) [] is values all = absurd all
-  worlds-lead-by from to (e ∷ es) (o ∷ os) is values (mid, first, rest) = worlds-lead-by mid to es os (world-leads from mid e o is values.0 first) values.1 rest
+  worlds_lead_by : (from to : WorldState) (es : List Event) (os : List Outcome) → IsWorld from → AllByRecursion HasValuesWithinLimits es → LeadAll from es os to → IsWorld to
+  worlds_lead_by from to [] [] is values all = subst IsWorld (sym all) is
+  worlds_lead_by from to [] (o ∷ os) is values all = absurd all
+  worlds_lead_by from to (e ∷ es) [] is values all = absurd all
+  worlds_lead_by from to (e ∷ es) (o ∷ os) is values (mid, first, rest) = worlds_lead_by mid to es os (world_leads from mid e o is values.0 first) values.1 rest
 
-  pub worlds-lead : (from to : WorldState) (es : List Event) (os : List Outcome) → IsWorld from → All HasValuesWithinLimits es → LeadAll from es os to → IsWorld to
-  worlds-lead from to es os is values = worlds-lead-by from to es os is (recursion_from_All HasValuesWithinLimits es values)
+  pub worlds_lead : (from to : WorldState) (es : List Event) (os : List Outcome) → IsWorld from → All HasValuesWithinLimits es → LeadAll from es os to → IsWorld to
+  worlds_lead from to es os is values = worlds_lead_by from to es os is (recursion_from_All HasValuesWithinLimits es values)

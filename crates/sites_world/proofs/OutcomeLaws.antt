@@ -29,7 +29,7 @@ use Rattle.sites_world.specs.declared.outcome.Outcome.TheVariants as outcome
 use Rattle.sites_world.specs.Outcomes.{IsAnswerTo, IsOutcomeOf, IsToldRefusal, changes_nothing}
 use Rattle.sites_world.specs.Worlds.{Entry, Happening, World, answered, framed, happens, happens_at, happens_where, has_entry, is_done, run, site_of, take_told, taken}
 use Rattle.sites_world.specs.Promises.{HaveOutcomes, TellNoEntry, TellNoSite}
-use Rattle.sites_world.proofs.Lists.{none-some, set-again}
+use Rattle.sites_world.proofs.Lists.{none_some, set_again}
 
 -- ---- which outcomes
 
@@ -42,8 +42,8 @@ IsTold (Makes o) = ⊤
 abbrev pub by_limits : Operation → Bool → Bool → Bool → Meaning
 by_limits o full exhausted past = if full then refused_meaning refusal.MembersFull else if exhausted then refused_meaning refusal.Exhausted else if past then refused_meaning refusal.TotalFull else Makes o
 
-limits-told : (r buffer : SiteView) (o : Operation) → IsTold (within_limits r buffer o)
-limits-told r buffer o = by (is_full r o || (is_full buffer o || is_too_long o)) (is_exhausted o) (is_past_total o)
+limits_told : (r buffer : SiteView) (o : Operation) → IsTold (within_limits r buffer o)
+limits_told r buffer o = by (is_full r o || (is_full buffer o || is_too_long o)) (is_exhausted o) (is_past_total o)
   where
     by : (a b c : Bool) → IsTold (by_limits o a b c)
     by true b c = tt
@@ -51,32 +51,32 @@ limits-told r buffer o = by (is_full r o || (is_full buffer o || is_too_long o))
     by false false true = tt
     by false false false = tt
 
-queue-told : (found : Option ℕ) (go : ℕ → Meaning) → ((queue : ℕ) → IsTold (go queue)) → IsTold (in_queue found go)
-queue-told None go all = tt
-queue-told (Some queue) go all = all queue
+queue_told : (found : Option ℕ) (go : ℕ → Meaning) → ((queue : ℕ) → IsTold (go queue)) → IsTold (in_queue found go)
+queue_told None go all = tt
+queue_told (Some queue) go all = all queue
 
-absent-told : (dots : List (Dot × Member)) (made : Meaning) → IsTold made → IsTold (where_absent dots made)
-absent-told [] made told = told
-absent-told (d ∷ ds) made told = tt
+absent_told : (dots : List (Dot × Member)) (made : Meaning) → IsTold made → IsTold (where_absent dots made)
+absent_told [] made told = told
+absent_told (d ∷ ds) made told = tt
 
-present-told : (dots : List (Dot × Member)) (made : Meaning) → IsTold made → IsTold (where_present dots made)
-present-told [] made told = tt
-present-told (d ∷ ds) made told = told
+present_told : (dots : List (Dot × Member)) (made : Meaning) → IsTold made → IsTold (where_present dots made)
+present_told [] made told = tt
+present_told (d ∷ ds) made told = told
 
-meaning-told : (site : ℕ) (names : List (List ℕ)) (r buffer : SiteView) (change : Change) → IsTold (meaning site names r buffer change)
-meaning-told site names r buffer (AddMember queue interface penalty paused label) =
-    queue-told (number_of names queue) (λ q. where_absent (dots_seen r.dots (Some q) interface) (within_limits r buffer (add_at site r (record { queue = q; interface = interface }) penalty paused label)))
-    (λ q. absent-told (dots_seen r.dots (Some q) interface) _ (limits-told r buffer (add_at site r (record { queue = q; interface = interface }) penalty paused label)))
-meaning-told site names r buffer (RemoveMember queue interface) =
-    queue-told (number_of names queue) (λ q. where_present (dots_seen r.dots (Some q) interface) (within_limits r buffer (remove_of (dots_seen r.dots (Some q) interface))))
-    (λ q. present-told (dots_seen r.dots (Some q) interface) _ (limits-told r buffer (remove_of (dots_seen r.dots (Some q) interface))))
-meaning-told site names r buffer (SetField None interface setting) =
-    present-told (dots_seen r.dots None interface) _ (limits-told r buffer (write_at site r setting (dots_seen r.dots None interface)))
-meaning-told site names r buffer (SetField (Some queue) interface setting) =
-    queue-told (number_of names queue) (λ q. meaning_of_setting site r buffer setting (dots_seen r.dots (Some q) interface))
-    (λ q. present-told (dots_seen r.dots (Some q) interface) _ (limits-told r buffer (write_at site r setting (dots_seen r.dots (Some q) interface))))
-meaning-told site names r buffer (CountCall queue calls) =
-    queue-told (number_of names queue) (λ q. within_limits r buffer (count_at site r q calls)) (λ q. limits-told r buffer (count_at site r q calls))
+meaning_told : (site : ℕ) (names : List (List ℕ)) (r buffer : SiteView) (change : Change) → IsTold (meaning site names r buffer change)
+meaning_told site names r buffer (AddMember queue interface penalty paused label) =
+    queue_told (number_of names queue) (λ q. where_absent (dots_seen r.dots (Some q) interface) (within_limits r buffer (add_at site r (record { queue = q; interface = interface }) penalty paused label)))
+    (λ q. absent_told (dots_seen r.dots (Some q) interface) _ (limits_told r buffer (add_at site r (record { queue = q; interface = interface }) penalty paused label)))
+meaning_told site names r buffer (RemoveMember queue interface) =
+    queue_told (number_of names queue) (λ q. where_present (dots_seen r.dots (Some q) interface) (within_limits r buffer (remove_of (dots_seen r.dots (Some q) interface))))
+    (λ q. present_told (dots_seen r.dots (Some q) interface) _ (limits_told r buffer (remove_of (dots_seen r.dots (Some q) interface))))
+meaning_told site names r buffer (SetField None interface setting) =
+    present_told (dots_seen r.dots None interface) _ (limits_told r buffer (write_at site r setting (dots_seen r.dots None interface)))
+meaning_told site names r buffer (SetField (Some queue) interface setting) =
+    queue_told (number_of names queue) (λ q. meaning_of_setting site r buffer setting (dots_seen r.dots (Some q) interface))
+    (λ q. present_told (dots_seen r.dots (Some q) interface) _ (limits_told r buffer (write_at site r setting (dots_seen r.dots (Some q) interface))))
+meaning_told site names r buffer (CountCall queue calls) =
+    queue_told (number_of names queue) (λ q. within_limits r buffer (count_at site r q calls)) (λ q. limits_told r buffer (count_at site r q calls))
 
 -- a frame that is asked for, by whether no number is left
 abbrev pub frame_by : SiteKnowledge → Knowledge → Knowledge → Bool → SiteKnowledge × steps.Outcome
@@ -88,25 +88,25 @@ take_by s frame cells runs =
     if cells then (s, steps.CellsFull) else if runs then (s, steps.RunsFull) else (record { known = frame ++ s.known; buffer = s.buffer; frames = s.frames }, steps.Taken)
 
 -- the outcome of an ask
-ask-told : (site : ℕ) (names : List (List ℕ)) (s : SiteKnowledge) (asked : Ask) → IsAnswerTo asked (answer_in site names s asked).1
-ask-told site names s (Status request) = tt
-ask-told site names s (asked_command command) = by (meaning site names (site_view site s.known) (site_view site s.buffer) (change_of command)) (meaning-told site names _ _ (change_of command))
+ask_told : (site : ℕ) (names : List (List ℕ)) (s : SiteKnowledge) (asked : Ask) → IsAnswerTo asked (answer_in site names s asked).1
+ask_told site names s (Status request) = tt
+ask_told site names s (asked_command command) = by (meaning site names (site_view site s.known) (site_view site s.buffer) (change_of command)) (meaning_told site names _ _ (change_of command))
   where
     by : (m : Meaning) → IsTold m → IsAnswerTo (asked_command command) (answer_of (result_of (after_meaning s m).1))
     by (Makes o) told = tt
     by (refused_meaning r) told = told
 
-frame-told : (e : Event) (site entries : ℕ) (s : SiteKnowledge) (frame buffer : Knowledge)
+frame_told : (e : Event) (site entries : ℕ) (s : SiteKnowledge) (frame buffer : Knowledge)
     → ((n : ℕ) → IsOutcomeOf e (outcome.Cut (Ok (Some n)))) → IsOutcomeOf e (outcome.Cut (Err Exhausted)) → IsOutcomeOf e (framed site entries (after_frame s frame buffer)).outcome
-frame-told e site entries s frame buffer made none = by (nat_lt MOST_COUNT (suc s.frames))
+frame_told e site entries s frame buffer made none = by (nat_lt MOST_COUNT (suc s.frames))
   where
     by : (b : Bool) → IsOutcomeOf e (framed site entries (frame_by s frame buffer b)).outcome
     by true = none
     by false = made entries
 
-cut-told : (site entries : ℕ) (s : SiteKnowledge) (buffer : Knowledge) → IsOutcomeOf (event.Cut site) (framed site entries (cut s buffer)).outcome
-cut-told site entries s [] = tt
-cut-told site entries s (o ∷ os) = frame-told (event.Cut site) site entries s (o ∷ os) [] (λ n. tt) refl
+cut_told : (site entries : ℕ) (s : SiteKnowledge) (buffer : Knowledge) → IsOutcomeOf (event.Cut site) (framed site entries (cut s buffer)).outcome
+cut_told site entries s [] = tt
+cut_told site entries s (o ∷ os) = frame_told (event.Cut site) site entries s (o ∷ os) [] (λ n. tt) refl
 
 take-told : (site place : ℕ) (s : SiteKnowledge) (found : Option Entry) → IsOutcomeOf (event.Take site place) (taken s found).outcome
 take-told site place s None = tt
@@ -117,62 +117,62 @@ take-told site place s (Some entry) = by (nat_lt MOST_LIVE (set.len (visible_dot
     by false true = inr refl
     by false false = tt
 
-at-told : (names : List (List ℕ)) (pool : List Entry) (s : SiteKnowledge) (e : Event) → IsOutcomeOf e (happens_at names pool s e).outcome
-at-told names pool s (event.Ask site asked) = ask-told site names s asked
-at-told names pool s (event.Cut site) = cut-told site (length pool) s s.buffer
-at-told names pool s (event.Whole site) = frame-told (event.Whole site) site (length pool) s s.known s.buffer (λ n. tt) refl
-at-told names pool s (event.Take site place) = take-told site place s (slice_get pool place)
+at_told : (names : List (List ℕ)) (pool : List Entry) (s : SiteKnowledge) (e : Event) → IsOutcomeOf e (happens_at names pool s e).outcome
+at_told names pool s (event.Ask site asked) = ask_told site names s asked
+at_told names pool s (event.Cut site) = cut_told site (length pool) s s.buffer
+at_told names pool s (event.Whole site) = frame_told (event.Whole site) site (length pool) s s.known s.buffer (λ n. tt) refl
+at_told names pool s (event.Take site place) = take-told site place s (slice_get pool place)
 
-no-site-told : (e : Event) → IsOutcomeOf e outcome.NoSite
-no-site-told (event.Ask site asked) = tt
-no-site-told (event.Cut site) = tt
-no-site-told (event.Whole site) = tt
-no-site-told (event.Take site place) = tt
+no_site_told : (e : Event) → IsOutcomeOf e outcome.NoSite
+no_site_told (event.Ask site asked) = tt
+no_site_told (event.Cut site) = tt
+no_site_told (event.Whole site) = tt
+no_site_told (event.Take site place) = tt
 
-pub of-their-events : (names : List (List ℕ)) (w : World) (e : Event) → IsOutcomeOf e (happens names w e).1
-of-their-events names w e = by (slice_get w.sites (site_of e))
+pub of_their_events : (names : List (List ℕ)) (w : World) (e : Event) → IsOutcomeOf e (happens names w e).1
+of_their_events names w e = by (slice_get w.sites (site_of e))
   where
     by : (found : Option SiteKnowledge) → IsOutcomeOf e (happens_where names w (site_of e) found e).1
-    by None = no-site-told e
-    by (Some s) = at-told names w.pool s e
+    by None = no_site_told e
+    by (Some s) = at_told names w.pool s e
 
 -- ---- no such site, and no such entry
 
 -- no event at a site that is there tells that it isn't
-there-told : (names : List (List ℕ)) (pool : List Entry) (s : SiteKnowledge) (e : Event) → (happens_at names pool s e).outcome ≡ outcome.NoSite → ⊥
-there-told names pool s (event.Ask site asked) told = (cc)
-there-told names pool s (event.Cut site) told = (cc)
-there-told names pool s (event.Whole site) told = (cc)
-there-told names pool s (event.Take site place) told = by (slice_get pool place) told
+there_told : (names : List (List ℕ)) (pool : List Entry) (s : SiteKnowledge) (e : Event) → (happens_at names pool s e).outcome ≡ outcome.NoSite → ⊥
+there_told names pool s (event.Ask site asked) told = (cc)
+there_told names pool s (event.Cut site) told = (cc)
+there_told names pool s (event.Whole site) told = (cc)
+there_told names pool s (event.Take site place) told = by (slice_get pool place) told
   where
     by : (found : Option Entry) → (taken s found).outcome ≡ outcome.NoSite → ⊥
     by None told = (cc)
     by (Some entry) told = (cc)
 
-pub tell-no-site : TellNoSite
-tell-no-site names w e = by (slice_get w.sites (site_of e))
+pub tell_no_site : TellNoSite
+tell_no_site names w e = by (slice_get w.sites (site_of e))
   where
     by : (found : Option SiteKnowledge) → ((happens_where names w (site_of e) found e).1 ≡ outcome.NoSite) ↔ (found ≡ None)
     by None = ((λ told. refl), (λ is. refl))
-    by (Some s) = ((λ told. absurd (there-told names w.pool s e told)), (λ is. absurd (none-some s (sym is))))
+    by (Some s) = ((λ told. absurd (there_told names w.pool s e told)), (λ is. absurd (none_some s (sym is))))
 
 -- an event at a site that is there tells that there is no such entry exactly where it takes one that isn't there
-entry-told : (names : List (List ℕ)) (w : World) (s : SiteKnowledge) (e : Event) → ((happens_at names w.pool s e).outcome ≡ outcome.NoEntry) ↔ (has_entry w e ≡ false)
-entry-told names w s (event.Ask site asked) = ((λ told. absurd (cc)), (λ is. absurd (true≢false is)))
-entry-told names w s (event.Cut site) = ((λ told. absurd (cc)), (λ is. absurd (true≢false is)))
-entry-told names w s (event.Whole site) = ((λ told. absurd (cc)), (λ is. absurd (true≢false is)))
-entry-told names w s (event.Take site place) = by (slice_get w.pool place)
+entry_told : (names : List (List ℕ)) (w : World) (s : SiteKnowledge) (e : Event) → ((happens_at names w.pool s e).outcome ≡ outcome.NoEntry) ↔ (has_entry w e ≡ false)
+entry_told names w s (event.Ask site asked) = ((λ told. absurd (cc)), (λ is. absurd (true≢false is)))
+entry_told names w s (event.Cut site) = ((λ told. absurd (cc)), (λ is. absurd (true≢false is)))
+entry_told names w s (event.Whole site) = ((λ told. absurd (cc)), (λ is. absurd (true≢false is)))
+entry_told names w s (event.Take site place) = by (slice_get w.pool place)
   where
     by : (found : Option Entry) → ((taken s found).outcome ≡ outcome.NoEntry) ↔ (is_some found ≡ false)
     by None = ((λ told. refl), (λ is. refl))
     by (Some entry) = ((λ told. absurd (cc)), (λ is. absurd (true≢false is)))
 
-pub tell-no-entry : TellNoEntry
-tell-no-entry names w e = by (slice_get w.sites (site_of e))
+pub tell_no_entry : TellNoEntry
+tell_no_entry names w e = by (slice_get w.sites (site_of e))
   where
     by : (found : Option SiteKnowledge) → ((happens_where names w (site_of e) found e).1 ≡ outcome.NoEntry) ↔ ((found ≢ None) × (has_entry w e ≡ false))
     by None = ((λ told. absurd (cc)), (λ is. absurd (is.0 refl)))
-    by (Some s) = let at = entry-told names w s e in ((λ told. ((λ none. none-some s (sym none)), at.0 told)), (λ is. at.1 is.1))
+    by (Some s) = let at = entry_told names w s e in ((λ told. ((λ none. none_some s (sym none)), at.0 told)), (λ is. at.1 is.1))
 
 -- ---- what changes nothing
 
@@ -181,28 +181,28 @@ record Stays (s : SiteKnowledge) (h : Happening) : Type 0 where
   site : h.site ≡ s
   added : h.added ≡ []
 
-ask-stays : (site : ℕ) (names : List (List ℕ)) (s : SiteKnowledge) (asked : Ask) → changes_nothing (outcome.Answered (answer_in site names s asked).1) ≡ true → Stays s (answered (answer_in site names s asked))
-ask-stays site names s (Status request) h = record { site = refl; added = refl }
-ask-stays site names s (asked_command command) h = by (meaning site names (site_view site s.known) (site_view site s.buffer) (change_of command)) h
+ask_stays : (site : ℕ) (names : List (List ℕ)) (s : SiteKnowledge) (asked : Ask) → changes_nothing (outcome.Answered (answer_in site names s asked).1) ≡ true → Stays s (answered (answer_in site names s asked))
+ask_stays site names s (Status request) h = record { site = refl; added = refl }
+ask_stays site names s (asked_command command) h = by (meaning site names (site_view site s.known) (site_view site s.buffer) (change_of command)) h
   where
     by : (m : Meaning) → changes_nothing (outcome.Answered (answer_of (result_of (after_meaning s m).1))) ≡ true → Stays s (answered ((after_meaning s m).0, answer_of (result_of (after_meaning s m).1)))
     by (Makes o) h = absurd (true≢false (sym h))
     by (refused_meaning r) h = record { site = refl; added = refl }
 
-frame-stays : (site entries : ℕ) (s : SiteKnowledge) (frame buffer : Knowledge) → changes_nothing (framed site entries (after_frame s frame buffer)).outcome ≡ true → Stays s (framed site entries (after_frame s frame buffer))
-frame-stays site entries s frame buffer h = by (nat_lt MOST_COUNT (suc s.frames)) h
+frame_stays : (site entries : ℕ) (s : SiteKnowledge) (frame buffer : Knowledge) → changes_nothing (framed site entries (after_frame s frame buffer)).outcome ≡ true → Stays s (framed site entries (after_frame s frame buffer))
+frame_stays site entries s frame buffer h = by (nat_lt MOST_COUNT (suc s.frames)) h
   where
     by : (b : Bool) → changes_nothing (framed site entries (frame_by s frame buffer b)).outcome ≡ true → Stays s (framed site entries (frame_by s frame buffer b))
     by true h = record { site = refl; added = refl }
     by false h = absurd (true≢false (sym h))
 
-cut-stays : (site entries : ℕ) (s : SiteKnowledge) (buffer : Knowledge) → changes_nothing (framed site entries (cut s buffer)).outcome ≡ true → Stays s (framed site entries (cut s buffer))
-cut-stays site entries s [] h = record { site = refl; added = refl }
-cut-stays site entries s (o ∷ os) h = frame-stays site entries s (o ∷ os) [] h
+cut_stays : (site entries : ℕ) (s : SiteKnowledge) (buffer : Knowledge) → changes_nothing (framed site entries (cut s buffer)).outcome ≡ true → Stays s (framed site entries (cut s buffer))
+cut_stays site entries s [] h = record { site = refl; added = refl }
+cut_stays site entries s (o ∷ os) h = frame_stays site entries s (o ∷ os) [] h
 
-take-stays : (s : SiteKnowledge) (found : Option Entry) → changes_nothing (taken s found).outcome ≡ true → Stays s (taken s found)
-take-stays s None h = record { site = refl; added = refl }
-take-stays s (Some entry) h = by (nat_lt MOST_LIVE (set.len (visible_dots (entry.carried ++ s.known)))) (nat_lt MOST_RUNS (run_count (known_dots (entry.carried ++ s.known)))) h
+take_stays : (s : SiteKnowledge) (found : Option Entry) → changes_nothing (taken s found).outcome ≡ true → Stays s (taken s found)
+take_stays s None h = record { site = refl; added = refl }
+take_stays s (Some entry) h = by (nat_lt MOST_LIVE (set.len (visible_dots (entry.carried ++ s.known)))) (nat_lt MOST_RUNS (run_count (known_dots (entry.carried ++ s.known)))) h
   where
     by : (a b : Bool) → changes_nothing (outcome.Took (take_told (take_by s entry.carried a b).1)) ≡ true
         → Stays s (record { site = (take_by s entry.carried a b).0; added = []; outcome = outcome.Took (take_told (take_by s entry.carried a b).1) })
@@ -210,47 +210,47 @@ take-stays s (Some entry) h = by (nat_lt MOST_LIVE (set.len (visible_dots (entry
     by false true h = record { site = refl; added = refl }
     by false false h = absurd (true≢false (sym h))
 
-at-stays : (names : List (List ℕ)) (pool : List Entry) (s : SiteKnowledge) (e : Event) → changes_nothing (happens_at names pool s e).outcome ≡ true → Stays s (happens_at names pool s e)
-at-stays names pool s (event.Ask site asked) h = ask-stays site names s asked h
-at-stays names pool s (event.Cut site) h = cut-stays site (length pool) s s.buffer h
-at-stays names pool s (event.Whole site) h = frame-stays site (length pool) s s.known s.buffer h
-at-stays names pool s (event.Take site place) h = take-stays s (slice_get pool place) h
+at_stays : (names : List (List ℕ)) (pool : List Entry) (s : SiteKnowledge) (e : Event) → changes_nothing (happens_at names pool s e).outcome ≡ true → Stays s (happens_at names pool s e)
+at_stays names pool s (event.Ask site asked) h = ask_stays site names s asked h
+at_stays names pool s (event.Cut site) h = cut_stays site (length pool) s s.buffer h
+at_stays names pool s (event.Whole site) h = frame_stays site (length pool) s s.known s.buffer h
+at_stays names pool s (event.Take site place) h = take_stays s (slice_get pool place) h
 
-pub refusals-change-nothing : (names : List (List ℕ)) (w : World) (e : Event) → changes_nothing (happens names w e).1 ≡ true → (happens names w e).0 ≡ w
-refusals-change-nothing names w e h = by (slice_get w.sites (site_of e)) refl h
+pub refusals_change_nothing : (names : List (List ℕ)) (w : World) (e : Event) → changes_nothing (happens names w e).1 ≡ true → (happens names w e).0 ≡ w
+refusals_change_nothing names w e h = by (slice_get w.sites (site_of e)) refl h
   where
     by : (found : Option SiteKnowledge) → slice_get w.sites (site_of e) ≡ found → changes_nothing (happens_where names w (site_of e) found e).1 ≡ true → (happens_where names w (site_of e) found e).0 ≡ w
     by None is h = refl
     by (Some s) is h =
-        let stays = at-stays names w.pool s e h in
-        let sites = ap (slice_set w.sites (site_of e)) stays.site ∙ set-again w.sites (site_of e) s is in
+        let stays = at_stays names w.pool s e h in
+        let sites = ap (slice_set w.sites (site_of e)) stays.site ∙ set_again w.sites (site_of e) s is in
         let pool = ap (λ added. w.pool ++ added) stays.added ∙ append-nil w.pool in
         λ i. record { sites = sites i; pool = pool i }
 
 -- ---- outcomes of events in turn
 
 -- what may come of an event isn't want of memory
-told-done : (e : Event) (o : Outcome) → IsOutcomeOf e o → is_done o ≡ true
-told-done e (outcome.Answered answer) is = refl
-told-done e (outcome.Cut result) is = refl
-told-done e (outcome.Took result) is = refl
-told-done e outcome.NoSite is = refl
-told-done e outcome.NoEntry is = refl
-told-done (event.Ask site asked) outcome.NoMemory is = absurd is
-told-done (event.Cut site) outcome.NoMemory is = absurd is
-told-done (event.Whole site) outcome.NoMemory is = absurd is
-told-done (event.Take site place) outcome.NoMemory is = absurd is
+told_done : (e : Event) (o : Outcome) → IsOutcomeOf e o → is_done o ≡ true
+told_done e (outcome.Answered answer) is = refl
+told_done e (outcome.Cut result) is = refl
+told_done e (outcome.Took result) is = refl
+told_done e outcome.NoSite is = refl
+told_done e outcome.NoEntry is = refl
+told_done (event.Ask site asked) outcome.NoMemory is = absurd is
+told_done (event.Cut site) outcome.NoMemory is = absurd is
+told_done (event.Whole site) outcome.NoMemory is = absurd is
+told_done (event.Take site place) outcome.NoMemory is = absurd is
 
-all-done : (names : List (List ℕ)) (w : World) (events : List Event) → AllByRecursion (λ o. is_done o ≡ true) (run names w events).1
-all-done names w [] = tt
-all-done names w (e ∷ es) = (told-done e (happens names w e).1 (of-their-events names w e), all-done names (happens names w e).0 es)
+all_done : (names : List (List ℕ)) (w : World) (events : List Event) → AllByRecursion (λ o. is_done o ≡ true) (run names w events).1
+all_done names w [] = tt
+all_done names w (e ∷ es) = (told_done e (happens names w e).1 (of_their_events names w e), all_done names (happens names w e).0 es)
 
 one-each : (names : List (List ℕ)) (w : World) (events : List Event) → length (run names w events).1 ≡ length events
 one-each names w [] = refl
 one-each names w (e ∷ es) = ap suc (one-each names (happens names w e).0 es)
 
-pub have-outcomes : (names : List (List ℕ)) (w : World) (events : List Event) → HaveOutcomes names w events
-have-outcomes names w events = record {
+pub have_outcomes : (names : List (List ℕ)) (w : World) (events : List Event) → HaveOutcomes names w events
+have_outcomes names w events = record {
   one_each = one-each names w events;
-  done = All-from_recursion (λ o. is_done o ≡ true) (run names w events).1 (all-done names w events);
+  done = All-from_recursion (λ o. is_done o ≡ true) (run names w events).1 (all_done names w events);
 }

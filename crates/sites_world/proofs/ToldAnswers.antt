@@ -17,8 +17,8 @@ use Rattle.replica.specs.Standing.{StandsFor, result_of}
 use Rattle.replica.specs.Steps as steps
 use Rattle.replica.specs.Steps.{Framed, SiteKnowledge, Take, after_meaning, step}
 use Rattle.replica.specs.Taking.{IsMeantFault, IsNotMine, SpeaksOfStrangeQueue}
-use Rattle.replica.proofs.StandingSites.{unchanged-stands}
-use Rattle.replica.proofs.StepLaws.{refusals-change-nothing}
+use Rattle.replica.proofs.StandingSites.{unchanged_stands}
+use Rattle.replica.proofs.StepLaws.{refusals_change_nothing}
 use Rattle.operations.specs.Knowledge.{Knowledge}
 use Rattle.status_report.specs.declared.asks.Answer.{Answer}
 use Rattle.status_report.specs.declared.asks.Answer.TheVariants.{Done, Refused, Report}
@@ -33,42 +33,42 @@ use Rattle.sites_world.specs.Worlds.{take_told, frame_told}
 -- ---- answers
 
 -- what is refused changes nothing
-refused-stays : (site : ℕ) (names : List (List ℕ)) (s : SiteKnowledge) (asked : Ask) (r : Refusal) → (answer_in site names s asked).1 ≡ Refused r → (answer_in site names s asked).0 ≡ s
-refused-stays site names s (Status request) r e = refl
-refused-stays site names s (asked_command command) r e = by (meaning site names (site_view site s.known) (site_view site s.buffer) (change_of command)) e
+refused_stays : (site : ℕ) (names : List (List ℕ)) (s : SiteKnowledge) (asked : Ask) (r : Refusal) → (answer_in site names s asked).1 ≡ Refused r → (answer_in site names s asked).0 ≡ s
+refused_stays site names s (Status request) r e = refl
+refused_stays site names s (asked_command command) r e = by (meaning site names (site_view site s.known) (site_view site s.buffer) (change_of command)) e
   where
     by : (m : Meaning) → answer_of (result_of (after_meaning s m).1) ≡ Refused r → (after_meaning s m).0 ≡ s
-    by (Makes o) e = absurd (done-refused e)
+    by (Makes o) e = absurd (done_refused e)
       where
-        done-refused : Done ≡ Refused r → ⊥
-        done-refused e = (cc)
+        done_refused : Done ≡ Refused r → ⊥
+        done_refused e = (cc)
     by (refused_meaning x) e = refl
 
 -- an answer is told as it is, or it is that memory is wanting
-pub told-cases : (answer : Answer) → (answer_told answer ≡ Answered answer) ⊎ ((answer_told answer ≡ NoMemory) × (answer ≡ Refused refusal.Memory))
-told-cases Done = inl refl
-told-cases (Report bytes) = inl refl
-told-cases (Refused refusal.NoSuchQueue) = inl refl
-told-cases (Refused refusal.AlreadyThere) = inl refl
-told-cases (Refused refusal.NotThere) = inl refl
-told-cases (Refused refusal.MembersFull) = inl refl
-told-cases (Refused refusal.Exhausted) = inl refl
-told-cases (Refused refusal.TotalFull) = inl refl
-told-cases (Refused refusal.Memory) = inr (refl, refl)
+pub told_cases : (answer : Answer) → (answer_told answer ≡ Answered answer) ⊎ ((answer_told answer ≡ NoMemory) × (answer ≡ Refused refusal.Memory))
+told_cases Done = inl refl
+told_cases (Report bytes) = inl refl
+told_cases (Refused refusal.NoSuchQueue) = inl refl
+told_cases (Refused refusal.AlreadyThere) = inl refl
+told_cases (Refused refusal.NotThere) = inl refl
+told_cases (Refused refusal.MembersFull) = inl refl
+told_cases (Refused refusal.Exhausted) = inl refl
+told_cases (Refused refusal.TotalFull) = inl refl
+told_cases (Refused refusal.Memory) = inr (refl, refl)
 
-pub told-answer : (old new : SiteState) (s : SiteKnowledge) (asked : Ask) (answer : Answer) → StandsFor old s → IsAnswered old new answer (answer_in old.site old.names s asked)
+pub told_answer : (old new : SiteState) (s : SiteKnowledge) (asked : Ask) (answer : Answer) → StandsFor old s → IsAnswered old new answer (answer_in old.site old.names s asked)
     → IsAnsweredSo new s (answer_in old.site old.names s asked) (answer_told answer)
-told-answer old new s asked answer stands (inl (after, e)) = elim (told-cases answer) [
+told_answer old new s asked answer stands (inl (after, e)) = elim (told_cases answer) [
   | inl told ↦ inl (told ∙ ap Answered e, after)
-  | inr told ↦ inr (told.0, subst (StandsFor new) (refused-stays old.site old.names s asked refusal.Memory (sym e ∙ told.1)) after)
+  | inr told ↦ inr (told.0, subst (StandsFor new) (refused_stays old.site old.names s asked refusal.Memory (sym e ∙ told.1)) after)
 ]
-told-answer old new s asked answer stands (inr (same, refused)) = inr (ap answer_told refused, unchanged-stands old new s stands same)
+told_answer old new s asked answer stands (inr (same, refused)) = inr (ap answer_told refused, unchanged_stands old new s stands same)
 
 -- ---- frames that were made
 
-pub told-frame : (new : SiteState) (s : SiteKnowledge) (old pool : List Frame) (after : SiteKnowledge × steps.Outcome) (frame : Frame) → StandsFor new after.0 → IsFramed frame after.1
+pub told_frame : (new : SiteState) (s : SiteKnowledge) (old pool : List Frame) (after : SiteKnowledge × steps.Outcome) (frame : Frame) → StandsFor new after.0 → IsFramed frame after.1
     → frame.maker ≡ new.site → IsInRanges frame → pool ≡ old ++ frame ∷ [] → IsFramedSo new s old pool after (Cut (Ok (Some (length old))))
-told-frame new s old pool after frame stands framed maker ranges grown = inl (
+told_frame new s old pool after frame stands framed maker ranges grown = inl (
   ap (λ x. Cut (frame_told (length old) x)) (sym framed.outcome_is),
   stands,
   subst (HasAdded new.site old pool) (sym framed.outcome_is) (frame, grown, record { maker = maker; number = refl; delta = framed.stands; ranges = ranges }),
@@ -76,18 +76,18 @@ told-frame new s old pool after frame stands framed maker ranges grown = inl (
 
 -- ---- frames that were taken
 
-pub told-fault : (old new : SiteState) (s : SiteKnowledge) (k : Knowledge) (d : DeltaState) (fault : TakeFault) → MayBeTaken old k → IsDeltaOf d k → StandsFor old s → IsUnchanged old new
+pub told_fault : (old new : SiteState) (s : SiteKnowledge) (k : Knowledge) (d : DeltaState) (fault : TakeFault) → MayBeTaken old k → IsDeltaOf d k → StandsFor old s → IsUnchanged old new
     → (fault ≡ take_fault.NoSuchQueue → SpeaksOfStrangeQueue (length old.names) d) → (fault ≡ take_fault.NotMine → IsNotMine old d) → (fault ≡ take_fault.Conflict → Disagree old.state d)
     → IsMeantFault fault (step old.site old.names s (Take k)).1 → IsTakenSo new s (step old.site old.names s (Take k)) (take_fault_told fault)
-told-fault old new s k d take_fault.NoSuchQueue may is stands same strange mine conflict meant = absurd (may.queues d is (strange refl))
-told-fault old new s k d take_fault.NotMine may is stands same strange mine conflict meant = absurd (may.own d is (mine refl))
-told-fault old new s k d take_fault.Conflict may is stands same strange mine conflict meant = absurd (may.agrees d is (conflict refl))
-told-fault old new s k d take_fault.CellsFull may is stands same strange mine conflict meant = inl (
+told_fault old new s k d take_fault.NoSuchQueue may is stands same strange mine conflict meant = absurd (may.queues d is (strange refl))
+told_fault old new s k d take_fault.NotMine may is stands same strange mine conflict meant = absurd (may.own d is (mine refl))
+told_fault old new s k d take_fault.Conflict may is stands same strange mine conflict meant = absurd (may.agrees d is (conflict refl))
+told_fault old new s k d take_fault.CellsFull may is stands same strange mine conflict meant = inl (
   ap (λ x. Took (take_told x)) (sym meant),
-  subst (StandsFor new) (sym ((refusals-change-nothing old.site old.names s (Take k)).cells_full meant)) (unchanged-stands old new s stands same),
+  subst (StandsFor new) (sym ((refusals_change_nothing old.site old.names s (Take k)).cells_full meant)) (unchanged_stands old new s stands same),
 )
-told-fault old new s k d take_fault.RunsFull may is stands same strange mine conflict meant = inl (
+told_fault old new s k d take_fault.RunsFull may is stands same strange mine conflict meant = inl (
   ap (λ x. Took (take_told x)) (sym meant),
-  subst (StandsFor new) (sym ((refusals-change-nothing old.site old.names s (Take k)).runs_full meant)) (unchanged-stands old new s stands same),
+  subst (StandsFor new) (sym ((refusals_change_nothing old.site old.names s (Take k)).runs_full meant)) (unchanged_stands old new s stands same),
 )
-told-fault old new s k d take_fault.Memory may is stands same strange mine conflict meant = inr (refl, unchanged-stands old new s stands same)
+told_fault old new s k d take_fault.Memory may is stands same strange mine conflict meant = inr (refl, unchanged_stands old new s stands same)

@@ -30,46 +30,46 @@ use Rattle.sites_world.specs.Conditions.{ComesAt, ComesOfAsk, ComesOfDelta, Grow
 use Rattle.sites_world.specs.Telling.{IsAsk, MayBeTaken, answer_told, take_fault_told}
 use Rattle.sites_world.specs.Worlds.{Entry, site_of}
 use Rattle.sites_world.specs.WorldStates.{IsSiteOf, IsWorld, WorldState}
-use Rattle.sites_world.proofs.Happenings.{may-take-all}
-use Rattle.sites_world.proofs.Lists.{correspond-get, set-again, some-within}
-use Rattle.sites_world.proofs.SteppedHistories.{reached-history}
-use Rattle.sites_world.proofs.ToldAnswers.{told-cases}
-use Rattle.sites_world.proofs.Unchanged.{equal-unchanged}
+use Rattle.sites_world.proofs.Happenings.{may_take_all}
+use Rattle.sites_world.proofs.Lists.{correspond_get, set_again, some_within}
+use Rattle.sites_world.proofs.SteppedHistories.{reached_history}
+use Rattle.sites_world.proofs.ToldAnswers.{told_cases}
+use Rattle.sites_world.proofs.Unchanged.{equal_unchanged}
 use Rattle.replica.proofs.PlannedCommands.{itself}
 use Rattle.std.proofs.lemmas.Option.{slice_get_past}
 
 -- ---- asks
 
 -- a command that is refused as it means changes nothing
-pub refused-follows : (old new : SiteState) (m : Meaning) (r : Refusal) → Follows old m new (Err r) → IsUnchanged old new
-refused-follows old new (Makes o) r follows = absurd (no-ok follows.0)
+pub refused_follows : (old new : SiteState) (m : Meaning) (r : Refusal) → Follows old m new (Err r) → IsUnchanged old new
+refused_follows old new (Makes o) r follows = absurd (no_ok follows.0)
   where
-    no-ok : ◌≡◌ {A = Result (Unit {0}) Refusal} (Err r) (Ok tt) → ⊥
-    no-ok e = (cc)
-refused-follows old new (refused_meaning x) r follows = follows.1
+    no_ok : ◌≡◌ {A = Result (Unit {0}) Refusal} (Err r) (Ok tt) → ⊥
+    no_ok e = (cc)
+refused_follows old new (refused_meaning x) r follows = follows.1
 
 -- one that is refused for want of memory may want some
-wanting-follows : (old new : SiteState) (m : Meaning) (r : Refusal) → Refused r ≡ Refused refusal.Memory → Follows old m new (Err r) → MayWantMemory m
-wanting-follows old new (Makes o) r is follows = tt
-wanting-follows old new (refused_meaning x) r is follows = subst (λ y. MayWantMemory (refused_meaning y)) same tt
+wanting_follows : (old new : SiteState) (m : Meaning) (r : Refusal) → Refused r ≡ Refused refusal.Memory → Follows old m new (Err r) → MayWantMemory m
+wanting_follows old new (Makes o) r is follows = tt
+wanting_follows old new (refused_meaning x) r is follows = subst (λ y. MayWantMemory (refused_meaning y)) same tt
   where
     same : refusal.Memory ≡ x
     same = let told = follows.0 in cc
 
 -- an answer is told as what has come of its ask
-pub asked-comes : (old new : SiteState) (asked : Ask) (answer : Answer) → AnswersCommand old asked new answer → AnswersStatus old asked answer → KeepsAtStatus old asked new
+pub asked_comes : (old new : SiteState) (asked : Ask) (answer : Answer) → AnswersCommand old asked new answer → AnswersStatus old asked answer → KeepsAtStatus old asked new
     → ComesOfAsk old asked (answer_told answer) new
-asked-comes old new (Status request) answer command (inl report) kept = subst (λ a. ComesOfAsk old (Status request) (answer_told a) new) (sym report) (refl, kept)
-asked-comes old new (Status request) answer command (inr refused) kept = subst (λ a. ComesOfAsk old (Status request) (answer_told a) new) (sym refused) (equal-unchanged old new kept)
-asked-comes old new (asked_command command) answer (result, is, done) status kept = subst (λ a. ComesOfAsk old (asked_command command) (answer_told a) new) (sym is) (by result done)
+asked_comes old new (Status request) answer command (inl report) kept = subst (λ a. ComesOfAsk old (Status request) (answer_told a) new) (sym report) (refl, kept)
+asked_comes old new (Status request) answer command (inr refused) kept = subst (λ a. ComesOfAsk old (Status request) (answer_told a) new) (sym refused) (equal_unchanged old new kept)
+asked_comes old new (asked_command command) answer (result, is, done) status kept = subst (λ a. ComesOfAsk old (asked_command command) (answer_told a) new) (sym is) (by result done)
   where
     by : (result : Result (Unit {0}) Refusal) → IsDone old (meaning_at old (change_of command)) new result → ComesOfAsk old (asked_command command) (answer_told (answer_of result)) new
     by (Ok u) (inl follows) = (Ok u, refl, follows)
-    by (Err r) (inl follows) = elim (told-cases (Refused r)) [
+    by (Err r) (inl follows) = elim (told_cases (Refused r)) [
       | inl told ↦ subst (λ o. ComesOfAsk old (asked_command command) o new) (sym told) (Err r, refl, follows)
       | inr none ↦ subst (λ o. ComesOfAsk old (asked_command command) o new) (sym none.0) (
-        refused-follows old new (meaning_at old (change_of command)) r follows,
-        wanting-follows old new (meaning_at old (change_of command)) r none.1 follows,
+        refused_follows old new (meaning_at old (change_of command)) r follows,
+        wanting_follows old new (meaning_at old (change_of command)) r none.1 follows,
       )
     ]
     by result (inr other) = subst (λ r. ComesOfAsk old (asked_command command) (answer_told (answer_of r)) new) (sym other.1) (other.0, other.2)
@@ -77,24 +77,24 @@ asked-comes old new (asked_command command) answer (result, is, done) status kep
 -- ---- takes
 
 -- a fault is told as what has come of the take
-pub fault-comes : (old new : SiteState) (k : Knowledge) (d : DeltaState) (fault : TakeFault) → MayBeTaken old k → IsDeltaOf d k → IsUnchanged old new
+pub fault_comes : (old new : SiteState) (k : Knowledge) (d : DeltaState) (fault : TakeFault) → MayBeTaken old k → IsDeltaOf d k → IsUnchanged old new
     → IsRefusedTake old d (λ f. fault ≡ f) → ComesOfDelta old d (take_fault_told fault) new
-fault-comes old new k d take_fault.NoSuchQueue may is same refused = absurd (may.queues d is (refused.no_such_queue.0 refl))
-fault-comes old new k d take_fault.NotMine may is same refused = absurd (may.own d is (refused.not_mine.0 refl).1)
-fault-comes old new k d take_fault.Conflict may is same refused = absurd (may.agrees d is (refused.conflict.0 refl).1)
-fault-comes old new k d take_fault.CellsFull may is same refused = let w = refused.cells_full.0 refl in (w.0, w.1, same)
-fault-comes old new k d take_fault.RunsFull may is same refused = let w = refused.runs_full.0 refl in (w.0, w.1, w.2, same)
-fault-comes old new k d take_fault.Memory may is same refused = same
+fault_comes old new k d take_fault.NoSuchQueue may is same refused = absurd (may.queues d is (refused.no_such_queue.0 refl))
+fault_comes old new k d take_fault.NotMine may is same refused = absurd (may.own d is (refused.not_mine.0 refl).1)
+fault_comes old new k d take_fault.Conflict may is same refused = absurd (may.agrees d is (refused.conflict.0 refl).1)
+fault_comes old new k d take_fault.CellsFull may is same refused = let w = refused.cells_full.0 refl in (w.0, w.1, same)
+fault_comes old new k d take_fault.RunsFull may is same refused = let w = refused.runs_full.0 refl in (w.0, w.1, w.2, same)
+fault_comes old new k d take_fault.Memory may is same refused = same
 
 -- ---- frames
 
 -- a frame within the ranges of the format that is a site's next one had a number left
-pub number-left : (s : SiteState) (frame : Frame) → IsNextOf s frame → IsInRanges frame → s.frames < MOST_COUNT
-number-left s frame next ranges = let few = ranges.number.1 in let is = next.number in omega (arith, few, is)
+pub number_left : (s : SiteState) (frame : Frame) → IsNextOf s frame → IsInRanges frame → s.frames < MOST_COUNT
+number_left s frame next ranges = let few = ranges.number.1 in let is = next.number in omega (arith, few, is)
 
 -- where one was cut, something was
-pub some-cut : (cut : Option Frame) (frame : Frame) → cut ≡ Some frame → ◌≡◌ {A = Result (Option Frame) CutFault} (Ok cut) (Ok None) → ⊥
-some-cut cut frame is none = (cc)
+pub some_cut : (cut : Option Frame) (frame : Frame) → cut ≡ Some frame → ◌≡◌ {A = Result (Option Frame) CutFault} (Ok cut) (Ok None) → ⊥
+some_cut cut frame is none = (cc)
 
 -- ---- in a world
 
@@ -103,48 +103,48 @@ module _ (names : List (List ℕ)) (sites : List SiteState) (pool : List Frame) 
   from = record { names = names; sites = sites; pool = pool }
 
   -- what has come at a site has come in its world
-  pub leads-at : (e : Event) (at : ℕ) (old new : SiteState) (grown : List Frame) (o : Outcome) → at ≡ site_of e → slice_get sites at ≡ Some old
+  pub leads_at : (e : Event) (at : ℕ) (old new : SiteState) (grown : List Frame) (o : Outcome) → at ≡ site_of e → slice_get sites at ≡ Some old
       → (((place : ℕ) (entry : Entry) → slice_get is.world.pool place ≡ Some entry → MayBeTaken old entry.carried) → GrowsBy (ComesAt pool old e o new) pool grown)
       → Leads from e o (record { names = names; sites = slice_set sites at new; pool = grown })
-  leads-at e at old new grown o at_is here come =
-      let knows = correspond-get (IsSiteOf names) sites is.world.sites is.stands.sites at old here in
-      let may = may-take-all names sites pool is.world is.stands (reached-history names (length sites) is.world is.reached) at old knows.0 here knows.1 in
+  leads_at e at old new grown o at_is here come =
+      let knows = correspond_get (IsSiteOf names) sites is.world.sites is.stands.sites at old here in
+      let may = may_take_all names sites pool is.world is.stands (reached_history names (length sites) is.world is.reached) at old knows.0 here knows.1 in
       subst (λ n. Leads from e o (record { names = names; sites = slice_set sites n new; pool = grown })) (sym at_is)
       (subst (LeadsWhere from e o (record { names = names; sites = slice_set sites (site_of e) new; pool = grown })) (sym (ap (slice_get sites) (sym at_is) ∙ here))
       (record { new = new; comes = come may; sites = refl; names = refl }))
 
 -- an event at no site changes nothing
-pub leads-nowhere : (from : WorldState) (e : Event) → length from.sites ≤ site_of e → Leads from e NoSite from
-leads-nowhere from e past = subst (LeadsWhere from e NoSite from) (sym (slice_get_past from.sites (site_of e) past)) (refl, refl)
+pub leads_nowhere : (from : WorldState) (e : Event) → length from.sites ≤ site_of e → Leads from e NoSite from
+leads_nowhere from e past = subst (LeadsWhere from e NoSite from) (sym (slice_get_past from.sites (site_of e) past)) (refl, refl)
 
 -- want of memory comes of an ask for a status where nothing is changed
-wanting-comes : (old : SiteState) (site : ℕ) (asked : Ask) → ((command : Command) → event.Ask site asked ≡ event.Ask site (asked_command command) → ⊥) → ComesOfAsk old asked NoMemory old
-wanting-comes old site (asked_command command) status = absurd (status command refl)
-wanting-comes old site (Status request) status = itself old
+wanting_comes : (old : SiteState) (site : ℕ) (asked : Ask) → ((command : Command) → event.Ask site asked ≡ event.Ask site (asked_command command) → ⊥) → ComesOfAsk old asked NoMemory old
+wanting_comes old site (asked_command command) status = absurd (status command refl)
+wanting_comes old site (Status request) status = itself old
 
 -- so it does of one for whose copy memory was wanting, which no command's is
-pub leads-wanting : (from : WorldState) (e : Event) → IsAsk e → ((site : ℕ) (command : Command) → e ≡ event.Ask site (asked_command command) → ⊥) → site_of e < length from.sites
+pub leads_wanting : (from : WorldState) (e : Event) → IsAsk e → ((site : ℕ) (command : Command) → e ≡ event.Ask site (asked_command command) → ⊥) → site_of e < length from.sites
     → Leads from e NoMemory from
-leads-wanting from (event.Ask site asked) is status within = by (slice_get from.sites site) refl
+leads_wanting from (event.Ask site asked) is status within = by (slice_get from.sites site) refl
   where
     by : (found : Option SiteState) → slice_get from.sites site ≡ found → LeadsWhere from (event.Ask site asked) NoMemory from found
-    by None none = absurd (some-within from.sites site within none)
+    by None none = absurd (some_within from.sites site within none)
     by (Some old) here = record {
       new = old;
-      comes = record { added = []; comes = (wanting-comes old site asked (status site), refl); is = sym (append-nil from.pool) };
-      sites = sym (set-again from.sites site old here);
+      comes = record { added = []; comes = (wanting_comes old site asked (status site), refl); is = sym (append-nil from.pool) };
+      sites = sym (set_again from.sites site old here);
       names = refl;
     }
-leads-wanting from (event.Cut site) is status within = absurd is
-leads-wanting from (event.Whole site) is status within = absurd is
-leads-wanting from (event.Take site place) is status within = absurd is
+leads_wanting from (event.Cut site) is status within = absurd is
+leads_wanting from (event.Whole site) is status within = absurd is
+leads_wanting from (event.Take site place) is status within = absurd is
 
 -- ---- events in turn
 
 -- events lead on with one more
-pub lead-on : (from : WorldState) (es : List Event) (os : List Outcome) (mid to : WorldState) (e : Event) (o : Outcome) → LeadAll from es os mid → Leads mid e o to
+pub lead_on : (from : WorldState) (es : List Event) (os : List Outcome) (mid to : WorldState) (e : Event) (o : Outcome) → LeadAll from es os mid → Leads mid e o to
     → LeadAll from (es ++ e ∷ []) (os ++ o ∷ []) to
-lead-on from [] [] mid to e o all one = (to, subst (λ w. Leads w e o to) all one, refl)
-lead-on from [] (p ∷ os) mid to e o all one = absurd all
-lead-on from (f ∷ es) [] mid to e o all one = absurd all
-lead-on from (f ∷ es) (p ∷ os) mid to e o (next, first, rest) one = (next, first, lead-on next es os mid to e o rest one)
+lead_on from [] [] mid to e o all one = (to, subst (λ w. Leads w e o to) all one, refl)
+lead_on from [] (p ∷ os) mid to e o all one = absurd all
+lead_on from (f ∷ es) [] mid to e o all one = absurd all
+lead_on from (f ∷ es) (p ∷ os) mid to e o (next, first, rest) one = (next, first, lead_on next es os mid to e o rest one)

@@ -13,25 +13,25 @@ use Rattle.status_report.specs.Answers.{AnswersCommand, KeepsAtStatus, answer_of
 use Rattle.sites_world.specs.Outcomes.{changes_nothing}
 use Rattle.sites_world.specs.Telling.{answer_told}
 use Rattle.sites_world.specs.WorldStates.{Correspond}
-use Rattle.sites_world.proofs.Lists.{correspond-set, one-some, set-again}
+use Rattle.sites_world.proofs.Lists.{correspond_set, one_some, set_again}
 
 -- a site that is as it was says the same
-pub equal-unchanged : (old new : SiteState) → new ≡ old → IsUnchanged old new
-equal-unchanged old new is = subst (IsUnchanged old) (sym is) (itself old)
+pub equal_unchanged : (old new : SiteState) → new ≡ old → IsUnchanged old new
+equal_unchanged old new is = subst (IsUnchanged old) (sym is) (itself old)
 
 -- a command that is done is not refused
-done-refused : (r : Refusal) (result : Result (Unit {0}) Refusal) → result ≡ Ok tt → result ≡ Err r → ⊥
-done-refused r result done refused = cc
+done_refused : (r : Refusal) (result : Result (Unit {0}) Refusal) → result ≡ Ok tt → result ≡ Err r → ⊥
+done_refused r result done refused = cc
 
 -- an answer that tells that nothing is changed leaves the site as it was
-pub answered-unchanged : (old new : SiteState) (asked : Ask) (answer : Answer) → AnswersCommand old asked new answer → KeepsAtStatus old asked new
+pub answered_unchanged : (old new : SiteState) (asked : Ask) (answer : Answer) → AnswersCommand old asked new answer → KeepsAtStatus old asked new
     → changes_nothing (answer_told answer) ≡ true → IsUnchanged old new
-answered-unchanged old new (Status request) answer answers kept nothing = equal-unchanged old new kept
-answered-unchanged old new (asked_command command) answer (result, is, done) kept nothing = by result is done
+answered_unchanged old new (Status request) answer answers kept nothing = equal_unchanged old new kept
+answered_unchanged old new (asked_command command) answer (result, is, done) kept nothing = by result is done
   where
     meant : (m : Meaning) (r : Refusal) → IsDone old m new (Err r) → IsUnchanged old new
     meant m r (inr stays) = stays.0
-    meant (Makes o) r (inl follows) = absurd (done-refused r (Err r) follows.0 refl)
+    meant (Makes o) r (inl follows) = absurd (done_refused r (Err r) follows.0 refl)
     meant (Refused x) r (inl follows) = follows.1
 
     by : (result : Result (Unit {0}) Refusal) → answer ≡ answer_of result → IsDone old (meaning_at old (change_of command)) new result → IsUnchanged old new
@@ -39,12 +39,12 @@ answered-unchanged old new (asked_command command) answer (result, is, done) kep
     by (Err r) is done = meant (meaning_at old (change_of command)) r done
 
 -- sites are as they are
-pub sites-unchanged : (sites : List SiteState) → Correspond (λ site. IsUnchanged) sites sites
-sites-unchanged sites = record { lengths = refl; each = λ site old new here there. subst (IsUnchanged old) (one-some old new (sym here ∙ there)) (itself old) }
+pub sites_unchanged : (sites : List SiteState) → Correspond (λ site. IsUnchanged) sites sites
+sites_unchanged sites = record { lengths = refl; each = λ site old new here there. subst (IsUnchanged old) (one_some old new (sym here ∙ there)) (itself old) }
 
 -- and so they are with one put in its place that says the same
-pub site-unchanged : (sites : List SiteState) (site : ℕ) (old new : SiteState) → slice_get sites site ≡ Some old → IsUnchanged old new
+pub site_unchanged : (sites : List SiteState) (site : ℕ) (old new : SiteState) → slice_get sites site ≡ Some old → IsUnchanged old new
     → Correspond (λ site. IsUnchanged) sites (slice_set sites site new)
-site-unchanged sites site old new here same =
-    subst (λ xs. Correspond (λ site. IsUnchanged) xs (slice_set sites site new)) (set-again sites site old here)
-    (correspond-set (λ site. IsUnchanged) sites sites (sites-unchanged sites) site old new (slice_get_within sites site old here) same)
+site_unchanged sites site old new here same =
+    subst (λ xs. Correspond (λ site. IsUnchanged) xs (slice_set sites site new)) (set_again sites site old here)
+    (correspond_set (λ site. IsUnchanged) sites sites (sites_unchanged sites) site old new (slice_get_within sites site old here) same)

@@ -72,9 +72,9 @@ whole_queue request totals rows number slot name counted listed out between new 
     ∙ (λ i. out ++ concat (shown (sym wanted i)))
     ∙ (λ i. out ++ concat (blocks_named request totals rows number (sym is i)))
 
-concat-append : (xs ys : List (List ℕ)) → concat (xs ++ ys) ≡ concat xs ++ concat ys
-concat-append [] ys = refl
-concat-append (x ∷ xs) ys = ap (λ rest. x ++ rest) (concat-append xs ys) ∙ sym (append_assoc x (concat xs) (concat ys))
+concat_append : (xs ys : List (List ℕ)) → concat (xs ++ ys) ≡ concat xs ++ concat ys
+concat_append [] ys = refl
+concat_append (x ∷ xs) ys = ap (λ rest. x ++ rest) (concat_append xs ys) ∙ sym (append_assoc x (concat xs) (concat ys))
 
 module _ (request : StatusRequest) (totals : ℕ → CallTotals) (rows : ℕ → List Row) where
   blocks_first : (names : List (List ℕ)) (i n : ℕ) → i < length names
@@ -85,14 +85,14 @@ module _ (request : StatusRequest) (totals : ℕ → CallTotals) (rows : ℕ →
 
   module _ (names : List (List ℕ)) (number : ℕ) where
     -- those of a queue, and of the queues after it
-    pub blocks_from-more : number < length names → blocks_from request totals rows names number ≡ blocks_named request totals rows number (slice_get names number) ++ blocks_from request totals rows names (number + 1)
-    blocks_from-more lt =
+    pub blocks_from_more : number < length names → blocks_from request totals rows names number ≡ blocks_named request totals rows number (slice_get names number) ++ blocks_from request totals rows names (number + 1)
+    blocks_from_more lt =
         let next : suc number ≡ number + 1 = omega arith in
         blocks_first names number number lt
         ∙ ap (λ i. blocks_named request totals rows number (slice_get names number) ++ blocks request totals rows (number + 1) (drop i names)) next
 
-    pub blocks_from-none : length names ≤ number → blocks_from request totals rows names number ≡ []
-    blocks_from-none past = ap (blocks request totals rows number) (drop_all number names past)
+    pub blocks_from_none : length names ≤ number → blocks_from request totals rows names number ≡ []
+    blocks_from_none past = ap (blocks request totals rows number) (drop_all number names past)
 
     pub queue_text : number < length names → (old new : List ℕ) → new ≡ old ++ concat (blocks_named request totals rows number (slice_get names number))
         → new ++ concat (blocks_from request totals rows names (number + 1)) ≡ old ++ concat (blocks_from request totals rows names number)
@@ -101,15 +101,15 @@ module _ (request : StatusRequest) (totals : ℕ → CallTotals) (rows : ℕ →
         let rest = blocks_from request totals rows names (number + 1) in
         ap (λ o. o ++ concat rest) e
         ∙ append_assoc old (concat here) (concat rest)
-        ∙ ap (λ t. old ++ t) (sym (concat-append here rest))
-        ∙ ap (λ bs. old ++ concat bs) (sym (blocks_from-more lt))
+        ∙ ap (λ t. old ++ t) (sym (concat_append here rest))
+        ∙ ap (λ bs. old ++ concat bs) (sym (blocks_from_more lt))
 
     pub queue_count : number < length names → (n k : ℕ) → k ≡ length (blocks_named request totals rows number (slice_get names number))
         → (n + k) + length (blocks_from request totals rows names (number + 1)) ≡ n + length (blocks_from request totals rows names number)
     queue_count lt n k e =
         let here = blocks_named request totals rows number (slice_get names number) in
         let rest = blocks_from request totals rows names (number + 1) in
-        let all = ap length (blocks_from-more lt) ∙ length-append here rest in
+        let all = ap length (blocks_from_more lt) ∙ length-append here rest in
         omega (arith, all, e)
 
     -- when all queues are written, and the end
@@ -119,7 +119,7 @@ module _ (request : StatusRequest) (totals : ℕ → CallTotals) (rows : ℕ →
         → new ≡ out ++ closing request.action_id events
         → new ≡ status_text names totals rows request
     whole_report events out new past text count closed =
-        let left = blocks_from-none past in
+        let left = blocks_from_none past in
         let none = ap length left in
         let all = blocks_from request totals rows names 0 in
         let written : out ≡ opening request.action_id ++ concat all = sym (append-nil out) ∙ ap (λ bs. out ++ concat bs) (sym left) ∙ text in

@@ -1,26 +1,26 @@
 -- The status text of a knowledge depends on what it contains alone, and an answer is one step of a site.
 use Rattle.std.proofs.Common.{inl, inr, refl}
 use Rattle.dots.specs.declared.calls.Calls.TheVariants.{Completed, Abandoned}
-use Rattle.operations.proofs.RowLaws.{show-the-same}
+use Rattle.operations.proofs.RowLaws.{show_the_same}
 use Rattle.replica.specs.Site.{SiteState}
 use Rattle.replica.specs.Standing.{StandsFor}
 use Rattle.replica.specs.Steps.{SiteKnowledge}
-use Rattle.replica.proofs.StandingSites.{unchanged-stands}
+use Rattle.replica.proofs.StandingSites.{unchanged_stands}
 use Rattle.status_report.specs.declared.asks.Answer.{Answer}
 use Rattle.status_report.specs.Knowing.{IsAnswered, IsOneStep, SameStatusTexts}
 use Rattle.status_report.specs.Status.{status_text}
 
-pub same-status : SameStatusTexts
-same-status k l names request ok same =
-    let shows = show-the-same k l ok same in
+pub same_status : SameStatusTexts
+same_status k l names request ok same =
+    let shows = show_the_same k l ok same in
     λ i. status_text names (λ queue. record { completed = shows.queue_totals queue Completed i; abandoned = shows.queue_totals queue Abandoned i }) (λ queue. shows.rows queue i) request
 
 -- an answer is one step of the site
-pub one-step : (old new : SiteState) (s : SiteKnowledge) (answer : Answer) (told : SiteKnowledge × Answer) → StandsFor old s → IsAnswered old new answer told
+pub one_step : (old new : SiteState) (s : SiteKnowledge) (answer : Answer) (told : SiteKnowledge × Answer) → StandsFor old s → IsAnswered old new answer told
     → IsOneStep new answer s told
-one-step old new s answer told stands (inl h) = record { after = told.0; stands = h.0; comes = inl (λ i. (told.0, h.1 i)) }
-one-step old new s answer told stands (inr h) = record {
+one_step old new s answer told stands (inl h) = record { after = told.0; stands = h.0; comes = inl (λ i. (told.0, h.1 i)) }
+one_step old new s answer told stands (inr h) = record {
   after = s;
-  stands = unchanged-stands old new s stands h.0;
+  stands = unchanged_stands old new s stands h.0;
   comes = inr (refl, h.1);
 }

@@ -1,5 +1,5 @@
-use Rattle.ami_session.proofs.TextLaws.{nothing-follows}
+use Rattle.ami_session.proofs.TextLaws.{nothing_follows}
 use Rattle.ami_session.proofs.laws.nothing_follows_a_logoff.Goals as goal
 
 pub returns : goal.returns
-returns c = nothing-follows
+returns c = nothing_follows

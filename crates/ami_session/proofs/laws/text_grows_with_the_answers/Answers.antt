@@ -1,5 +1,5 @@
-use Rattle.ami_session.proofs.TextLaws.{front-of-more}
+use Rattle.ami_session.proofs.TextLaws.{front_of_more}
 use Rattle.ami_session.proofs.laws.text_grows_with_the_answers.Goals as goal
 
 pub returns : goal.returns
-returns c = front-of-more
+returns c = front_of_more

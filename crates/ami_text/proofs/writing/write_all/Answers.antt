@@ -1,5 +1,5 @@
 use Rattle.std.proofs.Common.{arith}
-use Rattle.ami_text.proofs.Taking.{front-grows, taken-grows}
+use Rattle.ami_text.proofs.Taking.{front_grows, taken_grows}
 use Rattle.ami_text.proofs.writing.write_all.Goals as goal
 
 pub loop-rest-preserved : goal.loop-rest-preserved
@@ -8,5 +8,5 @@ loop-rest-preserved g c =
     let more = c.in-Ok.ensures in
     record {
       works = more.works (omega (arith, c.if-count-eq0.false));
-      so_far = (_, front-grows c.args.bytes.now was.0 c.loop-rest.rest.now c.in-Ok.count was.1, taken-grows _ _ _ was.0 _ was.2 more.bytes);
+      so_far = (_, front_grows c.args.bytes.now was.0 c.loop-rest.rest.now c.in-Ok.count was.1, taken_grows _ _ _ was.0 _ was.2 more.bytes);
     }

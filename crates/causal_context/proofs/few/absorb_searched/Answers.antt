@@ -1,7 +1,7 @@
 use Rattle.std.proofs.Common.{arith, ap, sym, ◌∷◌, [], ◌∙◌}
 use Rattle.std.specs.FinSet as sets
 use Rattle.dots.specs.DotSets.{set_of, run_count}
-use Rattle.dots.proofs.RunCounts.{run_count-runs}
+use Rattle.dots.proofs.RunCounts.{run_count_runs}
 use Rattle.dots.proofs.Runs.{runs_of_set}
 use Rattle.causal_context.proofs.FewRuns.{union_start, union_with, union_whole}
 use Rattle.causal_context.proofs.few.absorb_searched.Goals as goal
@@ -31,7 +31,7 @@ loop-run-preserved c =
 pub returns-clause-valid : goal.returns-clause-valid
 returns-clause-valid c =
     let made = c.loop-run.invariant.united ∙ union_whole (set_of c.args.runs.now.items) c.args.other.now c.loop-run.run-index c.loop-run-test.false in
-    let count = run_count-runs c.loop-run.runs.items (set_of c.loop-run.runs.items) (runs_of_set c.loop-run.runs.items c.loop-run.invariant.apart) in
+    let count = run_count_runs c.loop-run.runs.items (set_of c.loop-run.runs.items) (runs_of_set c.loop-run.runs.items c.loop-run.invariant.apart) in
     let same = ap run_count made in
     record { apart = c.loop-run.invariant.apart; limits = c.loop-run.invariant.limits; few = omega (arith, count, same, c.requires.few) }
 

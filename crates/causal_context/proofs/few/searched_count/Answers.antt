@@ -1,6 +1,6 @@
 use Rattle.std.proofs.Common.{arith, ap, subst, ◌∙◌}
 use Rattle.dots.specs.DotSets.{run_count, set_of}
-use Rattle.dots.proofs.RunCounts.{run_count-runs}
+use Rattle.dots.proofs.RunCounts.{run_count_runs}
 use Rattle.dots.proofs.Runs.{runs_of_set}
 use Rattle.causal_context.specs.Contexts.{IsRun}
 use Rattle.causal_context.proofs.FewRuns.{count_with_more, union_start, union_whole}
@@ -9,7 +9,7 @@ use Rattle.causal_context.proofs.few.searched_count.Goals as goal
 pub loop-run-init : goal.loop-run-init
 loop-run-init c =
     let runs = c.args.runs.now in
-    let own = run_count-runs runs (set_of runs) (runs_of_set runs c.requires.ours) in
+    let own = run_count_runs runs (set_of runs) (runs_of_set runs c.requires.ours) in
     let none = ap run_count (union_start (set_of runs) c.args.other.now) in
     record { value = omega arith; few = omega arith }
 

@@ -1,5 +1,5 @@
-use Rattle.dots.proofs.Unions.{union-comm, union-assoc, union-same}
+use Rattle.dots.proofs.Unions.{union_comm, union_assoc, union_same}
 use Rattle.causal_context.proofs.laws.contexts_are_joined.Goals as goal
 
 pub returns : goal.returns
-returns c = record { commutative = λ a b same. union-comm a b; associative = union-assoc; idempotent = union-same; keeps_agreement = λ a b d p q r. tt }
+returns c = record { commutative = λ a b same. union_comm a b; associative = union_assoc; idempotent = union_same; keeps_agreement = λ a b d p q r. tt }

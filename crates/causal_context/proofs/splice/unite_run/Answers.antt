@@ -3,7 +3,7 @@ use Rattle.std.specs.FinSet as set
 use Rattle.std.specs.List.{All}
 use Rattle.std.proofs.lemmas.List.Elements.{All-append, All-cons, All-drop, All-take}
 use Rattle.dots.specs.DotSets.{AreApart, run_count, set_of}
-use Rattle.dots.proofs.RunCounts.{run_count-runs}
+use Rattle.dots.proofs.RunCounts.{run_count_runs}
 use Rattle.causal_context.specs.Contexts.{IsRun}
 use Rattle.causal_context.proofs.Uniting.{length_replaced, set_replaced}
 use Rattle.causal_context.proofs.splice.unite_run.Goals as goal
@@ -13,7 +13,7 @@ pub returns-then-len-ge-MOST_RUNS-clause-full : goal.returns-then-len-ge-MOST_RU
 returns-then-len-ge-MOST_RUNS-clause-full c =
     let old = c.args.runs.now.items in
     let n : run_count (set.union (set_of c.deref.result.now) (set_of (c.args.run ∷ []))) ≡ c.unite-united.result.start + suc (length c.deref.result.now - c.unite-united.result.end) =
-    run_count-runs _ _ c.unite-united.ensures.united ∙ length_replaced c.deref.result.now c.unite-united.result.start c.unite-united.result.end c.unite-united.result.run c.unite-united.ensures.order c.unite-united.ensures.within in
+    run_count_runs _ _ c.unite-united.ensures.united ∙ length_replaced c.deref.result.now c.unite-united.result.start c.unite-united.result.end c.unite-united.result.run c.unite-united.ensures.order c.unite-united.ensures.within in
     let m : run_count (set.union (set_of old) (set_of (c.args.run ∷ []))) ≡ c.unite-united.result.start + suc (length old - c.unite-united.result.end) =
     subst (λ xs. run_count (set.union (set_of xs) (set_of (c.args.run ∷ []))) ≡ c.unite-united.result.start + suc (length xs - c.unite-united.result.end)) c.deref.ensures.value n in
     (λ h. omega (arith, m), λ h. refl)
@@ -22,7 +22,7 @@ pub returns-then-len-ge-MOST_RUNS-clause-no_more : goal.returns-then-len-ge-MOST
 returns-then-len-ge-MOST_RUNS-clause-no_more c h =
     let old = c.args.runs.now.items in
     let n : run_count (set.union (set_of c.deref.result.now) (set_of (c.args.run ∷ []))) ≡ c.unite-united.result.start + suc (length c.deref.result.now - c.unite-united.result.end) =
-    run_count-runs _ _ c.unite-united.ensures.united ∙ length_replaced c.deref.result.now c.unite-united.result.start c.unite-united.result.end c.unite-united.result.run c.unite-united.ensures.order c.unite-united.ensures.within in
+    run_count_runs _ _ c.unite-united.ensures.united ∙ length_replaced c.deref.result.now c.unite-united.result.start c.unite-united.result.end c.unite-united.result.run c.unite-united.ensures.order c.unite-united.ensures.within in
     let m : run_count (set.union (set_of old) (set_of (c.args.run ∷ []))) ≡ c.unite-united.result.start + suc (length old - c.unite-united.result.end) =
     subst (λ xs. run_count (set.union (set_of xs) (set_of (c.args.run ∷ []))) ≡ c.unite-united.result.start + suc (length xs - c.unite-united.result.end)) c.deref.ensures.value n in
     absurd (omega (arith, m, h))
@@ -35,7 +35,7 @@ pub returns-in-Ok-clause-full : goal.returns-in-Ok-clause-full
 returns-in-Ok-clause-full c =
     let old = c.args.runs.now.items in
     let n : run_count (set.union (set_of c.deref.result.now) (set_of (c.args.run ∷ []))) ≡ c.unite-united.result.start + suc (length c.deref.result.now - c.unite-united.result.end) =
-    run_count-runs _ _ c.unite-united.ensures.united ∙ length_replaced c.deref.result.now c.unite-united.result.start c.unite-united.result.end c.unite-united.result.run c.unite-united.ensures.order c.unite-united.ensures.within in
+    run_count_runs _ _ c.unite-united.ensures.united ∙ length_replaced c.deref.result.now c.unite-united.result.start c.unite-united.result.end c.unite-united.result.run c.unite-united.ensures.order c.unite-united.ensures.within in
     let m : run_count (set.union (set_of old) (set_of (c.args.run ∷ []))) ≡ c.unite-united.result.start + suc (length old - c.unite-united.result.end) =
     subst (λ xs. run_count (set.union (set_of xs) (set_of (c.args.run ∷ []))) ≡ c.unite-united.result.start + suc (length xs - c.unite-united.result.end)) c.deref.ensures.value n in
     (λ h. absurd (cc h), λ h. absurd (elim c.else-united.branch [ else-united-via-then-united+else-len-ge-MOST_RUNS w ↦ omega (arith, m, h) | else-united-via-else-united w ↦ omega (arith, m, h) ]))
@@ -58,7 +58,7 @@ pub returns-in-Err-clause-full : goal.returns-in-Err-clause-full
 returns-in-Err-clause-full c =
     let old = c.args.runs.now.items in
     let n : run_count (set.union (set_of c.deref.result.now) (set_of (c.args.run ∷ []))) ≡ c.unite-united.result.start + suc (length c.deref.result.now - c.unite-united.result.end) =
-    run_count-runs _ _ c.unite-united.ensures.united ∙ length_replaced c.deref.result.now c.unite-united.result.start c.unite-united.result.end c.unite-united.result.run c.unite-united.ensures.order c.unite-united.ensures.within in
+    run_count_runs _ _ c.unite-united.ensures.united ∙ length_replaced c.deref.result.now c.unite-united.result.start c.unite-united.result.end c.unite-united.result.run c.unite-united.ensures.order c.unite-united.ensures.within in
     let m : run_count (set.union (set_of old) (set_of (c.args.run ∷ []))) ≡ c.unite-united.result.start + suc (length old - c.unite-united.result.end) =
     subst (λ xs. run_count (set.union (set_of xs) (set_of (c.args.run ∷ []))) ≡ c.unite-united.result.start + suc (length xs - c.unite-united.result.end)) c.deref.ensures.value n in
     (λ h. absurd (cc h), λ h. absurd (elim c.else-united.branch [ else-united-via-then-united+else-len-ge-MOST_RUNS w ↦ omega (arith, m, h) | else-united-via-else-united w ↦ omega (arith, m, h) ]))
@@ -67,7 +67,7 @@ pub returns-in-Err-clause-no_more : goal.returns-in-Err-clause-no_more
 returns-in-Err-clause-no_more c h =
     let old = c.args.runs.now.items in
     let n : run_count (set.union (set_of c.deref.result.now) (set_of (c.args.run ∷ []))) ≡ c.unite-united.result.start + suc (length c.deref.result.now - c.unite-united.result.end) =
-    run_count-runs _ _ c.unite-united.ensures.united ∙ length_replaced c.deref.result.now c.unite-united.result.start c.unite-united.result.end c.unite-united.result.run c.unite-united.ensures.order c.unite-united.ensures.within in
+    run_count_runs _ _ c.unite-united.ensures.united ∙ length_replaced c.deref.result.now c.unite-united.result.start c.unite-united.result.end c.unite-united.result.run c.unite-united.ensures.order c.unite-united.ensures.within in
     let m : run_count (set.union (set_of old) (set_of (c.args.run ∷ []))) ≡ c.unite-united.result.start + suc (length old - c.unite-united.result.end) =
     subst (λ xs. run_count (set.union (set_of xs) (set_of (c.args.run ∷ []))) ≡ c.unite-united.result.start + suc (length xs - c.unite-united.result.end)) c.deref.ensures.value n in
     c.in-Err.ensures.no_more (omega (arith, m, h))

@@ -3,12 +3,12 @@ use Rattle.std.specs.FinSet as set
 use Rattle.std.proofs.lemmas.Bool.Decides.{nat_tests}
 use Rattle.dots.specs.Orders.{dot_cmp}
 use Rattle.dots.specs.DotSets.{IsRunsOf, Run}
-use Rattle.dots.proofs.Runs.{set_of-nil, set_of-runs}
+use Rattle.dots.proofs.Runs.{set_of_nil, set_of_runs}
 use Rattle.dots.proofs.UniqueRuns.{runs_unique}
 use Rattle.delta.proofs.parts.has_no_runs.Goals as goal
 
 no_dots : (runs : List Run) (dots : set.FinSet dot_cmp) → IsRunsOf runs dots → length runs ≡ 0 → dots ≡ set.empty
-no_dots [] dots h e = sym (set_of-runs [] dots h) ∙ set_of-nil
+no_dots [] dots h e = sym (set_of_runs [] dots h) ∙ set_of_nil
 no_dots (r ∷ runs) dots h e = absurd (omega arith)
 
 no_runs : (runs : List Run) (dots : set.FinSet dot_cmp) → IsRunsOf runs dots → dots ≡ set.empty → length runs ≡ 0

@@ -2,7 +2,7 @@ use Rattle.std.proofs.Common.{Contains, List, sym, subst, ◌∙◌, arith}
 use Rattle.std.specs.FinMap as map
 use Rattle.std.proofs.lemmas.List.Elements.{All-cons}
 use Rattle.dots.specs.Values.{Dot}
-use Rattle.general_lemmas.proofs.Membership.{first-in, later-in}
+use Rattle.general_lemmas.proofs.Membership.{first_in, later_in}
 use Rattle.member_orset.specs.Members.{Holding}
 use Rattle.member_orset.specs.LiveLists.{HoldingsAgree}
 use Rattle.member_orset.specs.Reads.{cell_read}
@@ -25,7 +25,7 @@ loop-dot-preserved c =
     let steps = c.in-Some.ensures.steps in
     record {
       agree = λ a. c.loop-dot.invariant.agree (subst (AgreeWith live) (sym steps) (All-cons (λ (e : Dot × Holding). HoldingsAgree (map.get live e.0) e.1) x rest (c.agrees_with.ensures.agree.0 c.if-not-agrees_with.false) a));
-      among = λ e h. c.loop-dot.invariant.among e (subst (λ (es : List (Dot × Holding)). Contains es e) (sym steps) (later-in x rest e h));
+      among = λ e h. c.loop-dot.invariant.among e (subst (λ (es : List (Dot × Holding)). Contains es e) (sym steps) (later_in x rest e h));
     }
 
 pub returns-then-not-agrees_with : goal.returns-then-not-agrees_with
@@ -33,7 +33,7 @@ returns-then-not-agrees_with c =
     let x : Dot × Holding = (c.in-Some.dot, cell_read c.in-Some.cell) in
     record {
       entry = x;
-      here = c.loop-dot.invariant.among x (subst (λ (es : List (Dot × Holding)). Contains es x) (sym c.in-Some.ensures.steps) (first-in x c.next.new.self));
+      here = c.loop-dot.invariant.among x (subst (λ (es : List (Dot × Holding)). Contains es x) (sym c.in-Some.ensures.steps) (first_in x c.next.new.self));
       conflict = c.agrees_with.ensures.conflict.0 c.if-not-agrees_with.true;
     }
 

@@ -3,7 +3,7 @@ use Rattle.std.specs.List.{All}
 use Rattle.std.specs.FinMap as map
 use Rattle.std.proofs.lemmas.List.Elements.{All-cons}
 use Rattle.dots.specs.Values.{Dot}
-use Rattle.general_lemmas.proofs.Membership.{first-in, later-in}
+use Rattle.general_lemmas.proofs.Membership.{first_in, later_in}
 use Rattle.member_orset.specs.Members.{Holding}
 use Rattle.member_orset.specs.Reads.{cell_read}
 use Rattle.member_orset.proofs.MapEntries.{entry_in, entry_is}
@@ -25,13 +25,13 @@ loop-dot-preserved c =
     let steps = c.in-Some.ensures.steps in
     record {
       here = λ a. c.loop-dot.invariant.here (subst (All (λ (e : Dot × Holding). map.get live e.0 ≡ Some e.1)) (sym steps) (All-cons (λ (e : Dot × Holding). map.get live e.0 ≡ Some e.1) x rest (c.is_live_so.ensures.0 c.if-not-is_live_so.false) a));
-      among = λ e h. c.loop-dot.invariant.among e (subst (λ (es : List (Dot × Holding)). Contains es e) (sym steps) (later-in x rest e h));
+      among = λ e h. c.loop-dot.invariant.among e (subst (λ (es : List (Dot × Holding)). Contains es e) (sym steps) (later_in x rest e h));
     }
 
 pub returns-then-not-is_live_so : goal.returns-then-not-is_live_so
 returns-then-not-is_live_so c =
     let x : Dot × Holding = (c.in-Some.dot, cell_read c.in-Some.cell) in
-    let here = c.loop-dot.invariant.among x (subst (λ (es : List (Dot × Holding)). Contains es x) (sym c.in-Some.ensures.steps) (first-in x c.next.new.self)) in
+    let here = c.loop-dot.invariant.among x (subst (λ (es : List (Dot × Holding)). Contains es x) (sym c.in-Some.ensures.steps) (first_in x c.next.new.self)) in
     (λ t. absurd (cc t), λ all. absurd (let t = c.is_live_so.ensures.1 (all x.0 x.1 (entry_is c.args.others.now.live x here)) in cc (t, c.if-not-is_live_so.true)))
 
 pub returns : goal.returns

@@ -2,13 +2,13 @@ use Rattle.std.proofs.Common.{not, ◌&&◌, ◌||◌, sym, ap, ◌∙◌}
 use Rattle.std.specs.List.{list_any}
 use Rattle.dots.specs.DotSets.{run_count}
 use Rattle.operations.specs.Knowledge.{is_dot}
-use Rattle.reference_model.proofs.RunSteps.{len-missing, set_is}
+use Rattle.reference_model.proofs.RunSteps.{len_missing, set_is}
 use Rattle.reference_model.proofs.dot_sets.dots_and_runs.Goals as goal
 
 pub returns-clause-dots : goal.returns-clause-dots
 returns-clause-dots c = λ s same.
     c.count_missing-visible.ensures.value
-    ∙ len-missing s c.in_ok-known.known.keys c.in_ok-dead.dead.keys c.count_missing-visible.ensures.ordered (λ q.
+    ∙ len_missing s c.in_ok-known.known.keys c.in_ok-dead.dead.keys c.count_missing-visible.ensures.ordered (λ q.
     same q ∙ (λ i. sym (c.in_ok-known.ensures q) i && not (sym (c.in_ok-dead.ensures q) i)))
 
 pub returns-clause-runs : goal.returns-clause-runs

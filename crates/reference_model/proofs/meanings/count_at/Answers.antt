@@ -4,7 +4,7 @@ use Rattle.operations.specs.Operations.{Count}
 use Rattle.replica.specs.Changes.{Makes, count_at}
 use Rattle.reference_model.specs.Plain.{knowledge_of}
 use Rattle.reference_model.specs.Sites.{Touches, known_view, buffer_view}
-use Rattle.reference_model.proofs.LimitSteps.{means-full, means-past_total, means-made, above, past_most, not_past}
+use Rattle.reference_model.proofs.LimitSteps.{means_full, means_past_total, means_made, above, past_most, not_past}
 use Rattle.reference_model.proofs.meanings.count_at.Goals as goal
 
 pub returns-then-branch : goal.returns-then-branch
@@ -14,7 +14,7 @@ returns-then-branch c =
     let o = count_at c.args.site r c.args.queue c.args.calls in
     let touches : Touches o [] [] = record { asserted_are = refl; named_are = refl } in
     let limits = c.in_ok-is_past_limits.ensures c.args.site o touches in
-    means-full r (buffer_view c.args.site k) o c.in_ok-is_past_limits.field-0 limits c.if-branch.true
+    means_full r (buffer_view c.args.site k) o c.in_ok-is_past_limits.field-0 limits c.if-branch.true
 
 pub returns-in-Some : goal.returns-in-Some
 returns-in-Some c =
@@ -28,7 +28,7 @@ returns-in-Some c =
     let next : c.site_total-number.result + 1 ≡ suc (site_total (knowledge_of k.known.items) c.args.site c.args.queue c.args.calls) = omega (arith, at) in
     let within = c.in-Some.ensures.within.0 refl in
     ap (λ n. Makes (Count c.args.site c.args.queue c.args.calls n)) (c.in-Some.ensures.value ∙ next)
-    ∙ means-made r (buffer_view c.args.site k) o c.in_ok-is_past_limits.field-0 limits c.if-branch.false refl (ap (nat_lt 1000000000) (sym next) ∙ not_past 1000000000 (c.site_total-number.result + 1) within)
+    ∙ means_made r (buffer_view c.args.site k) o c.in_ok-is_past_limits.field-0 limits c.if-branch.false refl (ap (nat_lt 1000000000) (sym next) ∙ not_past 1000000000 (c.site_total-number.result + 1) within)
 
 pub returns-in-None : goal.returns-in-None
 returns-in-None c =
@@ -41,4 +41,4 @@ returns-in-None c =
     c.site_total-number.ensures.value ∙ (λ i. site_total (knowledge_of (c.deref.ensures.value i)) (c.number.ensures.value i) c.args.queue c.args.calls) in
     let next : c.site_total-number.result + 1 ≡ suc (site_total (knowledge_of k.known.items) c.args.site c.args.queue c.args.calls) = omega (arith, at) in
     let past = past_most 1000000000 (c.site_total-number.result + 1) (above 1000000000 (c.site_total-number.result + 1) c.in-None.ensures.within.1) in
-    means-past_total r (buffer_view c.args.site k) o c.in_ok-is_past_limits.field-0 limits c.if-branch.false refl (ap (nat_lt 1000000000) (sym next) ∙ past)
+    means_past_total r (buffer_view c.args.site k) o c.in_ok-is_past_limits.field-0 limits c.if-branch.false refl (ap (nat_lt 1000000000) (sym next) ∙ past)

@@ -3,7 +3,7 @@ use Rattle.std.specs.FinSet as set
 use Rattle.operations.specs.Operations.{Remove}
 use Rattle.replica.specs.Changes.{Makes, remove_of}
 use Rattle.reference_model.specs.Sites.{Touches, known_view, buffer_view}
-use Rattle.reference_model.proofs.LimitSteps.{means-full, means-made}
+use Rattle.reference_model.proofs.LimitSteps.{means_full, means_made}
 use Rattle.reference_model.proofs.meanings.remove_of.Goals as goal
 
 pub returns-then-branch : goal.returns-then-branch
@@ -12,7 +12,7 @@ returns-then-branch c = λ site.
     let o = remove_of c.args.dots.now in
     let touches : Touches o [] c.deref.result.now = record { asserted_are = refl; named_are = ap set.from_list (sym (c.deref.ensures.value ∙ c.in_ok-named.ensures)) } in
     let limits = c.in_ok-is_past_limits.ensures site o touches in
-    means-full (known_view site s) (buffer_view site s) o c.in_ok-is_past_limits.field-0 limits c.if-branch.true
+    means_full (known_view site s) (buffer_view site s) o c.in_ok-is_past_limits.field-0 limits c.if-branch.true
 
 pub returns : goal.returns
 returns c = λ site.
@@ -21,4 +21,4 @@ returns c = λ site.
     let touches : Touches o [] c.deref.result.now = record { asserted_are = refl; named_are = ap set.from_list (sym (c.deref.ensures.value ∙ c.in_ok-named.ensures)) } in
     let limits = c.in_ok-is_past_limits.ensures site o touches in
     ap (λ ds. Makes (Remove (set.from_list ds))) c.in_ok-named.ensures
-    ∙ means-made (known_view site s) (buffer_view site s) o c.in_ok-is_past_limits.field-0 limits c.if-branch.false refl refl
+    ∙ means_made (known_view site s) (buffer_view site s) o c.in_ok-is_past_limits.field-0 limits c.if-branch.false refl refl

@@ -3,7 +3,7 @@ use Rattle.std.specs.FinMap as map
 use Rattle.dots.specs.Orders.{dot_cmp}
 use Rattle.member_orset.specs.Members.{Holding}
 use Rattle.member_orset.specs.Reads.{cell_read}
-use Rattle.replica.proofs.WrittenDots.{len-more, live-written, none-written, written-before}
+use Rattle.replica.proofs.WrittenDots.{len_more, live_written, none_written, written_before}
 use Rattle.replica.proofs.changes.write_all.Goals as goal
 use Rattle.replica.proofs.changes.write_all.Goals.{in-Some+in_ok-cell, in_default}
 
@@ -16,7 +16,7 @@ loop-dot-init c = record {
 
 pub cell-requires-clause-greater : goal.cell-requires-clause-greater
 cell-requires-clause-greater c =
-    written-before c.args.members.now c.args.fields.now c.args.dots.now c.loop-dot.dot-index c.dot-item.result c.loop-dot.builder.live c.requires.rise c.loop-dot-test.true c.dot-item.is c.loop-dot.invariant.live
+    written_before c.args.members.now c.args.fields.now c.args.dots.now c.loop-dot.dot-index c.dot-item.result c.loop-dot.builder.live c.requires.rise c.loop-dot-test.true c.dot-item.is c.loop-dot.invariant.live
 
 pub loop-dot-preserved : goal.loop-dot-preserved
 loop-dot-preserved c = elim c.match-live.branch [
@@ -27,8 +27,8 @@ loop-dot-preserved c = elim c.match-live.branch [
       record {
         known = ap (λ b. b.known) w.builder-is ∙ w.in_ok-cell.ensures.known ∙ c.loop-dot.invariant.known;
         live = λ q. ap (λ m. map.get m q) is
-            ∙ live-written c.args.members.now c.args.fields.now c.args.dots.now c.loop-dot.dot-index c.dot-item.result h c.loop-dot.builder.live c.loop-dot-test.true c.dot-item.is c.loop-dot.invariant.live (sym w.in-Some.ensures.value) q;
-        few = let few = len-more c.loop-dot.builder.live c.dot-item.result (h.0, c.args.fields.now) c.loop-dot.dot-index c.loop-dot.invariant.few in
+            ∙ live_written c.args.members.now c.args.fields.now c.args.dots.now c.loop-dot.dot-index c.dot-item.result h c.loop-dot.builder.live c.loop-dot-test.true c.dot-item.is c.loop-dot.invariant.live (sym w.in-Some.ensures.value) q;
+        few = let few = len_more c.loop-dot.builder.live c.dot-item.result (h.0, c.args.fields.now) c.loop-dot.dot-index c.loop-dot.invariant.few in
             let e = ap map.len is in omega (arith, few, e);
       }
   | in_default w ↦
@@ -36,7 +36,7 @@ loop-dot-preserved c = elim c.match-live.branch [
       record {
         known = ap (λ b. b.known) w.builder-is ∙ c.loop-dot.invariant.known;
         live = λ q. ap (λ m. map.get m q) is
-            ∙ none-written c.args.members.now c.args.fields.now c.args.dots.now c.loop-dot.dot-index c.dot-item.result c.loop-dot.builder.live c.loop-dot-test.true c.dot-item.is c.loop-dot.invariant.live (sym w.in_default.ensures.value) q;
+            ∙ none_written c.args.members.now c.args.fields.now c.args.dots.now c.loop-dot.dot-index c.dot-item.result c.loop-dot.builder.live c.loop-dot-test.true c.dot-item.is c.loop-dot.invariant.live (sym w.in_default.ensures.value) q;
         few = let e = ap map.len is in omega (arith, e, c.loop-dot.invariant.few);
       }
 ]

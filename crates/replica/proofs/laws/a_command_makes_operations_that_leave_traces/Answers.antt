@@ -1,5 +1,5 @@
-use Rattle.replica.proofs.TracesMade.{makes-traces}
+use Rattle.replica.proofs.TracesMade.{makes_traces}
 use Rattle.replica.proofs.laws.a_command_makes_operations_that_leave_traces.Goals as goal
 
 pub returns : goal.returns
-returns c = makes-traces
+returns c = makes_traces

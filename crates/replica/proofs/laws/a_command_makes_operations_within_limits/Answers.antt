@@ -1,5 +1,5 @@
-use Rattle.replica.proofs.MadeLimits.{makes-within-limits}
+use Rattle.replica.proofs.MadeLimits.{makes_within_limits}
 use Rattle.replica.proofs.laws.a_command_makes_operations_within_limits.Goals as goal
 
 pub returns : goal.returns
-returns c = makes-within-limits
+returns c = makes_within_limits

@@ -1,5 +1,5 @@
-use Rattle.replica.proofs.MadeOperationLaws.{makes-what-it-may}
+use Rattle.replica.proofs.MadeOperationLaws.{makes_what_it_may}
 use Rattle.replica.proofs.laws.a_command_makes_what_its_site_may_make.Goals as goal
 
 pub returns : goal.returns
-returns c = makes-what-it-may
+returns c = makes_what_it_may

@@ -1,5 +1,5 @@
-use Rattle.replica.proofs.StepLaws.{refusals-change-nothing}
+use Rattle.replica.proofs.StepLaws.{refusals_change_nothing}
 use Rattle.replica.proofs.laws.a_refused_step_changes_nothing.Goals as goal
 
 pub returns : goal.returns
-returns c = refusals-change-nothing
+returns c = refusals_change_nothing

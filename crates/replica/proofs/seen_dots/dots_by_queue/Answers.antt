@@ -3,7 +3,7 @@ use Rattle.dots.specs.declared.member.Member.{Member}
 use Rattle.operations.specs.Rows.{dots_of}
 use Rattle.member_orset.specs.Members.{dot_view_of}
 use Rattle.replica.specs.DotLists.{dots_below}
-use Rattle.replica.proofs.SeenLists.{none-of-them, of-error}
+use Rattle.replica.proofs.SeenLists.{none_of_them, of_error}
 use Rattle.replica.proofs.seen_dots.dots_by_queue.Goals as goal
 
 pub loop-queue-init : goal.loop-queue-init
@@ -28,4 +28,4 @@ pub returns-in_err-push_dots-clause-some : goal.returns-in_err-push_dots-clause-
 returns-in_err-push_dots-clause-some c =
     let r = dot_view_of c.args.members.now in
     let of = λ (interface : List ℕ). let member : Member = record { queue = c.loop-queue.queue; interface = interface } in dots_of r member in
-    of-error c.from_residual.result _ (λ none. c.in_err-push_dots.ensures.some (ap of c.loop-queue.invariant.interface ∙ none-of-them r c.args.interface.now c.args.queues c.loop-queue.queue c.loop-queue-test.true none))
+    of_error c.from_residual.result _ (λ none. c.in_err-push_dots.ensures.some (ap of c.loop-queue.invariant.interface ∙ none_of_them r c.args.interface.now c.args.queues c.loop-queue.queue c.loop-queue-test.true none))

@@ -30,9 +30,9 @@ ends_in_rest (Rest rest) = Unit {0}
 ends_in_rest (Fault fault) = ⊥
 
 -- behind the first message of fields that are one message there is nothing
-nothing-behind : EachReads → OneList → OneEnding → (fields : List ℕ) (message only : List NameAndValue) (held : List ℕ) → FirstMessage (stream_of fields) message held
+nothing_behind : EachReads → OneList → OneEnding → (fields : List ℕ) (message only : List NameAndValue) (held : List ℕ) → FirstMessage (stream_of fields) message held
     → IsMessage fields only → (rest : List ℕ) × StreamGives held [] rest × IsRest rest
-nothing-behind each one end fields message only held first is = let outcome = each held in by outcome.0 outcome.1 outcome.2 where
+nothing_behind each one end fields message only held first is = let outcome = each held in by outcome.0 outcome.1 outcome.2 where
   by : (messages : Messages) (ending : Ending) → Reads held messages ending → (rest : List ℕ) × StreamGives held [] rest × IsRest rest
   by messages (Rest rest) reads =
       let whole : Reads (stream_of fields) (message ∷ messages) (Rest rest) = ((held, first, reads.0), reads.1) in
@@ -42,13 +42,13 @@ nothing-behind each one end fields message only held first is = let outcome = ea
       let whole : Reads (stream_of fields) (message ∷ messages) (Fault fault) = (reads.0, (held, first, reads.1), reads.2) in
       absurd (subst ends_in_rest (sym (end (stream_of fields) (message ∷ messages) (only ∷ []) (Fault fault) (Rest is.0) whole is.1)) tt)
 
-not-shown : {A : Type 0} (r : Result (Option A) FeedFault) (o : Option A) (m : A) → r ≡ Ok o → o ≡ None → (r ≡ Ok (Some m)) ⊎ (r ≡ Err Memory) → ⊥
-not-shown r o m is none (inl e) = cc
-not-shown r o m is none (inr e) = cc
+not_shown : {A : Type 0} (r : Result (Option A) FeedFault) (o : Option A) (m : A) → r ≡ Ok o → o ≡ None → (r ≡ Ok (Some m)) ⊎ (r ≡ Err Memory) → ⊥
+not_shown r o m is none (inl e) = cc
+not_shown r o m is none (inr e) = cc
 
-not-faulty : {A : Type 0} (r : Result (Option A) FeedFault) (f : FeedFault) (m : A) → r ≡ Err f → f ≢ Memory → (r ≡ Ok (Some m)) ⊎ (r ≡ Err Memory) → ⊥
-not-faulty r f m is other (inl e) = cc
-not-faulty r f m is other (inr e) = other (cc)
+not_faulty : {A : Type 0} (r : Result (Option A) FeedFault) (f : FeedFault) (m : A) → r ≡ Err f → f ≢ Memory → (r ≡ Ok (Some m)) ⊎ (r ≡ Err Memory) → ⊥
+not_faulty r f m is other (inl e) = cc
+not_faulty r f m is other (inr e) = other (cc)
 
 pub returns-in-Ok-Some-clause-none : goal.returns-in-Ok-Some-clause-none
 returns-in-Ok-Some-clause-none c = λ none message is.
@@ -59,18 +59,18 @@ returns-in-Ok-Some-clause-none c = λ none message is.
     let held = ap (λ (h : FeedState). h.held) c.in_ok-feed.ensures in
     let shown = rw c.in-Ok-Some.field-0-is at c.in-Ok-Some.ensures.message in
     let first = subst (λ (t : List ℕ). FirstMessage t found left) held shown in
-    let rest = nothing-behind law.some law.messages law.ending fields found message left first is in
+    let rest = nothing_behind law.some law.messages law.ending fields found message left first is in
     c.only_message.ensures.none none rest.0 rest.1 rest.2
 
 pub returns-in-Ok-None-clause-none : goal.returns-in-Ok-None-clause-none
 returns-in-Ok-None-clause-none c = λ _ message is.
     let fed = c.in_ok-feed.ensures in
     let first = subst (λ (h : FeedState). FirstMessage h.held message is.1.0.0) (sym fed) is.1.0.1 in
-    not-shown c.next_message.result _ message c.in-Ok-None.is c.in-Ok-None.field-0-is (c.next_message.ensures.message_shown (ap (λ (h : FeedState). h.fault) fed) message is.1.0.0 first)
+    not_shown c.next_message.result _ message c.in-Ok-None.is c.in-Ok-None.field-0-is (c.next_message.ensures.message_shown (ap (λ (h : FeedState). h.fault) fed) message is.1.0.0 first)
 
 pub returns-in-Err-clause-none : goal.returns-in-Err-clause-none
 returns-in-Err-clause-none c = λ none message is.
     let fed = c.in_ok-feed.ensures in
     let first = subst (λ (h : FeedState). FirstMessage h.held message is.1.0.0) (sym fed) is.1.0.1 in
     let other : c.in-Err.fault ≢ Memory = rw none at c.without_message.ensures.stream in
-    not-faulty c.next_message.result _ message c.in-Err.is other (c.next_message.ensures.message_shown (ap (λ (h : FeedState). h.fault) fed) message is.1.0.0 first)
+    not_faulty c.next_message.result _ message c.in-Err.is other (c.next_message.ensures.message_shown (ap (λ (h : FeedState). h.fault) fed) message is.1.0.0 first)

@@ -8,11 +8,11 @@ use Rattle.scripts.specs.Script.{HasBegun, HasWritten, IsRun, IsRunInPart, Place
 use Rattle.scripts.proofs.script.run_script.Goals as goal
 
 -- a script that was read, and whose lines were run over new sites, was run
-run-whole : (place : Place) (script : Script) (text : List ℕ) (left left_new taken taken_new : Option (List ℕ)) (unknown : ℕ)
+run_whole : (place : Place) (script : Script) (text : List ℕ) (left left_new taken taken_new : Option (List ℕ)) (unknown : ℕ)
     → place_of script ≡ place → StandsAt script.world (new_world place.sites) → length text ≤ 16777216 → Consumes left left_new text
     → ((w : World) → StandsAt script.world w → HasWritten (place_of script) w text taken taken_new unknown)
     → IsRun place left left_new taken taken_new unknown
-run-whole place script text left left_new taken taken_new unknown same stands short read written = record {
+run_whole place script text left left_new taken taken_new unknown same stands short read written = record {
   script = text;
   short = short;
   read = read;
@@ -20,11 +20,11 @@ run-whole place script text left left_new taken taken_new unknown same stands sh
 }
 
 -- one whose lines were begun there was run in part
-run-in-part : (place : Place) (script : Script) (text : List ℕ) (left left_new taken taken_new : Option (List ℕ))
+run_in_part : (place : Place) (script : Script) (text : List ℕ) (left left_new taken taken_new : Option (List ℕ))
     → place_of script ≡ place → StandsAt script.world (new_world place.sites) → length text ≤ 16777216 → Consumes left left_new text
     → ((w : World) → StandsAt script.world w → HasBegun (place_of script) w text taken taken_new)
     → IsRunInPart place left left_new taken taken_new
-run-in-part place script text left left_new taken taken_new same stands short read begun = record {
+run_in_part place script text left left_new taken taken_new same stands short read begun = record {
   script = text;
   short = short;
   read = read;
@@ -38,7 +38,7 @@ returns-clause-text g c =
     let read : Consumes (g.S.Source.left c.args.reader.now) (g.S.Source.left c.read_script.new.reader) text =
     subst (Consumes (g.S.Source.left c.args.reader.now) (g.S.Source.left c.read_script.new.reader)) (sym c.deref.ensures.value) c.in_ok-text.ensures.whole in
     IfOk-weaker c.run_lines.result _ _
-    (λ unknown written. run-whole _ c.in_ok-script.script text _ _ _ _ unknown c.in_ok-script.ensures.place c.in_ok-script.ensures.stands short read written)
+    (λ unknown written. run_whole _ c.in_ok-script.script text _ _ _ _ unknown c.in_ok-script.ensures.place c.in_ok-script.ensures.stands short read written)
     c.run_lines.ensures.ok
 
 pub returns-clause-unwritten : goal.returns-clause-unwritten
@@ -47,7 +47,7 @@ returns-clause-unwritten g c = λ is.
     let short : length text ≤ 16777216 = omega (arith, c.in_ok-text.ensures.limit, c.deref.ensures.len) in
     let read : Consumes (g.S.Source.left c.args.reader.now) (g.S.Source.left c.read_script.new.reader) text =
     subst (Consumes (g.S.Source.left c.args.reader.now) (g.S.Source.left c.read_script.new.reader)) (sym c.deref.ensures.value) c.in_ok-text.ensures.whole in
-    run-in-part _ c.in_ok-script.script text _ _ _ _ c.in_ok-script.ensures.place c.in_ok-script.ensures.stands short read (rw is at c.run_lines.ensures.err)
+    run_in_part _ c.in_ok-script.script text _ _ _ _ c.in_ok-script.ensures.place c.in_ok-script.ensures.stands short read (rw is at c.run_lines.ensures.err)
 
 pub returns-clause-memory : goal.returns-clause-memory
 returns-clause-memory g c = λ is.
@@ -55,4 +55,4 @@ returns-clause-memory g c = λ is.
     let short : length text ≤ 16777216 = omega (arith, c.in_ok-text.ensures.limit, c.deref.ensures.len) in
     let read : Consumes (g.S.Source.left c.args.reader.now) (g.S.Source.left c.read_script.new.reader) text =
     subst (Consumes (g.S.Source.left c.args.reader.now) (g.S.Source.left c.read_script.new.reader)) (sym c.deref.ensures.value) c.in_ok-text.ensures.whole in
-    inr (c.in_ok-text.ensures.ended, run-in-part _ c.in_ok-script.script text _ _ _ _ c.in_ok-script.ensures.place c.in_ok-script.ensures.stands short read (rw is at c.run_lines.ensures.err))
+    inr (c.in_ok-text.ensures.ended, run_in_part _ c.in_ok-script.script text _ _ _ _ c.in_ok-script.ensures.place c.in_ok-script.ensures.stands short read (rw is at c.run_lines.ensures.err))

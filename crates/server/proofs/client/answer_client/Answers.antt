@@ -2,13 +2,13 @@ use Rattle.std.proofs.Common.{◌≡◌, ◌∙◌, ap, refl}
 use Rattle.pass_desk.specs.PassDesks.{AnswersByPass}
 use Rattle.pass_desk.specs.RingingDesks.{inner_desk}
 use Rattle.pass_desk.specs.declared.ringing_desk.RingingDesk.{RingingDesk}
-use Rattle.serve.proofs.Working.{work-keeps}
+use Rattle.serve.proofs.Working.{work_keeps}
 use Rattle.site_desk.specs.Passes.{PassState}
 use Rattle.server.proofs.client.answer_client.Goals as goal
 
 -- each answer keeps the number of the pass, and so does each refusal
 pub returns : goal.returns
-returns g c = work-keeps
+returns g c = work_keeps
     (λ (old : RingingDesk PassState) asked answer (new : RingingDesk PassState). AnswersByPass g.L.SiteLedger.site g.L.SiteLedger.names (inner_desk old) asked answer (inner_desk new))
     (λ (old : RingingDesk PassState) asked (new : RingingDesk PassState). inner_desk new ≡ inner_desk old)
     (λ (d e : RingingDesk PassState). (inner_desk e).ordinal ≡ (inner_desk d).ordinal) (λ d. refl) (λ d mid e first then. then ∙ first)

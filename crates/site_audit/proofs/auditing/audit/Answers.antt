@@ -2,7 +2,7 @@ use Rattle.std.proofs.Common.{◌≡◌, ℕ, length, slice_get, Some, IsTrue, r
 use Rattle.std.proofs.lemmas.Option.{slice_get_read, slice_get_within}
 use Rattle.site_audit.specs.Ending.{HasAll, IsLeastLeft}
 use Rattle.site_audit.specs.Runs.{IsStuck}
-use Rattle.site_audit.proofs.Ends.{begins, ends-as-run, ends-stuck}
+use Rattle.site_audit.proofs.Ends.{begins, ends_as_run, ends_stuck}
 use Rattle.site_audit.proofs.auditing.audit.Goals as goal
 
 -- nothing is played yet
@@ -39,10 +39,10 @@ returns-in-Some-least_left-clause-no_run c = λ site position told.
       c.search.new.replay.events.items,
       subst (λ n. IsStuck c.args.journals.now n position c.search.new.replay.events.items) s
           (subst (λ n. IsStuck c.args.journals.now c.in-Some-least_left.site n c.search.new.replay.events.items) p
-          (ends-stuck c.args.journals.now c.search.new.replay c.in-Some-least_left.site c.index.result.now c.in_ok-search.ensures.kept c.in_ok-search.ensures.none least here)),
+          (ends_stuck c.args.journals.now c.search.new.replay c.in-Some-least_left.site c.index.result.now c.in_ok-search.ensures.kept c.in_ok-search.ensures.none least here)),
     )
 
 -- each site has all its steps
 pub returns-in-None-clause-run : goal.returns-in-None-clause-run
 returns-in-None-clause-run c =
-    ends-as-run c.args.journals.now c.search.new.replay c.in_ok-search.ensures.kept (subst (λ xs. (site : ℕ) → HasAll c.args.journals.now xs site) c.as_slice.ensures.value c.in-None.ensures.none)
+    ends_as_run c.args.journals.now c.search.new.replay c.in_ok-search.ensures.kept (subst (λ xs. (site : ℕ) → HasAll c.args.journals.now xs site) c.as_slice.ensures.value c.in-None.ensures.none)

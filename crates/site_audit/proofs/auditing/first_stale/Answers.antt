@@ -2,7 +2,7 @@ use Rattle.std.proofs.Common.{◌≡◌, length, slice_get, Some, IsTrue, true�
 use Rattle.std.proofs.lemmas.Option.{slice_get_read}
 use Rattle.site_journal.specs.Journals.{IsJournal}
 use Rattle.site_audit.specs.Runs.{IsFromNew}
-use Rattle.site_audit.proofs.Lists.{holds-all, holds-more}
+use Rattle.site_audit.proofs.Lists.{holds_all, holds_more}
 use Rattle.site_audit.proofs.auditing.first_stale.Goals as goal
 
 -- the journal at the place isn't whole
@@ -20,13 +20,13 @@ loop-place-preserved c =
     let here : slice_get c.args.journals.now c.loop-place.place ≡ Some c.index-journals-place.result =
     slice_get_read c.args.journals.now (length c.args.journals.now) c.loop-place.place c.index-journals-place.result refl c.loop-place-test.true c.index-journals-place.is in
     record {
-      fresh = holds-more (λ n. IsFromNew) c.args.journals.now c.loop-place.place c.index-journals-place.result c.loop-place.invariant.fresh here
+      fresh = holds_more (λ n. IsFromNew) c.args.journals.now c.loop-place.place c.index-journals-place.result c.loop-place.invariant.fresh here
           (c.is_from_new.ensures.whole.0 (subst IsTrue (sym c.if-not-is_from_new.false) refl));
-      legal = holds-more (λ n. IsJournal) c.args.journals.now c.loop-place.place c.index-journals-place.result c.loop-place.invariant.legal here c.is_from_new.ensures.journal;
+      legal = holds_more (λ n. IsJournal) c.args.journals.now c.loop-place.place c.index-journals-place.result c.loop-place.invariant.legal here c.is_from_new.ensures.journal;
     }
 
 pub returns-clause-fresh : goal.returns-clause-fresh
-returns-clause-fresh c = holds-all (λ n. IsFromNew) c.args.journals.now c.loop-place.place c.loop-place-test.false c.loop-place.invariant.fresh
+returns-clause-fresh c = holds_all (λ n. IsFromNew) c.args.journals.now c.loop-place.place c.loop-place-test.false c.loop-place.invariant.fresh
 
 pub returns-clause-legal : goal.returns-clause-legal
-returns-clause-legal c = holds-all (λ n. IsJournal) c.args.journals.now c.loop-place.place c.loop-place-test.false c.loop-place.invariant.legal
+returns-clause-legal c = holds_all (λ n. IsJournal) c.args.journals.now c.loop-place.place c.loop-place-test.false c.loop-place.invariant.legal

@@ -1,7 +1,7 @@
 use Rattle.std.proofs.Common.{◌≡◌, ◌<◌, ◌≤◌, length, slice_get, get_or, Some, refl, ap, ◌∙◌, subst, arith}
 use Rattle.std.proofs.lemmas.Option.{slice_get_read, slice_get-get_or, slice_get_within}
 use Rattle.site_journal.specs.Journals.{JournalState}
-use Rattle.site_audit.proofs.Lists.{holds-more}
+use Rattle.site_audit.proofs.Lists.{holds_more}
 use Rattle.site_audit.proofs.auditing.least_left.Goals as goal
 
 -- the site at the place has steps left
@@ -31,7 +31,7 @@ loop-place-preserved c =
     let most = c.requires.within c.loop-place.place (get_or c.args.at.now c.loop-place.place 0) c.index-journals-place.result journal here in
     let all : length c.index-journals-place.result.steps ≤ get_or c.args.at.now c.loop-place.place 0 = subst (λ s. length s ≤ get_or c.args.at.now c.loop-place.place 0) c.steps.ensures c.if-at-place.false in
     let e : get_or c.args.at.now c.loop-place.place 0 ≡ length c.index-journals-place.result.steps = omega (arith, most, all) in
-    λ site lt j known. holds-more (λ n (k : JournalState). slice_get c.args.at.now n ≡ Some (length k.steps)) c.args.journals.now c.loop-place.place c.index-journals-place.result
+    λ site lt j known. holds_more (λ n (k : JournalState). slice_get c.args.at.now n ≡ Some (length k.steps)) c.args.journals.now c.loop-place.place c.index-journals-place.result
     (λ n k less at. c.loop-place.invariant n less k at) journal (here ∙ ap Some e) site j lt known
 
 pub returns-clause-none : goal.returns-clause-none

@@ -1,5 +1,5 @@
 use Rattle.std.proofs.Common.{arith}
-use Rattle.site_totals.proofs.JoinedRows.{joined_lengths, length-joined_rows}
+use Rattle.site_totals.proofs.JoinedRows.{joined_lengths, length_joined_rows}
 use Rattle.site_totals.proofs.joining.count_missing.Goals as goal
 
 pub overflow_sub-result : goal.overflow_sub-result
@@ -8,7 +8,7 @@ overflow_sub-result c = let least = joined_lengths c.args.rows.now c.args.others
 -- few others are searched for
 pub returns-then-others-le-FEW_ROWS : goal.returns-then-others-le-FEW_ROWS
 returns-then-others-le-FEW_ROWS c =
-    let more = length-joined_rows c.args.rows.now c.args.others.now c.requires.rising c.requires.others_rising in
+    let more = length_joined_rows c.args.rows.now c.args.others.now c.requires.rising c.requires.others_rising in
     let most = joined_lengths c.args.rows.now c.args.others.now in
     record {
       value = c.searched_count.ensures;
@@ -19,7 +19,7 @@ returns-then-others-le-FEW_ROWS c =
 -- the join is longer by what is missing
 pub returns : goal.returns
 returns c =
-    let more = length-joined_rows c.args.rows.now c.args.others.now c.requires.rising c.requires.others_rising in
+    let more = length_joined_rows c.args.rows.now c.args.others.now c.requires.rising c.requires.others_rising in
     let most = joined_lengths c.args.rows.now c.args.others.now in
     record {
       value = omega (arith, more, c.joined_count.ensures);

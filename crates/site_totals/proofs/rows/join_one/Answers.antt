@@ -6,7 +6,7 @@ use Rattle.dots.specs.declared.call_totals.CallTotals.{CallTotals}
 use Rattle.operations.specs.Totals.{key_cmp, greater}
 use Rattle.operations.proofs.TotalsLaws.{joined_zero}
 use Rattle.site_totals.specs.TotalLists.{IsKept, row_totals, entries_of}
-use Rattle.site_totals.proofs.EntryLemmas.{joined_by_put, kept_by_put, missing_one, length-put}
+use Rattle.site_totals.proofs.EntryLemmas.{joined_by_put, kept_by_put, missing_one, length_put}
 use Rattle.site_totals.proofs.rows.join_one.Goals as goal
 use Rattle.site_totals.proofs.rows.join_one.Goals.{In_ok-put, In_err-put}
 
@@ -29,7 +29,7 @@ returns-clause-ok c = ap entries_of (items c) ∙ joined_by_put _ c.requires.kep
 pub returns-clause-room : goal.returns-clause-room
 returns-clause-room c =
     let missing = missing_one c.args.rows.now.items c.requires.kept.rising c.args.key c.args.totals (sym c.is_zero.ensures ∙ c.if-is_zero.false) in
-    let longer = ap length (items c) ∙ length-put _ c.requires.kept.rising c.args.key (greater (row_totals c.args.rows.now.items c.args.key) c.args.totals) in
+    let longer = ap length (items c) ∙ length_put _ c.requires.kept.rising c.args.key (greater (row_totals c.args.rows.now.items c.args.key) c.args.totals) in
     omega (arith, missing, longer, c.put.new.rows.ok.0, c.args.rows.now.ok.0, c.in_ok-put.ensures.capacity)
 
 -- memory is wanted only where the key is missing and there is no room

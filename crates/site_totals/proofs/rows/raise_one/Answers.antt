@@ -8,7 +8,7 @@ use Rattle.operations.specs.Totals.{key_cmp, totals_at}
 use Rattle.operations.proofs.TotalsLaws.{totals_at_limit}
 use Rattle.site_totals.specs.Raising.{number_of, one_more}
 use Rattle.site_totals.specs.TotalLists.{IsKept, row_totals, entries_of}
-use Rattle.site_totals.proofs.EntryLemmas.{totals_read, get_is, kept_by_raise, raised_by_put, number_limit, number_of-one_more}
+use Rattle.site_totals.proofs.EntryLemmas.{totals_read, get_is, kept_by_raise, raised_by_put, number_limit, number_of_one_more}
 use Rattle.site_totals.proofs.rows.raise_one.Goals as goal
 use Rattle.site_totals.proofs.rows.raise_one.Goals.{After-number_of, After-number_of-in-Ok}
 
@@ -49,7 +49,7 @@ returns-in-Ok-clause-kept c = subst IsKept (sym (items c)) (kept_by_raise c.args
 pub returns-in-Ok-clause-value : goal.returns-in-Ok-clause-value
 returns-in-Ok-clause-value c =
     c.number_of-in-Ok.ensures ∙ ap (number_of c.args.calls) (raised_totals c)
-    ∙ number_of-one_more c.args.calls (row_totals c.args.rows.now.items c.args.key)
+    ∙ number_of_one_more c.args.calls (row_totals c.args.rows.now.items c.args.key)
     ∙ ap (λ n. n + 1) (sym (before c))
 
 pub returns-in-Ok-clause-ok : goal.returns-in-Ok-clause-ok

@@ -1,12 +1,12 @@
-use Rattle.sites_world.proofs.OperationsByConditions.{StandForSteps, event-happens, events-happen, world-leads, worlds-lead}
+use Rattle.sites_world.proofs.OperationsByConditions.{StandForSteps, event_happens, events_happen, world_leads, worlds_lead}
 use Rattle.sites_world.proofs.laws.what_comes_by_conditions_comes_of_operations.Goals as goal
 
 pub returns : goal.returns
 returns c = record {
-  event = λ from to w e o queues reached stands. event-happens laws from to w queues reached stands e o;
-  events = events-happen laws;
-  world = world-leads laws;
-  worlds = worlds-lead laws;
+  event = λ from to w e o queues reached stands. event_happens laws from to w queues reached stands e o;
+  events = events_happen laws;
+  world = world_leads laws;
+  worlds = worlds_lead laws;
 }
   where
     laws : StandForSteps

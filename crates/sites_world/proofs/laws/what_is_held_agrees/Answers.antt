@@ -1,5 +1,5 @@
-use Rattle.sites_world.proofs.Held.{held-agree}
+use Rattle.sites_world.proofs.Held.{held_agree}
 use Rattle.sites_world.proofs.laws.what_is_held_agrees.Goals as goal
 
 pub returns : goal.returns
-returns c = held-agree
+returns c = held_agree

@@ -2,10 +2,10 @@ use Rattle.std.proofs.Common.{◌∙◌, ap, sym, subst}
 use Rattle.status_report.specs.Knowing.{answer_in}
 use Rattle.sites_world.specs.Outcomes.{changes_nothing}
 use Rattle.sites_world.specs.Telling.{IsAnsweredSo}
-use Rattle.sites_world.proofs.ToldAnswers.{told-answer}
-use Rattle.sites_world.proofs.Unchanged.{answered-unchanged}
+use Rattle.sites_world.proofs.ToldAnswers.{told_answer}
+use Rattle.sites_world.proofs.Unchanged.{answered_unchanged}
 use Rattle.sites_world.specs.Conditions.{ComesOfAsk}
-use Rattle.sites_world.proofs.ToldByConditions.{asked-comes}
+use Rattle.sites_world.proofs.ToldByConditions.{asked_comes}
 use Rattle.sites_world.proofs.run.ask_site.Goals as goal
 
 -- the answer is told
@@ -14,11 +14,11 @@ returns-clause-meaning c = λ s stands.
     let old = c.args.replica.now in
     let new = c.ask.new.replica in
     subst (IsAnsweredSo new s (answer_in old.site old.names s c.args.asked)) (sym c.answer_told.ensures)
-    (told-answer old new s c.args.asked c.ask.result stands (c.ask.ensures.meaning s stands))
+    (told_answer old new s c.args.asked c.ask.result stands (c.ask.ensures.meaning s stands))
 
 pub returns-clause-unchanged : goal.returns-clause-unchanged
 returns-clause-unchanged c = λ nothing.
-    answered-unchanged c.args.replica.now c.ask.new.replica c.args.asked c.ask.result c.ask.ensures.command c.ask.ensures.status_unchanged
+    answered_unchanged c.args.replica.now c.ask.new.replica c.args.asked c.ask.result c.ask.ensures.command c.ask.ensures.status_unchanged
     (ap changes_nothing (sym c.answer_told.ensures) ∙ nothing)
 
 -- it is what comes of the ask
@@ -27,4 +27,4 @@ returns-clause-conditions c =
     let old = c.args.replica.now in
     let new = c.ask.new.replica in
     subst (λ o. ComesOfAsk old c.args.asked o new) (sym c.answer_told.ensures)
-    (asked-comes old new c.args.asked c.ask.result c.ask.ensures.command c.ask.ensures.status c.ask.ensures.status_unchanged)
+    (asked_comes old new c.args.asked c.ask.result c.ask.ensures.command c.ask.ensures.status c.ask.ensures.status_unchanged)

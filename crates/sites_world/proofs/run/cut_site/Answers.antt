@@ -4,9 +4,9 @@ use Rattle.replica.specs.Framing.{HasCut, IsMeantCut}
 use Rattle.replica.specs.Steps.{cut}
 use Rattle.sites_world.specs.declared.outcome.Outcome.TheVariants.{Cut}
 use Rattle.sites_world.specs.Telling.{IsFramedSo}
-use Rattle.sites_world.proofs.ToldAnswers.{told-frame}
+use Rattle.sites_world.proofs.ToldAnswers.{told_frame}
 use Rattle.sites_world.specs.Conditions.{ComesOfCut}
-use Rattle.sites_world.proofs.ToldByConditions.{number-left, some-cut}
+use Rattle.sites_world.proofs.ToldByConditions.{number_left, some_cut}
 use Rattle.sites_world.proofs.run.cut_site.Goals as goal
 
 -- the frame is the last of the pool
@@ -21,7 +21,7 @@ returns-in-Ok-Some-clause-meaning c = λ s stands.
     let grown = c.put_frame.ensures.pool ∙ ap (λ fs. fs ++ c.in-Ok-Some.frame ∷ []) c.reserve.ensures.items in
     let told = c.put_frame.ensures.told ∙ ap (λ fs. Cut (Ok (Some (length fs)))) c.reserve.ensures.items in
     subst (IsFramedSo new s old pool (cut s s.buffer)) (sym told)
-    (told-frame new s old pool (cut s s.buffer) c.in-Ok-Some.frame meant.0 meant.1 (has.heading.maker ∙ sym has.site) ranges grown)
+    (told_frame new s old pool (cut s s.buffer) c.in-Ok-Some.frame meant.0 meant.1 (has.heading.maker ∙ sym has.site) ranges grown)
 
 -- the pool has the frame of the cut
 pub returns-in-Ok-Some-clause-conditions : goal.returns-in-Ok-Some-clause-conditions
@@ -40,8 +40,8 @@ returns-in-Ok-Some-clause-conditions c =
         frame,
         refl,
         record {
-          some = λ empty. some-cut c.in-Ok-Some.field-0 frame c.in-Ok-Some.field-0-is (c.in-Ok-Some.ensures.nothing.1 empty);
-          left = number-left replica frame has.heading ranges;
+          some = λ empty. some_cut c.in-Ok-Some.field-0 frame c.in-Ok-Some.field-0-is (c.in-Ok-Some.ensures.nothing.1 empty);
+          left = number_left replica frame has.heading ranges;
           made = has;
         },
       );

@@ -1,7 +1,7 @@
 use Rattle.std.proofs.Common.{IsOk, subst, sym, ◌∙◌, arith, true≢false}
-use Rattle.sites_world.proofs.ToldByConditions.{leads-nowhere, leads-wanting}
-use Rattle.sites_world.proofs.Happenings.{no-site-happened}
-use Rattle.sites_world.proofs.KeptWorlds.{status-within}
+use Rattle.sites_world.proofs.ToldByConditions.{leads_nowhere, leads_wanting}
+use Rattle.sites_world.proofs.Happenings.{no_site_happened}
+use Rattle.sites_world.proofs.KeptWorlds.{status_within}
 use Rattle.sites_world.proofs.run.happen_by_copy.Goals as goal
 
 -- the copy of an ask wanted memory
@@ -10,15 +10,15 @@ returns-in-Err-clause-conditions c = λ names is.
     let at = c.from.ensures ∙ c.number.ensures.value ∙ c.site_of.ensures in
     let less = c.if-from-len.true in
     let len = c.len.ensures in
-    leads-wanting (record { names = names; sites = c.args.sites.now.items; pool = c.args.pool.now.items }) c.args.event.now c.in-Err.ensures.asks
+    leads_wanting (record { names = names; sites = c.args.sites.now.items; pool = c.args.pool.now.items }) c.args.event.now c.in-Err.ensures.asks
     (λ site command told. absurd (true≢false (sym (subst IsOk c.in-Err.is (c.copy.ensures.command site command told))))) (omega (arith, at, less, len))
 
 -- it asks for a status, which has no value
 pub returns-in-Err-clause-values : goal.returns-in-Err-clause-values
-returns-in-Err-clause-values c = status-within c.args.event.now c.in-Err.ensures.asks (λ site command told. absurd (true≢false (sym (subst IsOk c.in-Err.is (c.copy.ensures.command site command told)))))
+returns-in-Err-clause-values c = status_within c.args.event.now c.in-Err.ensures.asks (λ site command told. absurd (true≢false (sym (subst IsOk c.in-Err.is (c.copy.ensures.command site command told)))))
 
 pub returns-in-Err-2-clause-values : goal.returns-in-Err-2-clause-values
-returns-in-Err-2-clause-values c = status-within c.args.event.now c.in-Err-2.ensures.asks (λ site command told. absurd (true≢false (sym (subst IsOk c.in-Err-2.is (c.copy.ensures.command site command told)))))
+returns-in-Err-2-clause-values c = status_within c.args.event.now c.in-Err-2.ensures.asks (λ site command told. absurd (true≢false (sym (subst IsOk c.in-Err-2.is (c.copy.ensures.command site command told)))))
 
 -- there is no such site
 pub returns-in-Err-2-clause-meaning : goal.returns-in-Err-2-clause-meaning
@@ -26,11 +26,11 @@ returns-in-Err-2-clause-meaning c = λ names w reached stands.
     let at = c.from.ensures ∙ c.number.ensures.value ∙ c.site_of.ensures in
     let past = c.if-from-len.false in
     let len = c.len.ensures in
-    no-site-happened names c.args.sites.now.items c.args.pool.now.items w stands c.args.event.now (omega (arith, at, past, len))
+    no_site_happened names c.args.sites.now.items c.args.pool.now.items w stands c.args.event.now (omega (arith, at, past, len))
 
 pub returns-in-Err-2-clause-conditions : goal.returns-in-Err-2-clause-conditions
 returns-in-Err-2-clause-conditions c = λ names is.
     let at = c.from.ensures ∙ c.number.ensures.value ∙ c.site_of.ensures in
     let past = c.if-from-len.false in
     let len = c.len.ensures in
-    leads-nowhere (record { names = names; sites = c.args.sites.now.items; pool = c.args.pool.now.items }) c.args.event.now (omega (arith, at, past, len))
+    leads_nowhere (record { names = names; sites = c.args.sites.now.items; pool = c.args.pool.now.items }) c.args.event.now (omega (arith, at, past, len))

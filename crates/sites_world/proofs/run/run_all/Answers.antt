@@ -3,9 +3,9 @@ use Rattle.std.proofs.lemmas.List.{take_all, take_more}
 use Rattle.sites_world.specs.Worlds.{IsReached, done_of, run}
 use Rattle.sites_world.specs.WorldStates.{HaveHappened, WorldState}
 use Rattle.sites_world.specs.Conditions.{LeadAll}
-use Rattle.sites_world.proofs.ToldByConditions.{lead-on}
-use Rattle.sites_world.proofs.Happenings.{happened-more, none-happened, reached-more}
-use Rattle.sites_world.proofs.KeptWorlds.{world-after-event}
+use Rattle.sites_world.proofs.ToldByConditions.{lead_on}
+use Rattle.sites_world.proofs.Happenings.{happened_more, none_happened, reached_more}
+use Rattle.sites_world.proofs.KeptWorlds.{world_after_event}
 use Rattle.sites_world.proofs.run.run_all.Goals as goal
 
 -- at first nothing has happened
@@ -14,7 +14,7 @@ loop-event-init c = record {
   count = refl;
   told = let len = c.args.outcomes.now.ok.0 in let none = ap length c.requires.none in omega (arith, len, none);
   room = let room = c.requires.room in omega (arith, room);
-  happened = λ names w reached stands. none-happened (record { names = names; sites = c.args.sites.now.items; pool = c.args.pool.now.items }) w c.args.outcomes.now.items c.requires.none stands;
+  happened = λ names w reached stands. none_happened (record { names = names; sites = c.args.sites.now.items; pool = c.args.pool.now.items }) w c.args.outcomes.now.items c.requires.none stands;
   world = λ names is. is;
   led = λ names is. let old : WorldState = record { names = names; sites = c.args.sites.now.items; pool = c.args.pool.now.items } in subst (λ os. LeadAll old [] os old) (sym c.requires.none) refl;
 }
@@ -33,14 +33,14 @@ loop-event-preserved c = record {
       let o = c.happen_by_copy-outcome.result in
       let new : WorldState = record { names = names; sites = c.happen_by_copy-outcome.new.sites.items; pool = c.happen_by_copy-outcome.new.pool.items } in
       let before = c.loop-event.invariant.happened names w reached stands in
-      let there = reached-more names (length c.args.sites.now.items) w (done_of es os) reached in
+      let there = reached_more names (length c.args.sites.now.items) w (done_of es os) reached in
       let so_far = (run names w (done_of es os)).0 in
       let happened = c.happen_by_copy-outcome.ensures.meaning names so_far (subst (λ n. IsReached names n so_far) (sym c.loop-event.invariant.count) there) before.stands in
-      let more = happened-more names w es os e o c.happen_by_copy-outcome.new.sites.items c.happen_by_copy-outcome.new.pool.items c.loop-event.sites.items c.loop-event.pool.items before happened in
+      let more = happened_more names w es os e o c.happen_by_copy-outcome.new.sites.items c.happen_by_copy-outcome.new.pool.items c.loop-event.sites.items c.loop-event.pool.items before happened in
       let grown = take_more events c.loop-event.event-index e c.loop-event-test.true ∙ ap (λ x. es ++ x ∷ []) (sym c.event-item.is) in
       subst (λ xs. HaveHappened new w xs c.push_reserved.new.self.items) (sym grown) (subst (HaveHappened new w (es ++ e ∷ [])) (sym c.push_reserved.ensures.items) more);
   world = λ names is.
-      world-after-event names c.loop-event.sites.items c.happen_by_copy-outcome.new.sites.items c.loop-event.pool.items c.happen_by_copy-outcome.new.pool.items c.event-item.result
+      world_after_event names c.loop-event.sites.items c.happen_by_copy-outcome.new.sites.items c.loop-event.pool.items c.happen_by_copy-outcome.new.pool.items c.event-item.result
       c.happen_by_copy-outcome.result (c.loop-event.invariant.world names is) c.happen_by_copy-outcome.ensures.count c.happen_by_copy-outcome.ensures.values
       (c.happen_by_copy-outcome.ensures.meaning names);
   led = λ names is.
@@ -52,7 +52,7 @@ loop-event-preserved c = record {
       let old : WorldState = record { names = names; sites = c.args.sites.now.items; pool = c.args.pool.now.items } in
       let mid : WorldState = record { names = names; sites = c.loop-event.sites.items; pool = c.loop-event.pool.items } in
       let new : WorldState = record { names = names; sites = c.happen_by_copy-outcome.new.sites.items; pool = c.happen_by_copy-outcome.new.pool.items } in
-      let more = lead-on old es os mid new e o (c.loop-event.invariant.led names is) (c.happen_by_copy-outcome.ensures.conditions names (c.loop-event.invariant.world names is)) in
+      let more = lead_on old es os mid new e o (c.loop-event.invariant.led names is) (c.happen_by_copy-outcome.ensures.conditions names (c.loop-event.invariant.world names is)) in
       let grown = take_more events c.loop-event.event-index e c.loop-event-test.true ∙ ap (λ x. es ++ x ∷ []) (sym c.event-item.is) in
       subst (λ xs. LeadAll old xs c.push_reserved.new.self.items new) (sym grown) (subst (λ xs. LeadAll old (es ++ e ∷ []) xs new) (sym c.push_reserved.ensures.items) more);
 }

@@ -2,14 +2,14 @@ use Rattle.std.proofs.Common.{refl, inl, sym, ap, subst, ◌∙◌, true≢false
 use Rattle.delta.proofs.StandingDeltas.{same_stands}
 use Rattle.replica.specs.Steps.{take}
 use Rattle.replica.proofs.PlannedCommands.{itself}
-use Rattle.replica.proofs.StandingSites.{equal-same}
+use Rattle.replica.proofs.StandingSites.{equal_same}
 use Rattle.sites_world.specs.declared.outcome.Outcome.TheVariants.{Took}
 use Rattle.sites_world.specs.Outcomes.{changes_nothing}
 use Rattle.sites_world.specs.Telling.{IsTakenSo}
 use Rattle.sites_world.specs.Worlds.{take_told}
-use Rattle.sites_world.proofs.ToldAnswers.{told-fault}
+use Rattle.sites_world.proofs.ToldAnswers.{told_fault}
 use Rattle.sites_world.specs.Conditions.{ComesOfDelta}
-use Rattle.sites_world.proofs.ToldByConditions.{fault-comes}
+use Rattle.sites_world.proofs.ToldByConditions.{fault_comes}
 use Rattle.sites_world.proofs.run.take_site.Goals as goal
 use Rattle.sites_world.proofs.run.take_site.Goals.{in-Ok-take, in-Err}
 
@@ -26,7 +26,7 @@ returns-clause-meaning c = λ s k stands is may.
       | in-Err w ↦
           let refused = w.in-Err.ensures.refusals in
           subst (IsTakenSo new s (take s k)) (sym (w.result-is ∙ w.take_fault_told.ensures))
-          (told-fault old new s k c.in-Ok.copy.delta w.in-Err.fault may copied stands w.in-Err.ensures.unchanged
+          (told_fault old new s k c.in-Ok.copy.delta w.in-Err.fault may copied stands w.in-Err.ensures.unchanged
           refused.no_such_queue.0 (λ e. (refused.not_mine.0 e).1) (λ e. (refused.conflict.0 e).1) (w.in-Err.ensures.meaning s k stands copied may.none_later))
     ]
 
@@ -50,10 +50,10 @@ returns-clause-conditions c = λ k is may.
         copy,
         c.in-Ok.ensures.same.delta,
         subst (λ o. ComesOfDelta old copy o new) (sym (w.result-is ∙ w.take_fault_told.ensures))
-            (fault-comes old new k copy w.in-Err.fault may copied w.in-Err.ensures.unchanged w.in-Err.ensures.refusals),
+            (fault_comes old new k copy w.in-Err.fault may copied w.in-Err.ensures.unchanged w.in-Err.ensures.refusals),
       )
     ]
 
 -- no copy was made
 pub returns-in_default-clause-conditions : goal.returns-in_default-clause-conditions
-returns-in_default-clause-conditions c = λ k is may. (c.args.frame.now.delta, equal-same c.args.frame.now.delta c.args.frame.now.delta refl, itself c.args.replica.now)
+returns-in_default-clause-conditions c = λ k is may. (c.args.frame.now.delta, equal_same c.args.frame.now.delta c.args.frame.now.delta refl, itself c.args.replica.now)

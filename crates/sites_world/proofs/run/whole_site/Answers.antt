@@ -2,9 +2,9 @@ use Rattle.std.proofs.Common.{refl, [], ◌∷◌, ◌++◌, Ok, Some, length, s
 use Rattle.replica.specs.Steps.{after_frame}
 use Rattle.sites_world.specs.declared.outcome.Outcome.TheVariants.{Cut}
 use Rattle.sites_world.specs.Telling.{IsFramedSo}
-use Rattle.sites_world.proofs.ToldAnswers.{told-frame}
+use Rattle.sites_world.proofs.ToldAnswers.{told_frame}
 use Rattle.sites_world.specs.Conditions.{ComesOfWhole}
-use Rattle.sites_world.proofs.ToldByConditions.{number-left}
+use Rattle.sites_world.proofs.ToldByConditions.{number_left}
 use Rattle.sites_world.proofs.run.whole_site.Goals as goal
 
 -- the frame is the last of the pool
@@ -18,7 +18,7 @@ returns-in-Ok-clause-meaning c = λ s stands.
     let grown = c.put_frame.ensures.pool ∙ ap (λ fs. fs ++ c.in-Ok.frame ∷ []) c.reserve.ensures.items in
     let told = c.put_frame.ensures.told ∙ ap (λ fs. Cut (Ok (Some (length fs)))) c.reserve.ensures.items in
     subst (IsFramedSo new s old pool (after_frame s s.known s.buffer)) (sym told)
-    (told-frame new s old pool (after_frame s s.known s.buffer) c.in-Ok.frame meant.0 meant.1 (has.heading.maker ∙ sym has.site) c.in-Ok.ensures.in_ranges grown)
+    (told_frame new s old pool (after_frame s s.known s.buffer) c.in-Ok.frame meant.0 meant.1 (has.heading.maker ∙ sym has.site) c.in-Ok.ensures.in_ranges grown)
 
 -- the pool has the frame of all
 pub returns-in-Ok-clause-conditions : goal.returns-in-Ok-clause-conditions
@@ -32,6 +32,6 @@ returns-in-Ok-clause-conditions c =
     record {
       added = frame ∷ [];
       comes = subst (λ o. ComesOfWhole (length old) replica o new (frame ∷ [])) (sym told)
-          (refl, frame, refl, record { left = number-left replica frame has.heading c.in-Ok.ensures.in_ranges; made = has });
+          (refl, frame, refl, record { left = number_left replica frame has.heading c.in-Ok.ensures.in_ranges; made = has });
       is = c.put_frame.ensures.pool ∙ ap (λ fs. fs ++ frame ∷ []) c.reserve.ensures.items;
     }

@@ -3,15 +3,15 @@ use Rattle.std.proofs.lemmas.List.{length-append}
 use Rattle.replica.specs.Site.{SiteState}
 use Rattle.replica.specs.Steps.{new_site}
 use Rattle.sites_world.specs.WorldStates.{IsSiteOf, IsFresh}
-use Rattle.sites_world.proofs.Lists.{get-push}
+use Rattle.sites_world.proofs.Lists.{get_push}
 use Rattle.sites_world.proofs.world.new_sites.Goals as goal
 
 -- the next site is the last
 pub loop-number-preserved : goal.loop-number-preserved
 loop-number-preserved c = record {
   count = ap length c.in_ok-push.ensures.items ∙ length-append c.loop-number.made.items _ ∙ ap (λ n. n + 1) c.loop-number.invariant.count;
-  each = λ site state here. by site state (get-push c.loop-number.made.items c.new-in-loop-number.result site state (ap (λ xs. slice_get xs site) (sym c.in_ok-push.ensures.items) ∙ here));
-  fresh = λ site state here. unused site state (get-push c.loop-number.made.items c.new-in-loop-number.result site state (ap (λ xs. slice_get xs site) (sym c.in_ok-push.ensures.items) ∙ here));
+  each = λ site state here. by site state (get_push c.loop-number.made.items c.new-in-loop-number.result site state (ap (λ xs. slice_get xs site) (sym c.in_ok-push.ensures.items) ∙ here));
+  fresh = λ site state here. unused site state (get_push c.loop-number.made.items c.new-in-loop-number.result site state (ap (λ xs. slice_get xs site) (sym c.in_ok-push.ensures.items) ∙ here));
 }
   where
     unused : (site : ℕ) (state : SiteState) → (((slice_get c.loop-number.made.items site ≡ Some state) × (site < length c.loop-number.made.items)) ⊎ ((site ≡ length c.loop-number.made.items) × (state ≡ c.new-in-loop-number.result)))

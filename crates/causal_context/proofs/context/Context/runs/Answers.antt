@@ -7,9 +7,9 @@ use Rattle.dots.specs.DotSets.{Run, in_run, set_of}
 use Rattle.dots.specs.Orders.{dot_cmp}
 use Rattle.dots.specs.Values.{Dot, IsSite}
 use Rattle.dots.specs.WithinLimits.{AreDots, IsDot}
-use Rattle.general_lemmas.proofs.Membership.{in-any}
-use Rattle.dots.proofs.RunCounts.{run_count-runs}
-use Rattle.dots.proofs.Runs.{contains-set_of}
+use Rattle.general_lemmas.proofs.Membership.{in_any}
+use Rattle.dots.proofs.RunCounts.{run_count_runs}
+use Rattle.dots.proofs.Runs.{contains_set_of}
 use Rattle.causal_context.specs.Contexts.{IsRun}
 use Rattle.causal_context.proofs.Views.{is_runs}
 use Rattle.causal_context.proofs.context.Context.runs.Goals as goal
@@ -33,13 +33,13 @@ of_run q r limits h = record {
 -- and so is each dot of such runs
 are_dots : (rs : List Run) (dots : sets.FinSet dot_cmp) → set_of rs ≡ dots → All IsRun rs → AreDots dots
 are_dots rs dots is limits q h =
-    let found = in-any (in_run q) rs (sym (contains-set_of rs q) ∙ ap (λ s. sets.contains s q) is ∙ h) in of_run q found.0 (All-contains IsRun rs found.0 limits found.1) found.2
+    let found = in_any (in_run q) rs (sym (contains_set_of rs q) ∙ ap (λ s. sets.contains s q) is ∙ h) in of_run q found.0 (All-contains IsRun rs found.0 limits found.1) found.2
 
 pub returns-clause-value : goal.returns-clause-value
 returns-clause-value c =
     let dots = c.args.self.now.dots in
     let rs = c.self.inside.runs.items in
-    let e = sym (run_count-runs rs dots (is_runs rs dots (ap (λ k. k.dots) c.self.view_is) c.self.invariant.apart)) in
+    let e = sym (run_count_runs rs dots (is_runs rs dots (ap (λ k. k.dots) c.self.view_is) c.self.invariant.apart)) in
     let len : vec_len c.self.inside.runs ≡ length rs = search rules in
     c.len.ensures ∙ len ∙ e
 

@@ -2,10 +2,10 @@ use Rattle.std.proofs.Common.{sym, ap, ◌∙◌}
 use Rattle.std.specs.FinMap as map
 use Rattle.member_orset.specs.PlacedStates.{cells_of}
 use Rattle.member_orset.proofs.LiveMaps.{rise}
-use Rattle.member_orset.proofs.Views.{entries-live_of}
+use Rattle.member_orset.proofs.Views.{entries_live_of}
 use Rattle.member_orset.proofs.live_cells.LiveCells+LAST_GENERATION.iter.Goals as goal
 
 pub returns : goal.returns
 returns c =
     let s = c.self.inside.placed in
-    c.of.ensures ∙ sym (entries-live_of (cells_of s) (rise s.dots s.held s.spent c.self.invariant.placed)) ∙ ap (λ x. map.entries x.live) c.self.view_is
+    c.of.ensures ∙ sym (entries_live_of (cells_of s) (rise s.dots s.held s.spent c.self.invariant.placed)) ∙ ap (λ x. map.entries x.live) c.self.view_is

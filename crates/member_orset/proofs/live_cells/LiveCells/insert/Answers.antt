@@ -6,7 +6,7 @@ use Rattle.member_orset.specs.Index.{IsPlaceFor, Rises, listing}
 use Rattle.member_orset.specs.PlacedStates.{AreHeld, AreIndexed, listed_at}
 use Rattle.member_orset.proofs.ListedIds.{as_long}
 use Rattle.member_orset.proofs.LiveChanges.{cell_more, held_more, ids_more, indexed_more, is_new, live_more, members_count, rises_more}
-use Rattle.member_orset.proofs.LiveMaps.{len-live, live_here}
+use Rattle.member_orset.proofs.LiveMaps.{len_live, live_here}
 use Rattle.member_orset.proofs.PlacedDots.{no_cell}
 use Rattle.member_orset.proofs.live_cells.LiveCells.insert.Goals as goal
 
@@ -20,7 +20,7 @@ unreachable-requires g c =
 pub insert-id-requires : goal.insert-id-requires
 insert-id-requires g c =
     let s = c.self.inside.placed in
-    let count : length s.dots ≡ map.len c.args.self.now.live = sym (len-live s.dots s.held s.spent c.self.invariant.placed) ∙ ap (λ x. map.len x.live) c.self.view_is in
+    let count : length s.dots ≡ map.len c.args.self.now.live = sym (len_live s.dots s.held s.spent c.self.invariant.placed) ∙ ap (λ x. map.len x.live) c.self.view_is in
     let room : min s.room (vec_capacity c.self.inside.members) ≡ c.args.self.now.room = ap (λ x. x.room) c.self.view_is in
     (lit< tt, (c.in-Err.ensures.missed, omega (arith, count, room, c.requires.room)))
 
@@ -49,7 +49,7 @@ put_in-requires-clause-within g c =
 pub put_in-requires-clause-room : goal.put_in-requires-clause-room
 put_in-requires-clause-room g c =
     let s = c.self.inside.placed in
-    let count : length s.dots ≡ map.len c.args.self.now.live = sym (len-live s.dots s.held s.spent c.self.invariant.placed) ∙ ap (λ x. map.len x.live) c.self.view_is in
+    let count : length s.dots ≡ map.len c.args.self.now.live = sym (len_live s.dots s.held s.spent c.self.invariant.placed) ∙ ap (λ x. map.len x.live) c.self.view_is in
     let room : min s.room (vec_capacity c.self.inside.members) ≡ c.args.self.now.room = ap (λ x. x.room) c.self.view_is in
     let len : vec_len c.self.inside.members ≡ length c.self.inside.members.items = search rules in
     omega (arith, count, room, len, members_count s c.self.inside.members.items c.self.invariant, c.requires.room)

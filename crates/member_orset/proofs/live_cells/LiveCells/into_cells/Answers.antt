@@ -2,10 +2,10 @@ use Rattle.std.proofs.Common.{sym, ap, ◌∙◌}
 use Rattle.std.specs.FinMap as map
 use Rattle.member_orset.specs.PlacedStates.{cells_of}
 use Rattle.member_orset.proofs.LiveMaps.{rise}
-use Rattle.member_orset.proofs.Views.{entries-live_of}
+use Rattle.member_orset.proofs.Views.{entries_live_of}
 use Rattle.member_orset.proofs.live_cells.LiveCells.into_cells.Goals as goal
 
 pub returns : goal.returns
 returns g c =
     let s = c.self.inside.placed in
-    c.into_cells.ensures ∙ sym (entries-live_of (cells_of s) (rise s.dots s.held s.spent c.self.invariant.placed)) ∙ ap (λ x. map.entries x.live) c.self.view_is
+    c.into_cells.ensures ∙ sym (entries_live_of (cells_of s) (rise s.dots s.held s.spent c.self.invariant.placed)) ∙ ap (λ x. map.entries x.live) c.self.view_is

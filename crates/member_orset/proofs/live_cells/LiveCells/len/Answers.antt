@@ -3,13 +3,13 @@ use Rattle.std.specs.FinMap as map
 use Rattle.member_orset.specs.CellIds.{retired_of}
 use Rattle.member_orset.specs.Members.{most_places}
 use Rattle.member_orset.specs.LiveStates.{AreLive}
-use Rattle.member_orset.proofs.LiveMaps.{apart, len-live, named}
+use Rattle.member_orset.proofs.LiveMaps.{apart, len_live, named}
 use Rattle.member_orset.proofs.live_cells.LiveCells.len.Goals as goal
 
 pub returns-clause-value : goal.returns-clause-value
 returns-clause-value g c =
     let s = c.self.inside.placed in
-    c.len.ensures.value ∙ sym (len-live s.dots s.held s.spent c.self.invariant.placed) ∙ ap (λ x. map.len x.live) c.self.view_is
+    c.len.ensures.value ∙ sym (len_live s.dots s.held s.spent c.self.invariant.placed) ∙ ap (λ x. map.len x.live) c.self.view_is
 
 pub returns-clause-limits : goal.returns-clause-limits
 returns-clause-limits g c =
@@ -17,6 +17,6 @@ returns-clause-limits g c =
     subst (AreLive g.row.LAST) c.self.view_is (record {
       named = named s.dots s.held s.spent c.self.invariant.placed;
       apart = apart s.dots s.held s.spent c.self.invariant.placed;
-      places = subst (λ n. retired_of g.row.LAST s.spent + n ≤ most_places) (c.len.ensures.value ∙ sym (len-live s.dots s.held s.spent c.self.invariant.placed)) c.len.ensures.limit;
+      places = subst (λ n. retired_of g.row.LAST s.spent + n ≤ most_places) (c.len.ensures.value ∙ sym (len_live s.dots s.held s.spent c.self.invariant.placed)) c.len.ensures.limit;
       worn = c.len.ensures.worn;
     })

@@ -8,8 +8,8 @@ use Rattle.member_orset.specs.LiveLists.{live_of}
 use Rattle.member_orset.specs.PlacedStates.{cells_at, ids_of, listed_at}
 use Rattle.member_orset.specs.PlacedLists.{id_entries}
 use Rattle.member_orset.proofs.Relisted.{nothing_listed}
-use Rattle.member_orset.proofs.RisingMaps.{map_of-nil}
-use Rattle.member_orset.proofs.Views.{live_of-nil}
+use Rattle.member_orset.proofs.RisingMaps.{map_of_nil}
+use Rattle.member_orset.proofs.Views.{live_of_nil}
 use Rattle.member_orset.proofs.live_cells.LiveCells.new.Goals as goal
 
 pub invariant_of-result : goal.invariant_of-result
@@ -22,7 +22,7 @@ invariant_of-result g c =
     }
 
 pub returns-clause-live : goal.returns-clause-live
-returns-clause-live g c = ap (λ ds. live_of (cells_at c.new.result.held (ids_of ds))) c.new.ensures.dots ∙ live_of-nil
+returns-clause-live g c = ap (λ ds. live_of (cells_at c.new.result.held (ids_of ds))) c.new.ensures.dots ∙ live_of_nil
 
 pub returns-clause-ids : goal.returns-clause-ids
-returns-clause-ids g c = ap (λ ds. map.from_sorted (id_entries ds)) c.new.ensures.dots ∙ map_of-nil dot_cmp
+returns-clause-ids g c = ap (λ ds. map.from_sorted (id_entries ds)) c.new.ensures.dots ∙ map_of_nil dot_cmp

@@ -12,7 +12,7 @@ use Rattle.member_orset.specs.Index.{IsPlaceFor, listing}
 use Rattle.member_orset.specs.PlacedStates.{AreIndexed, cells_of, listed_at}
 use Rattle.member_orset.proofs.Changes.{missed_live}
 use Rattle.member_orset.proofs.LiveChanges.{cell, here, ids_less, indexed_less, live_less, stands_in}
-use Rattle.member_orset.proofs.LiveMaps.{id_here, ids_by, len-live, no_id, rise, within_dots}
+use Rattle.member_orset.proofs.LiveMaps.{id_here, ids_by, len_live, no_id, rise, within_dots}
 use Rattle.member_orset.proofs.MapSteps.{kept_without}
 use Rattle.member_orset.proofs.live_cells.LiveCells.remove.Goals as goal
 
@@ -90,8 +90,8 @@ pub returns-clause-room : goal.returns-clause-room
 returns-clause-room g c =
     let s = c.self.inside.placed in
     let t = c.remove-2.new.self in
-    let count : length s.dots ≡ map.len c.args.self.now.live = sym (len-live s.dots s.held s.spent c.self.invariant.placed) ∙ ap (λ x. map.len x.live) c.self.view_is in
-    let after : map.len (live_of (cells_of t)) ≡ length t.dots = len-live t.dots t.held t.spent c.remove-2.ensures.valid in
+    let count : length s.dots ≡ map.len c.args.self.now.live = sym (len_live s.dots s.held s.spent c.self.invariant.placed) ∙ ap (λ x. map.len x.live) c.self.view_is in
+    let after : map.len (live_of (cells_of t)) ≡ length t.dots = len_live t.dots t.held t.spent c.remove-2.ensures.valid in
     let less : length t.dots + 1 ≡ length s.dots = ap (λ ds. length ds + 1) c.remove-2.ensures.dots ∙ length-remove s.dots c.in-Ok.place (within_dots s.dots s.held s.spent c.self.invariant.placed c.args.dot c.in-Ok.place c.in-Ok.ensures.found) in
     let room : min s.room (vec_capacity c.self.inside.members) ≡ c.args.self.now.room = ap (λ x. x.room) c.self.view_is in
     let kept : vec_capacity c.remove.new.self ≡ vec_capacity c.self.inside.members = c.remove.ensures.capacity in

@@ -6,7 +6,7 @@ use Rattle.std.proofs.lemmas.Result.{err_from_is_err_and}
 use Rattle.member_orset.specs.CellIds.{retired_of}
 use Rattle.member_orset.specs.Members.{most_places}
 use Rattle.member_orset.proofs.LiveChanges.{members_count}
-use Rattle.member_orset.proofs.LiveMaps.{len-live}
+use Rattle.member_orset.proofs.LiveMaps.{len_live}
 use Rattle.member_orset.proofs.live_cells.LiveCells.reserve.Goals.{in-Ok, in-Err}
 use Rattle.member_orset.proofs.live_cells.LiveCells.reserve.Goals as goal
 
@@ -16,13 +16,13 @@ returns-in_err-reserve-clause-full g c =
     let p = err_from_is_err_and c.from_residual.result c.from_residual.ensures.1 in
     let is : c.from_residual.result ≡ c.reserve.result = cc (p.1, p.2, c.in_err-reserve.was) in
     let same : retired_of g.row.LAST s.spent + length s.dots + c.args.more ≡ retired_of g.row.LAST c.args.self.now.spent + map.len c.args.self.now.live + c.args.more =
-    ap (λ n. retired_of g.row.LAST s.spent + n + c.args.more) (sym (len-live s.dots s.held s.spent c.self.invariant.placed)) ∙ ap (λ x. retired_of g.row.LAST x.spent + map.len x.live + c.args.more) c.self.view_is in
+    ap (λ n. retired_of g.row.LAST s.spent + n + c.args.more) (sym (len_live s.dots s.held s.spent c.self.invariant.placed)) ∙ ap (λ x. retired_of g.row.LAST x.spent + map.len x.live + c.args.more) c.self.view_is in
     (λ h. subst (λ n. most_places < n) same (c.reserve.ensures.full.0 (sym is ∙ h)), λ h. is ∙ c.reserve.ensures.full.1 (subst (λ n. most_places < n) (sym same) h))
 
 pub returns-in_err-reserve-clause-had_room : goal.returns-in_err-reserve-clause-had_room
 returns-in_err-reserve-clause-had_room g c h =
     let s = c.self.inside.placed in
-    let count : length s.dots ≡ map.len c.args.self.now.live = sym (len-live s.dots s.held s.spent c.self.invariant.placed) ∙ ap (λ x. map.len x.live) c.self.view_is in
+    let count : length s.dots ≡ map.len c.args.self.now.live = sym (len_live s.dots s.held s.spent c.self.invariant.placed) ∙ ap (λ x. map.len x.live) c.self.view_is in
     let room : min s.room (vec_capacity c.self.inside.members) ≡ c.args.self.now.room = ap (λ x. x.room) c.self.view_is in
     let ok : is_ok c.reserve.result ≡ true = c.reserve.ensures.had_room (omega (arith, h, count, room)) in
     let no = sym (ap is_ok c.in_err-reserve.was) ∙ ok in
@@ -31,7 +31,7 @@ returns-in_err-reserve-clause-had_room g c h =
 pub returns-clause-room : goal.returns-clause-room
 returns-clause-room g c =
     let s = c.self.inside.placed in
-    let count : length s.dots ≡ map.len c.args.self.now.live = sym (len-live s.dots s.held s.spent c.self.invariant.placed) ∙ ap (λ x. map.len x.live) c.self.view_is in
+    let count : length s.dots ≡ map.len c.args.self.now.live = sym (len_live s.dots s.held s.spent c.self.invariant.placed) ∙ ap (λ x. map.len x.live) c.self.view_is in
     let len : vec_len c.self.inside.members ≡ length c.self.inside.members.items = search rules in
     elim c.match-reserve.branch [
       | in-Ok w ↦ subst (λ r. OnOk r (map.len c.args.self.now.live + c.args.more ≤ min c.reserve.new.self.room (vec_capacity c.reserve-2.new.self))) (sym w.result-is)
@@ -43,7 +43,7 @@ pub returns-clause-full : goal.returns-clause-full
 returns-clause-full g c =
     let s = c.self.inside.placed in
     let same : retired_of g.row.LAST s.spent + length s.dots + c.args.more ≡ retired_of g.row.LAST c.args.self.now.spent + map.len c.args.self.now.live + c.args.more =
-    ap (λ n. retired_of g.row.LAST s.spent + n + c.args.more) (sym (len-live s.dots s.held s.spent c.self.invariant.placed)) ∙ ap (λ x. retired_of g.row.LAST x.spent + map.len x.live + c.args.more) c.self.view_is in (
+    ap (λ n. retired_of g.row.LAST s.spent + n + c.args.more) (sym (len_live s.dots s.held s.spent c.self.invariant.placed)) ∙ ap (λ x. retired_of g.row.LAST x.spent + map.len x.live + c.args.more) c.self.view_is in (
       λ h. absurd (elim c.match-reserve.branch [ in-Ok w ↦ let r = sym w.result-is ∙ h in cc | in-Err w ↦ let r = sym w.result-is ∙ h in cc ]),
       λ h. absurd (let full = sym (c.reserve.ensures.full.1 (subst (λ n. most_places < n) (sym same) h)) ∙ c.in_ok-reserve.was in cc),
     )
@@ -51,7 +51,7 @@ returns-clause-full g c =
 pub returns-clause-had_room : goal.returns-clause-had_room
 returns-clause-had_room g c h =
     let s = c.self.inside.placed in
-    let count : length s.dots ≡ map.len c.args.self.now.live = sym (len-live s.dots s.held s.spent c.self.invariant.placed) ∙ ap (λ x. map.len x.live) c.self.view_is in
+    let count : length s.dots ≡ map.len c.args.self.now.live = sym (len_live s.dots s.held s.spent c.self.invariant.placed) ∙ ap (λ x. map.len x.live) c.self.view_is in
     let room : min s.room (vec_capacity c.self.inside.members) ≡ c.args.self.now.room = ap (λ x. x.room) c.self.view_is in
     let len : vec_len c.self.inside.members ≡ length c.self.inside.members.items = search rules in
     let ok : is_ok c.reserve-2.result ≡ true = c.reserve-2.ensures.succeeds (omega (arith, h, count, room, len, members_count s c.self.inside.members.items c.self.invariant)) in

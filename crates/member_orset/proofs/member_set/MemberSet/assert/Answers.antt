@@ -10,7 +10,7 @@ use Rattle.member_orset.specs.LiveStates.{fields_met}
 use Rattle.member_orset.specs.Members.{HasField, Holding, IsSet, Members, cells_with, condition_at, joined_at, live_with}
 use Rattle.member_orset.proofs.Asserting.{brought_conditions, either, known_already, len_one_more, met_conditions, on_err, on_err_both, on_ok_both, refused_conflict, refused_none, unknown_not_live}
 use Rattle.member_orset.proofs.IdSteps.{follow_same}
-use Rattle.member_orset.proofs.KeptSets.{set-brought, set-met, set-rested, set-same}
+use Rattle.member_orset.proofs.KeptSets.{set_brought, set_met, set_rested, set_same}
 use Rattle.member_orset.proofs.member_set.MemberSet.assert.Goals as goal
 
 pub returns-then-not-agrees_with-clause-refusals : goal.returns-then-not-agrees_with-clause-refusals
@@ -26,8 +26,8 @@ returns-then-not-agrees_with-clause-refusals c =
 pub invariant_of-self : goal.invariant_of-self
 invariant_of-self c =
     let s = c.self.inside in
-    set-same s.context.dots s.context.dots (fields_met s.cells.live c.args.dot c.copy.result) c.meet.new.cells.live s.cells.spent c.meet.new.cells.spent refl c.meet.ensures.live c.meet.ensures.spent
-    (set-met s.context.dots s.cells.live s.cells.spent c.args.dot c.copy.result c.self.invariant)
+    set_same s.context.dots s.context.dots (fields_met s.cells.live c.args.dot c.copy.result) c.meet.new.cells.live s.cells.spent c.meet.new.cells.spent refl c.meet.ensures.live c.meet.ensures.spent
+    (set_met s.context.dots s.cells.live s.cells.spent c.args.dot c.copy.result c.self.invariant)
 
 pub returns-then-contains-clause-known : goal.returns-then-contains-clause-known
 returns-then-contains-clause-known c =
@@ -54,7 +54,7 @@ returns-then-contains-clause-refusals c =
 pub bring-requires-clause-place : goal.bring-requires-clause-place
 bring-requires-clause-place c =
     let s = c.self.inside in
-    let rested = set-rested s.context s.cells c.runs.ensures.dots c.len.ensures.limits c.self.invariant in
+    let rested = set_rested s.context s.cells c.runs.ensures.dots c.len.ensures.limits c.self.invariant in
     omega (arith, rested, c.self.invariant.kept.few)
 
 pub invariant_of-self-2 : goal.invariant_of-self-2
@@ -68,10 +68,10 @@ invariant_of-self-2 c =
     let few : map.len (map.insert s.cells.live d x) ≤ MOST_LIVE = omega (arith, one_more, most) in
     let new = c.bring.new in
     either c.bring.result (IsSet new.context.dots new.cells.live new.cells.spent)
-    (on_ok_both c.bring.result _ _ _ (λ k l. set-same (set.insert s.context.dots d) new.context.dots (map.insert s.cells.live d x) new.cells.live s.cells.spent new.cells.spent k l c.bring.ensures.spent
-    (set-brought s.context.dots s.cells.live s.cells.spent d x unknown (subst HasField (sym c.copy-3.ensures) c.requires) few c.self.invariant))
+    (on_ok_both c.bring.result _ _ _ (λ k l. set_same (set.insert s.context.dots d) new.context.dots (map.insert s.cells.live d x) new.cells.live s.cells.spent new.cells.spent k l c.bring.ensures.spent
+    (set_brought s.context.dots s.cells.live s.cells.spent d x unknown (subst HasField (sym c.copy-3.ensures) c.requires) few c.self.invariant))
     c.bring.ensures.known c.bring.ensures.live)
-    (on_err_both c.bring.result _ _ _ (λ k l. set-same s.context.dots new.context.dots s.cells.live new.cells.live s.cells.spent new.cells.spent k l c.bring.ensures.spent c.self.invariant)
+    (on_err_both c.bring.result _ _ _ (λ k l. set_same s.context.dots new.context.dots s.cells.live new.cells.live s.cells.spent new.cells.spent k l c.bring.ensures.spent c.self.invariant)
     c.bring.ensures.err_known c.bring.ensures.err_live)
 
 pub returns-clause-conditions : goal.returns-clause-conditions

@@ -7,15 +7,15 @@ use Rattle.member_orset.specs.LiveStates.{spent_with}
 use Rattle.member_orset.specs.Members.{Members, condition_at, joined_at}
 use Rattle.member_orset.proofs.Changes.{killed}
 use Rattle.member_orset.proofs.IdSteps.{follow_remove}
-use Rattle.member_orset.proofs.KeptSets.{set-killed, set-same}
+use Rattle.member_orset.proofs.KeptSets.{set_killed, set_same}
 use Rattle.member_orset.proofs.member_set.MemberSet.kill.Goals as goal
 
 pub invariant_of-self-2 : goal.invariant_of-self-2
 invariant_of-self-2 c =
     let s = c.self.inside in
     let d = c.args.dot in
-    set-same (set.insert s.context.dots d) c.learn.new.context.dots (map.remove s.cells.live d) c.remove.new.self.live (spent_with (map.get s.cells.ids d) s.cells.spent) c.remove.new.self.spent
-    c.in_ok-learn.ensures.ok c.remove.ensures.live c.remove.ensures.spent (set-killed s.context.dots s.cells d c.len.ensures.limits.named c.self.invariant)
+    set_same (set.insert s.context.dots d) c.learn.new.context.dots (map.remove s.cells.live d) c.remove.new.self.live (spent_with (map.get s.cells.ids d) s.cells.spent) c.remove.new.self.spent
+    c.in_ok-learn.ensures.ok c.remove.ensures.live c.remove.ensures.spent (set_killed s.context.dots s.cells d c.len.ensures.limits.named c.self.invariant)
 
 pub returns-clause-conditions : goal.returns-clause-conditions
 returns-clause-conditions c q =

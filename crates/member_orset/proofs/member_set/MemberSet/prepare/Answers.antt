@@ -3,7 +3,7 @@ use Rattle.std.specs.FinMap as map
 use Rattle.dots.specs.declared.limits.TheConstants.{MOST_LIVE}
 use Rattle.member_orset.specs.Members.{CanBeJoined, Members, cells_joined}
 use Rattle.member_orset.proofs.Asserting.{on_ok_both}
-use Rattle.member_orset.proofs.KeptSets.{set-rested}
+use Rattle.member_orset.proofs.KeptSets.{set_rested}
 use Rattle.member_orset.proofs.Preparing.{prepared_for}
 use Rattle.member_orset.proofs.member_set.MemberSet.prepare.Goals as goal
 
@@ -19,7 +19,7 @@ returns-then-not-agrees-clause-refusals c =
 pub make_room-requires : goal.make_room-requires
 make_room-requires c =
     let s = c.self.inside in
-    let rested = set-rested s.context s.cells c.runs.ensures.dots c.len.ensures.limits c.self.invariant in
+    let rested = set_rested s.context s.cells c.runs.ensures.dots c.len.ensures.limits c.self.invariant in
     let ours = c.self.invariant.kept.few in
     let theirs = c.other.invariant.kept.few in
     let more = c.len-2.ensures.value in

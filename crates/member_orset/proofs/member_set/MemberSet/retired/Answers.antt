@@ -4,11 +4,11 @@ use Rattle.std.specs.FinSet as set
 use Rattle.member_orset.specs.CellIds.{dead_among, retired_of}
 use Rattle.member_orset.specs.Members.{Members, most_retired}
 use Rattle.member_orset.specs.declared.places.TheConstants.{LAST_GENERATION}
-use Rattle.member_orset.proofs.KeptSets.{set-rested}
+use Rattle.member_orset.proofs.KeptSets.{set_rested}
 use Rattle.member_orset.proofs.member_set.MemberSet.retired.Goals as goal
 
 pub returns-clause-limit : goal.returns-clause-limit
-returns-clause-limit c = subst (λ n. n ≤ most_retired) (sym c.retired.ensures) (set-rested c.self.inside.context c.self.inside.cells c.runs.ensures.dots c.len.ensures.limits c.self.invariant)
+returns-clause-limit c = subst (λ n. n ≤ most_retired) (sym c.retired.ensures) (set_rested c.self.inside.context c.self.inside.cells c.runs.ensures.dots c.len.ensures.limits c.self.invariant)
 
 -- each of the places spent an id in each generation, and no more ids are spent than dots are dead
 pub returns-clause-dead : goal.returns-clause-dead

@@ -19,14 +19,14 @@ use Rattle.member_orset.proofs.LiveChanges.{ids_more, is_new, live_more}
 use Rattle.member_orset.proofs.LiveMaps.{ids_by, rise}
 use Rattle.member_orset.proofs.PlacedChanges.{same_placed}
 use Rattle.member_orset.proofs.PlacedDots.{as_long}
-use Rattle.member_orset.proofs.Views.{get-live_of}
+use Rattle.member_orset.proofs.Views.{get_live_of}
 use Rattle.member_orset.proofs.set_builder.SetBuilder.put.Goals as goal
 
 -- a dot past all live ones goes in behind all cells
 gap_end : (cs : List LiveDot) (d : Dot) → Rise cs → ((q : Dot) → IsSome (map.get (live_of cs) q) → dot_cmp q d ≡ Less) → (i : ℕ) → i ≡ length cs → IsGap cs d i
 gap_end cs d s greater i e = record {
   within = omega (arith, e);
-  before = λ k c lo hi. ap is_lt (greater (get_or cs k c).dot (ap is_some (get-live_of cs (get_or cs k c).dot s ∙ found_at (get_or cs k c).dot cs k c s (omega (arith, e, hi)) refl)));
+  before = λ k c lo hi. ap is_lt (greater (get_or cs k c).dot (ap is_some (get_live_of cs (get_or cs k c).dot s ∙ found_at (get_or cs k c).dot cs k c s (omega (arith, e, hi)) refl)));
   after = λ c l. absurd (omega (arith, e, l));
 }
 

@@ -1,14 +1,14 @@
 use Rattle.std.proofs.Common.{◌-◌, ◌<◌, ◌∙◌, ap, sym, arith, length, get_or, slice_get, None}
 use Rattle.op_arena.specs.CellRows.{values}
 use Rattle.op_arena.specs.Columns.{column}
-use Rattle.op_arena.proofs.Filled.{pushed, get_or-laid, length-laid, none_past}
+use Rattle.op_arena.proofs.Filled.{pushed, get_or_laid, length_laid, none_past}
 use Rattle.op_arena.proofs.chunk.Chunk.push.Goals as goal
 
 pub place-requires : goal.place-requires
 place-requires g c =
     let s = c.self.inside in let xs = values s.places.slots in let fills = c.self.invariant.0 in let room : length xs < s.capacity = rw (← c.self.view_is) at c.requires in let k = s.capacity - s.len in (
-      omega (arith, ap length fills.laid, length-laid xs k, fills.count),
-      ap (λ r. get_or r s.len None) fills.laid ∙ get_or-laid xs k s.len ∙ ap (slice_get xs) fills.count ∙ none_past xs,
+      omega (arith, ap length fills.laid, length_laid xs k, fills.count),
+      ap (λ r. get_or r s.len None) fills.laid ∙ get_or_laid xs k s.len ∙ ap (slice_get xs) fills.count ∙ none_past xs,
     )
 
 pub invariant_of-self : goal.invariant_of-self

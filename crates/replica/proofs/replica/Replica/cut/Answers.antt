@@ -1,27 +1,27 @@
 use Rattle.std.proofs.Common.{length, sym, ap, subst, refl, ◌∙◌, arith}
 use Rattle.delta.specs.DeltaStates.{IsEmpty}
 use Rattle.replica.specs.Keeping.{AreInQueues}
-use Rattle.replica.proofs.FramedSites.{below-most, cut-exhausted, cut-means, in-ranges, nothing-means}
+use Rattle.replica.proofs.FramedSites.{below_most, cut_exhausted, cut_means, in_ranges, nothing_means}
 use Rattle.replica.proofs.Hearing.{failed}
-use Rattle.replica.proofs.KeptSites.{cut-kept}
+use Rattle.replica.proofs.KeptSites.{cut_kept}
 use Rattle.replica.proofs.replica.Replica.cut.Goals as goal
 
 pub returns-then-is_empty-clause-meaning : goal.returns-then-is_empty-clause-meaning
-returns-then-is_empty-clause-meaning c = λ s stands. nothing-means _ c.args.self.now s c.self.view_is stands (c.is_empty.ensures.0 c.if-is_empty.true)
+returns-then-is_empty-clause-meaning c = λ s stands. nothing_means _ c.args.self.now s c.self.view_is stands (c.is_empty.ensures.0 c.if-is_empty.true)
 
 pub returns-then-self-eq-MOST_COUNT-clause-meaning : goal.returns-then-self-eq-MOST_COUNT-clause-meaning
 returns-then-self-eq-MOST_COUNT-clause-meaning c = λ s stands.
-    cut-exhausted _ c.args.self.now s c.self.view_is stands (failed c.is_empty.result c.is_empty.ensures c.if-is_empty.false) c.if-self-eq-MOST_COUNT.true
+    cut_exhausted _ c.args.self.now s c.self.view_is stands (failed c.is_empty.result c.is_empty.ensures c.if-is_empty.false) c.if-self-eq-MOST_COUNT.true
 
 pub invariant_of-self : goal.invariant_of-self
 invariant_of-self c =
-    cut-kept _ c.replace-delta.new.dest _ c.self.invariant (subst IsEmpty (sym c.replace-delta.ensures.after) c.empty.ensures.empty)
-    (let few = below-most c.self.inside.frames c.self.invariant.frames c.if-self-eq-MOST_COUNT.false in omega (arith, few))
+    cut_kept _ c.replace-delta.new.dest _ c.self.invariant (subst IsEmpty (sym c.replace-delta.ensures.after) c.empty.ensures.empty)
+    (let few = below_most c.self.inside.frames c.self.invariant.frames c.if-self-eq-MOST_COUNT.false in omega (arith, few))
 
 pub returns-clause-meaning : goal.returns-clause-meaning
 returns-clause-meaning c = λ s stands.
-    cut-means _ c.args.self.now _ _ s c.self.view_is stands (failed c.is_empty.result c.is_empty.ensures c.if-is_empty.false)
-    (below-most c.self.inside.frames c.self.invariant.frames c.if-self-eq-MOST_COUNT.false)
+    cut_means _ c.args.self.now _ _ s c.self.view_is stands (failed c.is_empty.result c.is_empty.ensures c.if-is_empty.false)
+    (below_most c.self.inside.frames c.self.invariant.frames c.if-self-eq-MOST_COUNT.false)
     (record {
       heading = record { maker = refl; number = omega arith };
       delta = c.replace-delta.ensures.value;
@@ -37,7 +37,7 @@ returns-clause-meaning c = λ s stands.
 
 pub returns-clause-in_ranges : goal.returns-clause-in_ranges
 returns-clause-in_ranges c =
-    let few = below-most c.self.inside.frames c.self.invariant.frames c.if-self-eq-MOST_COUNT.false in
-    in-ranges c.len.result _ (omega arith) (omega (arith, few)) c.len.ensures.limit.1
+    let few = below_most c.self.inside.frames c.self.invariant.frames c.if-self-eq-MOST_COUNT.false in
+    in_ranges c.len.result _ (omega arith) (omega (arith, few)) c.len.ensures.limit.1
     (subst (λ n. AreInQueues n c.replace-delta.result) (sym c.len.ensures.value)
     (subst (AreInQueues (length c.self.inside.list)) (sym c.replace-delta.ensures.value) c.self.invariant.pending_queues))

@@ -8,14 +8,14 @@ use Rattle.replica.specs.declared.refusal.Refusal.TheVariants.{TotalFull}
 use Rattle.replica.specs.Commands.{MayWantMemory}
 use Rattle.replica.specs.Planning.{IsPlan}
 use Rattle.replica.specs.Site.{meaning_at}
-use Rattle.replica.proofs.PlannedCommands.{count-full, count-plan, count-wants}
+use Rattle.replica.proofs.PlannedCommands.{count_full, count_plan, count_wants}
 use Rattle.replica.proofs.replica.Replica.plan_count.Goals as goal
 
 -- src/commands.rt:51:13
 pub returns-then-total-ge-MOST_CALLS : goal.returns-then-total-ge-MOST_CALLS
 returns-then-total-ge-MOST_CALLS c = inr
     (subst (λ s. meaning_at s (CountCall c.args.queue.now c.args.calls) ≡ Refused TotalFull) c.self.view_is
-    (count-full _ c.self.invariant c.see_limits.ensures c.see_limits-2.ensures c.args.queue.now c.args.calls c.in-Some.number (sym c.position.ensures.number ∙ c.in-Some.is)
+    (count_full _ c.self.invariant c.see_limits.ensures c.see_limits-2.ensures c.args.queue.now c.args.calls c.in-Some.number (sym c.position.ensures.number ∙ c.in-Some.is)
     (subst (λ n. MOST_CALLS ≤ n) (c.number_of-total.ensures ∙ ap (number_of c.args.calls) (c.of.ensures.value ∙ ap (λ t. totals_of t.entries c.self.inside.site c.in-Some.number) c.totals.ensures)) c.if-total-ge-MOST_CALLS.true)))
 
 -- memory for the change was wanting
@@ -25,7 +25,7 @@ returns-in-Err c =
     inl (
       refl,
       subst (λ s. MayWantMemory (meaning_at s (CountCall c.args.queue.now c.args.calls))) c.self.view_is
-          (count-wants _ c.self.invariant c.see_limits.ensures c.see_limits-2.ensures c.args.queue.now c.args.calls c.in-Some.number (sym c.position.ensures.number ∙ c.in-Some.is)
+          (count_wants _ c.self.invariant c.see_limits.ensures c.see_limits-2.ensures c.args.queue.now c.args.calls c.in-Some.number (sym c.position.ensures.number ∙ c.in-Some.is)
           (subst (λ n. n < MOST_CALLS) total c.if-total-ge-MOST_CALLS.false)),
     )
 
@@ -34,7 +34,7 @@ pub returns-in-Ok : goal.returns-in-Ok
 returns-in-Ok c =
     let total = c.number_of-total.ensures ∙ ap (number_of c.args.calls) (c.of.ensures.value ∙ ap (λ t. totals_of t.entries c.self.inside.site c.in-Some.number) c.totals.ensures) in
     subst (λ s. IsPlan s (meaning_at s (CountCall c.args.queue.now c.args.calls)) (record { change = c.in-Ok.change; count = c.self.inside.count; time = c.self.inside.time })) c.self.view_is
-    (count-plan _ c.self.invariant c.see_limits.ensures c.see_limits-2.ensures c.args.queue.now c.args.calls c.in-Some.number (sym c.position.ensures.number ∙ c.in-Some.is)
+    (count_plan _ c.self.invariant c.see_limits.ensures c.see_limits-2.ensures c.args.queue.now c.args.calls c.in-Some.number (sym c.position.ensures.number ∙ c.in-Some.is)
     (record { change = c.in-Ok.change; count = c.self.inside.count; time = c.self.inside.time }) (c.number_of-total.result + 1)
     (subst (λ n. n < MOST_CALLS) total c.if-total-ge-MOST_CALLS.false) (ap (λ n. n + 1) total) (slice_get_within c.self.inside.list c.in-Some.number _ c.in-Some.ensures.value)
     refl refl c.in-Ok.ensures.known c.in-Ok.ensures.live c.in-Ok.ensures.totals c.in-Ok.ensures.limits)

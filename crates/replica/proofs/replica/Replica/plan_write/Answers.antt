@@ -17,9 +17,9 @@ use Rattle.replica.specs.Settings.{setting_of}
 use Rattle.replica.specs.Site.{view_of}
 use Rattle.replica.specs.SiteViews.{dots_seen, greatest}
 use Rattle.replica.specs.Writing.{written_to}
-use Rattle.replica.proofs.GreatestTimes.{greatest-firsts}
-use Rattle.replica.proofs.PlannedWrites.{seen-few, some-seen, write-long, write-plan, write-told, write-wants}
-use Rattle.replica.proofs.SeenLists.{seen-all-live, seen-rise}
+use Rattle.replica.proofs.GreatestTimes.{greatest_firsts}
+use Rattle.replica.proofs.PlannedWrites.{seen_few, some_seen, write_long, write_plan, write_told, write_wants}
+use Rattle.replica.proofs.SeenLists.{seen_all_live, seen_rise}
 use Rattle.replica.proofs.replica.Replica.plan_write.Goals as goal
 
 one : (n : ℕ) → n + 1 ≡ suc n
@@ -32,13 +32,13 @@ returns-in_default c =
     inl (
       refl,
       subst (λ s. MayWantMemory (meaning_of_setting s.site (view_of s s.state) (view_of s s.pending) (setting_of c.args.setting) (dots_seen (view_of s s.state).dots c.args.queue c.args.interface.now))) c.self.view_is
-          (write-wants _ c.self.invariant c.see_limits.ensures c.args.queue c.args.interface.now (setting_of c.args.setting) some),
+          (write_wants _ c.self.invariant c.see_limits.ensures c.args.queue c.args.interface.now (setting_of c.args.setting) some),
     )
 
 pub refuse_write-requires-clause-few : goal.refuse_write-requires-clause-few
 refuse_write-requires-clause-few c =
     let are = c.deref-in_default-new.ensures.value ∙ c.in-Ok.ensures.list ∙ ap (λ m. each (λ p. p.0) (dots_seen (dot_view_of m) c.args.queue c.args.interface.now)) c.members-members.ensures in
-    subst (λ (dots : List Dot). length dots ≤ MOST_LIVE) (sym are) (seen-few _ c.self.invariant c.see_limits.ensures c.args.queue c.args.interface.now)
+    subst (λ (dots : List Dot). length dots ≤ MOST_LIVE) (sym are) (seen_few _ c.self.invariant c.see_limits.ensures c.args.queue c.args.interface.now)
 
 pub returns-in_default-new : goal.returns-in_default-new
 returns-in_default-new c =
@@ -46,22 +46,22 @@ returns-in_default-new c =
     let first = c.deref.ensures.value ∙ c.in-Ok.ensures.list ∙ seen_are in
     let time = ap (λ n. n + 1) (c.later-time.ensures ∙ (λ i. max c.self.inside.time ((c.latest_replaced.ensures.value
     ∙ (λ i. greatest (time_replaced (dot_view_of (c.members-members.ensures i)) (setting_of c.args.setting)) (first i))
-    ∙ sym (greatest-firsts (time_replaced (dot_view_of c.self.inside.state.members) (setting_of c.args.setting)) (dots_seen (dot_view_of c.self.inside.state.members) c.args.queue c.args.interface.now))) i))) ∙ one _ in
-    let some = some-seen (dots_seen (dot_view_of c.self.inside.state.members) c.args.queue c.args.interface.now) c.deref.result.now _ c.is_empty.result first c.deref.ensures.len c.is_empty.ensures c.if-is_empty.false in
+    ∙ sym (greatest_firsts (time_replaced (dot_view_of c.self.inside.state.members) (setting_of c.args.setting)) (dots_seen (dot_view_of c.self.inside.state.members) c.args.queue c.args.interface.now))) i))) ∙ one _ in
+    let some = some_seen (dots_seen (dot_view_of c.self.inside.state.members) c.args.queue c.args.interface.now) c.deref.result.now _ c.is_empty.result first c.deref.ensures.len c.is_empty.ensures c.if-is_empty.false in
     subst (λ s. IsUnplanned (meaning_of_setting s.site (view_of s s.state) (view_of s s.pending) (setting_of c.args.setting) (dots_seen (view_of s s.state).dots c.args.queue c.args.interface.now)) c.refuse_write.result) c.self.view_is
-    (write-told _ c.self.invariant c.see_limits.ensures c.args.queue c.args.interface.now (setting_of c.args.setting) some c.deref-in_default-new.result.now c.refuse_write.result
+    (write_told _ c.self.invariant c.see_limits.ensures c.args.queue c.args.interface.now (setting_of c.args.setting) some c.deref-in_default-new.result.now c.refuse_write.result
     (c.deref-in_default-new.ensures.value ∙ c.in-Ok.ensures.list ∙ seen_are) (subst (λ s. IsToldOfWrites s c.deref-in_default-new.result.now c.refuse_write.result) (sym c.self.view_is) c.refuse_write.ensures)
     (λ is. absurd (let none = c.in_default-new.ensures.within.1 (subst IsCount (sym time) is) in cc)))
 
 pub written-requires-clause-rise : goal.written-requires-clause-rise
 written-requires-clause-rise c =
     let are = c.deref-2.ensures.value ∙ c.in-Ok.ensures.list ∙ ap (λ m. each (λ p. p.0) (dots_seen (dot_view_of m) c.args.queue c.args.interface.now)) c.members-members.ensures in
-    subst DotsRise (sym are) (seen-rise (dot_view_of c.self.inside.state.members) c.args.queue c.args.interface.now)
+    subst DotsRise (sym are) (seen_rise (dot_view_of c.self.inside.state.members) c.args.queue c.args.interface.now)
 
 pub written-requires-clause-live : goal.written-requires-clause-live
 written-requires-clause-live c =
     let are = c.deref-2.ensures.value ∙ c.in-Ok.ensures.list in
-    subst (λ (dots : List Dot). All (λ dot. map.contains_key c.members-members.result.now.live dot ≡ true) dots) (sym are) (seen-all-live c.members-members.result.now c.args.queue c.args.interface.now)
+    subst (λ (dots : List Dot). All (λ dot. map.contains_key c.members-members.result.now.live dot ≡ true) dots) (sym are) (seen_all_live c.members-members.result.now c.args.queue c.args.interface.now)
 
 pub returns-in-Ok-written : goal.returns-in-Ok-written
 returns-in-Ok-written c =
@@ -69,11 +69,11 @@ returns-in-Ok-written c =
     let first = c.deref.ensures.value ∙ c.in-Ok.ensures.list ∙ seen_are in
     let time = ap (λ n. n + 1) (c.later-time.ensures ∙ (λ i. max c.self.inside.time ((c.latest_replaced.ensures.value
     ∙ (λ i. greatest (time_replaced (dot_view_of (c.members-members.ensures i)) (setting_of c.args.setting)) (first i))
-    ∙ sym (greatest-firsts (time_replaced (dot_view_of c.self.inside.state.members) (setting_of c.args.setting)) (dots_seen (dot_view_of c.self.inside.state.members) c.args.queue c.args.interface.now))) i))) ∙ one _ in
-    let some = some-seen (dots_seen (dot_view_of c.self.inside.state.members) c.args.queue c.args.interface.now) c.deref.result.now _ c.is_empty.result first c.deref.ensures.len c.is_empty.ensures c.if-is_empty.false in
+    ∙ sym (greatest_firsts (time_replaced (dot_view_of c.self.inside.state.members) (setting_of c.args.setting)) (dots_seen (dot_view_of c.self.inside.state.members) c.args.queue c.args.interface.now))) i))) ∙ one _ in
+    let some = some_seen (dots_seen (dot_view_of c.self.inside.state.members) c.args.queue c.args.interface.now) c.deref.result.now _ c.is_empty.result first c.deref.ensures.len c.is_empty.ensures c.if-is_empty.false in
     let are = c.deref-2.ensures.value ∙ c.in-Ok.ensures.list ∙ seen_are in
     subst (λ s. IsPlan s (meaning_of_setting s.site (view_of s s.state) (view_of s s.pending) (setting_of c.args.setting) (dots_seen (view_of s s.state).dots c.args.queue c.args.interface.now)) (record { change = c.in-Ok-written.change; count = c.self.inside.count; time = c.later-time.result + 1 })) c.self.view_is
-    (write-plan _ c.self.invariant c.see_limits.ensures c.args.queue c.args.interface.now (setting_of c.args.setting) some
+    (write_plan _ c.self.invariant c.see_limits.ensures c.args.queue c.args.interface.now (setting_of c.args.setting) some
     (record { change = c.in-Ok-written.change; count = c.self.inside.count; time = c.later-time.result + 1 }) (subst IsCount time (c.in-Some.ensures.within.0 refl)) refl time
     (c.in-Ok-written.ensures.known ∙ (λ i. dots_seen_below (c.members-members.ensures i) (are i)))
     (λ q. c.in-Ok-written.ensures.live q ∙ (λ i. written_to (c.members-members.ensures i) (are i) ((c.fields.ensures
@@ -90,7 +90,7 @@ returns c = by c.in-Err.fault refl
         (c.written.ensures.full.0 (c.in-Err.is ∙ ap Err is))
 
     some : dots_seen (dot_view_of c.self.inside.state.members) c.args.queue c.args.interface.now ≢ []
-    some = some-seen (dots_seen (dot_view_of c.self.inside.state.members) c.args.queue c.args.interface.now) c.deref.result.now _ c.is_empty.result
+    some = some_seen (dots_seen (dot_view_of c.self.inside.state.members) c.args.queue c.args.interface.now) c.deref.result.now _ c.is_empty.result
         (c.deref.ensures.value ∙ c.in-Ok.ensures.list ∙ ap (λ m. each (λ p. p.0) (dots_seen (dot_view_of m) c.args.queue c.args.interface.now)) c.members-members.ensures) c.deref.ensures.len c.is_empty.ensures c.if-is_empty.false
 
     by : (fault : ContextFault) → c.in-Err.fault ≡ fault
@@ -99,9 +99,9 @@ returns c = by c.in-Err.fault refl
     by NoMemory is = inl (
       c.refusal_of_runs.ensures.memory is,
       subst (λ s. MayWantMemory (meaning_of_setting s.site (view_of s s.state) (view_of s s.pending) (setting_of c.args.setting) (dots_seen (view_of s s.state).dots c.args.queue c.args.interface.now))) c.self.view_is
-          (write-wants _ c.self.invariant c.see_limits.ensures c.args.queue c.args.interface.now (setting_of c.args.setting) some),
+          (write_wants _ c.self.invariant c.see_limits.ensures c.args.queue c.args.interface.now (setting_of c.args.setting) some),
     )
     by RunsFull is = inr
         (subst (λ s. meaning_of_setting s.site (view_of s s.state) (view_of s s.pending) (setting_of c.args.setting) (dots_seen (view_of s s.state).dots c.args.queue c.args.interface.now) ≡ Refused MembersFull) c.self.view_is
-        (write-long _ c.self.invariant c.see_limits.ensures c.args.queue c.args.interface.now (setting_of c.args.setting) some (many is))
+        (write_long _ c.self.invariant c.see_limits.ensures c.args.queue c.args.interface.now (setting_of c.args.setting) some (many is))
         ∙ ap Refused (sym (c.refusal_of_runs.ensures.full is)))

@@ -5,14 +5,14 @@ use Rattle.replica.specs.declared.take_fault.TakeFault.{TakeFault}
 use Rattle.replica.specs.Site.{SiteState}
 use Rattle.replica.specs.Steps.{take}
 use Rattle.replica.specs.Taking.{IsMeantFault, IsRefusedTake, MayHear}
-use Rattle.replica.proofs.KeptSites.{unchanged-kept}
-use Rattle.replica.proofs.TakenSites.{agrees-before, fault-meant, may-take, prepared-agrees, refusals-joined, refusals-taken, refusals-unheard, take-meant, taken-kept, unchanged-self}
-use Rattle.replica.proofs.TakingIn.{unchanged-ids, unchanged-joined}
+use Rattle.replica.proofs.KeptSites.{unchanged_kept}
+use Rattle.replica.proofs.TakenSites.{agrees_before, fault_meant, may_take, prepared_agrees, refusals_joined, refusals_taken, refusals_unheard, take_meant, taken_kept, unchanged_self}
+use Rattle.replica.proofs.TakingIn.{unchanged_ids, unchanged_joined}
 use Rattle.replica.proofs.replica.Replica.take.Goals as goal
 
 pub returns-in-Err-clause-refusals : goal.returns-in-Err-clause-refusals
 returns-in-Err-clause-refusals c =
-    refusals-unheard c.args.self.now c.args.frame.delta c.in-Err.fault c.in-Err.ensures.only c.in-Err.ensures.no_such_queue c.in-Err.ensures.not_mine
+    refusals_unheard c.args.self.now c.args.frame.delta c.in-Err.fault c.in-Err.ensures.only c.in-Err.ensures.no_such_queue c.in-Err.ensures.not_mine
 
 -- what may be heard isn't refused so
 pub returns-in-Err-clause-prepared : goal.returns-in-Err-clause-prepared
@@ -22,7 +22,7 @@ returns-in-Err-clause-prepared c = λ hears ready. absurd (elim c.in-Err.ensures
 ])
 
 pub invariant_of-self : goal.invariant_of-self
-invariant_of-self c = unchanged-kept _ c.prepare.new.self c.self.inside.pending c.self.invariant c.prepare.ensures.kept (unchanged-self c.self.inside.pending)
+invariant_of-self c = unchanged_kept _ c.prepare.new.self c.self.inside.pending c.self.invariant c.prepare.ensures.kept (unchanged_self c.self.inside.pending)
 
 pub returns-in-Err-prepare-clause-refusals : goal.returns-in-Err-prepare-clause-refusals
 returns-in-Err-prepare-clause-refusals c =
@@ -30,7 +30,7 @@ returns-in-Err-prepare-clause-refusals c =
     let d = c.args.frame.delta in
     let refused = subst (λ (r : SiteState). IsRefusedJoin r.state d (λ f. c.prepare.result ≡ Err f)) c.self.view_is c.prepare.ensures.refusals in
     subst (λ (t : TakeFault). IsRefusedTake s d (λ f. t ≡ f)) (sym c.take_fault_of.ensures)
-    (refusals-joined s d c.in_default.ensures.heard c.prepare.result c.in-Err-prepare.fault c.in-Err-prepare.is refused)
+    (refusals_joined s d c.in_default.ensures.heard c.prepare.result c.in-Err-prepare.fault c.in-Err-prepare.is refused)
 
 -- nor is what is prepared refused once more
 pub returns-in-Err-prepare-clause-prepared : goal.returns-in-Err-prepare-clause-prepared
@@ -44,23 +44,23 @@ returns-in-Err-prepare-clause-meaning c = λ s k stands says later.
     let d = c.args.frame.delta in
     let refused = subst (λ (r : SiteState). IsRefusedJoin r.state d (λ f. c.prepare.result ≡ Err f)) c.self.view_is c.prepare.ensures.refusals in
     subst (λ (t : TakeFault). IsMeantFault t (take s k).1) (sym c.take_fault_of.ensures)
-    (fault-meant old d s k stands says c.prepare.result refused c.in-Err-prepare.fault c.in-Err-prepare.is)
+    (fault_meant old d s k stands says c.prepare.result refused c.in-Err-prepare.fault c.in-Err-prepare.is)
 
 pub invariant_of-self-2 : goal.invariant_of-self-2
 invariant_of-self-2 c =
     let d = c.args.frame.delta in
     let others = subst IsWithinLimits c.members.ensures c.cells.ensures.limits in
     let kept = c.in_default-prepare.ensures.kept in
-    let agree = agrees-before c.self.inside.state c.prepare.new.self d kept (prepared-agrees c.prepare.new.self d others c.in_default-prepare.ensures.ready) in
-    taken-kept _ d c.absorb.new.self c.self.invariant (subst (λ (r : SiteState). MayHear r d) (sym c.self.view_is) c.in_default.ensures.heard) agree
-    (unchanged-joined c.self.inside.state c.prepare.new.self d c.absorb.new.self kept c.absorb.ensures.joined)
+    let agree = agrees_before c.self.inside.state c.prepare.new.self d kept (prepared_agrees c.prepare.new.self d others c.in_default-prepare.ensures.ready) in
+    taken_kept _ d c.absorb.new.self c.self.invariant (subst (λ (r : SiteState). MayHear r d) (sym c.self.view_is) c.in_default.ensures.heard) agree
+    (unchanged_joined c.self.inside.state c.prepare.new.self d c.absorb.new.self kept c.absorb.ensures.joined)
 
 pub returns-clause-refusals : goal.returns-clause-refusals
 returns-clause-refusals c =
     let s = c.args.self.now in
     let d = c.args.frame.delta in
     let refused = subst (λ (r : SiteState). IsRefusedJoin r.state d (λ f. c.prepare.result ≡ Err f)) c.self.view_is c.prepare.ensures.refusals in
-    refusals-taken s d c.in_default.ensures.heard c.prepare.result c.in_default-prepare.field-0 c.in_default-prepare.is refused
+    refusals_taken s d c.in_default.ensures.heard c.prepare.result c.in_default-prepare.field-0 c.in_default-prepare.is refused
 
 pub returns-clause-may : goal.returns-clause-may
 returns-clause-may c =
@@ -69,8 +69,8 @@ returns-clause-may c =
     let others = subst IsWithinLimits c.members.ensures c.cells.ensures.limits in
     let kept = c.in_default-prepare.ensures.kept in
     let refused = subst (λ (r : SiteState). IsRefusedJoin r.state d (λ f. c.prepare.result ≡ Err f)) c.self.view_is c.prepare.ensures.refusals in
-    let agree = agrees-before c.self.inside.state c.prepare.new.self d kept (prepared-agrees c.prepare.new.self d others c.in_default-prepare.ensures.ready) in
-    may-take s d c.in_default.ensures.heard (subst (λ (r : SiteState). Agree r.state d) c.self.view_is agree) c.prepare.result c.in_default-prepare.field-0 c.in_default-prepare.is refused
+    let agree = agrees_before c.self.inside.state c.prepare.new.self d kept (prepared_agrees c.prepare.new.self d others c.in_default-prepare.ensures.ready) in
+    may_take s d c.in_default.ensures.heard (subst (λ (r : SiteState). Agree r.state d) c.self.view_is agree) c.prepare.result c.in_default-prepare.field-0 c.in_default-prepare.is refused
 
 pub returns-clause-meaning : goal.returns-clause-meaning
 returns-clause-meaning c = λ s k stands says later.
@@ -79,12 +79,12 @@ returns-clause-meaning c = λ s k stands says later.
     let others = subst IsWithinLimits c.members.ensures c.cells.ensures.limits in
     let kept = c.in_default-prepare.ensures.kept in
     let refused = subst (λ (r : SiteState). IsRefusedJoin r.state d (λ f. c.prepare.result ≡ Err f)) c.self.view_is c.prepare.ensures.refusals in
-    let agree = agrees-before c.self.inside.state c.prepare.new.self d kept (prepared-agrees c.prepare.new.self d others c.in_default-prepare.ensures.ready) in
+    let agree = agrees_before c.self.inside.state c.prepare.new.self d kept (prepared_agrees c.prepare.new.self d others c.in_default-prepare.ensures.ready) in
     let agrees = subst (λ (r : SiteState). Agree r.state d) c.self.view_is agree in
-    let may = may-take old d c.in_default.ensures.heard agrees c.prepare.result c.in_default-prepare.field-0 c.in_default-prepare.is refused in
-    let joined = unchanged-joined c.self.inside.state c.prepare.new.self d c.absorb.new.self kept c.absorb.ensures.joined in
-    let ids = unchanged-ids c.self.inside.state c.prepare.new.self c.absorb.new.self kept c.absorb.ensures.ids in
-    take-meant old d s k stands says _ may
+    let may = may_take old d c.in_default.ensures.heard agrees c.prepare.result c.in_default-prepare.field-0 c.in_default-prepare.is refused in
+    let joined = unchanged_joined c.self.inside.state c.prepare.new.self d c.absorb.new.self kept c.absorb.ensures.joined in
+    let ids = unchanged_ids c.self.inside.state c.prepare.new.self c.absorb.new.self kept c.absorb.ensures.ids in
+    take_meant old d s k stands says _ may
     (record {
       site = ap (λ r. r.site) c.self.view_is;
       names = ap (λ r. r.names) c.self.view_is;

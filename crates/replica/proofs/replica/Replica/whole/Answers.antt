@@ -1,10 +1,10 @@
 use Rattle.std.proofs.Common.{refl, arith}
-use Rattle.replica.proofs.FramedSites.{below-most, whole-means}
+use Rattle.replica.proofs.FramedSites.{below_most, whole_means}
 use Rattle.replica.proofs.replica.Replica.whole.Goals as goal
 
 pub returns-clause-meaning : goal.returns-clause-meaning
 returns-clause-meaning c = λ s stands.
-    whole-means _ c.args.self.now _ _ s c.self.view_is stands (below-most c.self.inside.frames c.self.invariant.frames c.if-self-eq-MOST_COUNT.false)
+    whole_means _ c.args.self.now _ _ s c.self.view_is stands (below_most c.self.inside.frames c.self.invariant.frames c.if-self-eq-MOST_COUNT.false)
     (record {
       heading = record { maker = refl; number = omega arith };
       delta = c.in-Ok.ensures.same;

@@ -1,14 +1,14 @@
 use Rattle.std.proofs.Common.{◌∙◌, ap, Ok, refl}
-use Rattle.scripts.proofs.Replying.{output-message, output-none}
+use Rattle.scripts.proofs.Replying.{output_message, output_none}
 use Rattle.scripts.specs.LineSteps.{place_of}
 use Rattle.scripts.proofs.script.Script.run_fields.Goals as goal
 
 pub returns-in_default-clause-ok : goal.returns-in_default-clause-ok
 returns-in_default-clause-ok c = λ w at.
-    output-none (place_of c.args.self.now) w c.args.number c.args.site c.args.fields.now c.args.self.now.world c.in_ok-not_understood.field-0
+    output_none (place_of c.args.self.now) w c.args.number c.args.site c.args.fields.now c.args.self.now.world c.in_ok-not_understood.field-0
     (c.message_of.ensures.none (c.in_ok-message.was ∙ ap Ok c.in_default.is)) at c.in_ok-not_understood.ensures
 
 pub returns-clause-ok : goal.returns-clause-ok
 returns-clause-ok c = λ w at.
-    output-message (place_of c.args.self.now) w c.args.number c.args.site c.args.fields.now c.in-Some.message c.run_message.new.self.world _
+    output_message (place_of c.args.self.now) w c.args.number c.args.site c.args.fields.now c.in-Some.message c.run_message.new.self.world _
     (rw c.in-Some.is at c.in_ok-message.ensures.one) (c.in_ok-text.ensures.ok w at) refl

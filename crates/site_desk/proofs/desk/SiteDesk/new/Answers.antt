@@ -1,5 +1,5 @@
 use Rattle.std.proofs.Common.{rules, ◌∙◌}
-use Rattle.replica.proofs.SameSites.{equal-site}
+use Rattle.replica.proofs.SameSites.{equal_site}
 use Rattle.site_desk.proofs.FreshPasses.{fresh_more, fresh_none}
 use Rattle.site_desk.proofs.desk.SiteDesk.new.Goals as goal
 
@@ -12,4 +12,4 @@ loop-ordinal-preserved g c =
 
 -- the journal begins from what the ledger says
 pub invariant_of-new-clause-begun : goal.invariant_of-new-clause-begun
-invariant_of-new-clause-begun g c = λ _. equal-site g.L.SiteLedger.base c.args.journal.base c.requires.base
+invariant_of-new-clause-begun g c = λ _. equal_site g.L.SiteLedger.base c.args.journal.base c.requires.base

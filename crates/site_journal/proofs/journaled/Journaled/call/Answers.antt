@@ -1,6 +1,6 @@
 use Rattle.std.proofs.Common.{true≢false, refl, sym, ◌∙◌, subst}
 use Rattle.site_journal.specs.Journals.{IsFull}
-use Rattle.replica.proofs.SameSites.{unchanged-site}
+use Rattle.replica.proofs.SameSites.{unchanged_site}
 use Rattle.site_journal.specs.declared.step.StepDeed.TheVariants.{Asked}
 use Rattle.site_journal.proofs.Leading.{does, lead_same, one_more}
 use Rattle.site_journal.proofs.journaled.Journaled.call.Goals as goal
@@ -9,7 +9,7 @@ use Rattle.site_journal.proofs.journaled.Journaled.call.Goals as goal
 pub invariant_of-self-in_default-ask_twice : goal.invariant_of-self-in_default-ask_twice
 invariant_of-self-in_default-ask_twice c =
     let i = c.self.invariant in
-    rw c.reserve.ensures.items (record { legal = lead_same _ _ _ _ i.legal (unchanged-site _ _ c.in_default-ask_twice.ensures.err); counted = i.counted; within = i.within; most = i.most; some = i.some; few = i.few })
+    rw c.reserve.ensures.items (record { legal = lead_same _ _ _ _ i.legal (unchanged_site _ _ c.in_default-ask_twice.ensures.err); counted = i.counted; within = i.within; most = i.most; some = i.some; few = i.few })
 
 -- one step more
 pub invariant_of-self-2 : goal.invariant_of-self-2

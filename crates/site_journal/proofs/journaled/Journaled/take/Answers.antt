@@ -1,7 +1,7 @@
 use Rattle.std.proofs.Common.{◌≡◌, true≢false, refl, ap, sym, ◌∙◌, subst}
 use Rattle.site_journal.specs.Journals.{IsFull}
 use Rattle.delta_codec.specs.Frames.{Spells}
-use Rattle.replica.proofs.SameSites.{unchanged-site}
+use Rattle.replica.proofs.SameSites.{unchanged_site}
 use Rattle.replica.specs.Taking.{IsRefusedTake}
 use Rattle.site_journal.specs.declared.step.StepDeed.TheVariants.{Took}
 use Rattle.site_journal.proofs.Leading.{does, lead_same, one_more, unmoved}
@@ -28,7 +28,7 @@ returns-in-Err-take-clause-memory c = λ _. opened c.in-Ok.frame _ (subst (Spell
 pub invariant_of-self-in-Err-take : goal.invariant_of-self-in-Err-take
 invariant_of-self-in-Err-take c =
     let i = c.self.invariant in
-    rw c.reserve.ensures.items (record { legal = lead_same _ _ _ _ i.legal (unchanged-site _ _ c.in-Err-take.ensures.unchanged); counted = i.counted; within = i.within; most = i.most; some = i.some; few = i.few })
+    rw c.reserve.ensures.items (record { legal = lead_same _ _ _ _ i.legal (unchanged_site _ _ c.in-Err-take.ensures.unchanged); counted = i.counted; within = i.within; most = i.most; some = i.some; few = i.few })
 
 -- the site refuses the frame for the cause that is told
 pub returns-in-Err-take-clause-refused : goal.returns-in-Err-take-clause-refused

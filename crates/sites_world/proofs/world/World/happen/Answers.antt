@@ -1,4 +1,4 @@
-use Rattle.sites_world.proofs.KeptWorlds.{world-after-event}
+use Rattle.sites_world.proofs.KeptWorlds.{world_after_event}
 use Rattle.std.proofs.Common.{subst}
 use Rattle.sites_world.specs.Conditions.{Leads}
 use Rattle.sites_world.specs.WorldStates.{WorldState}
@@ -7,12 +7,12 @@ use Rattle.sites_world.proofs.world.World.happen.Goals as goal
 -- the sites stand for the world after the event
 pub invariant_of-self : goal.invariant_of-self
 invariant_of-self c =
-    world-after-event c.self.inside.list c.self.inside.sites.items c.happen.new.sites.items c.self.inside.pool.items c.happen.new.pool.items c.args.event c.happen.result
+    world_after_event c.self.inside.list c.self.inside.sites.items c.happen.new.sites.items c.self.inside.pool.items c.happen.new.pool.items c.args.event c.happen.result
     c.self.invariant c.happen.ensures.count c.happen.ensures.values (c.happen.ensures.meaning c.self.inside.list)
 
 pub returns-clause-world : goal.returns-clause-world
 returns-clause-world c =
-    world-after-event c.self.inside.list c.self.inside.sites.items c.happen.new.sites.items c.self.inside.pool.items c.happen.new.pool.items c.args.event c.happen.result
+    world_after_event c.self.inside.list c.self.inside.sites.items c.happen.new.sites.items c.self.inside.pool.items c.happen.new.pool.items c.args.event c.happen.result
     c.self.invariant c.happen.ensures.count c.happen.ensures.values (c.happen.ensures.meaning c.self.inside.list)
 
 -- the event leads from the old state
