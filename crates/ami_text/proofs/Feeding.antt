@@ -8,12 +8,12 @@ use Rattle.ami_text.specs.declared.progress.Progress.{Progress}
 use Rattle.ami_text.specs.MessageFields.{NameAndValue, field_of, fields_of}
 use Rattle.ami_text.specs.Found.{EndsMessage, EndsInRest}
 use Rattle.ami_text.specs.Lines.{HasNoLf, content, IsEmptyLine, IsFullLine, lines_text}
-use Rattle.ami_text.specs.Progress.{IsReached}
+use Rattle.ami_text.specs.Progress.{IsProgress}
 use Rattle.ami_text.specs.Stream.{Begins, FirstMessage, Gives, HasFault, IsRest}
 use Rattle.ami_text.proofs.Outcome.{Whole, Partial, first_of, outcome_found, outcome_rest}
 
 -- nothing was looked at
-pub reached_start : (held : List ℕ) → IsReached held (record { line = 0; lines = 0; looked = 0 })
+pub reached_start : (held : List ℕ) → IsProgress held (record { line = 0; lines = 0; looked = 0 })
 reached_start held = record {
   read = [];
   part = [];
@@ -28,7 +28,7 @@ reached_start held = record {
 }
 
 -- more bytes lie ahead
-pub reached_more : (held piece : List ℕ) (progress : Progress) → IsReached held progress → IsReached (held ++ piece) progress
+pub reached_more : (held piece : List ℕ) (progress : Progress) → IsProgress held progress → IsProgress (held ++ piece) progress
 reached_more held piece progress r = record {
   read = r.read;
   part = r.part;
@@ -44,7 +44,7 @@ reached_more held piece progress r = record {
 }
 
 -- the same, where memory may have been refused
-pub reached_fed : (held piece : List ℕ) (progress : Progress) (ok : Bool) → IsReached held progress → IsReached (cond ok (held ++ piece) held) progress
+pub reached_fed : (held piece : List ℕ) (progress : Progress) (ok : Bool) → IsProgress held progress → IsProgress (cond ok (held ++ piece) held) progress
 reached_fed held piece progress true r = reached_more held piece progress r
 reached_fed held piece progress false r = r
 
@@ -88,12 +88,12 @@ message_given bytes view head end next message is found parsed =
 pub rest_given : (bytes view : List ℕ) (head empty : ℕ) (progress : Progress)
     → drop head bytes ≡ view
     → EndsInRest (take (length bytes - head) (drop head bytes)) empty progress
-    → Gives view [] (drop (head + empty) bytes) × IsRest (drop (head + empty) bytes) × IsReached (drop (head + empty) bytes) progress
+    → Gives view [] (drop (head + empty) bytes) × IsRest (drop (head + empty) bytes) × IsProgress (drop (head + empty) bytes) progress
 rest_given bytes view head empty progress is found =
     let P : List ℕ → Type 0 = λ ys. EndsInRest ys empty progress in
     let r : P view = subst P (take_rest bytes head ∙ is) found in
     let rest : drop empty view ≡ drop (head + empty) bytes = ap (drop empty) (sym is) ∙ drop-drop empty head bytes in
-    let R : List ℕ → Type 0 = λ ys. IsReached ys progress in
+    let R : List ℕ → Type 0 = λ ys. IsProgress ys progress in
     ((r.empties, r.each_empty, r.whole ∙ ap (λ ys. lines_text r.empties ++ ys) rest), subst IsRest rest r.is_rest, subst R rest r.reached)
 
 -- what stands first, where a message was found

@@ -10,7 +10,7 @@ use Rattle.ami_text.specs.LineKind.{HasKind}
 use Rattle.ami_text.specs.declared.progress.Progress.{Progress}
 use Rattle.ami_text.specs.Found.{EndsMessage, EndsInRest}
 use Rattle.ami_text.specs.Lines.{HasNoLf, content, IsEmptyLine, IsFullLine, lines_text}
-use Rattle.ami_text.specs.Progress.{IsReached}
+use Rattle.ami_text.specs.Progress.{IsProgress}
 use Rattle.ami_text.specs.Stream.{ShowsLongLine, EndsTooManyLines}
 use Rattle.ami_text.proofs.ByteSearch.{HasNoLf_take, HasNoLf_all, around_lf}
 
@@ -47,7 +47,7 @@ pub record LineFound (held : List ℕ) (empty line lines end : ℕ) : Type 0 whe
   pub whole : held ≡ lines_text empties ++ (lines_text read ++ (text ++ 10 ∷ after))
 
 -- where the last look stopped
-pub scanned_start : (held : List ℕ) (progress : Progress) → IsReached held progress → Scanned held 0 progress.line progress.lines progress.looked
+pub scanned_start : (held : List ℕ) (progress : Progress) → IsProgress held progress → Scanned held 0 progress.line progress.lines progress.looked
 scanned_start held progress r = record {
   empties = [];
   read = r.read;

@@ -4,7 +4,7 @@ use Rattle.ami_text.specs.declared.found.Found.{Found}
 use Rattle.ami_text.specs.declared.found.Found.TheVariants.{Message, Rest, Fault}
 use Rattle.ami_text.specs.declared.progress.Progress.{Progress}
 use Rattle.ami_text.specs.Lines.{IsEmptyLine, lines_text}
-use Rattle.ami_text.specs.Progress.{IsReached}
+use Rattle.ami_text.specs.Progress.{IsProgress}
 use Rattle.ami_text.specs.Stream.{Begins, HasFault, IsRest}
 
 -- a message's lines, with the empty ones before it, lie before `end`; its last line ends before
@@ -27,7 +27,7 @@ pub record EndsInRest (held : List ℕ) (empty : ℕ) (progress : Progress) : Ty
   pub whole : held ≡ lines_text empties ++ drop empty held
   pub empty_within : empty ≤ length held
   pub is_rest : IsRest (drop empty held)
-  pub reached : IsReached (drop empty held) progress
+  pub reached : IsProgress (drop empty held) progress
 
 -- by what was found
 abbrev pub IsFound : List ℕ → Found → Type 0

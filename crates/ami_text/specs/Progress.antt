@@ -5,7 +5,7 @@ use Rattle.ami_text.specs.Lines.{HasNoLf, IsFullLine, lines_text}
 
 -- whole lines of a message up to `line`, then bytes without LF up to `looked`, and then what lies
 -- ahead
-pub record IsReached (held : List ℕ) (progress : Progress) : Type 0 where
+pub record IsProgress (held : List ℕ) (progress : Progress) : Type 0 where
   pub read : List (List ℕ)
   pub part : List ℕ
   pub ahead : List ℕ

@@ -35,14 +35,14 @@ pub struct Feed {
 impl Model for Feed {
     ghost use Rattle.std.specs.Prelude.{◌≤◌, drop, vec_len};
     ghost use Rattle.ami_text.specs.FeedStates.{FeedState, IsStreamFault};
-    ghost use Rattle.ami_text.specs.Progress.{IsReached};
+    ghost use Rattle.ami_text.specs.Progress.{IsProgress};
 
     ghost Value = { FeedState };
 
     ghost view = { λ f. record { held = drop f.head f.bytes.items; fault = f.fault } };
 
     ghost invariant = { λ f. (f.head ≤ vec_len f.bytes)
-        × IsReached (drop f.head f.bytes.items) f.progress
+        × IsProgress (drop f.head f.bytes.items) f.progress
         × IsStreamFault f.fault };
 }
 

@@ -1,7 +1,7 @@
 //! What stands first in held bytes.
 
 ghost use Rattle.ami_text.specs.Found.{IsFound};
-ghost use Rattle.ami_text.specs.Progress.{IsReached};
+ghost use Rattle.ami_text.specs.Progress.{IsProgress};
 
 use crate::FeedFault;
 use crate::found::Found;
@@ -15,7 +15,7 @@ pub const LINES_LIMIT: usize = 128;
 
 /// Looks at the held bytes from where it stopped the last time.
 pub fn scan(held: &[u8], from: Progress) -> Found
-    requires { IsReached held.now from }
+    requires { IsProgress held.now from }
     ensures { IsFound held.now result }
 {
     let mut empty = 0;

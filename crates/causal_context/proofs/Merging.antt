@@ -17,10 +17,10 @@ use Rattle.dots.proofs.DotOrder.{dots_total, dots_exact}
 use Rattle.dots.proofs.Apart.{apart_trans}
 use Rattle.dots.proofs.RunCounts.{run_count_runs}
 use Rattle.dots.proofs.Runs.{contains_set_of}
-use Rattle.causal_context.specs.Contexts.{IsContext, IsRun}
+use Rattle.causal_context.specs.Contexts.{IsContext, IsRunWithinLimits}
 use Rattle.general_lemmas.proofs.TruthTables.{or_swap}
 use Rattle.general_lemmas.proofs.Fronts.{open_at}
-use Rattle.causal_context.specs.RunLists.{IsNext, begins_by, is_first_ours, run_over}
+use Rattle.causal_context.specs.RunLists.{IsFirstRun, begins_by, is_first_ours, run_over}
 
 -- all that follow a run begin after it
 later_begins : (r x : Run) → r.first ≤ r.last → IsTrue (is_apart r x) → begins_by r x ≡ true
@@ -40,7 +40,7 @@ begins_rest : (r x : Run) (xs : List Run) → begins_by r x ≡ true → AreApar
 begins_rest r x xs h a =
     All-cons (λ y. begins_by r y ≡ true) x xs h (All-weaker (λ y. begins_by x y ≡ true) (λ y. begins_by r y ≡ true) (λ y p. begins_trans r x y h p) xs (begins_all x xs a))
 
-pub next_of_ours : (r : Run) (ours others : List Run) → AreApart (r ∷ ours) → AreApart others → All (λ x. begins_by r x ≡ true) others → IsNext r (r ∷ ours) others ours others
+pub next_of_ours : (r : Run) (ours others : List Run) → AreApart (r ∷ ours) → AreApart others → All (λ x. begins_by r x ≡ true) others → IsFirstRun r (r ∷ ours) others ours others
 next_of_ours r ours others a b h = record {
   whole = a.0;
   least = λ x p q. All-head (λ y. begins_by x y ≡ true) r ours p;
@@ -51,7 +51,7 @@ next_of_ours r ours others a b h = record {
   same = λ d. or_assoc (in_run d r) (in_runs ours d) (in_runs others d);
 }
 
-pub next_of_others : (r : Run) (ours others : List Run) → AreApart ours → AreApart (r ∷ others) → All (λ x. begins_by r x ≡ true) ours → IsNext r ours (r ∷ others) ours others
+pub next_of_others : (r : Run) (ours others : List Run) → AreApart ours → AreApart (r ∷ others) → All (λ x. begins_by r x ≡ true) ours → IsFirstRun r ours (r ∷ others) ours others
 next_of_others r ours others a b h = record {
   whole = b.0;
   least = λ x p q. All-head (λ y. begins_by x y ≡ true) r others q;
@@ -65,17 +65,17 @@ next_of_others r ours others a b h = record {
 -- what is written, the run at hand and what is left make the union
 pub record IsMerging (written : List Run) (current : Run) (ours others runs xs : List Run) : Type 0 where
   pub apart : AreApart (written ++ current ∷ [])
-  pub limits : All IsRun (written ++ current ∷ [])
+  pub limits : All IsRunWithinLimits (written ++ current ∷ [])
   pub before_ours : All (λ x. begins_by current x ≡ true) ours
   pub before_others : All (λ x. begins_by current x ≡ true) others
   pub apart_ours : AreApart ours
   pub apart_others : AreApart others
   pub same : (d : Dot) → (in_runs (written ++ current ∷ []) d || (in_runs ours d || in_runs others d)) ≡ (in_runs runs d || in_runs xs d)
 
-pub merging_starts : (next : Run) (runs xs ours others : List Run) → IsNext next runs xs ours others → IsRun next → IsMerging [] next ours others runs xs
+pub merging_starts : (next : Run) (runs xs ours others : List Run) → IsFirstRun next runs xs ours others → IsRunWithinLimits next → IsMerging [] next ours others runs xs
 merging_starts next runs xs ours others is l = record {
   apart = (is.whole, All-nil (λ x. IsTrue (is_apart next x)), tt);
-  limits = All-cons IsRun next [] l (All-nil IsRun);
+  limits = All-cons IsRunWithinLimits next [] l (All-nil IsRunWithinLimits);
   before_ours = is.before_ours;
   before_others = is.before_others;
   apart_ours = is.apart_ours;
@@ -117,11 +117,11 @@ apart_grows (r ∷ rs) x y a s f w = (a.0, all rs a.1, apart_grows rs x y a.2 s 
 
 -- the next run lies apart: the one at hand is written
 pub merging_writes : (written : List Run) (current next : Run) (ours others ours' others' runs xs : List Run)
-    → IsMerging written current ours others runs xs → IsNext next ours others ours' others' → IsRun next → is_apart current next ≡ true
+    → IsMerging written current ours others runs xs → IsFirstRun next ours others ours' others' → IsRunWithinLimits next → is_apart current next ≡ true
     → IsMerging (written ++ current ∷ []) next ours' others' runs xs
 merging_writes written current next ours others ours' others' runs xs m n l h = record {
   apart = apart_push written current next m.apart h n.whole;
-  limits = All-push IsRun (written ++ current ∷ []) next m.limits l;
+  limits = All-push IsRunWithinLimits (written ++ current ∷ []) next m.limits l;
   before_ours = n.before_ours;
   before_others = n.before_others;
   apart_ours = n.apart_ours;
@@ -159,14 +159,14 @@ all_but_last P (r ∷ rs) x y a p = All-cons P r (rs ++ y ∷ []) (All-head P r 
 
 -- it touches: the one at hand grows
 pub merging_grows : (written : List Run) (current next : Run) (ours others ours' others' runs xs : List Run)
-    → IsMerging written current ours others runs xs → IsNext next ours others ours' others' → IsRun (run_over current next) → is_apart current next ≡ false
+    → IsMerging written current ours others runs xs → IsFirstRun next ours others ours' others' → IsRunWithinLimits (run_over current next) → is_apart current next ≡ false
     → IsMerging written (run_over current next) ours' others' runs xs
 merging_grows written current next ours others ours' others' runs xs m n l h =
     let begins : begins_by current next ≡ true = n.least current m.before_ours m.before_others in
     let whole : current.first ≤ current.last = last_whole written current m.apart in
     record {
       apart = apart_grows written current (run_over current next) m.apart refl (joined_first current next begins h) (joined_whole current next whole);
-      limits = all_but_last IsRun written current (run_over current next) m.limits l;
+      limits = all_but_last IsRunWithinLimits written current (run_over current next) m.limits l;
       before_ours = All-weaker (λ x. begins_by next x ≡ true) (λ x. begins_by (run_over current next) x ≡ true) (λ x p. joined_begins current next x begins h p) ours' n.before_ours;
       before_others = All-weaker (λ x. begins_by next x ≡ true) (λ x. begins_by (run_over current next) x ≡ true) (λ x p. joined_begins current next x begins h p) others' n.before_others;
       apart_ours = n.apart_ours;
@@ -194,11 +194,11 @@ merging_ends written current runs xs m = record {
 }
 
 -- which list has the next run
-pub next_if_ours : (r : Run) (ours others : List Run) → AreApart (r ∷ ours) → AreApart others → is_first_ours (r ∷ ours) others ≡ true → IsNext r (r ∷ ours) others ours others
+pub next_if_ours : (r : Run) (ours others : List Run) → AreApart (r ∷ ours) → AreApart others → is_first_ours (r ∷ ours) others ≡ true → IsFirstRun r (r ∷ ours) others ours others
 next_if_ours r ours [] a b h = next_of_ours r ours [] a b (All-nil (λ x. begins_by r x ≡ true))
 next_if_ours r ours (x ∷ others) a b h = next_of_ours r ours (x ∷ others) a b (begins_rest r x others h b)
 
-pub next_if_others : (r : Run) (ours others : List Run) → AreApart ours → AreApart (r ∷ others) → is_first_ours ours (r ∷ others) ≡ false → IsNext r ours (r ∷ others) ours others
+pub next_if_others : (r : Run) (ours others : List Run) → AreApart ours → AreApart (r ∷ others) → is_first_ours ours (r ∷ others) ≡ false → IsFirstRun r ours (r ∷ others) ours others
 next_if_others r [] others a b h = next_of_others r [] others a b (All-nil (λ x. begins_by r x ≡ true))
 next_if_others r (x ∷ ours) others a b h = next_of_others r (x ∷ ours) others a b (begins_rest r x ours (begins_back x r h) a)
 
@@ -215,25 +215,25 @@ pub others_left : (rs xs : List Run) (i j : ℕ) → j ≤ length xs → i + j <
 others_left rs xs i j w l f = elim (cases_lt j (length xs)) [ inl y ↦ y | inr p ↦ absurd (let h = first_left rs xs i j (omega arith) p in cc) ]
 
 pub next_own_at : (rs xs : List Run) (i j : ℕ) (x : Run) → i < length rs → x ≡ get_or rs i x → AreApart (drop i rs) → AreApart (drop j xs) → is_first_ours (drop i rs) (drop j xs) ≡ true
-    → IsNext x (drop i rs) (drop j xs) (drop (i + 1) rs) (drop j xs)
+    → IsFirstRun x (drop i rs) (drop j xs) (drop (i + 1) rs) (drop j xs)
 next_own_at rs xs i j x l e a b h =
     let o = open_at rs i x l e in
-    subst (λ ys. IsNext x ys (drop j xs) (drop (i + 1) rs) (drop j xs)) (sym o)
+    subst (λ ys. IsFirstRun x ys (drop j xs) (drop (i + 1) rs) (drop j xs)) (sym o)
     (next_if_ours x (drop (i + 1) rs) (drop j xs) (subst AreApart o a) b (ap (λ ys. is_first_ours ys (drop j xs)) (sym o) ∙ h))
 
 pub next_other_at : (rs xs : List Run) (i j : ℕ) (x : Run) → j < length xs → x ≡ get_or xs j x → AreApart (drop i rs) → AreApart (drop j xs) → is_first_ours (drop i rs) (drop j xs) ≡ false
-    → IsNext x (drop i rs) (drop j xs) (drop i rs) (drop (j + 1) xs)
+    → IsFirstRun x (drop i rs) (drop j xs) (drop i rs) (drop (j + 1) xs)
 next_other_at rs xs i j x l e a b h =
     let o = open_at xs j x l e in
-    subst (λ ys. IsNext x (drop i rs) ys (drop i rs) (drop (j + 1) xs)) (sym o)
+    subst (λ ys. IsFirstRun x (drop i rs) ys (drop i rs) (drop (j + 1) xs)) (sym o)
     (next_if_others x (drop i rs) (drop (j + 1) xs) a (subst AreApart o b) (ap (is_first_ours (drop i rs)) (sym o) ∙ h))
 
 -- the same, where the run that grows is given by its value
 pub grown_merging : (written : List Run) (current next grown : Run) (ours others ours' others' runs xs : List Run)
-    → IsMerging written current ours others runs xs → IsNext next ours others ours' others' → is_apart current next ≡ false → grown ≡ run_over current next → IsRun grown
+    → IsMerging written current ours others runs xs → IsFirstRun next ours others ours' others' → is_apart current next ≡ false → grown ≡ run_over current next → IsRunWithinLimits grown
     → IsMerging written grown ours' others' runs xs
 grown_merging written current next grown ours others ours' others' runs xs m n h e l =
-    subst (λ run. IsMerging written run ours' others' runs xs) (sym e) (merging_grows written current next ours others ours' others' runs xs m n (subst IsRun e l) h)
+    subst (λ run. IsMerging written run ours' others' runs xs) (sym e) (merging_grows written current next ours others ours' others' runs xs m n (subst IsRunWithinLimits e l) h)
 
 pub ended_merging : (written : List Run) (current : Run) (ours others runs xs : List Run) → IsMerging written current ours others runs xs → ours ≡ [] → others ≡ []
     → IsRunsOf (written ++ current ∷ []) (sets.union (set_of runs) (set_of xs))
@@ -242,7 +242,7 @@ ended_merging written current ours others runs xs m a b =
 
 -- the steps in place: writing at a place before what is left
 pub writing_merging : (ys : List Run) (k own own' : ℕ) (current next : Run) (others others' runs xs : List Run)
-    → k < length ys → k < own' → IsMerging (take k ys) current (drop own ys) others runs xs → IsNext next (drop own ys) others (drop own' ys) others' → IsRun next → is_apart current next ≡ true
+    → k < length ys → k < own' → IsMerging (take k ys) current (drop own ys) others runs xs → IsFirstRun next (drop own ys) others (drop own' ys) others' → IsRunWithinLimits next → is_apart current next ≡ true
     → IsMerging (take (k + 1) (set ys k current)) next (drop own' (set ys k current)) others' runs xs
 writing_merging ys k own own' current next others others' runs xs l p m n r h =
     subst (λ zs. IsMerging zs next (drop own' (set ys k current)) others' runs xs) (sym (take_more_set ys k current l))
@@ -263,11 +263,11 @@ ours_left rs xs i j h = elim (cases_lt i (length rs)) [ inl l ↦ l | inr p ↦ 
     none_first (y ∷ ys) zs e = absurd (omega (arith, e))
 
 -- the steps of the count
-pub counting_starts : (next : Run) (runs xs ours others : List Run) → IsNext next runs xs ours others → IsRun next → IsCounting 1 next ours others runs xs
+pub counting_starts : (next : Run) (runs xs ours others : List Run) → IsFirstRun next runs xs ours others → IsRunWithinLimits next → IsCounting 1 next ours others runs xs
 counting_starts next runs xs ours others n l = record { written = []; merging = merging_starts next runs xs ours others n l; counted = refl }
 
 pub counting_writes : (count : ℕ) (current next : Run) (ours others ours' others' runs xs : List Run)
-    → IsCounting count current ours others runs xs → IsNext next ours others ours' others' → IsRun next → is_apart current next ≡ true
+    → IsCounting count current ours others runs xs → IsFirstRun next ours others ours' others' → IsRunWithinLimits next → is_apart current next ≡ true
     → IsCounting (count + 1) next ours' others' runs xs
 counting_writes count current next ours others ours' others' runs xs k n l h = record {
   written = k.written ++ current ∷ [];
@@ -276,7 +276,7 @@ counting_writes count current next ours others ours' others' runs xs k n l h = r
 }
 
 pub counting_grows : (count : ℕ) (current next grown : Run) (ours others ours' others' runs xs : List Run)
-    → IsCounting count current ours others runs xs → IsNext next ours others ours' others' → is_apart current next ≡ false → grown ≡ run_over current next → IsRun grown
+    → IsCounting count current ours others runs xs → IsFirstRun next ours others ours' others' → is_apart current next ≡ false → grown ≡ run_over current next → IsRunWithinLimits grown
     → IsCounting count grown ours' others' runs xs
 counting_grows count current next grown ours others ours' others' runs xs k n h e l = record {
   written = k.written;
@@ -302,7 +302,7 @@ last_merging ys k current ours others runs xs l m a b =
     subst (λ zs. IsRunsOf zs (sets.union (set_of runs) (set_of xs))) (sym (take_more_set ys k current l)) (ended_merging (take k ys) current ours others runs xs m a b)
 
 -- a list of runs within the limits is a context's
-pub context_of : (rs : List Run) (dots : sets.FinSet dot_cmp) → IsRunsOf rs dots → All IsRun rs → run_count dots ≤ MOST_RUNS → IsContext rs
+pub context_of : (rs : List Run) (dots : sets.FinSet dot_cmp) → IsRunsOf rs dots → All IsRunWithinLimits rs → run_count dots ≤ MOST_RUNS → IsContext rs
 context_of rs dots is limits few = record { apart = is.apart; limits = limits; few = omega (arith, run_count_runs rs dots is, few) }
 
 -- no others are no change

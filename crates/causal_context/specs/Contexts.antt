@@ -9,7 +9,7 @@ use Rattle.dots.specs.Orders.{dot_cmp}
 use Rattle.dots.specs.DotSets.{Run, AreApart, dot_code, run_count}
 
 -- a run is within the limits of dots
-pub record IsRun (r : Run) : Type 0 where
+pub record IsRunWithinLimits (r : Run) : Type 0 where
   pub site : IsSite r.site
   pub least : 1 ≤ r.first
   pub ordered : r.first ≤ r.last
@@ -34,5 +34,5 @@ pub record IsPrepared (context : Known) (other : set.FinSet dot_cmp) : Type 0 wh
 -- what a context keeps of its list of runs
 pub record IsContext (runs : List Run) : Type 0 where
   pub apart : AreApart runs
-  pub limits : All IsRun runs
+  pub limits : All IsRunWithinLimits runs
   pub few : length runs ≤ MOST_RUNS

@@ -25,7 +25,7 @@ abbrev pub begins_by : Run → Run → Bool
 begins_by r x = nat_lt r.site x.site || (nat_eq r.site x.site && nat_le r.first x.first)
 
 -- a run is the first of two lists of runs that are left, and these are what is left without it
-pub record IsNext (next : Run) (ours others ours' others' : List Run) : Type 0 where
+pub record IsFirstRun (next : Run) (ours others ours' others' : List Run) : Type 0 where
   pub whole : next.first ≤ next.last
   pub least : (r : Run) → All (λ x. begins_by r x ≡ true) ours → All (λ x. begins_by r x ≡ true) others → begins_by r next ≡ true
   pub before_ours : All (λ x. begins_by next x ≡ true) ours'

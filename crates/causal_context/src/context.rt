@@ -5,7 +5,7 @@ ghost use Rattle.std.specs.List.{All};
 ghost use Rattle.std.specs.Slice.Iter.{iter_rest};
 ghost use Rattle.dots.specs.DotSets.{IsRunsOf, IsPrefix, dots_between, run_count};
 ghost use Rattle.dots.specs.WithinLimits.{AreDots};
-ghost use Rattle.causal_context.specs.Contexts.{IsPrepared, IsRun};
+ghost use Rattle.causal_context.specs.Contexts.{IsPrepared, IsRunWithinLimits};
 
 use crate::cover::covers_runs;
 use crate::merge::{absorb_runs, united_count};
@@ -86,7 +86,7 @@ impl Context {
     /// The runs, each as long as it can be, in order by site, then first.
     pub fn as_slice(&self) -> &[Run]
         ensures value { IsRunsOf result.now self.now.dots }
-        ensures limits { All IsRun result.now }
+        ensures limits { All IsRunWithinLimits result.now }
         ensures few { length result.now ≤ MOST_RUNS }
     {
         self.runs.as_slice()
@@ -95,7 +95,7 @@ impl Context {
     /// The runs of `as_slice`, one by one.
     pub fn iter(&self) -> Iter<'_, Run>
         ensures value { IsRunsOf (iter_rest result) self.now.dots }
-        ensures limits { All IsRun (iter_rest result) }
+        ensures limits { All IsRunWithinLimits (iter_rest result) }
         ensures few { length (iter_rest result) ≤ MOST_RUNS }
     {
         self.as_slice().iter()

@@ -3,8 +3,8 @@ ghost use Rattle.std.specs.FinSet as set;
 ghost use Rattle.std.specs.List.{All};
 ghost use Rattle.std.specs.Vec.{vec_capacity, vec_len};
 ghost use Rattle.dots.specs.DotSets.{AreApart, IsRunsOf, run_count, set_of};
-ghost use Rattle.causal_context.specs.Contexts.{IsContext, IsRun};
-ghost use Rattle.causal_context.specs.RunLists.{IsNext, is_first_ours};
+ghost use Rattle.causal_context.specs.Contexts.{IsContext, IsRunWithinLimits};
+ghost use Rattle.causal_context.specs.RunLists.{IsFirstRun, is_first_ours};
 
 use crate::Run;
 use crate::few::{absorb_searched, are_few, are_searched, searched_count};
@@ -17,9 +17,9 @@ fn next_run(runs: &[Run], own: &mut usize, other: &[Run], theirs: &mut usize) ->
     requires left { own.old + theirs.old < length runs.now + length other.now }
     requires ours { AreApart (drop own.old runs.now) }
     requires others { AreApart (drop theirs.old other.now) }
-    ensures next { IsNext result (drop own.old runs.now) (drop theirs.old other.now)
+    ensures next { IsFirstRun result (drop own.old runs.now) (drop theirs.old other.now)
         (drop own.new runs.now) (drop theirs.new other.now) }
-    ensures limit { IsRun result }
+    ensures limit { IsRunWithinLimits result }
     ensures own_left { own.new ≤ length runs.now }
     ensures theirs_left { theirs.new ≤ length other.now }
     ensures one { own.new + theirs.new ≡ own.old + theirs.old + 1 }
@@ -106,7 +106,7 @@ pub(crate) fn merge(runs: &mut [Run], other: &[Run]) -> usize
     ensures within { result ≤ length runs.new }
     ensures united { IsRunsOf (take result runs.new)
         (set.union (set_of (drop (length other.now) runs.old)) (set_of other.now)) }
-    ensures limits { All IsRun (take result runs.new) }
+    ensures limits { All IsRunWithinLimits (take result runs.new) }
 {
     let mut own = other.len();
     let mut theirs = 0;

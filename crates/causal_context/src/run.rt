@@ -1,6 +1,6 @@
 ghost use Rattle.std.specs.Prelude.{◌≡◌};
 ghost use Rattle.dots.specs.DotSets.{in_run, is_apart};
-ghost use Rattle.causal_context.specs.Contexts.{IsRun};
+ghost use Rattle.causal_context.specs.Contexts.{IsRunWithinLimits};
 ghost use Rattle.causal_context.specs.RunLists.{begins_by, holds, is_below, run_over};
 
 use dots::SiteId;
@@ -21,13 +21,13 @@ pub struct Run {
 
 impl Model for Run {
     ghost use Rattle.dots.specs.DotSets.{Run};
-    ghost use Rattle.causal_context.specs.Contexts.{IsRun};
+    ghost use Rattle.causal_context.specs.Contexts.{IsRunWithinLimits};
 
     ghost Value = { Run };
 
     ghost view = { λ r. record { site = r.site; first = r.first; last = r.last } };
 
-    ghost invariant = { λ r. IsRun (record { site = r.site; first = r.first; last = r.last }) };
+    ghost invariant = { λ r. IsRunWithinLimits (record { site = r.site; first = r.first; last = r.last }) };
 
     ghost inverse = { λ s. record { site = s.site; first = s.first; last = s.last } };
 }
@@ -79,7 +79,7 @@ impl Run {
     pub(crate) fn joined(self, other: Run) -> Run
         requires { self.site ≡ other.site }
         ensures value { result ≡ run_over self other }
-        ensures limit { IsRun result }
+        ensures limit { IsRunWithinLimits result }
     {
         Run {
             site: self.site,

@@ -4,7 +4,7 @@ ghost use Rattle.std.specs.FinSet as set;
 ghost use Rattle.std.specs.List.{All};
 ghost use Rattle.std.specs.Vec.{vec_capacity};
 ghost use Rattle.dots.specs.DotSets.{AreApart, IsRunsOf, run_count, set_of};
-ghost use Rattle.causal_context.specs.Contexts.{IsContext, IsRun};
+ghost use Rattle.causal_context.specs.Contexts.{IsContext, IsRunWithinLimits};
 
 use crate::search::runs_before;
 use crate::{ContextFault, Run};
@@ -21,7 +21,7 @@ struct United {
 // What a run makes with all those that it touches.
 fn unite(runs: &[Run], run: Run) -> United
     requires { AreApart runs.now }
-    ensures limit { IsRun result.run }
+    ensures limit { IsRunWithinLimits result.run }
     ensures order { result.start ≤ result.end }
     ensures within { result.end ≤ length runs.now }
     ensures united { IsRunsOf
@@ -117,10 +117,10 @@ pub(crate) fn unite_run(runs: &mut Vec<Run>, run: Run) -> Result<(), ContextFaul
 // Unites runs with one more, in room that is there. It takes no memory.
 pub(crate) fn put_run(runs: &mut Vec<Run>, run: Run)
     requires apart { AreApart runs.old.items }
-    requires limits { All IsRun runs.old.items }
+    requires limits { All IsRunWithinLimits runs.old.items }
     requires room { vec_len runs.old < vec_capacity runs.old }
     ensures apart { AreApart runs.new.items }
-    ensures limits { All IsRun runs.new.items }
+    ensures limits { All IsRunWithinLimits runs.new.items }
     ensures united { set_of runs.new.items
         ≡ set.union (set_of runs.old.items) (set_of (run ∷ [])) }
     ensures len { vec_len runs.new ≤ vec_len runs.old + 1 }

@@ -9,8 +9,8 @@ use Rattle.site_totals.specs.Tally.{HasRoomFor}
 use Rattle.delta.specs.DeltaStates.{DeltaState}
 
 -- each dot's conditions agree
-abbrev pub Agree : DeltaState → DeltaState → Type 0
-Agree d e = sets.CanBeJoined d.members e.members
+abbrev pub AreInAgreement : DeltaState → DeltaState → Type 0
+AreInAgreement d e = sets.CanBeJoined d.members e.members
 
 -- some dot's conditions are in conflict
 abbrev pub Disagree : DeltaState → DeltaState → Type 0

@@ -6,7 +6,7 @@ use Rattle.dots.specs.declared.limits.TheConstants.{MOST_CALLS, MOST_COUNT, QUEU
 use Rattle.dots.specs.CountedCalls.{is_zero}
 use Rattle.operations.specs.Totals.{IsTotal}
 use Rattle.dots.specs.Values.{IsName}
-use Rattle.causal_context.specs.Contexts.{IsRun}
+use Rattle.causal_context.specs.Contexts.{IsRunWithinLimits}
 use Rattle.delta_codec.specs.declared.decode_fault.DecodeFault.TheVariants.{BadRange}
 use Rattle.delta_codec.specs.Faults.{CellFails, FieldsFail, IsFlags, IsPlace, Lacks, TextFails, place_bytes}
 use Rattle.delta_codec.specs.Frames.{IsHeading, heading_bytes}
@@ -42,8 +42,8 @@ one_run : HasOneFault BadRange run_at
 unfolding run_at
 one_run = one_made (λ p. record { site = p.0; first = p.1.0; last = p.1.1 }) (λ bytes. both (site_at bytes) (λ _ rest. both (count_at rest) last_at)) BadRange (one_both site_at (λ _ rest. both (count_at rest) last_at) BadRange one_site (λ _. one_both count_at last_at BadRange one_count one_last))
 
-pub run_tells : Tells run_at (Lacks IsRun run_bytes BadRange)
-run_tells = tells_lacks run_at IsRun run_bytes BadRange run_reads one_run
+pub run_tells : Tells run_at (Lacks IsRunWithinLimits run_bytes BadRange)
+run_tells = tells_lacks run_at IsRunWithinLimits run_bytes BadRange run_reads one_run
 
 one_heading : HasOneFault BadRange heading_at
 unfolding heading_at

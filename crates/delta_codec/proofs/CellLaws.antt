@@ -11,7 +11,7 @@ use Rattle.dots.specs.CountedCalls.{is_zero}
 use Rattle.operations.specs.Totals.{IsTotal}
 use Rattle.dots.specs.Values.{IsCount, IsPenalty, IsSite, PauseState}
 use Rattle.dots.specs.WithinLimits.{IsDot, IsLabel, IsPause}
-use Rattle.causal_context.specs.Contexts.{IsRun}
+use Rattle.causal_context.specs.Contexts.{IsRunWithinLimits}
 use Rattle.delta_codec.specs.declared.decode_fault.DecodeFault.TheVariants.{BadRange}
 use Rattle.delta_codec.specs.Faults.{IsFlagged, IsFlags, IsPlace, label_flag, pause_flag, penalty_flag, place_bytes}
 use Rattle.delta_codec.specs.Frames.{IsHeading, heading_bytes}
@@ -129,12 +129,12 @@ fields_reads = reads_made (λ bytes. both (flags_at bytes) set_fields_at) (λ p.
 
 -- ---- runs, cells, totals
 
-pub run_reads : Reads run_at IsRun run_bytes
+pub run_reads : Reads run_at IsRunWithinLimits run_bytes
 unfolding run_at
 run_reads =
     let later = reads_both count_at last_at IsCount IsLast (to_be_bytes w64) (to_be_bytes w64) count_reads (λ n _. last_reads n) in
     let all = reads_both site_at (λ _ rest. both (count_at rest) last_at) IsSite (λ _ p. IsCount p.0 × IsLast p.0 p.1) byte (λ p. to_be_bytes w64 p.0 ++ to_be_bytes w64 p.1) site_reads (λ _ _. later) in
-    reads_made (λ bytes. both (site_at bytes) (λ _ rest. both (count_at rest) last_at)) (λ p. IsSite p.0 × (IsCount p.1.0 × IsLast p.1.0 p.1.1)) (λ p. byte p.0 ++ (to_be_bytes w64 p.1.0 ++ to_be_bytes w64 p.1.1)) IsRun run_bytes (λ p. record { site = p.0; first = p.1.0; last = p.1.1 }) (λ r. (r.site, (r.first, r.last))) all
+    reads_made (λ bytes. both (site_at bytes) (λ _ rest. both (count_at rest) last_at)) (λ p. IsSite p.0 × (IsCount p.1.0 × IsLast p.1.0 p.1.1)) (λ p. byte p.0 ++ (to_be_bytes w64 p.1.0 ++ to_be_bytes w64 p.1.1)) IsRunWithinLimits run_bytes (λ p. record { site = p.0; first = p.1.0; last = p.1.1 }) (λ r. (r.site, (r.first, r.last))) all
     (λ p g. (record { site = g.0; least = g.1.0.0; ordered = g.1.1.0; most = g.1.1.1 }, refl))
     (λ r g. ((g.site, ((g.least, omega (arith, g.ordered, g.most)), (g.ordered, g.most))), refl, refl))
 

@@ -12,7 +12,7 @@ use Rattle.dots.specs.Values.{IsSite}
 use Rattle.dots.proofs.DotOrder.{dots_total}
 use Rattle.general_lemmas.proofs.SortedEntries.{find_at}
 use Rattle.general_lemmas.proofs.TruthTables.{fact}
-use Rattle.causal_context.specs.Contexts.{IsRun}
+use Rattle.causal_context.specs.Contexts.{IsRunWithinLimits}
 use Rattle.member_orset.specs.Members.{Holding, IsLiveIn, IsWithinLimits}
 use Rattle.delta.specs.declared.frame.Frame.{Frame}
 use Rattle.delta.specs.Frames.{IsInRanges}
@@ -55,7 +55,7 @@ abbrev pub heading_of : Frame → Heading
 heading_of frame = record { maker = frame.maker; number = frame.number }
 
 -- what is written of a frame within the ranges spells it
-pub frame_spelled : (frame : Frame) (runs : List Run) (bytes : List ℕ) → IsSite frame.maker → IsInRanges frame → IsRunsOf runs frame.delta.members.known → All IsRun runs → length runs ≤ MOST_RUNS → IsWithinLimits frame.delta.members → All IsMeasured (map.entries frame.delta.members.live) → All (λ total. IsTotal total.0 total.1) (map.entries frame.delta.totals.entries) → bytes ≡ frame_bytes (parts_with (heading_of frame) frame.delta runs) → Spells frame bytes
+pub frame_spelled : (frame : Frame) (runs : List Run) (bytes : List ℕ) → IsSite frame.maker → IsInRanges frame → IsRunsOf runs frame.delta.members.known → All IsRunWithinLimits runs → length runs ≤ MOST_RUNS → IsWithinLimits frame.delta.members → All IsMeasured (map.entries frame.delta.members.live) → All (λ total. IsTotal total.0 total.1) (map.entries frame.delta.totals.entries) → bytes ≡ frame_bytes (parts_with (heading_of frame) frame.delta runs) → Spells frame bytes
 frame_spelled frame runs bytes site ranges are each few limits measured totals spelled = record {
   parts = parts_with (heading_of frame) frame.delta runs;
   of_frame = record { maker = refl; number = refl; runs = are; cells = refl; totals = refl };

@@ -9,11 +9,11 @@ use Rattle.dots.specs.declared.limits.TheConstants.{MOST_LIVE, MOST_RUNS}
 use Rattle.dots.specs.DotSets.{Run, in_runs, is_apart}
 use Rattle.operations.specs.Totals.{IsTotal, Key}
 use Rattle.dots.specs.Values.{Dot}
-use Rattle.causal_context.specs.Contexts.{IsRun}
+use Rattle.causal_context.specs.Contexts.{IsRunWithinLimits}
 use Rattle.delta_codec.specs.declared.decode_fault.DecodeFault.{DecodeFault}
 use Rattle.delta_codec.specs.declared.decode_fault.DecodeFault.TheVariants.{BadOrder, BadRange, TooLarge}
 use Rattle.delta_codec.specs.declared.limits.TheConstants.{MOST_TOTALS}
-use Rattle.delta_codec.specs.Faults.{After, CellFails, CellsFail, ElementsFail, Follows, IsNumber4, Lacks, ListFails, NextCellFails, RunFails, RunsFail, TotalFails, TotalsFail, is_cell_before, is_total_before, number4}
+use Rattle.delta_codec.specs.Faults.{After, CellFails, CellsFail, ElementsFail, FollowsLast, IsNumber4, Lacks, ListFails, NextCellFails, RunFails, RunsFail, TotalFails, TotalsFail, is_cell_before, is_total_before, number4}
 use Rattle.delta_codec.specs.Frames.{AreCells, AreRuns, AreTotals}
 use Rattle.delta_codec.specs.Parts.{CellParts, IsCell, TotalParts, cell_bytes, run_bytes, total_bytes}
 use Rattle.delta_codec.specs.Reading.{◌>>=◌, Elements, accepted, cell_elements, cells_at, elements_at, is_dot_before, is_key_before, known_of, list_at, next_at, number_at, or_else, order_fault, run_elements, runs_at, size_at, total_elements, totals_at, unless}
@@ -190,8 +190,8 @@ keeps_order key follows (Some y) x h = ap (λ b. unless b BadOrder) h
 -- ---- runs and totals
 
 pub runs_tell : Tells runs_at RunsFail
-runs_tell = list_tells run_elements IsRun run_bytes MOST_RUNS AreRuns RunFails run_reads
-    (next_tells run_elements IsRun run_bytes (Lacks IsRun run_bytes BadRange) (λ fault before run. ¬ Follows is_apart before run × (fault ≡ BadOrder)) run_reads run_tells
+runs_tell = list_tells run_elements IsRunWithinLimits run_bytes MOST_RUNS AreRuns RunFails run_reads
+    (next_tells run_elements IsRunWithinLimits run_bytes (Lacks IsRunWithinLimits run_bytes BadRange) (λ fault before run. ¬ FollowsLast is_apart before run × (fault ≡ BadOrder)) run_reads run_tells
     (λ fault before run h. order_fails (λ (r : Run). r) is_apart (last_or None before) run fault h)
     (λ fault before run h. fails_order (λ (r : Run). r) is_apart (last_or None before) run fault h.0 h.1))
     read_are_runs runs_are_read
@@ -201,7 +201,7 @@ key_of total = total.0
 
 pub totals_tell : Tells totals_at TotalsFail
 totals_tell = list_tells total_elements (λ total. IsTotal total.0 total.1) total_bytes MOST_TOTALS AreTotals TotalFails total_reads
-    (next_tells total_elements (λ total. IsTotal total.0 total.1) total_bytes (Lacks (λ total. IsTotal total.0 total.1) total_bytes BadRange) (λ fault before total. ¬ Follows is_total_before before total × (fault ≡ BadOrder)) total_reads total_tells
+    (next_tells total_elements (λ total. IsTotal total.0 total.1) total_bytes (Lacks (λ total. IsTotal total.0 total.1) total_bytes BadRange) (λ fault before total. ¬ FollowsLast is_total_before before total × (fault ≡ BadOrder)) total_reads total_tells
     (λ fault before total h. order_fails key_of is_key_before (last_or None before) total fault h)
     (λ fault before total h. fails_order key_of is_key_before (last_or None before) total fault h.0 h.1))
     read_are_totals totals_are_read
@@ -217,7 +217,7 @@ dot_of cell = cell.0
 
 -- a cell doesn't follow the last one, or its dot is in no run
 abbrev CellBreaks : List Run → DecodeFault → List CellParts → CellParts → Type 0
-CellBreaks runs fault before cell = (¬ Follows is_cell_before before cell × (fault ≡ BadOrder)) ⊎ (Follows is_cell_before before cell × (in_runs runs cell.0 ≡ false) × (fault ≡ BadRange))
+CellBreaks runs fault before cell = (¬ FollowsLast is_cell_before before cell × (fault ≡ BadOrder)) ⊎ (FollowsLast is_cell_before before cell × (in_runs runs cell.0 ≡ false) × (fault ≡ BadRange))
 
 cell_breaks : (runs : List Run) (fault : DecodeFault) (before : List CellParts) (cell : CellParts) → fault_behind (cell_elements (set.contains (known_of runs))) before cell ≡ Some fault → CellBreaks runs fault before cell
 cell_breaks runs fault before cell h =

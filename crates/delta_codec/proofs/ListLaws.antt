@@ -20,7 +20,7 @@ use Rattle.dots.proofs.DotOrder.{dots_total}
 use Rattle.general_lemmas.proofs.SortedEntries.{below_first, rising_head, rising_tail}
 use Rattle.operations.proofs.TotalsLaws.{keys_total}
 use Rattle.general_lemmas.proofs.TruthTables.{less_of}
-use Rattle.causal_context.specs.Contexts.{IsRun}
+use Rattle.causal_context.specs.Contexts.{IsRunWithinLimits}
 use Rattle.delta_codec.specs.declared.decode_fault.DecodeFault.{DecodeFault}
 use Rattle.delta_codec.specs.declared.decode_fault.DecodeFault.TheVariants.{BadOrder, BadRange, TooLarge}
 use Rattle.delta_codec.specs.declared.limits.TheConstants.{MOST_TOTALS}
@@ -135,14 +135,14 @@ none_unless b f h = ap (λ c. unless c f) h
 apart_after : (r x y : Run) → x.first ≤ x.last → IsTrue (is_apart r x) → IsTrue (is_apart x y) → IsTrue (is_apart r y)
 apart_after r x y w a b = grind (arith, nat_tests)
 
-apart_from : (r : Run) (xs : List Run) → AllByRecursion IsRun xs → Chain run_elements (Some r) xs → All (λ x. IsTrue (is_apart r x)) xs × AreApart xs
+apart_from : (r : Run) (xs : List Run) → AllByRecursion IsRunWithinLimits xs → Chain run_elements (Some r) xs → All (λ x. IsTrue (is_apart r x)) xs × AreApart xs
 apart_from r [] each chain = ((λ k d lt. absurd (omega arith)), tt)
 apart_from r (x ∷ xs) each chain =
     let rest = apart_from x xs each.1 chain.1 in
     let here : IsTrue (is_apart r x) = unless_none (is_apart r x) BadOrder chain.0 in
     (All-cons (λ y. IsTrue (is_apart r y)) x xs here (All-weaker (λ y. IsTrue (is_apart x y)) (λ y. IsTrue (is_apart r y)) (λ y h. apart_after r x y each.0.ordered here h) xs rest.0), (each.0.ordered, rest.0, rest.1))
 
-pub are_apart : (xs : List Run) → AllByRecursion IsRun xs → Chain run_elements None xs → AreApart xs
+pub are_apart : (xs : List Run) → AllByRecursion IsRunWithinLimits xs → Chain run_elements None xs → AreApart xs
 are_apart [] each chain = tt
 are_apart (x ∷ xs) each chain = let rest = apart_from x xs each.1 chain.1 in (each.0.ordered, rest.0, rest.1)
 
@@ -154,14 +154,14 @@ run_chain : (xs : List Run) → AreApart xs → Chain run_elements None xs
 run_chain [] h = tt
 run_chain (x ∷ xs) h = (refl, chain_from x xs h)
 
-pub read_are_runs : (xs : List Run) → AreElements run_elements IsRun MOST_RUNS xs → AreRuns xs
-read_are_runs xs g = record { each = All-from_recursion IsRun xs g.1.0; order = are_apart xs g.1.0 g.1.1; few = g.0 }
+pub read_are_runs : (xs : List Run) → AreElements run_elements IsRunWithinLimits MOST_RUNS xs → AreRuns xs
+read_are_runs xs g = record { each = All-from_recursion IsRunWithinLimits xs g.1.0; order = are_apart xs g.1.0 g.1.1; few = g.0 }
 
-pub runs_are_read : (xs : List Run) → AreRuns xs → AreElements run_elements IsRun MOST_RUNS xs
-runs_are_read xs g = (g.few, (by_recursion IsRun xs g.each, run_chain xs g.order))
+pub runs_are_read : (xs : List Run) → AreRuns xs → AreElements run_elements IsRunWithinLimits MOST_RUNS xs
+runs_are_read xs g = (g.few, (by_recursion IsRunWithinLimits xs g.each, run_chain xs g.order))
 
 pub runs_reads : Reads runs_at AreRuns (list_bytes run_bytes)
-runs_reads = reads_good runs_at (AreElements run_elements IsRun MOST_RUNS) AreRuns (list_bytes run_bytes) (list_reads run_elements IsRun run_bytes MOST_RUNS (omega arith) run_reads) read_are_runs runs_are_read
+runs_reads = reads_good runs_at (AreElements run_elements IsRunWithinLimits MOST_RUNS) AreRuns (list_bytes run_bytes) (list_reads run_elements IsRunWithinLimits run_bytes MOST_RUNS (omega arith) run_reads) read_are_runs runs_are_read
 
 -- ---- entries in the order of their keys
 

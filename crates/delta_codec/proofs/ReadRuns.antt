@@ -8,7 +8,7 @@ use Rattle.dots.specs.declared.limits.TheConstants.{MOST_RUNS}
 use Rattle.dots.specs.DotSets.{Run, is_apart, run_count}
 use Rattle.dots.specs.Orders.{dot_cmp}
 use Rattle.dots.proofs.RunCounts.{run_count_runs}
-use Rattle.causal_context.specs.Contexts.{IsRun}
+use Rattle.causal_context.specs.Contexts.{IsRunWithinLimits}
 use Rattle.delta_codec.specs.Reading.{Elements, known_of, order_fault, run_elements, with_run}
 use Rattle.delta_codec.proofs.ContentLaws.{contains_known_of}
 use Rattle.delta_codec.proofs.ListLaws.{Chain, are_apart, last_key}
@@ -33,7 +33,7 @@ kept_more step d (y ∷ ys) x = kept_more step (step d y) ys x
 -- these dots are those of so many runs, each behind the one before, of which this is the last
 pub record AreRead (last : Option Run) (dots : set.FinSet dot_cmp) (count : ℕ) : Type 0 where
   pub runs : List Run
-  pub each : AllByRecursion IsRun runs
+  pub each : AllByRecursion IsRunWithinLimits runs
   pub chain : Chain run_elements None runs
   pub last_is : last_key run_elements None runs ≡ last
   pub dots_are : known_of runs ≡ dots
@@ -42,10 +42,10 @@ pub record AreRead (last : Option Run) (dots : set.FinSet dot_cmp) (count : ℕ)
 pub none_read : (dots : set.FinSet dot_cmp) → dots ≡ set.empty → AreRead None dots 0
 none_read dots empty = record { runs = []; each = tt; chain = tt; last_is = refl; dots_are = sym empty; counted = refl }
 
-pub one_more : (last : Option Run) (dots : set.FinSet dot_cmp) (count : ℕ) (run : Run) → AreRead last dots count → IsRun run → order_fault is_apart last run ≡ None → AreRead (Some run) (with_run dots run) (count + 1)
+pub one_more : (last : Option Run) (dots : set.FinSet dot_cmp) (count : ℕ) (run : Run) → AreRead last dots count → IsRunWithinLimits run → order_fault is_apart last run ≡ None → AreRead (Some run) (with_run dots run) (count + 1)
 one_more last dots count run read good order = record {
   runs = read.runs ++ run ∷ [];
-  each = each_more IsRun read.runs run read.each good;
+  each = each_more IsRunWithinLimits read.runs run read.each good;
   chain = chain_more run_elements None read.runs run read.chain (ap (λ o. order_fault is_apart o run) read.last_is ∙ order);
   last_is = last_more run_elements None read.runs run;
   dots_are = kept_more with_run set.empty read.runs run ∙ ap (λ d. with_run d run) read.dots_are;

@@ -10,7 +10,7 @@ use Rattle.operations.specs.Registers.{Entry}
 use Rattle.operations.specs.Totals.{IsTotal, key_cmp}
 use Rattle.dots.specs.Values.{Dot, IsName, IsPenalty, IsText, is_bad_byte}
 use Rattle.dots.specs.WithinLimits.{IsDot, IsPause, IsStamp}
-use Rattle.causal_context.specs.Contexts.{IsRun}
+use Rattle.causal_context.specs.Contexts.{IsRunWithinLimits}
 use Rattle.delta_codec.specs.declared.decode_fault.DecodeFault.{DecodeFault}
 use Rattle.delta_codec.specs.declared.decode_fault.DecodeFault.TheVariants.{Truncated, BadMagic, BadVersion, BadRange, BadOrder, BadText, TooLarge}
 use Rattle.delta_codec.specs.declared.limits.TheConstants.{LEAST_LENGTH, MOST_LENGTH, MOST_TOTALS, VERSION}
@@ -105,16 +105,16 @@ FieldsFail fault flags bytes =
 -- ---- runs, cells, totals
 
 -- a dot in one of the queues
-pub record Place : Type 0 where
+pub record QueuedDot : Type 0 where
   pub dot : Dot
   pub queue : ℕ
 
 -- a dot and a queue, two bytes
-abbrev pub place_bytes : Place → List ℕ
+abbrev pub place_bytes : QueuedDot → List ℕ
 place_bytes place = dot_bytes place.dot ++ to_be_bytes w16 place.queue
 
 -- both are within their limits
-pub record IsPlace (place : Place) : Type 0 where
+pub record IsPlace (place : QueuedDot) : Type 0 where
   pub dot : IsDot place.dot
   pub queue : place.queue < QUEUES
 
@@ -129,8 +129,8 @@ CellFails fault bytes =
     ⊎ After IsFlags byte (FieldsFail fault) flags) interface) bytes
 
 -- an element follows the last one of those before it, by this test; the first follows nothing
-abbrev pub Follows : {A : Type 0} → (A → A → Bool) → List A → A → Type 0
-Follows follows before x = IfSome (last_or None before) (λ last. IsTrue (follows last x))
+abbrev pub FollowsLast : {A : Type 0} → (A → A → Bool) → List A → A → Type 0
+FollowsLast follows before x = IfSome (last_or None before) (λ last. IsTrue (follows last x))
 
 -- one cell's dot lies before another's
 abbrev pub is_cell_before : CellParts → CellParts → Bool
@@ -143,22 +143,22 @@ is_total_before total next = is_lt (key_cmp total.0 next.0)
 -- The next run is at fault, after those before: itself, or it doesn't follow the last one.
 abbrev pub RunFails : DecodeFault → List Run → List ℕ → Type 0
 RunFails fault before bytes =
-    Lacks IsRun run_bytes BadRange fault bytes
-    ⊎ After IsRun run_bytes (λ run _. ¬ Follows is_apart before run × (fault ≡ BadOrder)) bytes
+    Lacks IsRunWithinLimits run_bytes BadRange fault bytes
+    ⊎ After IsRunWithinLimits run_bytes (λ run _. ¬ FollowsLast is_apart before run × (fault ≡ BadOrder)) bytes
 
 -- The next cell is at fault: itself, or it doesn't follow the last one, or its dot is in no run.
 abbrev pub NextCellFails : List Run → DecodeFault → List CellParts → List ℕ → Type 0
 NextCellFails runs fault before bytes =
     CellFails fault bytes
     ⊎ After IsCell cell_bytes (λ cell _.
-    (¬ Follows is_cell_before before cell × (fault ≡ BadOrder))
-    ⊎ (Follows is_cell_before before cell × (in_runs runs cell.0 ≡ false) × (fault ≡ BadRange))) bytes
+    (¬ FollowsLast is_cell_before before cell × (fault ≡ BadOrder))
+    ⊎ (FollowsLast is_cell_before before cell × (in_runs runs cell.0 ≡ false) × (fault ≡ BadRange))) bytes
 
 -- The next total is at fault: itself, or it doesn't follow the last one.
 abbrev pub TotalFails : DecodeFault → List TotalParts → List ℕ → Type 0
 TotalFails fault before bytes =
     Lacks (λ total. IsTotal total.0 total.1) total_bytes BadRange fault bytes
-    ⊎ After (λ total. IsTotal total.0 total.1) total_bytes (λ total _. ¬ Follows is_total_before before total × (fault ≡ BadOrder)) bytes
+    ⊎ After (λ total. IsTotal total.0 total.1) total_bytes (λ total _. ¬ FollowsLast is_total_before before total × (fault ≡ BadOrder)) bytes
 
 -- Of `count` elements some stand there in order, and the next is at fault.
 pub record ElementsFail {A : Type 0} (IsGood : List A → Type 0) (spell : A → List ℕ) (NextFails : List A → List ℕ → Type 0) (count : ℕ) (bytes : List ℕ) : Type 0 where

@@ -9,7 +9,7 @@ use Rattle.dots.specs.Orders.{dot_cmp}
 use Rattle.general_lemmas.specs.SortedEntries.{IsRising}
 use Rattle.operations.specs.Totals.{IsTotal, key_cmp}
 use Rattle.dots.specs.Values.{IsCount, IsSite}
-use Rattle.causal_context.specs.Contexts.{IsRun}
+use Rattle.causal_context.specs.Contexts.{IsRunWithinLimits}
 use Rattle.delta.specs.declared.frame.Frame.{Frame}
 use Rattle.delta.specs.DeltaStates.{DeltaState}
 use Rattle.delta_codec.specs.declared.limits.TheConstants.{MOST_TOTALS, VERSION}
@@ -55,7 +55,7 @@ pub record IsHeading (heading : Heading) : Type 0 where
 
 -- runs: in order by site, then first, no two touching
 abbrev pub AreRuns : List Run → Type 0
-AreRuns = IsListOf IsRun AreApart MOST_RUNS
+AreRuns = IsListOf IsRunWithinLimits AreApart MOST_RUNS
 
 -- cells: in the order of their dots, none twice, each of a dot in a run
 pub record AreCells (runs : List Run) (cells : List CellParts) : Type 0 where

@@ -20,7 +20,7 @@ use Rattle.delta_codec.specs.declared.decode_fault.DecodeFault.TheVariants.{Trun
 use Rattle.delta_codec.specs.declared.limits.TheConstants.{LEAST_LENGTH, MOST_LENGTH, MOST_TOTALS, VERSION}
 use Rattle.delta_codec.specs.Parts.{CellParts, TotalParts}
 use Rattle.delta_codec.specs.Frames.{Heading, magic}
-use Rattle.delta_codec.specs.Faults.{Place, label_flag, pause_flag, penalty_flag}
+use Rattle.delta_codec.specs.Faults.{QueuedDot, label_flag, pause_flag, penalty_flag}
 
 -- what is read: a part and the bytes behind it, or a fault
 abbrev pub Read : Type 0 → Type 0
@@ -160,7 +160,7 @@ unfoldable pub dot_at : List ℕ → Read Dot
 dot_at bytes = made (λ p. record { site = p.0; count = p.1 }) (both (site_at bytes) (λ _. count_at))
 
 -- a dot, and then the queue of its member
-unfoldable pub place_at : List ℕ → Read Place
+unfoldable pub place_at : List ℕ → Read QueuedDot
 place_at bytes = made (λ p. record { dot = p.0; queue = p.1 }) (both (dot_at bytes) (λ _. queue_at))
 
 -- a cell: dot and queue, the interface, and then the fields
@@ -340,9 +340,9 @@ kept_in bytes = content_in bytes >>= λ content. kept_at content >>= λ kept. Ok
 -- ---- what functions return
 
 -- What a function returned, seen by view, is what reading gives.
-abbrev pub Gives : {X Y : Type 0} → (X → Y) → Result X DecodeFault → Result Y DecodeFault → Type 0
-Gives view (Ok x) read = read ≡ Ok (view x)
-Gives view (Err fault) read = read ≡ Err fault
+abbrev pub ReturnsRead : {X Y : Type 0} → (X → Y) → Result X DecodeFault → Result Y DecodeFault → Type 0
+ReturnsRead view (Ok x) read = read ≡ Ok (view x)
+ReturnsRead view (Err fault) read = read ≡ Err fault
 
 -- It is the fault that reading gives, or want of memory.
 abbrev pub Fails : {Y : Type 0} → DecodeFault → Result Y DecodeFault → Type 0

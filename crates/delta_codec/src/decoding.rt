@@ -2,7 +2,7 @@ ghost use Rattle.std.specs.Prelude.{◌≡◌, ◌≤◌, Err, IfOk, length};
 ghost use Rattle.delta_codec.specs.declared.limits.TheConstants.{MOST_LENGTH};
 ghost use Rattle.delta_codec.specs.declared.decode_fault.DecodeFault.{DecodeFault};
 ghost use Rattle.delta_codec.specs.Decoding.{IsFrontFault, IsFrontFrame, frame_kept};
-ghost use Rattle.delta_codec.specs.Reading.{Gives, GivesWithMemory, content_in, heading_at};
+ghost use Rattle.delta_codec.specs.Reading.{ReturnsRead, GivesWithMemory, content_in, heading_at};
 ghost use Rattle.delta_codec.specs.Reading.{kept_at, kept_in, opening_at, opening_in, within_at};
 
 use crate::elements::{read_cells, read_runs, read_totals};
@@ -16,7 +16,7 @@ use std::alloc::Global;
 // Who made a frame, and its number.
 #[tactic(auto, unfolding(crate::specs::Reading::heading_at))]
 fn read_heading(reader: &mut Reader<'_>) -> Result<(SiteId, u64), DecodeFault>
-    ensures { Gives (λ x. (record { maker = x.0; number = x.1 }, reader.new)) result
+    ensures { ReturnsRead (λ x. (record { maker = x.0; number = x.1 }, reader.new)) result
         (heading_at reader.old) }
 {
     let maker = read_site(reader)?;
@@ -52,7 +52,7 @@ fn read_content(alloc: Global, bytes: &[u8]) -> Result<Frame, DecodeFault>
 // The bytes of a frame behind its length, which says how many they are.
 #[tactic(auto, unfolding(crate::specs::Reading::within_at))]
 fn content_within(len: usize, rest: &[u8]) -> Result<&[u8], DecodeFault>
-    ensures value { Gives (λ x. x.now) result (within_at len rest.now) }
+    ensures value { ReturnsRead (λ x. x.now) result (within_at len rest.now) }
     ensures limit { IfOk result (λ x. length x.now ≤ MOST_LENGTH) }
 {
     if len > MOST_LENGTH {
@@ -70,7 +70,7 @@ fn content_within(len: usize, rest: &[u8]) -> Result<&[u8], DecodeFault>
 // The length of a frame, and the bytes behind it.
 #[tactic(auto, unfolding(crate::specs::Reading::content_in))]
 fn content_of(bytes: &[u8]) -> Result<&[u8], DecodeFault>
-    ensures value { Gives (λ x. x.now) result (content_in bytes.now) }
+    ensures value { ReturnsRead (λ x. x.now) result (content_in bytes.now) }
     ensures limit { IfOk result (λ x. length x.now ≤ MOST_LENGTH) }
 {
     if bytes.len() < 4 {

@@ -8,10 +8,10 @@ ghost use Rattle.dots.specs.declared.limits.TheConstants.{MOST_CALLS, MOST_LIVE,
 ghost use Rattle.dots.specs.DotSets.{is_apart, run_count};
 ghost use Rattle.dots.specs.Orders.{dot_cmp};
 ghost use Rattle.dots.specs.Values.{Dot};
-ghost use Rattle.causal_context.specs.Contexts.{IsRun};
+ghost use Rattle.causal_context.specs.Contexts.{IsRunWithinLimits};
 ghost use Rattle.member_orset.specs.Members.{HasField};
 ghost use Rattle.delta_codec.specs.Elements.{cell_read, total_read};
-ghost use Rattle.delta_codec.specs.Reading.{Gives, GivesWithMemory, run_at, dot_at, place_at};
+ghost use Rattle.delta_codec.specs.Reading.{ReturnsRead, GivesWithMemory, run_at, dot_at, place_at};
 ghost use Rattle.delta_codec.specs.Reading.{cell_at, total_at, next_at, elements_at, runs_at};
 ghost use Rattle.delta_codec.specs.Reading.{cells_at, totals_at, made, order_fault, is_dot_before};
 ghost use Rattle.delta_codec.specs.Reading.{run_elements, cell_elements, total_elements, known_of};
@@ -48,8 +48,8 @@ pub(crate) struct TotalRead {
 // A run.
 #[tactic(auto, unfolding(crate::specs::Reading::run_at))]
 fn read_run(reader: &mut Reader<'_>) -> Result<Run, DecodeFault>
-    ensures value { Gives (λ x. (x, reader.new)) result (run_at reader.old) }
-    ensures within { IfOk result (λ x. IsRun x) }
+    ensures value { ReturnsRead (λ x. (x, reader.new)) result (run_at reader.old) }
+    ensures within { IfOk result (λ x. IsRunWithinLimits x) }
 {
     let site = read_site(reader)?;
     let first = read_count(reader)?;
@@ -67,8 +67,8 @@ fn is_before(last: Run, run: Run) -> bool
 
 // A run that may stand behind the last one.
 fn read_next_run(last: Option<Run>, reader: &mut Reader<'_>) -> Result<Run, DecodeFault>
-    ensures value { Gives (λ x. (x, reader.new)) result (next_at run_elements last reader.old) }
-    ensures within { IfOk result (λ x. IsRun x) }
+    ensures value { ReturnsRead (λ x. (x, reader.new)) result (next_at run_elements last reader.old) }
+    ensures within { IfOk result (λ x. IsRunWithinLimits x) }
     ensures order { IfOk result (λ x. order_fault is_apart last x ≡ None) }
 {
     let run = read_run(reader)?;
@@ -128,7 +128,7 @@ pub(crate) fn read_runs(alloc: Global, reader: &mut Reader<'_>) -> Result<Contex
 // A dot.
 #[tactic(auto, unfolding(crate::specs::Reading::dot_at))]
 fn read_dot(reader: &mut Reader<'_>) -> Result<Dot, DecodeFault>
-    ensures { Gives (λ x. (x, reader.new)) result (dot_at reader.old) }
+    ensures { ReturnsRead (λ x. (x, reader.new)) result (dot_at reader.old) }
 {
     let site = read_site(reader)?;
     let count = read_count(reader)?;
@@ -141,7 +141,7 @@ fn read_dot(reader: &mut Reader<'_>) -> Result<Dot, DecodeFault>
 // A dot and the number of its queue.
 #[tactic(auto, unfolding(crate::specs::Reading::place_at))]
 fn read_place(reader: &mut Reader<'_>) -> Result<(Dot, u16), DecodeFault>
-    ensures { Gives (λ x. (record { dot = x.0; queue = x.1 }, reader.new)) result
+    ensures { ReturnsRead (λ x. (record { dot = x.0; queue = x.1 }, reader.new)) result
         (place_at reader.old) }
 {
     let dot = read_dot(reader)?;
@@ -152,7 +152,7 @@ fn read_place(reader: &mut Reader<'_>) -> Result<(Dot, u16), DecodeFault>
 // A cell.
 #[tactic(auto, unfolding(crate::specs::Reading::cell_at))]
 fn read_cell(reader: &mut Reader<'_>) -> Result<CellRead, DecodeFault>
-    ensures value { Gives (λ x. (cell_read x, reader.new)) result (cell_at reader.old) }
+    ensures value { ReturnsRead (λ x. (cell_read x, reader.new)) result (cell_at reader.old) }
     ensures some { IfOk result (λ x. HasField x.fields) }
 {
     let (dot, queue) = read_place(reader)?;
@@ -183,7 +183,7 @@ fn read_next_cell(
     last: Option<Dot>,
     reader: &mut Reader<'_>,
 ) -> Result<CellRead, DecodeFault>
-    ensures value { Gives (λ x. (cell_read x, reader.new)) result
+    ensures value { ReturnsRead (λ x. (cell_read x, reader.new)) result
         (next_at (cell_elements (set.contains known.now.dots)) last reader.old) }
     ensures some { IfOk result (λ x. HasField x.fields) }
     ensures order { IfOk result (λ x. order_fault is_dot_before last x.dot ≡ None) }
@@ -199,7 +199,7 @@ fn read_next_cell(
     Ok(cell)
 }
 
-// Gives a cell to a builder.
+// ReturnsRead a cell to a builder.
 fn keep_cell(builder: &mut SetBuilder, cell: &CellRead) -> Result<(), DecodeFault>
     requires known { set.contains builder.old.known cell.now.dot ≡ true }
     requires greater { (q : Dot) → IsSome (map.get builder.old.live q)
@@ -261,7 +261,7 @@ pub(crate) fn read_cells(
 // Totals, of which one isn't zero.
 #[tactic(auto, unfolding(crate::specs::Reading::total_at))]
 fn read_total(reader: &mut Reader<'_>) -> Result<TotalRead, DecodeFault>
-    ensures value { Gives (λ x. (total_read x, reader.new)) result (total_at reader.old) }
+    ensures value { ReturnsRead (λ x. (total_read x, reader.new)) result (total_at reader.old) }
     ensures queue { IfOk result (λ x. x.key.queue < QUEUES) }
     ensures completed { IfOk result (λ x. x.totals.completed ≤ MOST_CALLS) }
     ensures abandoned { IfOk result (λ x. x.totals.abandoned ≤ MOST_CALLS) }
@@ -286,7 +286,7 @@ fn read_next_total(
     last: Option<TotalKey>,
     reader: &mut Reader<'_>,
 ) -> Result<TotalRead, DecodeFault>
-    ensures value { Gives (λ x. (total_read x, reader.new)) result
+    ensures value { ReturnsRead (λ x. (total_read x, reader.new)) result
         (next_at total_elements last reader.old) }
     ensures queue { IfOk result (λ x. x.key.queue < QUEUES) }
     ensures completed { IfOk result (λ x. x.totals.completed ≤ MOST_CALLS) }

@@ -1,7 +1,7 @@
 //! Texts, and the fields of a dot, at the front of bytes.
 ghost use Rattle.std.specs.Prelude.{◌≡◌, ◌≤◌, [], length, is_some, IfOk};
 ghost use Rattle.member_orset.specs.Members.{HasField};
-ghost use Rattle.delta_codec.specs.Reading.{Gives, text_at, no_reason_at, stamp_at, reason_at};
+ghost use Rattle.delta_codec.specs.Reading.{ReturnsRead, text_at, no_reason_at, stamp_at, reason_at};
 ghost use Rattle.delta_codec.specs.Reading.{pause_at, label_at, field_at, penalty_at};
 ghost use Rattle.delta_codec.specs.Reading.{set_fields_at, fields_at};
 ghost use Rattle.delta_codec.specs.Faults.{IsFlags, penalty_flag, pause_flag, label_flag};
@@ -15,7 +15,7 @@ use lww_registers::{Fields, Register};
 // A text of at least `least` bytes.
 #[tactic(auto, unfolding(crate::specs::Reading::text_at))]
 fn read_text(least: u8, reader: &mut Reader<'_>) -> Result<Text80, DecodeFault>
-    ensures value { Gives (λ x. (x, reader.new)) result (text_at least reader.old) }
+    ensures value { ReturnsRead (λ x. (x, reader.new)) result (text_at least reader.old) }
     ensures size { IfOk result (λ x. least ≤ length x) }
 {
     let len = reader.byte()?;
@@ -27,7 +27,7 @@ fn read_text(least: u8, reader: &mut Reader<'_>) -> Result<Text80, DecodeFault>
 
 // An interface.
 pub(crate) fn read_interface(reader: &mut Reader<'_>) -> Result<Interface, DecodeFault>
-    ensures { Gives (λ x. (x, reader.new)) result (text_at 1 reader.old) }
+    ensures { ReturnsRead (λ x. (x, reader.new)) result (text_at 1 reader.old) }
 {
     let text = read_text(1, reader)?;
     match Interface::new(text.as_bytes()) {
@@ -39,7 +39,7 @@ pub(crate) fn read_interface(reader: &mut Reader<'_>) -> Result<Interface, Decod
 // No reason.
 #[tactic(auto, unfolding(crate::specs::Reading::no_reason_at))]
 fn read_no_reason(reader: &mut Reader<'_>) -> Result<Text80, DecodeFault>
-    ensures value { Gives (λ x. (x, reader.new)) result (no_reason_at reader.old) }
+    ensures value { ReturnsRead (λ x. (x, reader.new)) result (no_reason_at reader.old) }
     ensures none { IfOk result (λ x. x ≡ []) }
 {
     let len = reader.byte()?;
@@ -55,7 +55,7 @@ fn read_no_reason(reader: &mut Reader<'_>) -> Result<Text80, DecodeFault>
 // The reason behind the byte of a pause: none where it is 0.
 #[tactic(auto, unfolding(crate::specs::Reading::reason_at))]
 fn read_reason(paused: u8, reader: &mut Reader<'_>) -> Result<Text80, DecodeFault>
-    ensures value { Gives (λ x. (x, reader.new)) result (reason_at paused reader.old) }
+    ensures value { ReturnsRead (λ x. (x, reader.new)) result (reason_at paused reader.old) }
     ensures none { paused ≡ 0 → IfOk result (λ x. x ≡ []) }
 {
     if paused == 0 {
@@ -68,7 +68,7 @@ fn read_reason(paused: u8, reader: &mut Reader<'_>) -> Result<Text80, DecodeFaul
 // A stamp.
 #[tactic(auto, unfolding(crate::specs::Reading::stamp_at))]
 fn read_stamp(reader: &mut Reader<'_>) -> Result<Stamp, DecodeFault>
-    ensures { Gives (λ x. (x, reader.new)) result (stamp_at reader.old) }
+    ensures { ReturnsRead (λ x. (x, reader.new)) result (stamp_at reader.old) }
 {
     let time = read_count(reader)?;
     let site = read_site(reader)?;
@@ -81,7 +81,7 @@ fn read_stamp(reader: &mut Reader<'_>) -> Result<Stamp, DecodeFault>
 // A pause.
 #[tactic(auto, unfolding(crate::specs::Reading::pause_at))]
 fn read_pause(reader: &mut Reader<'_>) -> Result<Pause, DecodeFault>
-    ensures { Gives (λ x. (x, reader.new)) result (pause_at reader.old) }
+    ensures { ReturnsRead (λ x. (x, reader.new)) result (pause_at reader.old) }
 {
     let paused = read_bit(reader)?;
     let reason = read_reason(paused, reader)?;
@@ -91,7 +91,7 @@ fn read_pause(reader: &mut Reader<'_>) -> Result<Pause, DecodeFault>
 // A label.
 #[tactic(auto, unfolding(crate::specs::Reading::label_at))]
 fn read_label(reader: &mut Reader<'_>) -> Result<Label, DecodeFault>
-    ensures { Gives (λ x. (x, reader.new)) result (label_at reader.old) }
+    ensures { ReturnsRead (λ x. (x, reader.new)) result (label_at reader.old) }
 {
     let name = read_text(0, reader)?;
     let state = read_text(0, reader)?;
@@ -101,7 +101,7 @@ fn read_label(reader: &mut Reader<'_>) -> Result<Label, DecodeFault>
 // The register of a penalty, with one where the flag says so.
 #[tactic(auto, unfolding(crate::specs::Reading::field_at, crate::specs::Reading::entry_at))]
 fn read_penalty_field(flag: bool, reader: &mut Reader<'_>) -> Result<Register<Penalty>, DecodeFault>
-    ensures value { Gives (λ x. (x, reader.new)) result (field_at flag penalty_at reader.old) }
+    ensures value { ReturnsRead (λ x. (x, reader.new)) result (field_at flag penalty_at reader.old) }
     ensures set { IfOk result (λ x. is_some x ≡ flag) }
 {
     if !flag {
@@ -115,7 +115,7 @@ fn read_penalty_field(flag: bool, reader: &mut Reader<'_>) -> Result<Register<Pe
 // The register of a pause, with one where the flag says so.
 #[tactic(auto, unfolding(crate::specs::Reading::field_at, crate::specs::Reading::entry_at))]
 fn read_pause_field(flag: bool, reader: &mut Reader<'_>) -> Result<Register<Pause>, DecodeFault>
-    ensures value { Gives (λ x. (x, reader.new)) result (field_at flag pause_at reader.old) }
+    ensures value { ReturnsRead (λ x. (x, reader.new)) result (field_at flag pause_at reader.old) }
     ensures set { IfOk result (λ x. is_some x ≡ flag) }
 {
     if !flag {
@@ -129,7 +129,7 @@ fn read_pause_field(flag: bool, reader: &mut Reader<'_>) -> Result<Register<Paus
 // The register of a label, with one where the flag says so.
 #[tactic(auto, unfolding(crate::specs::Reading::field_at, crate::specs::Reading::entry_at))]
 fn read_label_field(flag: bool, reader: &mut Reader<'_>) -> Result<Register<Label>, DecodeFault>
-    ensures value { Gives (λ x. (x, reader.new)) result (field_at flag label_at reader.old) }
+    ensures value { ReturnsRead (λ x. (x, reader.new)) result (field_at flag label_at reader.old) }
     ensures set { IfOk result (λ x. is_some x ≡ flag) }
 {
     if !flag {
@@ -145,7 +145,7 @@ fn read_label_field(flag: bool, reader: &mut Reader<'_>) -> Result<Register<Labe
 fn read_set_fields(flags: u8, reader: &mut Reader<'_>) -> Result<Fields, DecodeFault>
     requires { IsFlags flags }
     ensures some { IfOk result (λ x. HasField x) }
-    ensures value { Gives (λ x. (x, reader.new)) result (set_fields_at flags reader.old) }
+    ensures value { ReturnsRead (λ x. (x, reader.new)) result (set_fields_at flags reader.old) }
 {
     let penalty = read_penalty_field(flags % 2 == 1, reader)?;
     let pause = read_pause_field(flags / 2 % 2 == 1, reader)?;
@@ -162,7 +162,7 @@ fn read_set_fields(flags: u8, reader: &mut Reader<'_>) -> Result<Fields, DecodeF
 #[tactic(auto, unfolding(crate::specs::Reading::fields_at))]
 pub(crate) fn read_fields(reader: &mut Reader<'_>) -> Result<Fields, DecodeFault>
     ensures some { IfOk result (λ x. HasField x) }
-    ensures value { Gives (λ x. (x, reader.new)) result (fields_at reader.old) }
+    ensures value { ReturnsRead (λ x. (x, reader.new)) result (fields_at reader.old) }
 {
     let flags = read_flags(reader)?;
     let fields = read_set_fields(flags, reader)?;

@@ -3,7 +3,7 @@ ghost use Rattle.std.specs.Prelude.{◌≡◌, ◌≤◌, ◌<◌, IfOk};
 ghost use Rattle.dots.specs.declared.limits.TheConstants.{MOST_CALLS, MOST_COUNT, QUEUES};
 ghost use Rattle.dots.specs.Values.{IsCount};
 ghost use Rattle.delta_codec.specs.Faults.{IsFlags};
-ghost use Rattle.delta_codec.specs.Reading.{Gives, site_at, count_at, last_at, queue_at};
+ghost use Rattle.delta_codec.specs.Reading.{ReturnsRead, site_at, count_at, last_at, queue_at};
 ghost use Rattle.delta_codec.specs.Reading.{penalty_at, calls_at, bit_at, flags_at, size_at};
 
 use crate::DecodeFault;
@@ -13,7 +13,7 @@ use dots::{MOST_CALLS, MOST_COUNT, Penalty, QUEUES, SiteId};
 // A site.
 #[tactic(auto, unfolding(crate::specs::Reading::site_at))]
 pub(crate) fn read_site(reader: &mut Reader<'_>) -> Result<SiteId, DecodeFault>
-    ensures { Gives (λ x. (x, reader.new)) result (site_at reader.old) }
+    ensures { ReturnsRead (λ x. (x, reader.new)) result (site_at reader.old) }
 {
     let number = reader.byte()?;
     match SiteId::new(u16::from(number)) {
@@ -25,7 +25,7 @@ pub(crate) fn read_site(reader: &mut Reader<'_>) -> Result<SiteId, DecodeFault>
 // A count of a dot, a time of a stamp or a number of a frame: 1 to 2^40.
 #[tactic(auto, unfolding(crate::specs::Reading::count_at))]
 pub(crate) fn read_count(reader: &mut Reader<'_>) -> Result<u64, DecodeFault>
-    ensures value { Gives (λ x. (x, reader.new)) result (count_at reader.old) }
+    ensures value { ReturnsRead (λ x. (x, reader.new)) result (count_at reader.old) }
     ensures limit { IfOk result (λ x. IsCount x) }
 {
     let number = reader.number8()?;
@@ -38,7 +38,7 @@ pub(crate) fn read_count(reader: &mut Reader<'_>) -> Result<u64, DecodeFault>
 // The last count of a run that has this first one.
 #[tactic(auto, unfolding(crate::specs::Reading::last_at))]
 pub(crate) fn read_last(first: u64, reader: &mut Reader<'_>) -> Result<u64, DecodeFault>
-    ensures value { Gives (λ x. (x, reader.new)) result (last_at first reader.old) }
+    ensures value { ReturnsRead (λ x. (x, reader.new)) result (last_at first reader.old) }
     ensures limit { IfOk result (λ x. (first ≤ x) × (x ≤ MOST_COUNT)) }
 {
     let number = reader.number8()?;
@@ -51,7 +51,7 @@ pub(crate) fn read_last(first: u64, reader: &mut Reader<'_>) -> Result<u64, Deco
 // The number of a queue.
 #[tactic(auto, unfolding(crate::specs::Reading::queue_at))]
 pub(crate) fn read_queue(reader: &mut Reader<'_>) -> Result<u16, DecodeFault>
-    ensures value { Gives (λ x. (x, reader.new)) result (queue_at reader.old) }
+    ensures value { ReturnsRead (λ x. (x, reader.new)) result (queue_at reader.old) }
     ensures limit { IfOk result (λ x. x < QUEUES) }
 {
     let number = reader.number2()?;
@@ -64,7 +64,7 @@ pub(crate) fn read_queue(reader: &mut Reader<'_>) -> Result<u16, DecodeFault>
 // A penalty.
 #[tactic(auto, unfolding(crate::specs::Reading::penalty_at))]
 pub(crate) fn read_penalty(reader: &mut Reader<'_>) -> Result<Penalty, DecodeFault>
-    ensures { Gives (λ x. (x, reader.new)) result (penalty_at reader.old) }
+    ensures { ReturnsRead (λ x. (x, reader.new)) result (penalty_at reader.old) }
 {
     let number = reader.number4()?;
     match Penalty::new(number) {
@@ -76,7 +76,7 @@ pub(crate) fn read_penalty(reader: &mut Reader<'_>) -> Result<Penalty, DecodeFau
 // How many calls a site has counted.
 #[tactic(auto, unfolding(crate::specs::Reading::calls_at))]
 pub(crate) fn read_calls(reader: &mut Reader<'_>) -> Result<u64, DecodeFault>
-    ensures value { Gives (λ x. (x, reader.new)) result (calls_at reader.old) }
+    ensures value { ReturnsRead (λ x. (x, reader.new)) result (calls_at reader.old) }
     ensures limit { IfOk result (λ x. x ≤ MOST_CALLS) }
 {
     let number = reader.number8()?;
@@ -89,7 +89,7 @@ pub(crate) fn read_calls(reader: &mut Reader<'_>) -> Result<u64, DecodeFault>
 // The byte 0 or 1.
 #[tactic(auto, unfolding(crate::specs::Reading::bit_at))]
 pub(crate) fn read_bit(reader: &mut Reader<'_>) -> Result<u8, DecodeFault>
-    ensures value { Gives (λ x. (x, reader.new)) result (bit_at reader.old) }
+    ensures value { ReturnsRead (λ x. (x, reader.new)) result (bit_at reader.old) }
     ensures limit { IfOk result (λ x. x < 2) }
 {
     let number = reader.byte()?;
@@ -102,7 +102,7 @@ pub(crate) fn read_bit(reader: &mut Reader<'_>) -> Result<u8, DecodeFault>
 // The flags of a cell.
 #[tactic(auto, unfolding(crate::specs::Reading::flags_at))]
 pub(crate) fn read_flags(reader: &mut Reader<'_>) -> Result<u8, DecodeFault>
-    ensures value { Gives (λ x. (x, reader.new)) result (flags_at reader.old) }
+    ensures value { ReturnsRead (λ x. (x, reader.new)) result (flags_at reader.old) }
     ensures limit { IfOk result (λ x. IsFlags x) }
 {
     let number = reader.byte()?;
@@ -115,7 +115,7 @@ pub(crate) fn read_flags(reader: &mut Reader<'_>) -> Result<u8, DecodeFault>
 // How many elements a list has, at most `most`.
 #[tactic(auto, unfolding(crate::specs::Reading::size_at))]
 pub(crate) fn read_size(most: usize, reader: &mut Reader<'_>) -> Result<u32, DecodeFault>
-    ensures value { Gives (λ x. (x, reader.new)) result (size_at most reader.old) }
+    ensures value { ReturnsRead (λ x. (x, reader.new)) result (size_at most reader.old) }
     ensures limit { IfOk result (λ x. x ≤ most) }
 {
     let number = reader.number4()?;

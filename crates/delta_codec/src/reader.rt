@@ -3,7 +3,7 @@ ghost use Rattle.std.specs.Int.{w16, w32, w64};
 ghost use Rattle.dots.specs.declared.limits.TheConstants.{TEXT_BYTES};
 ghost use Rattle.delta_codec.specs.Frames.{magic};
 ghost use Rattle.delta_codec.specs.declared.limits.TheConstants.{VERSION};
-ghost use Rattle.delta_codec.specs.Reading.{Gives, byte_at, magic_at, number_at, text_of};
+ghost use Rattle.delta_codec.specs.Reading.{ReturnsRead, byte_at, magic_at, number_at, text_of};
 ghost use Rattle.delta_codec.specs.Reading.{version_at};
 
 use crate::{DecodeFault, VERSION};
@@ -41,7 +41,7 @@ impl<'a> Reader<'a> {
 
     // One byte.
     pub(crate) fn byte(&mut self) -> Result<u8, DecodeFault>
-        ensures { Gives (λ x. (x, self.new)) result (byte_at self.old) }
+        ensures { ReturnsRead (λ x. (x, self.new)) result (byte_at self.old) }
     {
         match self.left {
             [] => Err(DecodeFault::BadRange),
@@ -54,7 +54,7 @@ impl<'a> Reader<'a> {
 
     // A number of two bytes.
     pub(crate) fn number2(&mut self) -> Result<u16, DecodeFault>
-        ensures { Gives (λ x. (x, self.new)) result (number_at w16 self.old) }
+        ensures { ReturnsRead (λ x. (x, self.new)) result (number_at w16 self.old) }
     {
         if self.left.len() < 2 {
             return Err(DecodeFault::BadRange);
@@ -66,7 +66,7 @@ impl<'a> Reader<'a> {
 
     // A number of four bytes.
     pub(crate) fn number4(&mut self) -> Result<u32, DecodeFault>
-        ensures { Gives (λ x. (x, self.new)) result (number_at w32 self.old) }
+        ensures { ReturnsRead (λ x. (x, self.new)) result (number_at w32 self.old) }
     {
         if self.left.len() < 4 {
             return Err(DecodeFault::BadRange);
@@ -79,7 +79,7 @@ impl<'a> Reader<'a> {
 
     // A number of eight bytes.
     pub(crate) fn number8(&mut self) -> Result<u64, DecodeFault>
-        ensures { Gives (λ x. (x, self.new)) result (number_at w64 self.old) }
+        ensures { ReturnsRead (λ x. (x, self.new)) result (number_at w64 self.old) }
     {
         if self.left.len() < 8 {
             return Err(DecodeFault::BadRange);
@@ -96,7 +96,7 @@ impl<'a> Reader<'a> {
     #[tactic(auto, unfolding(crate::specs::Reading::text_of))]
     pub(crate) fn text(&mut self, len: usize) -> Result<Text80, DecodeFault>
         requires { len ≤ TEXT_BYTES }
-        ensures value { Gives (λ x. (x, self.new)) result (text_of len self.old) }
+        ensures value { ReturnsRead (λ x. (x, self.new)) result (text_of len self.old) }
         ensures size { IfOk result (λ x. length x ≡ len) }
     {
         if self.left.len() < len {
@@ -113,7 +113,7 @@ impl<'a> Reader<'a> {
     // The letters that begin each frame.
     #[tactic(auto, unfolding(crate::specs::Reading::magic_at))]
     pub(crate) fn magic(&mut self) -> Result<(), DecodeFault>
-        ensures { Gives (λ _. (magic, self.new)) result (magic_at self.old) }
+        ensures { ReturnsRead (λ _. (magic, self.new)) result (magic_at self.old) }
     {
         match self.left {
             [first, second, rest @ ..] => {
@@ -130,7 +130,7 @@ impl<'a> Reader<'a> {
     // The version of the format.
     #[tactic(auto, unfolding(crate::specs::Reading::version_at))]
     pub(crate) fn version(&mut self) -> Result<(), DecodeFault>
-        ensures { Gives (λ _. (VERSION, self.new)) result (version_at self.old) }
+        ensures { ReturnsRead (λ _. (VERSION, self.new)) result (version_at self.old) }
     {
         match self.left {
             [] => Err(DecodeFault::BadVersion),

@@ -1,6 +1,6 @@
 ghost use Rattle.std.specs.Prelude.{◌≡◌, ◌↔◌, IsTrue, IsFalse};
 ghost use Rattle.std.specs.Option.{option_copied, option_map};
-ghost use Rattle.operations.specs.Registers.{Agree, InConflict, join_of};
+ghost use Rattle.operations.specs.Registers.{RegistersAgree, InConflict, join_of};
 
 use crate::FieldValue;
 use dots::Stamp;
@@ -70,7 +70,7 @@ impl<T> Register<T> {
 impl<T: FieldValue> Register<T> {
     /// Whether both can be joined. `false` exactly where both have one stamp and two values.
     pub fn agrees(&self, other: &Register<T>) -> bool
-        ensures agree { IsTrue result ↔ Agree self.now other.now }
+        ensures agree { IsTrue result ↔ RegistersAgree self.now other.now }
         ensures conflict { IsFalse result ↔ InConflict self.now other.now }
     {
         match (&self.entry, &other.entry) {
@@ -83,7 +83,7 @@ impl<T: FieldValue> Register<T> {
 
     /// Joins the other into this one: the value of the greatest stamp is kept. The two agree.
     pub fn join(&mut self, other: Register<T>)
-        requires { Agree self.old other }
+        requires { RegistersAgree self.old other }
         ensures { self.new ≡ join_of self.old other }
     {
         let takes_other = match (&self.entry, &other.entry) {

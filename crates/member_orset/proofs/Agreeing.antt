@@ -4,7 +4,7 @@ use Rattle.std.specs.Prelude.{IsTrue, IsFalse}
 use Rattle.std.specs.FinMap as map
 use Rattle.std.specs.FinSet as set
 use Rattle.dots.specs.Values.{Dot}
-use Rattle.operations.specs.Registers.{Agree, Entry, InConflict}
+use Rattle.operations.specs.Registers.{RegistersAgree, Entry, InConflict}
 use Rattle.operations.specs.Conditions.{Condition, ConditionsAgree, Dead, DotFields, FieldsAgree, FieldsInConflict, Live}
 use Rattle.member_orset.specs.Members.{CanBeJoined, Conflicts, ConditionsConflict, Holding, Members, condition_at, condition_of}
 use Rattle.member_orset.specs.LiveLists.{HoldingsAgree, HoldingsConflict}
@@ -12,7 +12,7 @@ use Rattle.member_orset.specs.Joining.{IsTold}
 use Rattle.member_orset.proofs.MapEntries.{entry_in, entry_is}
 
 -- registers that agree aren't in conflict
-apart : {T : Type 0} (x y : Option (Entry T)) → Agree x y → InConflict x y → ⊥
+apart : {T : Type 0} (x y : Option (Entry T)) → RegistersAgree x y → InConflict x y → ⊥
 apart x y a c = c.two_values (a c.first c.second c.in_first c.in_second c.one_stamp)
 
 fields_apart : (x y : DotFields) → FieldsAgree x y → FieldsInConflict x y → ⊥

@@ -20,21 +20,21 @@ use Rattle.dots.proofs.DotOrder.{dots_total, dots_exact}
 use Rattle.general_lemmas.proofs.TruthTables.{truth, fact}
 use Rattle.member_orset.specs.declared.live_dot.LiveDot.{LiveDot}
 use Rattle.member_orset.specs.Members.{Holding, HasField, condition_at, condition_of}
-use Rattle.member_orset.specs.LiveLists.{IsAt, IsGap, AreCells, holding, entries_of, live_of, members_of}
+use Rattle.member_orset.specs.LiveLists.{IsCellAt, IsGap, AreCells, holding, entries_of, live_of, members_of}
 use Rattle.member_orset.proofs.DotTests.{one_dot}
 use Rattle.member_orset.proofs.CellLists.{Rise, missed_at, found_at, removed_at, put_at, set_at}
 use Rattle.member_orset.proofs.Views.{get_live_of}
 use Rattle.std.proofs.Math.Bool.{or_self}
 
 -- a cell that is taken out
-pub taken_sorted : (cs : List LiveDot) (d : Dot) (i : ℕ) (e : LiveDot) → Rise cs → IsAt cs d i → Rise (remove cs i)
+pub taken_sorted : (cs : List LiveDot) (d : Dot) (i : ℕ) (e : LiveDot) → Rise cs → IsCellAt cs d i → Rise (remove cs i)
 taken_sorted cs d i e s at = fact _ (subst (λ es. T (maps.is_sorted dot_cmp es)) (sym (removed_at d cs i e s at.within at.before (at.here e))) (is_sorted-where_key dot_cmp (λ x. not (eq_by_cmp dot_cmp d x)) (entries_of cs) (truth _ s)))
 
 -- without one cell fewer things hold of all
 All_remove : (P : LiveDot → Type 0) (cs : List LiveDot) (i : ℕ) → All P cs → All P (remove cs i)
 All_remove P cs i a = All-append P (take i cs) (drop (suc i) cs) (All-take P i cs a) (All-drop P (suc i) cs a)
 
-pub taken_cells : (cs : List LiveDot) (d : Dot) (i : ℕ) (e : LiveDot) (known : sets.FinSet dot_cmp) → IsAt cs d i → AreCells cs known → AreCells (remove cs i) known
+pub taken_cells : (cs : List LiveDot) (d : Dot) (i : ℕ) (e : LiveDot) (known : sets.FinSet dot_cmp) → IsCellAt cs d i → AreCells cs known → AreCells (remove cs i) known
 taken_cells cs d i e known at a = record {
   sorted = taken_sorted cs d i e a.sorted at;
   few = let most = a.few in let less = length-remove cs i at.within in omega arith;
@@ -52,7 +52,7 @@ turned : {A : Type 0} (b : Bool) (x y : A) → cond (not b) x y ≡ cond b y x
 turned true x y = refl
 turned false x y = refl
 
-pub taken_live : (cs : List LiveDot) (d : Dot) (i : ℕ) (e : LiveDot) → Rise cs → IsAt cs d i → live_of (remove cs i) ≡ maps.remove (live_of cs) d
+pub taken_live : (cs : List LiveDot) (d : Dot) (i : ℕ) (e : LiveDot) → Rise cs → IsCellAt cs d i → live_of (remove cs i) ≡ maps.remove (live_of cs) d
 taken_live cs d i e s at = maps.same_map dots_total dots_exact _ _ (λ q.
     get_live_of (remove cs i) q (taken_sorted cs d i e s at)
     ∙ ap (find dot_cmp q) (removed_at d cs i e s at.within at.before (at.here e))
@@ -135,7 +135,7 @@ brought_live cs i c q s gap =
     ∙ find-put dot_cmp dots_total q c.dot (holding c) (entries_of cs) ∙ ap (cond (eq_by_cmp dot_cmp q c.dot) (Some (holding c))) (sym (get_live_of cs q s))
 
 -- a cell that takes the place of another of its dot
-pub met_live : (cs : List LiveDot) (i : ℕ) (x j : LiveDot) (q : Dot) → Rise cs → IsAt cs j.dot i → x ≡ get_or cs i x → maps.get (live_of (set cs i j)) q ≡ cond (eq_by_cmp dot_cmp q j.dot) (Some (holding j)) (maps.get (live_of cs) q)
+pub met_live : (cs : List LiveDot) (i : ℕ) (x j : LiveDot) (q : Dot) → Rise cs → IsCellAt cs j.dot i → x ≡ get_or cs i x → maps.get (live_of (set cs i j)) q ≡ cond (eq_by_cmp dot_cmp q j.dot) (Some (holding j)) (maps.get (live_of cs) q)
 met_live cs i x j q s at is =
     get_live_of (set cs i j) q (sorted_set cs i x j at.within is (at.here x ∙ ap (λ y. y.dot) (sym is)) ∙ s) ∙ ap (find dot_cmp q) (set_at cs i j x s at.within (at.here x))
     ∙ find-put dot_cmp dots_total q j.dot (holding j) (entries_of cs) ∙ ap (cond (eq_by_cmp dot_cmp q j.dot) (Some (holding j))) (sym (get_live_of cs q s))
@@ -149,6 +149,6 @@ pub absent : (cs : List LiveDot) (d : Dot) (i : ℕ) (known : sets.FinSet dot_cm
 absent cs d i known b s gap e = λ k. condition_at (gap_live cs d i s gap k) (sym e k)
 
 -- what is known of a present dot
-pub present : (cs : List LiveDot) (d : Dot) (i : ℕ) (x : LiveDot) (known : sets.FinSet dot_cmp) → Rise cs → IsAt cs d i → x ≡ get_or cs i x → condition_of (members_of cs known) d ≡ Some (Live x.member x.fields)
+pub present : (cs : List LiveDot) (d : Dot) (i : ℕ) (x : LiveDot) (known : sets.FinSet dot_cmp) → Rise cs → IsCellAt cs d i → x ≡ get_or cs i x → condition_of (members_of cs known) d ≡ Some (Live x.member x.fields)
 present cs d i x known s at is =
     ap (λ o. condition_at o (sets.contains known d)) (get_live_of cs d s ∙ found_at d cs i x s at.within (at.here x) ∙ ap (λ y. Some (holding y)) (sym is))

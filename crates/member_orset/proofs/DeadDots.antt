@@ -12,7 +12,7 @@ use Rattle.dots.specs.Values.{Dot}
 use Rattle.dots.specs.Orders.{dot_cmp}
 use Rattle.dots.specs.DotSets.{IsRunsOf, Run, in_run}
 use Rattle.dots.proofs.DotOrder.{dots_total, dots_exact}
-use Rattle.causal_context.specs.Contexts.{IsRun}
+use Rattle.causal_context.specs.Contexts.{IsRunWithinLimits}
 use Rattle.member_orset.specs.LiveDots.{dead_dots}
 use Rattle.member_orset.specs.Gathering.{AreToName, part_before}
 use Rattle.member_orset.proofs.SeenDots.{contains_part, known_zero, under}
@@ -33,9 +33,9 @@ past_end : (s t f l n : ℕ) → l < n → (nat_eq s t && (nat_le f n && nat_le 
 past_end s t f l n h = grind (arith, nat_tests)
 
 -- no known dot has a count past the greatest
-known_past : (runs : List Run) (known : sets.FinSet dot_cmp) (site n : ℕ) → IsRunsOf runs known → All IsRun runs → 2 ^ 40 < n → sets.contains known (at site n) ≡ false
+known_past : (runs : List Run) (known : sets.FinSet dot_cmp) (site n : ℕ) → IsRunsOf runs known → All IsRunWithinLimits runs → 2 ^ 40 < n → sets.contains known (at site n) ≡ false
 known_past runs known site n is limits h =
-    is.same (at site n) ∙ list_any_none (in_run (at site n)) runs (All-weaker IsRun (λ r. in_run (at site n) r ≡ false) (λ r l. past_end r.site site r.first r.last n (let most = l.most in omega arith)) runs limits)
+    is.same (at site n) ∙ list_any_none (in_run (at site n)) runs (All-weaker IsRunWithinLimits (λ r. in_run (at site n) r ≡ false) (λ r l. past_end r.site site r.first r.last n (let most = l.most in omega arith)) runs limits)
 
 module _ (known : sets.FinSet dot_cmp) (live : Dot → Bool) (site : ℕ) where
   abbrev dead : sets.FinSet dot_cmp
@@ -57,7 +57,7 @@ module _ (known : sets.FinSet dot_cmp) (live : Dot → Bool) (site : ℕ) where
   dead_unknown : (n : ℕ) → sets.contains known (at site n) ≡ false → sets.contains dead (at site n) ≡ false
   dead_unknown n h = dead_at n ∙ ap (λ b. b && not (live (at site n))) h
 
-  dead_past : (runs : List Run) (n : ℕ) → IsRunsOf runs known → All IsRun runs → 2 ^ 40 < n → sets.contains dead (at site n) ≡ false
+  dead_past : (runs : List Run) (n : ℕ) → IsRunsOf runs known → All IsRunWithinLimits runs → 2 ^ 40 < n → sets.contains dead (at site n) ≡ false
   dead_past runs n is limits h = dead_unknown n (known_past runs known site n is limits h)
 
   -- all of them are of the site
@@ -71,7 +71,7 @@ module _ (known : sets.FinSet dot_cmp) (live : Dot → Bool) (site : ℕ) where
       contains_part dead (site + 1) 0 q ∙ under (sets.contains dead q) _ true (λ t. before_next q.site q.count site (dead_site q t)) ∙ and-true (sets.contains dead q))
 
   -- so they are the dead ones up to the greatest count
-  pub dead_to_name : (runs : List Run) (last : ℕ) → IsRunsOf runs known → All IsRun runs → 2 ^ 40 ≤ last → AreToName known live [] site last dead
+  pub dead_to_name : (runs : List Run) (last : ℕ) → IsRunsOf runs known → All IsRunWithinLimits runs → 2 ^ 40 ≤ last → AreToName known live [] site last dead
   dead_to_name runs last is limits most = record {
     not_zero = dead_unknown 0 (known_zero runs known site is limits);
     same = λ n lo hi. dead_at n;

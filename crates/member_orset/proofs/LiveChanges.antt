@@ -15,8 +15,8 @@ use Rattle.member_orset.specs.Index.{Listed}
 use Rattle.member_orset.specs.declared.live_dot.LiveDot.{LiveDot}
 use Rattle.member_orset.specs.declared.placed.Placed.{Placed}
 use Rattle.member_orset.specs.CellIds.{IsNew}
-use Rattle.member_orset.specs.LiveLists.{IsAt, IsGap, holding, live_of}
-use Rattle.member_orset.specs.LiveStates.{HasTaken}
+use Rattle.member_orset.specs.LiveLists.{IsCellAt, IsGap, holding, live_of}
+use Rattle.member_orset.specs.LiveStates.{HasTakenDot}
 use Rattle.member_orset.specs.Index.{IsIndex, IsPlaceFor, Rises, is_listed, listed_cmp, listing}
 use Rattle.member_orset.specs.PlacedStates.{AreHeld, AreIndexed, IsPlaced, PlacedState, cells_at, cells_of, joined_with, listed_at}
 use Rattle.member_orset.proofs.CellLists.{same_place}
@@ -92,7 +92,7 @@ module _ (s t : PlacedState) (members : List Id) (x : AreIndexed s members) (i :
       }
 
 -- one dot less
-module _ (s : PlacedState) (members : List Id) (x : AreIndexed s members) (d : Dot) (i : ℕ) (p : Placed) (at : IsAt (cells_of s) d i) where
+module _ (s : PlacedState) (members : List Id) (x : AreIndexed s members) (d : Dot) (i : ℕ) (p : Placed) (at : IsCellAt (cells_of s) d i) where
   abbrev its : Id
   its = (get_or s.dots i p).id
 
@@ -153,7 +153,7 @@ module _ (s : PlacedState) (members : List Id) (x : AreIndexed s members) (d : D
         }
 
 -- one dot whose fields were joined with others
-module _ (s t : PlacedState) (members : List Id) (x : AreIndexed s members) (d : Dot) (i : ℕ) (p : Placed) (fields : DotFields) (at : IsAt (cells_of s) d i) where
+module _ (s t : PlacedState) (members : List Id) (x : AreIndexed s members) (d : Dot) (i : ℕ) (p : Placed) (fields : DotFields) (at : IsCellAt (cells_of s) d i) where
   abbrev own : Id
   own = (get_or s.dots i p).id
 
@@ -193,7 +193,7 @@ module _ (s t : PlacedState) (members : List Id) (x : AreIndexed s members) (d :
           ∙ met_members (cells_of s) i had joined q (rise s.dots s.held s.spent x.placed) at.within (same_place (cells_of s) i (no_cell d) had at.within) refl refl) x.index);
     }
 
-    pub has_taken : HasTaken (live_of (cells_of s)) d fields (live_of (cells_of t))
+    pub has_taken : HasTakenDot (live_of (cells_of s)) d fields (live_of (cells_of t))
     has_taken =
         let dot : d ≡ had.dot = at.here (no_cell d) in
         record {
@@ -201,7 +201,7 @@ module _ (s t : PlacedState) (members : List Id) (x : AreIndexed s members) (d :
           held = ap (maps.get (live_of (cells_of s))) dot ∙ its_live s.dots s.held s.spent x.placed own had had_here;
           now = maps.same_map dots_total dots_exact _ _ (λ q.
               ap (λ ds. maps.get (live_of ds) q) cs
-              ∙ met_live (cells_of s) i had joined q (rise s.dots s.held s.spent x.placed) (subst (λ e. IsAt (cells_of s) e i) dot at) (same_place (cells_of s) i (no_cell d) had at.within)
+              ∙ met_live (cells_of s) i had joined q (rise s.dots s.held s.spent x.placed) (subst (λ e. IsCellAt (cells_of s) e i) dot at) (same_place (cells_of s) i (no_cell d) had at.within)
               ∙ sym (maps.get-insert dots_total (live_of (cells_of s)) had.dot (holding joined) q))
               ∙ ap (λ e. maps.insert (live_of (cells_of s)) e (holding joined)) (sym dot);
         }

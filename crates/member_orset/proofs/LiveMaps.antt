@@ -14,8 +14,8 @@ use Rattle.dots.proofs.DotOrder.{dots_total, dots_exact}
 use Rattle.op_arena.specs.Ids.{Id}
 use Rattle.member_orset.specs.declared.live_dot.LiveDot.{LiveDot}
 use Rattle.member_orset.specs.declared.placed.Placed.{Placed}
-use Rattle.member_orset.specs.CellIds.{AreApart, IdMap, IdSet}
-use Rattle.member_orset.specs.LiveLists.{IsAt, IsGap, entries_of, holding, live_of}
+use Rattle.member_orset.specs.CellIds.{AreIdsApart, IdMap, IdSet}
+use Rattle.member_orset.specs.LiveLists.{IsCellAt, IsGap, entries_of, holding, live_of}
 use Rattle.member_orset.specs.PlacedStates.{ArePlaced, CellMap, cells_at, ids_of}
 use Rattle.member_orset.specs.PlacedLists.{id_entries}
 use Rattle.member_orset.proofs.CellLists.{found_at}
@@ -92,16 +92,16 @@ module _ (dots : List Placed) (held : CellMap) (spent : IdSet) (a : ArePlaced do
   its_live id cell e = live_found cell.dot ∙ ap (option_and_then (λ i. option_map holding (maps.get held i))) (its_id id cell e) ∙ ap (option_map holding) e
 
   -- of a dot that is placed
-  pub dot_here : (d : Dot) (i : ℕ) (p : Placed) → IsAt cells d i → d ≡ (get_or dots i p).dot
+  pub dot_here : (d : Dot) (i : ℕ) (p : Placed) → IsCellAt cells d i → d ≡ (get_or dots i p).dot
   dot_here d i p at = at.here (no_cell d) ∙ dot_there dots held a.there i p (no_cell d) (let w = at.within in omega (arith, as_long dots held a.there))
 
-  pub within_dots : (d : Dot) (i : ℕ) → IsAt cells d i → i < length dots
+  pub within_dots : (d : Dot) (i : ℕ) → IsCellAt cells d i → i < length dots
   within_dots d i at = let w = at.within in omega (arith, as_long dots held a.there)
 
-  pub id_here : (d : Dot) (i : ℕ) (p : Placed) → IsAt cells d i → maps.get (ids_by dots) d ≡ Some (get_or dots i p).id
+  pub id_here : (d : Dot) (i : ℕ) (p : Placed) → IsCellAt cells d i → maps.get (ids_by dots) d ≡ Some (get_or dots i p).id
   id_here d i p at = get_ids_by d ∙ rising.found_at dot_cmp dots_total dots_exact (λ p. p.dot) (λ p. p.id) d dots i p a.sorted (within_dots d i at) (dot_here d i p at)
 
-  pub live_here : (d : Dot) (i : ℕ) (c : LiveDot) → IsAt cells d i → maps.get (live_of cells) d ≡ Some (holding (get_or cells i c))
+  pub live_here : (d : Dot) (i : ℕ) (c : LiveDot) → IsCellAt cells d i → maps.get (live_of cells) d ≡ Some (holding (get_or cells i c))
   live_here d i c at = get_live_of cells d rise ∙ found_at d cells i c rise at.within (at.here c)
 
   -- and of one that isn't
@@ -122,7 +122,7 @@ module _ (dots : List Placed) (held : CellMap) (spent : IdSet) (a : ArePlaced do
       split None f = refl
       split (Some id) f = some (maps.get held id) (f id refl)
 
-  pub apart : AreApart (ids_by dots) spent
+  pub apart : AreIdsApart (ids_by dots) spent
   apart = record {
     one = λ dot other id e f. same_some dot other (sym (its_cell dot id e) ∙ its_cell other id f);
     unspent = λ dot id e. found_all (λ i. sets.contains spent i ≡ false) dots dot id a.unspent (sym (get_ids_by dot) ∙ e);

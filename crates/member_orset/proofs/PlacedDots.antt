@@ -15,7 +15,7 @@ use Rattle.dots.proofs.DotOrder.{dots_total, dots_exact}
 use Rattle.general_lemmas.proofs.ItemOrder.{units}
 use Rattle.member_orset.specs.declared.live_dot.LiveDot.{LiveDot}
 use Rattle.member_orset.specs.declared.placed.Placed.{Placed}
-use Rattle.member_orset.specs.LiveLists.{IsAt, IsGap, entries_of}
+use Rattle.member_orset.specs.LiveLists.{IsCellAt, IsGap, entries_of}
 use Rattle.member_orset.specs.PlacedStates.{AreHeld, CellMap, cells_at, ids_of}
 use Rattle.member_orset.specs.PlacedLists.{id_entries}
 use Rattle.member_orset.proofs.GivenItems.{given_at, length_given}
@@ -90,7 +90,7 @@ module _ (dots : List Placed) (held : CellMap) (there : AreThere held dots) wher
   cells_rise s = sym (sorted_keys (entries_of cells)) ∙ ap (λ ks. is_sorted dot_cmp (units ks)) (keys_are dots held there) ∙ sorted_keys (id_entries dots) ∙ s
 
   -- a dot's place, and its gap, among the dots is that among the cells
-  pub at_cells : (d : Dot) (i : ℕ) (p : Placed) → i < length dots → Ahead d dots i → d ≡ (get_or dots i p).dot → IsAt cells d i
+  pub at_cells : (d : Dot) (i : ℕ) (p : Placed) → i < length dots → Ahead d dots i → d ≡ (get_or dots i p).dot → IsCellAt cells d i
   at_cells d i p l a e = record {
     within = omega (arith, as_long);
     before = λ k c lo hi. ap (λ x. is_lt (dot_cmp x d)) (dot_there k p c (omega arith)) ∙ a k p lo hi;

@@ -16,7 +16,7 @@ use Rattle.dots.proofs.DotOrder.{dots_total, dots_exact, same_dot}
 use Rattle.dots.proofs.OneMoreDot.{dot_before, run_count_insert}
 use Rattle.dots.proofs.Runs.{contains_set_of}
 use Rattle.general_lemmas.proofs.TruthTables.{or_swap}
-use Rattle.causal_context.specs.Contexts.{IsRun}
+use Rattle.causal_context.specs.Contexts.{IsRunWithinLimits}
 use Rattle.member_orset.proofs.DotTests.{one_dot}
 use Rattle.member_orset.specs.Reads.{seen_dots}
 use Rattle.member_orset.specs.Gathering.{AreToName, IsGreatest, is_given, is_to_name, part_before, runs_after}
@@ -231,8 +231,8 @@ no_zero : (s t f l : ℕ) → 1 ≤ f → (nat_eq s t && (nat_le f 0 && nat_le 0
 no_zero s t f l h = grind (arith, nat_tests)
 
 -- no known dot has the count 0
-pub known_zero : (runs : List Run) (known : Dots) (site : ℕ) → IsRunsOf runs known → All IsRun runs → sets.contains known (at site 0) ≡ false
-known_zero runs known site is limits = is.same (at site 0) ∙ list_any_none (in_run (at site 0)) runs (All-weaker IsRun (λ r. in_run (at site 0) r ≡ false) (λ r l. no_zero r.site site r.first r.last l.least) runs limits)
+pub known_zero : (runs : List Run) (known : Dots) (site : ℕ) → IsRunsOf runs known → All IsRunWithinLimits runs → sets.contains known (at site 0) ≡ false
+known_zero runs known site is limits = is.same (at site 0) ∙ list_any_none (in_run (at site 0)) runs (All-weaker IsRunWithinLimits (λ r. in_run (at site 0) r ≡ false) (λ r l. no_zero r.site site r.first r.last l.least) runs limits)
 
 module _ (known : Dots) (live : Dot → Bool) (given : List Dot) (site last : ℕ) (g : IsGreatest given site last) where
   abbrev seen : Dots

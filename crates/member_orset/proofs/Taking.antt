@@ -15,7 +15,7 @@ use Rattle.member_orset.specs.declared.live_dot.LiveDot.{LiveDot}
 use Rattle.member_orset.specs.CellIds.{IsNew}
 use Rattle.member_orset.specs.Joining.{IsTakenIn, holding_with}
 use Rattle.member_orset.specs.LiveLists.{holding}
-use Rattle.member_orset.specs.LiveStates.{HasTaken, LiveState}
+use Rattle.member_orset.specs.LiveStates.{HasTakenDot, LiveState}
 use Rattle.member_orset.specs.Members.{Holding}
 use Rattle.member_orset.proofs.Asserting.{len_again, len_one_more}
 use Rattle.member_orset.proofs.DotTests.{one_dot}
@@ -23,7 +23,7 @@ use Rattle.member_orset.proofs.IdSteps.{grown_same}
 use Rattle.member_orset.proofs.LiveIds.{unnamed}
 
 -- where its dot is live here too
-pub taken_joined : (known : Dot → Bool) (s t : LiveState) (c : LiveDot) → HasTaken s.live c.dot c.fields t.live → t.ids ≡ s.ids → t.spent ≡ s.spent → s.room ≤ t.room → IsTakenIn known s c t
+pub taken_joined : (known : Dot → Bool) (s t : LiveState) (c : LiveDot) → HasTakenDot s.live c.dot c.fields t.live → t.ids ≡ s.ids → t.spent ≡ s.spent → s.room ≤ t.room → IsTakenIn known s c t
 taken_joined known s t c h ids spent room =
     let x : Holding = (h.before.0, fields_joined h.before.1 c.fields) in
     record {

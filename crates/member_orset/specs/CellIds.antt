@@ -27,7 +27,7 @@ abbrev pub AreOfTheDead : set.FinSet dot_cmp → (Dot → Bool) → IdSet → Ty
 AreOfTheDead known live spent = set.len spent ≤ set.len (dead_among known live)
 
 -- no two dots have one id, and none that is spent
-pub record AreApart (ids : IdMap) (spent : IdSet) : Type 0 where
+pub record AreIdsApart (ids : IdMap) (spent : IdSet) : Type 0 where
   pub one : (dot other : Dot) (id : Id) → map.get ids dot ≡ Some id → map.get ids other ≡ Some id → dot ≡ other
   pub unspent : (dot : Dot) (id : Id) → map.get ids dot ≡ Some id → set.contains spent id ≡ false
 

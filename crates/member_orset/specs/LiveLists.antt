@@ -39,7 +39,7 @@ abbrev pub members_of : List LiveDot → set.FinSet dot_cmp → Members
 members_of cells known = record { known = known; live = live_of cells; ids = maps.empty; spent = set.empty; retired = 0; cell_room = 0; run_room = 0 }
 
 -- a dot's cell stands at a place
-pub record IsAt (cells : List LiveDot) (dot : Dot) (place : ℕ) : Type 0 where
+pub record IsCellAt (cells : List LiveDot) (dot : Dot) (place : ℕ) : Type 0 where
   pub within : place < length cells
   pub before : AllWithin (λ c. is_lt (dot_cmp c.dot dot) ≡ true) cells 0 place
   pub here : (d : LiveDot) → dot ≡ (slice_index_or cells place d).dot

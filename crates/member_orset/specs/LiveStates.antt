@@ -9,7 +9,7 @@ use Rattle.dots.specs.DotSets.{dot_code}
 use Rattle.operations.specs.Codes.{member_code, fields_code}
 use Rattle.operations.specs.Conditions.{DotFields, FieldsAgree, fields_joined}
 use Rattle.op_arena.specs.Ids.{Id, id_code}
-use Rattle.member_orset.specs.CellIds.{AreApart, IdMap, IdSet, retired_of}
+use Rattle.member_orset.specs.CellIds.{AreIdsApart, IdMap, IdSet, retired_of}
 use Rattle.member_orset.specs.Members.{Holding, most_places}
 
 -- the live dots with member and fields, the id of each, the ids of dots that are live no more, and for how many live dots
@@ -32,7 +32,7 @@ live_code =
 -- again they are few enough; and each of those places has spent an id in each of its generations
 pub record AreLive (last : ℕ) (s : LiveState) : Type 0 where
   pub named : (dot : Dot) → map.contains_key s.ids dot ≡ map.contains_key s.live dot
-  pub apart : AreApart s.ids s.spent
+  pub apart : AreIdsApart s.ids s.spent
   pub places : retired_of last s.spent + map.len s.live ≤ most_places
   pub worn : retired_of last s.spent * (last + 1) ≤ set.len s.spent
 
@@ -54,7 +54,7 @@ pub record TakesFields (live : map.FinMap dot_cmp Holding) (dot : Dot) (fields :
   pub agree : FieldsAgree before.1 fields
 
 -- its fields are joined with them
-pub record HasTaken (live : map.FinMap dot_cmp Holding) (dot : Dot) (fields : DotFields) (after : map.FinMap dot_cmp Holding) : Type 0 where
+pub record HasTakenDot (live : map.FinMap dot_cmp Holding) (dot : Dot) (fields : DotFields) (after : map.FinMap dot_cmp Holding) : Type 0 where
   pub before : Holding
   pub held : map.get live dot ≡ Some before
   pub now : after ≡ map.insert live dot (before.0, fields_joined before.1 fields)

@@ -18,7 +18,7 @@ use Rattle.dots.specs.WithinLimits.{AreDots}
 use Rattle.op_arena.specs.Ids.{Id, id_code}
 use Rattle.member_orset.specs.declared.join_fault.JoinFault.{JoinFault}
 use Rattle.member_orset.specs.declared.places.TheConstants.{LAST_GENERATION}
-use Rattle.member_orset.specs.CellIds.{AreApart, AreOfTheDead, IdMap, IdSet, IdsFollow, retired_of}
+use Rattle.member_orset.specs.CellIds.{AreIdsApart, AreOfTheDead, IdMap, IdSet, IdsFollow, retired_of}
 
 -- the member and the fields of a live dot
 abbrev pub Holding : Type 0
@@ -114,7 +114,7 @@ pub record IsWithinLimits (s : Members) : Type 0 where
   pub known : AreDots s.known
   pub held : (dot : Dot) (h : Holding) → map.get s.live dot ≡ Some h → IsLiveIn s dot h
   pub named : (dot : Dot) → map.contains_key s.ids dot ≡ map.contains_key s.live dot
-  pub apart : AreApart s.ids s.spent
+  pub apart : AreIdsApart s.ids s.spent
   pub worn : s.retired ≡ retired_of LAST_GENERATION s.spent
 
 -- what is read of live dots: they are the visible ones

@@ -12,7 +12,7 @@ ghost use Rattle.member_orset.specs.CellIds.{IsNew, retired_of};
 ghost use Rattle.member_orset.specs.Members.{IsPresentIn, most_places, view_of};
 ghost use Rattle.member_orset.specs.Reads.{cell_read};
 ghost use Rattle.member_orset.specs.LiveLists.{live_of};
-ghost use Rattle.member_orset.specs.LiveStates.{AreLive, HasId, HasTaken, TakesFields, spent_with};
+ghost use Rattle.member_orset.specs.LiveStates.{AreLive, HasId, HasTakenDot, TakesFields, spent_with};
 ghost use Rattle.member_orset.specs.PlacedLists.{id_entries};
 ghost use Rattle.member_orset.specs.PlacedStates.{IsPlaced, cells_of};
 
@@ -218,7 +218,7 @@ impl<const LAST: u32> LiveCells<LAST> {
     // Joins the fields of a live dot with others that agree with them.
     pub(crate) fn join_fields(&mut self, dot: Dot, fields: Fields)
         requires { TakesFields self.old.live dot fields }
-        ensures live { HasTaken self.old.live dot fields self.new.live }
+        ensures live { HasTakenDot self.old.live dot fields self.new.live }
         ensures ids { self.new.ids ≡ self.old.ids }
         ensures spent { self.new.spent ≡ self.old.spent }
         ensures room { self.old.room ≤ self.new.room }

@@ -11,7 +11,7 @@ ghost use Rattle.op_arena.specs.Ids.{id_of};
 ghost use Rattle.member_orset.specs.declared.live_dot.LiveDot.{LiveDot as live_dot};
 ghost use Rattle.member_orset.specs.declared.placed.Placed.{Placed as placed_dot};
 ghost use Rattle.member_orset.specs.CellIds.{retired_of};
-ghost use Rattle.member_orset.specs.LiveLists.{IsAt, IsGap, entries_of};
+ghost use Rattle.member_orset.specs.LiveLists.{IsCellAt, IsGap, entries_of};
 ghost use Rattle.member_orset.specs.Members.{most_places};
 ghost use Rattle.member_orset.specs.PlacedStates.{IsPlaced, cells_of, joined_with};
 ghost use Rattle.member_orset.specs.PlacedLists.{id_entries};
@@ -136,7 +136,7 @@ impl<const LAST: u32> PlacedCells<LAST> {
 
     // The place of a dot, or, where it isn't placed, the place where it would go in.
     pub(crate) fn find(&self, dot: Dot) -> Result<usize, usize>
-        ensures found { IfOk result (IsAt (cells_of self.now) dot) }
+        ensures found { IfOk result (IsCellAt (cells_of self.now) dot) }
         ensures missed { IfErr result (IsGap (cells_of self.now) dot) }
         ensures valid { IsPlaced self.now }
     {

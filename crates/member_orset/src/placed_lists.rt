@@ -4,7 +4,7 @@ ghost use Rattle.std.specs.List.{AllWithin, count_by};
 ghost use Rattle.std.specs.Ordering.{is_lt};
 ghost use Rattle.dots.specs.Orders.{dot_cmp};
 ghost use Rattle.dots.specs.DotSets.{AreApart, first_dot, in_run, in_runs, last_dot, next_dot};
-ghost use Rattle.causal_context.specs.Contexts.{IsRun};
+ghost use Rattle.causal_context.specs.Contexts.{IsRunWithinLimits};
 ghost use Rattle.member_orset.specs.PlacedLists.{AreRising, IsNextIn};
 
 use crate::placed::Placed;
@@ -65,7 +65,7 @@ pub(crate) fn count_outside(dots: &[Placed], runs: &[Run]) -> usize
 // The first live dot of a site whose count is from a first to a last one.
 pub(crate) fn next_in(dots: &[Placed], site: SiteId, first: u64, last: u64) -> Option<Dot>
     requires rising { AreRising dots.now }
-    requires counts { IsRun (record { site = site; first = first; last = last }) }
+    requires counts { IsRunWithinLimits (record { site = site; first = first; last = last }) }
     ensures { IsNextIn dots.now site first last result }
 {
     let from = Dot::new(site, first)?;

@@ -8,7 +8,7 @@ ghost use Rattle.std.specs.FinMap as map;
 ghost use Rattle.std.specs.FinSet as set;
 ghost use Rattle.dots.specs.Orders.{dot_cmp};
 ghost use Rattle.dots.specs.DotSets.{AreApart, IsRunsOf, in_runs};
-ghost use Rattle.causal_context.specs.Contexts.{IsRun};
+ghost use Rattle.causal_context.specs.Contexts.{IsRunWithinLimits};
 ghost use Rattle.causal_context.specs.RunLists.{is_below};
 ghost use Rattle.member_orset.specs.PlacedLists.{AreRising, is_placed};
 ghost use Rattle.member_orset.specs.Gathering.{AreToName, IsGathered, IsPiece, is_given};
@@ -272,7 +272,7 @@ pub(crate) fn gather_site(
     last: u64,
 )
     requires apart { AreApart runs.now }
-    requires counts { All IsRun runs.now }
+    requires counts { All IsRunWithinLimits runs.now }
     requires rise { AreRising dots.now }
     requires limit { last ≤ MOST_COUNT }
     requires few { gathered.old.runs ≤ site * 2 ^ 41 }

@@ -8,7 +8,7 @@ use Rattle.std.proofs.Common.{inl, inr}
 use Rattle.std.proofs.Math.Nat.{pow-succ', pow-le-pow_right, one-le-pow}
 use Rattle.std.proofs.lemmas.List.{length-set}
 use Rattle.op_arena.specs.Columns.{Column, column}
-use Rattle.op_arena.specs.Sizes.{size, total, all_items, IsLaid, IsAt}
+use Rattle.op_arena.specs.Sizes.{size, total, all_items, IsLaid, IsPlaceOf}
 
 -- how many values so many chunks hold from this one on
 abbrev pub span : ℕ → ℕ → ℕ
@@ -53,7 +53,7 @@ next_size (suc m) capacity s e (inl (none, is)) = let some : 1 ≤ 2 ^ m = one-l
 next_size (suc m) capacity s e (inr (some, is)) = (is ∙ e, omega (arith, total_next m, e, is))
 
 -- past the first chunk, the highest bit of an index tells its chunk
-pub located : (i p one : ℕ) → 1 ≤ i → i < 2 ^ 64 → p ≡ 63 - count_leading_zeros 64 i → one ≡ (1 * 2 ^ p) % 2 ^ 64 → (one ≤ i) × IsAt i (p + 1) (i - one)
+pub located : (i p one : ℕ) → 1 ≤ i → i < 2 ^ 64 → p ≡ 63 - count_leading_zeros 64 i → one ≡ (1 * 2 ^ p) % 2 ^ 64 → (one ≤ i) × IsPlaceOf i (p + 1) (i - one)
 located i p one large fits is bit =
     let top = leading_top 64 i (omega arith) fits in let j = top.0 in let same : p ≡ j = omega (arith, top.1, is) in
     let power : one ≡ 2 ^ j = bit ∙ one_shl p 64 (omega (arith, top.1, same)) ∙ ap (λ m. 2 ^ m) same in
@@ -172,13 +172,13 @@ module _ {X : Type 0} where
       let there : k + suc d ≡ suc k + d = omega arith in found_room (suc k) (n - size k) d j cs c laid.2 (subst (λ m. j < size m) there small) (omega (arith, end)) e
 
   -- the same at an index, from the first chunk on
-  pub there : (i d j : ℕ) (cs : List (Column X)) → IsAt i d j → i < total (length cs) → d < length cs
+  pub there : (i d j : ℕ) (cs : List (Column X)) → IsPlaceOf i d j → i < total (length cs) → d < length cs
   there i d j cs at lt = chunk_there 0 d j cs (omega (arith, span_total d, at.0, span_total (length cs), lt))
 
   pub length_within : (n : ℕ) (cs : List (Column X)) → IsLaid 0 n cs → (length (all_items cs) ≡ n) × (n ≤ total (length cs))
   length_within n cs laid = (length_all 0 n cs laid, omega (arith, within_span 0 n cs laid, span_total (length cs)))
 
-  module _ (n i d j : ℕ) (cs : List (Column X)) (c : Column X) (laid : IsLaid 0 n cs) (at : IsAt i d j) where
+  module _ (n i d j : ℕ) (cs : List (Column X)) (c : Column X) (laid : IsLaid 0 n cs) (at : IsPlaceOf i d j) where
     small : j < size (0 + d)
     small = let e : d ≡ 0 + d = omega arith in subst (λ m. j < size m) e at.1
 

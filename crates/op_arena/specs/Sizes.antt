@@ -13,8 +13,8 @@ total zero = 0
 total (suc chunks) = 2 ^ chunks
 
 -- the value at the index is at this place of this chunk
-abbrev pub IsAt : ℕ → ℕ → ℕ → Type 0
-IsAt index chunk place = (total chunk + place ≡ index) × (place < size chunk)
+abbrev pub IsPlaceOf : ℕ → ℕ → ℕ → Type 0
+IsPlaceOf index chunk place = (total chunk + place ≡ index) × (place < size chunk)
 
 module _ {X : Type 0} where
   -- the values of all chunks, one chunk after another

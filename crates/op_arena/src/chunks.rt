@@ -3,7 +3,7 @@ ghost use Rattle.std.specs.Prelude.{◌≡◌, ℕ, ◌+◌, ◌^◌, ◌<◌, �
 ghost use Rattle.std.specs.Prelude.{slice_get, IsOk, OnOk};
 ghost use Rattle.std.specs.Borrow.{sem};
 ghost use Rattle.op_arena.specs.Columns.{column};
-ghost use Rattle.op_arena.specs.Sizes.{IsAt};
+ghost use Rattle.op_arena.specs.Sizes.{IsPlaceOf};
 
 use crate::chunk::Chunk;
 use std::alloc::{AllocError, Global};
@@ -39,7 +39,7 @@ impl<T> Model for Chunks<T> {
 
 // The chunk that the value at `index` is in, and its place there.
 fn locate(index: usize) -> (usize, usize)
-    ensures { IsAt index result.0 result.1 }
+    ensures { IsPlaceOf index result.0 result.1 }
 {
     if index < FIRST {
         return (0, index);

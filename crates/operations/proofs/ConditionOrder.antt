@@ -7,7 +7,7 @@ use Rattle.std.proofs.lemmas.Cmp.{tied_itself}
 use Rattle.dots.specs.declared.member.Member.{Member}
 use Rattle.dots.specs.Values.{Stamp}
 use Rattle.dots.specs.Orders.{stamp_cmp}
-use Rattle.operations.specs.Registers.{Entry, Agree, IsBelow, join_of}
+use Rattle.operations.specs.Registers.{Entry, RegistersAgree, IsBelow, join_of}
 use Rattle.general_lemmas.specs.Joins.{IsOrder, IsLeastAbove}
 use Rattle.operations.specs.Conditions.{DotFields, Condition, Live, Dead, FieldsAgree, ConditionsAgree, FieldsBelow, IsConditionBelow, fields_joined, condition_joined}
 use Rattle.operations.proofs.RegisterLaws.{stamps_total, exact_stamps}
@@ -46,7 +46,7 @@ module _ {T : Type 0} where
       by Equal e = inl refl
       by Greater e = inl refl
 
-  pub other_below_joined : (x y : Option (Entry T)) → Agree x y → IsBelow y (join_of x y)
+  pub other_below_joined : (x y : Option (Entry T)) → RegistersAgree x y → IsBelow y (join_of x y)
   other_below_joined None y h = below_self y
   other_below_joined (Some a) None h = tt
   other_below_joined (Some a) (Some b) h = by (stamp_cmp a.stamp b.stamp) refl
@@ -71,7 +71,7 @@ module _ {T : Type 0} where
   pub registers_ordered : IsOrder (IsBelow {T = T})
   registers_ordered = record { reflexive = below_self; transitive = below_through; antisymmetric = below_both_ways }
 
-  pub registers_least : (x y : Option (Entry T)) → Agree x y → IsLeastAbove IsBelow x y (join_of x y)
+  pub registers_least : (x y : Option (Entry T)) → RegistersAgree x y → IsLeastAbove IsBelow x y (join_of x y)
   registers_least x y h = record { first = below_joined x y; second = other_below_joined x y h; least = joined_least x y }
 
 pub fields_below_self : (x : DotFields) → FieldsBelow x x

@@ -9,7 +9,7 @@ use Rattle.std.proofs.lemmas.List.Folds.{find-append, list_any-append}
 use Rattle.dots.specs.declared.calls.Calls.{Calls}
 use Rattle.dots.specs.declared.member.Member.{Member}
 use Rattle.dots.specs.Values.{Dot}
-use Rattle.operations.specs.Registers.{Entry, Agree, join_of}
+use Rattle.operations.specs.Registers.{Entry, RegistersAgree, join_of}
 use Rattle.operations.specs.Conditions.{Condition, Live, Dead, DotFields, FieldsAgree, ConditionsAgree, condition_in, condition_joined, fields_in, fields_joined}
 use Rattle.operations.specs.Operations.{Operation, Field, asserted_by, penalty_field, pause_field, label_field}
 use Rattle.operations.specs.Knowledge.{Knowledge, IsConsistent, OneValue, all_asserted, asserts, field_of, is_asserted, is_dot, is_named, known_dots, latest_of, member_of, names, settings_of}
@@ -148,7 +148,7 @@ condition_both k l dot =
 
 -- ---- agreement
 
-fields_agree : {T : Type 0} (field : Field T) (k l : Knowledge) (dot : Dot) → OneValue field (k ++ l) → Agree (field_of field k dot) (field_of field l dot)
+fields_agree : {T : Type 0} (field : Field T) (k l : Knowledge) (dot : Dot) → OneValue field (k ++ l) → RegistersAgree (field_of field k dot) (field_of field l dot)
 fields_agree field k l dot one a b e f stamps =
     one dot a b
     (subst (λ es. Contains es a) (sym (settings_both field k l dot)) (Contains-append_left (settings_of field k dot) (settings_of field l dot) a (latest_in (settings_of field k dot) a e)))

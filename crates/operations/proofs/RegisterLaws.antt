@@ -9,7 +9,7 @@ use Rattle.std.proofs.lemmas.Cmp.{nat_cmp_total, on_total, then_total, tied_itse
 use Rattle.std.proofs.lemmas.Map.Lookups.{exact_unsigned, exact_pairs}
 use Rattle.dots.specs.Values.{Stamp}
 use Rattle.dots.specs.Orders.{stamp_cmp}
-use Rattle.operations.specs.Registers.{Entry, Agree, KeepsLatest, latest, join_of}
+use Rattle.operations.specs.Registers.{Entry, RegistersAgree, KeepsLatest, latest, join_of}
 use Rattle.general_lemmas.proofs.TruthTables.{less_of}
 
 -- stamps are in a total order
@@ -38,7 +38,7 @@ chosen a b Less h = refl
 chosen a b Equal h = h refl
 chosen a b Greater h = refl
 
-pub joined_comm : {T : Type 0} (x y : Option (Entry T)) → Agree x y → join_of x y ≡ join_of y x
+pub joined_comm : {T : Type 0} (x y : Option (Entry T)) → RegistersAgree x y → join_of x y ≡ join_of y x
 joined_comm None None h = refl
 joined_comm None (Some b) h = refl
 joined_comm (Some a) None h = refl
@@ -107,7 +107,7 @@ joined_of_either (Some a) (Some b) e h = elim (latest_of_either a b) [
 ]
 
 -- what agrees with both agrees with their join
-pub joined_agrees : {T : Type 0} (x y z : Option (Entry T)) → Agree x z → Agree y z → Agree (join_of x y) z
+pub joined_agrees : {T : Type 0} (x y z : Option (Entry T)) → RegistersAgree x z → RegistersAgree y z → RegistersAgree (join_of x y) z
 joined_agrees x y z f g a c p q = elim (joined_of_either x y a p) [
   | inl h ↦ f a c h q
   | inr h ↦ g a c h q

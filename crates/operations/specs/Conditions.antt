@@ -9,7 +9,7 @@ use Rattle.dots.specs.declared.label.Label.{Label}
 use Rattle.dots.specs.declared.member.Member.{Member}
 use Rattle.dots.specs.Values.{Dot, PauseState}
 use Rattle.dots.specs.Orders.{dot_cmp}
-use Rattle.operations.specs.Registers.{Entry, Agree, InConflict, IsBelow, join_of}
+use Rattle.operations.specs.Registers.{Entry, RegistersAgree, InConflict, IsBelow, join_of}
 use Rattle.dots.specs.CountedCalls.{is_zero}
 use Rattle.operations.specs.Totals.{Key, Entries, totals_of}
 use Rattle.operations.specs.Operations.{penalty_field, pause_field, label_field}
@@ -41,9 +41,9 @@ condition_in k dot = if is_named k dot then Some Dead else option_map (λ member
 
 -- fields agree where each of them has one value under one stamp
 pub record FieldsAgree (x y : DotFields) : Type 0 where
-  pub penalty : Agree x.penalty y.penalty
-  pub pause : Agree x.pause y.pause
-  pub label : Agree x.label y.label
+  pub penalty : RegistersAgree x.penalty y.penalty
+  pub pause : RegistersAgree x.pause y.pause
+  pub label : RegistersAgree x.label y.label
 
 -- some field has one stamp and two values
 abbrev pub FieldsInConflict : DotFields → DotFields → Type 0

@@ -12,8 +12,8 @@ pub record Entry (T : Type 0) : Type 0 where
   pub value : T
 
 -- one stamp has one value in both
-abbrev pub Agree : {T : Type 0} → Option (Entry T) → Option (Entry T) → Type 0
-Agree {T} x y = (a b : Entry T) → x ≡ Some a → y ≡ Some b → a.stamp ≡ b.stamp → a.value ≡ b.value
+abbrev pub RegistersAgree : {T : Type 0} → Option (Entry T) → Option (Entry T) → Type 0
+RegistersAgree {T} x y = (a b : Entry T) → x ≡ Some a → y ≡ Some b → a.stamp ≡ b.stamp → a.value ≡ b.value
 
 -- both have one stamp, and two values under it
 pub record InConflict {T : Type 0} (x y : Option (Entry T)) : Type 0 where

@@ -18,7 +18,7 @@ use Rattle.operations.specs.Totals.{Entries, Key, key_cmp, totals_of}
 use Rattle.dots.proofs.DotOrder.{dots_total}
 use Rattle.general_lemmas.proofs.Membership.{any_in, in_any}
 use Rattle.operations.proofs.TotalsLaws.{keys_total, one_key}
-use Rattle.causal_context.specs.Contexts.{IsRun}
+use Rattle.causal_context.specs.Contexts.{IsRunWithinLimits}
 use Rattle.member_orset.specs.Members.{Holding, Members}
 use Rattle.member_orset.proofs.DotTests.{one_dot}
 use Rattle.site_totals.specs.Raising.{number_of}
@@ -125,7 +125,7 @@ run_has dot r h = grind (arith, nat_tests)
 last_in : (r : Run) (site : ℕ) → r.site ≡ site → r.first ≤ r.last → in_run (record { site = site; count = r.last }) r ≡ true
 last_in r site e h = grind (arith, nat_tests)
 
-pub dot_past : (site last : ℕ) (runs : List Run) (dots : set.FinSet dot_cmp) → IsRunsOf runs dots → All IsRun runs
+pub dot_past : (site last : ℕ) (runs : List Run) (dots : set.FinSet dot_cmp) → IsRunsOf runs dots → All IsRunWithinLimits runs
     → Any (λ (r : Run). (r.site ≡ site) × (last < r.last)) runs ↔ HasDotPast site last dots
 dot_past site last runs dots is limits = (
   λ a.
@@ -143,7 +143,7 @@ dot_past site last runs dots is limits = (
 )
   where
     ordered : (r : Run) → Contains runs r → r.first ≤ r.last
-    ordered r here = (subst IsRun here.2 (limits here.0 r here.1)).ordered
+    ordered r here = (subst IsRunWithinLimits here.2 (limits here.0 r here.1)).ordered
 
 -- ---- tests one after the other
 

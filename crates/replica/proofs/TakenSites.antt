@@ -19,7 +19,7 @@ use Rattle.member_orset.specs.declared.join_fault.JoinFault.TheVariants as join
 use Rattle.member_orset.specs.Members.{Holding, IsWithinLimits, cells_joined, condition_at, condition_of, runs_joined}
 use Rattle.delta.specs.DeltaStates as deltas
 use Rattle.delta.specs.DeltaStates.{DeltaState}
-use Rattle.delta.specs.Joining.{Agree, IsJoinOf, IsPrepared, IsRefusedJoin}
+use Rattle.delta.specs.Joining.{AreInAgreement, IsJoinOf, IsPrepared, IsRefusedJoin}
 use Rattle.delta.specs.Standing.{IsDeltaOf}
 use Rattle.delta.proofs.StandingDeltas.{cells_both, runs_both}
 use Rattle.replica.specs.declared.take_fault.TakeFault.{TakeFault}
@@ -30,7 +30,7 @@ use Rattle.replica.specs.Site.{SiteState}
 use Rattle.replica.specs.Standing.{StandsFor}
 use Rattle.replica.specs.Steps as steps
 use Rattle.replica.specs.Steps.{Outcome, SiteKnowledge, Taken}
-use Rattle.replica.specs.Taking.{HasDotPast, HasNoneLater, HasStampPast, HasTaken, IsMeantFault, IsNotMine, IsRefusedTake, IsWrittenPast, MayHear, MayTake, SpeaksOfStrangeQueue, take_fault_of}
+use Rattle.replica.specs.Taking.{HasDotPast, HasNoneLater, HasStampPast, HasTakenDelta, IsMeantFault, IsNotMine, IsRefusedTake, IsWrittenPast, MayHear, MayTake, SpeaksOfStrangeQueue, take_fault_of}
 use Rattle.replica.proofs.Below.{below_joined, below_through, unchanged_condition}
 use Rattle.replica.proofs.KeptJoins.{dots_joined, queues_joined, stamps_joined}
 use Rattle.replica.proofs.StandingSites.{equal_same, taken_stands}
@@ -74,7 +74,7 @@ in_queues n d none = record {
     at q within = omega arith
 
 -- what a replica keeps stays where it takes what it may hear
-pub taken_kept : (s : SiteState) (d state : DeltaState) → IsKept s → MayHear s d → Agree s.state d → IsJoinOf s.state d state
+pub taken_kept : (s : SiteState) (d state : DeltaState) → IsKept s → MayHear s d → AreInAgreement s.state d → IsJoinOf s.state d state
     → IsKept (record { site = s.site; names = s.names; state = state; pending = s.pending; last_count = s.last_count; last_time = s.last_time; frames = s.frames })
 taken_kept s d state kept hears agree j = record {
   own_dots = dots_joined s.site s.last_count s.state d state kept.own_dots (up_to s.site s.last_count d (λ past. hears.own (inl (inl past)))) j;
@@ -97,7 +97,7 @@ agrees_none (Some Dead) = tt
 agrees_none (Some (Live m f)) = tt
 
 -- what a delta has prepared agrees with it, also where nothing is known
-pub prepared_agrees : (state d : DeltaState) → IsWithinLimits d.members → IsPrepared state d → Agree state d
+pub prepared_agrees : (state d : DeltaState) → IsWithinLimits d.members → IsPrepared state d → AreInAgreement state d
 prepared_agrees state d limits ready dot = by (map.get d.members.live dot) (set.contains d.members.known dot) refl refl
   where
     agree : set.contains d.members.known dot ≡ true → ConditionsAgree (condition_of state.members dot) (condition_of d.members dot)
@@ -109,7 +109,7 @@ prepared_agrees state d limits ready dot = by (map.get d.members.live dot) (set.
     by None false e f = subst (ConditionsAgree (condition_of state.members dot)) (sym (λ i. condition_at (e i) (f i))) (agrees_none (condition_of state.members dot))
 
 -- what agrees with a delta that says the same agrees with the one before
-pub agrees_before : (old same d : DeltaState) → deltas.IsUnchanged old same → Agree same d → Agree old d
+pub agrees_before : (old same d : DeltaState) → deltas.IsUnchanged old same → AreInAgreement same d → AreInAgreement old d
 agrees_before old same d u agree dot = subst (λ c. ConditionsAgree c (condition_of d.members dot)) (unchanged_condition old same u dot) (agree dot)
 
 -- a delta says the same as it does
@@ -172,7 +172,7 @@ module _ (s : SiteState) (d : DeltaState) where
       refusals_heard (λ f. ⊥) (λ f. r ≡ Err f) hears refused (λ f. (λ p. absurd p, λ e. absurd (cc))) (λ p. p) (λ p. p)
 
   -- and the site may take it
-  pub may_take : MayHear s d → Agree s.state d → (r : Result (Unit {0}) JoinFault) (u : Unit {0}) → r ≡ Ok u → IsRefusedJoin s.state d (λ f. r ≡ Err f) → MayTake s d
+  pub may_take : MayHear s d → AreInAgreement s.state d → (r : Result (Unit {0}) JoinFault) (u : Unit {0}) → r ≡ Ok u → IsRefusedJoin s.state d (λ f. r ≡ Err f) → MayTake s d
   may_take hears agree r u done refused = record {
     joins = record { hears = hears; agree = agree };
     cells = few;
@@ -271,7 +271,7 @@ module _ (old : SiteState) (d : DeltaState) (s : SiteKnowledge) (k : Knowledge) 
   fault_meant r refused join.Memory is = tt
 
   -- and so is a take
-  pub take_meant : (new : SiteState) → MayTake old d → HasTaken old d new → HasNoneLater old k → StandsFor new (steps.take s k).0 × ((steps.take s k).1 ≡ Taken)
+  pub take_meant : (new : SiteState) → MayTake old d → HasTakenDelta old d new → HasNoneLater old k → StandsFor new (steps.take s k).0 × ((steps.take s k).1 ≡ Taken)
   take_meant new may taken later =
       subst (λ (a : SiteKnowledge × Outcome). StandsFor new a.0 × (a.1 ≡ Taken)) (sym (is_taken may.cells may.runs)) (
         taken_stands old new s d k stands says may.joins.agree taken.state taken.site (equal_same old.pending new.pending taken.pending) taken.last_count taken.last_time taken.frames later.counts

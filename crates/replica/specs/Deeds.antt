@@ -5,7 +5,7 @@ use Rattle.delta.specs.DeltaStates.{DeltaState, IsEmpty}
 use Rattle.delta.specs.declared.frame.Frame.{Frame}
 use Rattle.replica.specs.Framing.{HasCopied, HasCut}
 use Rattle.replica.specs.Site.{SiteState}
-use Rattle.replica.specs.Taking.{HasTaken, MayTake}
+use Rattle.replica.specs.Taking.{HasTakenDelta, MayTake}
 
 -- a site knows nothing, and has used no number
 pub record IsNew (s : SiteState) : Type 0 where
@@ -29,4 +29,4 @@ pub record IsWholeDeed (old : SiteState) (frame : Frame) (new : SiteState) : Typ
 -- a site has taken this delta, which it may take
 pub record IsTakeDeed (old : SiteState) (d : DeltaState) (new : SiteState) : Type 0 where
   pub may : MayTake old d
-  pub taken : HasTaken old d new
+  pub taken : HasTakenDelta old d new

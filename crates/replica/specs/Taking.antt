@@ -16,7 +16,7 @@ use Rattle.member_orset.specs.declared.join_fault.JoinFault.{JoinFault}
 use Rattle.member_orset.specs.declared.join_fault.JoinFault.TheVariants as join
 use Rattle.site_totals.specs.Raising.{number_of}
 use Rattle.delta.specs.DeltaStates.{DeltaState}
-use Rattle.delta.specs.Joining.{Agree, Disagree, IsJoinOf}
+use Rattle.delta.specs.Joining.{AreInAgreement, Disagree, IsJoinOf}
 use Rattle.delta.specs.declared.frame.Frame.{Frame}
 use Rattle.replica.specs.declared.take_fault.TakeFault.{TakeFault}
 use Rattle.replica.specs.declared.take_fault.TakeFault.TheVariants.{NoSuchQueue, NotMine, Conflict, CellsFull, RunsFull, Memory}
@@ -104,7 +104,7 @@ pub record MayHear (s : SiteState) (d : DeltaState) : Type 0 where
 -- and both can be joined
 pub record MayJoin (s : SiteState) (d : DeltaState) : Type 0 where
   pub hears : MayHear s d
-  pub agree : Agree s.state d
+  pub agree : AreInAgreement s.state d
 
 -- and the join has few enough live dots and runs, so the site may take the delta
 pub record MayTake (s : SiteState) (d : DeltaState) : Type 0 where
@@ -139,7 +139,7 @@ IsRefusedFor (Err refused) fault = refused.0 ≡ fault
 -- ---- what comes of it
 
 -- a site has taken a delta: its state is joined with it, each dot keeps its id, and all else is as before
-pub record HasTaken (old : SiteState) (d : DeltaState) (new : SiteState) : Type 0 where
+pub record HasTakenDelta (old : SiteState) (d : DeltaState) (new : SiteState) : Type 0 where
   pub site : new.site ≡ old.site
   pub names : new.names ≡ old.names
   pub state : IsJoinOf old.state d new.state

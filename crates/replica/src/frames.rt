@@ -10,7 +10,7 @@ ghost use Rattle.replica.specs.Framing.{HasCopied, HasCut, IsMeantCut, IsMeantFr
 ghost use Rattle.replica.specs.Site.{IsUnchanged};
 ghost use Rattle.replica.specs.Standing.{StandsFor};
 ghost use Rattle.replica.specs.Steps.{Cut, SiteKnowledge, Take, Whole, step};
-ghost use Rattle.replica.specs.Taking.{HasNoneLater, HasTaken, IsMeantTake};
+ghost use Rattle.replica.specs.Taking.{HasNoneLater, HasTakenDelta, IsMeantTake};
 ghost use Rattle.replica.specs.Taking.{IsRefusedFor, IsRefusedTake, MayHear, MayTake};
 ghost use Rattle.replica.specs.Taking.{take_fault_of};
 
@@ -101,7 +101,7 @@ impl Replica {
     /// both make more than 65,536 runs; 6 `Memory`, which doesn't come where the state was prepared for what the frame says
     /// (`Delta::prepared`). The first two are this project's own.
     pub fn take(&mut self, frame: Frame) -> Result<(), (TakeFault, Frame)>
-        ensures joined { OnOk result (HasTaken self.old frame.delta self.new) }
+        ensures joined { OnOk result (HasTakenDelta self.old frame.delta self.new) }
         ensures may { OnOk result (MayTake self.old frame.delta) }
         ensures refusals { IsRefusedTake self.old frame.delta (λ fault. IsRefusedFor result fault) }
         ensures prepared { MayHear self.old frame.delta → IsPrepared self.old.state frame.delta

@@ -16,11 +16,11 @@ use Rattle.sites_world.specs.Worlds.{IsReached, World, happens}
 use Rattle.sites_world.specs.WorldStates.{HasHappened, IsFrameOf, IsSiteOf, StandsForWorld, WorldState}
 use Rattle.sites_world.proofs.Lists.{correspond_get, correspond_none_get}
 use Rattle.scripts.specs.Answers.{frame_text, no_entry, outcome_text}
-use Rattle.scripts.specs.Script.{IsShown, Place, given_by_event, given_by_reaction, text_of_offer, waited_reply}
-use Rattle.scripts.specs.LineSteps.{Holds, IsHappening, StandsAt}
+use Rattle.scripts.specs.Script.{IsEntryShown, ScriptSites, given_by_event, given_by_reaction, text_of_offer, waited_reply}
+use Rattle.scripts.specs.LineSteps.{StandsForGiven, IsHappening, StandsAt}
 
 -- one event has happened, and memory was not wanting
-pub one_happened : LeadsOn → (place : Place) (old new : WorldState) (w : World) (e : Event) (o : Outcome) → place.names ≡ old.names → new.names ≡ old.names → length new.sites ≡ length old.sites
+pub one_happened : LeadsOn → (place : ScriptSites) (old new : WorldState) (w : World) (e : Event) (o : Outcome) → place.names ≡ old.names → new.names ≡ old.names → length new.sites ≡ length old.sites
     → StandsAt old w → HasHappened new w e o → (o ≡ NoMemory → ⊥) → IsHappening place w e new o
 one_happened leads place old new w e o names kept count at (inr wanting) done = absurd (done wanting.0)
 one_happened leads place old new w e o names kept count at (inl happened) done = record {
@@ -34,13 +34,13 @@ one_happened leads place old new w e o names kept count at (inl happened) done =
 }
 
 -- what is written of an event
-pub event_given : (place : Place) (w : World) (e : Event) (new : WorldState) (o : Outcome) (text : List ℕ) → IsHappening place w e new o → text ≡ outcome_text o
-    → Holds (given_by_event place w e) new text
+pub event_given : (place : ScriptSites) (w : World) (e : Event) (new : WorldState) (o : Outcome) (text : List ℕ) → IsHappening place w e new o → text ≡ outcome_text o
+    → StandsForGiven (given_by_event place w e) new text
 event_given place w e new o text happening is = record { stands = happening.stands; is = is ∙ ap outcome_text happening.is }
 
 -- what is written of an ask, for which a message waits
-pub ask_given : (place : Place) (w : World) (site : ℕ) (ask : Ask) (waiting : Waiting) (new : WorldState) (o : Outcome) (text : List ℕ)
-    → IsHappening place w (event.Ask site ask) new o → text ≡ waited_reply waiting o → Holds (given_by_reaction place w site (Asks ask waiting)) new text
+pub ask_given : (place : ScriptSites) (w : World) (site : ℕ) (ask : Ask) (waiting : Waiting) (new : WorldState) (o : Outcome) (text : List ℕ)
+    → IsHappening place w (event.Ask site ask) new o → text ≡ waited_reply waiting o → StandsForGiven (given_by_reaction place w site (Asks ask waiting)) new text
 ask_given place w site ask waiting new o text happening is = record { stands = happening.stands; is = is ∙ ap (waited_reply waiting) happening.is }
 
 -- what a queue offers at a site that is there
@@ -60,13 +60,13 @@ offered_none state w site queue tried text at is empty =
 
 -- an entry that is shown
 pub shown_some : (state : WorldState) (w : World) (place : ℕ) (frame : Frame) (text : List ℕ) → StandsAt state w → Some frame ≡ slice_get state.pool place
-    → (bytes : List ℕ) × Spells frame bytes × (text ≡ frame_text bytes) → IsShown place (slice_get w.pool place) text
+    → (bytes : List ℕ) × Spells frame bytes × (text ≡ frame_text bytes) → IsEntryShown place (slice_get w.pool place) text
 shown_some state w place frame text at is shown =
     let found = correspond_get IsFrameOf state.pool w.pool at.stands.pool place frame (sym is) in
-    subst (λ entry. IsShown place entry text) (sym found.1) (shown.0, (record { frame = frame; is = found.2; spells = shown.1 }), shown.2)
+    subst (λ entry. IsEntryShown place entry text) (sym found.1) (shown.0, (record { frame = frame; is = found.2; spells = shown.1 }), shown.2)
 
 -- and one that isn't there
 pub shown_none : (state : WorldState) (w : World) (place : ℕ) (text : List ℕ) → StandsAt state w → None ≡ slice_get state.pool place → text ≡ no_entry
-    → IsShown place (slice_get w.pool place) text
+    → IsEntryShown place (slice_get w.pool place) text
 shown_none state w place text at is none =
-    subst (λ entry. IsShown place entry text) (sym (correspond_none_get IsFrameOf state.pool w.pool at.stands.pool place (sym is))) none
+    subst (λ entry. IsEntryShown place entry text) (sym (correspond_none_get IsFrameOf state.pool w.pool at.stands.pool place (sym is))) none

@@ -12,7 +12,7 @@ use Rattle.delta_codec.specs.Frames.{Spells}
 use Rattle.sites_world.specs.Worlds.{Entry, World}
 use Rattle.scripts.specs.Answers.{frame_text}
 use Rattle.script_lines.specs.ScriptLines.{Sense, Nothing, Message, Count, Offer, Cut, Whole, Take, Show, Unknown, sense_of, stream_of}
-use Rattle.scripts.specs.Script.{AreBegun, AreGiven, Given, Gives, HaveOneText, IsFront, IsShown, Place, given_by_message, unknown_in, written_alone}
+use Rattle.scripts.specs.Script.{AreBegun, LinesGive, Given, SenseGives, HaveOneText, IsFront, IsEntryShown, ScriptSites, given_by_message, unknown_in, written_alone}
 
 -- the messages of a stream
 abbrev Messages : Type 0
@@ -31,7 +31,7 @@ abbrev pub HasOneSpelling : Type 0
 HasOneSpelling = (x y : Frame) (a b : List ℕ) → IsSameFrame x y → Spells x a → Spells y b → a ≡ b
 
 -- an entry is shown in one way
-one_shown : HasOneDelta → HasOneSpelling → (place : ℕ) (entry : Option Entry) (text other : List ℕ) → IsShown place entry text → IsShown place entry other → other ≡ text
+one_shown : HasOneDelta → HasOneSpelling → (place : ℕ) (entry : Option Entry) (text other : List ℕ) → IsEntryShown place entry text → IsEntryShown place entry other → other ≡ text
 one_shown delta spelling place None text other a b = b ∙ sym a
 one_shown delta spelling place (Some entry) text other a b =
     let x = a.1.frame in
@@ -44,8 +44,8 @@ one_shown delta spelling place (Some entry) text other a b =
     b.2 ∙ ap frame_text (spelling y x b.0 a.0 same b.1.spells a.1.spells) ∙ sym a.2
 
 -- each line gives one thing
-one_given : OneList → HasOneDelta → HasOneSpelling → (place : Place) (w : World) (number : ℕ) (sense : Sense) (given other : Given)
-    → Gives place w number sense given → Gives place w number sense other → other ≡ given
+one_given : OneList → HasOneDelta → HasOneSpelling → (place : ScriptSites) (w : World) (number : ℕ) (sense : Sense) (given other : Given)
+    → SenseGives place w number sense given → SenseGives place w number sense other → other ≡ given
 one_given one delta spelling place w number Nothing given other a b = b ∙ sym a
 one_given one delta spelling place w number Unknown given other a b = b ∙ sym a
 one_given one delta spelling place w number (Count site calls queue) given other a b = b ∙ sym a
@@ -63,20 +63,20 @@ one_given one delta spelling place w number (Message site fields) given other (i
 
 -- and so do lines
 module _ (one : OneList) (delta : HasOneDelta) (spelling : HasOneSpelling) where
-  pub text_one : (place : Place) (w : World) (number : ℕ) (lines : List (List ℕ)) (text other : List ℕ) (unknown others : ℕ)
-      → AreGiven place w number lines text unknown → AreGiven place w number lines other others → (other ≡ text) × (others ≡ unknown)
+  pub text_one : (place : ScriptSites) (w : World) (number : ℕ) (lines : List (List ℕ)) (text other : List ℕ) (unknown others : ℕ)
+      → LinesGive place w number lines text unknown → LinesGive place w number lines other others → (other ≡ text) × (others ≡ unknown)
   text_one place w number [] text other unknown others a b = (b.0 ∙ sym a.0, b.1 ∙ sym a.1)
   text_one place w number (line ∷ lines) text other unknown others a b =
       let same = one_given one delta spelling place w number (sense_of place.sites line) a.0 b.0 a.3 b.3 in
-      let moved = subst (λ (g : Given). AreGiven place g.after (number + 1) lines b.1 b.2) same b.4 in
+      let moved = subst (λ (g : Given). LinesGive place g.after (number + 1) lines b.1 b.2) same b.4 in
       let rest = text_one place a.0.after (number + 1) lines a.1 b.1 a.2 b.2 a.4 moved in (
         b.5 ∙ (λ i. (same i).text ++ rest.0 i) ∙ sym a.5,
         b.6 ∙ (λ i. unknown_in (same i) + rest.1 i) ∙ sym a.6,
       )
 
   -- what was begun of lines is a front of their text
-  pub begun_front : (place : Place) (w : World) (number : ℕ) (lines : List (List ℕ)) (text front : List ℕ) (unknown : ℕ)
-      → AreGiven place w number lines text unknown → AreBegun place w number lines front → IsFront front text
+  pub begun_front : (place : ScriptSites) (w : World) (number : ℕ) (lines : List (List ℕ)) (text front : List ℕ) (unknown : ℕ)
+      → LinesGive place w number lines text unknown → AreBegun place w number lines front → IsFront front text
   begun_front place w number [] text front unknown a b = ([], a.0 ∙ sym b ∙ sym (append-nil front))
   begun_front place w number (line ∷ lines) text front unknown a (inl nothing) = (text, ap (λ f. f ++ text) (sym nothing))
   begun_front place w number (line ∷ lines) text front unknown a (inr (given, gives, inl part)) =
@@ -88,7 +88,7 @@ module _ (one : OneList) (delta : HasOneDelta) (spelling : HasOneSpelling) where
       let rest = begun_front place a.0.after (number + 1) lines a.1 more a.2 a.4 moved in
       (rest.0, a.5 ∙ (λ i. (sym same i).text ++ rest.1 i) ∙ sym (append_assoc given.text more rest.0) ∙ ap (λ t. t ++ rest.0) (sym is))
 
-  pub one_text : (place : Place) (w : World) (number : ℕ) (lines : List (List ℕ)) → HaveOneText place w number lines
+  pub one_text : (place : ScriptSites) (w : World) (number : ℕ) (lines : List (List ℕ)) → HaveOneText place w number lines
   one_text place w number lines = record {
     text = λ text other unknown others a b. (text_one place w number lines text other unknown others a b).0;
     unknown = λ text other unknown others a b. (text_one place w number lines text other unknown others a b).1;

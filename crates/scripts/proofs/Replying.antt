@@ -10,12 +10,12 @@ use Rattle.sites_world.specs.WorldStates.{WorldState}
 use Rattle.scripts.specs.declared.script.Output.{Output}
 use Rattle.scripts.specs.declared.script.Script.{Script}
 use Rattle.script_lines.specs.ScriptLines.{IsMessage, Message, Sense, sense_of}
-use Rattle.scripts.specs.Script.{Given, Gives, Place, given_by_count, given_by_message, given_by_reaction, not_understood, trusted_session}
-use Rattle.scripts.specs.LineSteps.{BeganLine, GaveLine, Holds, IsOutput, IsUnknown, StandsAt}
+use Rattle.scripts.specs.Script.{Given, SenseGives, ScriptSites, given_by_count, given_by_message, given_by_reaction, not_understood, trusted_session}
+use Rattle.scripts.specs.LineSteps.{BeganLine, GaveLine, StandsForGiven, IsOutput, IsUnknown, StandsAt}
 
 -- the output of a line that is understood
-pub output_holds : (place : Place) (w : World) (number : ℕ) (sense : Sense) (new : WorldState) (output : Output) (given : Given)
-    → Gives place w number sense given → Holds given new output.text.items → output.understood ≡ given.understood → IsOutput place w number sense new output
+pub output_holds : (place : ScriptSites) (w : World) (number : ℕ) (sense : Sense) (new : WorldState) (output : Output) (given : Given)
+    → SenseGives place w number sense given → StandsForGiven given new output.text.items → output.understood ≡ given.understood → IsOutput place w number sense new output
 output_holds place w number sense new output given gives holds understood = record {
   given = given;
   gives = gives;
@@ -24,39 +24,39 @@ output_holds place w number sense new output given gives holds understood = reco
 }
 
 -- of one that isn't understood
-pub output_unknown : (place : Place) (w : World) (number : ℕ) (sense : Sense) (state : WorldState) (output : Output)
-    → Gives place w number sense (not_understood w number) → StandsAt state w → IsUnknown number output → IsOutput place w number sense state output
+pub output_unknown : (place : ScriptSites) (w : World) (number : ℕ) (sense : Sense) (state : WorldState) (output : Output)
+    → SenseGives place w number sense (not_understood w number) → StandsAt state w → IsUnknown number output → IsOutput place w number sense state output
 output_unknown place w number sense state output gives stands is =
     output_holds place w number sense state output (not_understood w number) gives (record { stands = stands; is = is.is }) is.understood
 
 -- of fields that are no message
-pub output_none : (place : Place) (w : World) (number site : ℕ) (fields : List ℕ) (state : WorldState) (output : Output)
+pub output_none : (place : ScriptSites) (w : World) (number site : ℕ) (fields : List ℕ) (state : WorldState) (output : Output)
     → ((message : Fields) → IsMessage fields message → ⊥) → StandsAt state w → IsUnknown number output → IsOutput place w number (Message site fields) state output
 output_none place w number site fields state output none stands is =
     output_unknown place w number (Message site fields) state output (inr (none, refl)) stands is
 
 -- what a session does is understood
-is_understood : (place : Place) (w : World) (site : ℕ) (r : Reaction) → true ≡ (given_by_reaction place w site r).understood
+is_understood : (place : ScriptSites) (w : World) (site : ℕ) (r : Reaction) → true ≡ (given_by_reaction place w site r).understood
 is_understood place w site (Replies bytes) = refl
 is_understood place w site (Ends bytes) = refl
 is_understood place w site (Asks ask waiting) = refl
 
 -- of fields that are one
-pub output_message : (place : Place) (w : World) (number site : ℕ) (fields : List ℕ) (message : Fields) (new : WorldState) (output : Output)
-    → IsMessage fields message → Holds (given_by_message place w site message) new output.text.items → output.understood ≡ true
+pub output_message : (place : ScriptSites) (w : World) (number site : ℕ) (fields : List ℕ) (message : Fields) (new : WorldState) (output : Output)
+    → IsMessage fields message → StandsForGiven (given_by_message place w site message) new output.text.items → output.understood ≡ true
     → IsOutput place w number (Message site fields) new output
 output_message place w number site fields message new output is holds understood =
     output_holds place w number (Message site fields) new output (given_by_message place w site message) (inl (message, is, refl)) holds
     (understood ∙ is_understood place w site (reaction trusted_session message))
 
 -- a line that counts a call is understood
-pub count_understood : (place : Place) (w : World) (site : ℕ) (calls : Calls) (queue : Option (List ℕ)) → true ≡ (given_by_count place w site calls queue).understood
+pub count_understood : (place : ScriptSites) (w : World) (site : ℕ) (calls : Calls) (queue : Option (List ℕ)) → true ≡ (given_by_count place w site calls queue).understood
 count_understood place w site calls None = refl
 count_understood place w site calls (Some queue) = refl
 
 -- the output of a line whose text was found, at the sites as they are then
-pub line_holds : (place : Place) (w : World) (number : ℕ) (whole asked : Sense) (script new : Script) (text found : Vec ℕ Global) (given : Given)
-    → asked ≡ whole → script ≡ new → text ≡ found → Gives place w number asked given → true ≡ given.understood → Holds given new.world found.items
+pub line_holds : (place : ScriptSites) (w : World) (number : ℕ) (whole asked : Sense) (script new : Script) (text found : Vec ℕ Global) (given : Given)
+    → asked ≡ whole → script ≡ new → text ≡ found → SenseGives place w number asked given → true ≡ given.understood → StandsForGiven given new.world found.items
     → IsOutput place w number whole script.world (record { text = text; understood = true })
 line_holds place w number whole asked script new text found given asks now is gives understood holds =
     subst (λ (x : Sense). IsOutput place w number x script.world (record { text = text; understood = true })) asks
@@ -65,7 +65,7 @@ line_holds place w number whole asked script new text found given asks now is gi
     (output_holds place w number asked new.world (record { text = found; understood = true }) given gives holds understood)))
 
 -- the output of a line was written
-pub gave_line : (place : Place) (w : World) (number : ℕ) (line : List ℕ) (new : WorldState) (output : Output) (before after : Option (List ℕ))
+pub gave_line : (place : ScriptSites) (w : World) (number : ℕ) (line : List ℕ) (new : WorldState) (output : Output) (before after : Option (List ℕ))
     → IsOutput place w number (sense_of place.sites line) new output → Appends before after output.text.items
     → GaveLine place w number line new before after output.understood
 gave_line place w number line new output before after is written = record {
@@ -77,7 +77,7 @@ gave_line place w number line new output before after is written = record {
 }
 
 -- or a front of it
-pub began_line : (place : Place) (w : World) (number : ℕ) (line : List ℕ) (new : WorldState) (output : Output) (before after : Option (List ℕ))
+pub began_line : (place : ScriptSites) (w : World) (number : ℕ) (line : List ℕ) (new : WorldState) (output : Output) (before after : Option (List ℕ))
     → IsOutput place w number (sense_of place.sites line) new output → HasTaken before after output.text.items → BeganLine place w number line before after
 began_line place w number line new output before after is begun = record {
   given = is.given;

@@ -10,14 +10,14 @@ use Rattle.scripts.specs.declared.script.Output.{Output}
 use Rattle.scripts.specs.declared.script.Script.{Script}
 use Rattle.script_lines.specs.ScriptLines.{Sense}
 use Rattle.scripts.specs.Answers.{unknown_text}
-use Rattle.scripts.specs.Script.{Place, Given, Gives, LineGives}
+use Rattle.scripts.specs.Script.{ScriptSites, Given, SenseGives, LineGives}
 
 -- the sites 0 to `sites` less 1, each with the queues of these names
-abbrev pub listed_place : ℕ → List (List ℕ) → Place
+abbrev pub listed_place : ℕ → List (List ℕ) → ScriptSites
 listed_place sites names = record { sites = sites; names = names }
 
 -- the sites of a script
-abbrev pub place_of : Script → Place
+abbrev pub place_of : Script → ScriptSites
 place_of script = listed_place script.sites script.world.names
 
 -- sites stand for a world that events lead to
@@ -26,20 +26,20 @@ pub record StandsAt (state : WorldState) (w : World) : Type 0 where
   pub stands : StandsForWorld state w
 
 -- an event has happened
-pub record IsHappening (place : Place) (w : World) (e : Event) (new : WorldState) (o : Outcome) : Type 0 where
+pub record IsHappening (place : ScriptSites) (w : World) (e : Event) (new : WorldState) (o : Outcome) : Type 0 where
   pub stands : StandsAt new (happens place.names w e).0
   pub is : o ≡ (happens place.names w e).1
 
 -- sites stand for the world after something was given, and this is its text
-pub record Holds (given : Given) (new : WorldState) (text : List ℕ) : Type 0 where
+pub record StandsForGiven (given : Given) (new : WorldState) (text : List ℕ) : Type 0 where
   pub stands : StandsAt new given.after
   pub is : text ≡ given.text
 
 -- the output of a line of this number that asks this
-pub record IsOutput (place : Place) (w : World) (number : ℕ) (sense : Sense) (new : WorldState) (output : Output) : Type 0 where
+pub record IsOutput (place : ScriptSites) (w : World) (number : ℕ) (sense : Sense) (new : WorldState) (output : Output) : Type 0 where
   pub given : Given
-  pub gives : Gives place w number sense given
-  pub holds : Holds given new output.text.items
+  pub gives : SenseGives place w number sense given
+  pub holds : StandsForGiven given new output.text.items
   pub understood : output.understood ≡ given.understood
 
 -- the output of a line of this number that isn't understood
@@ -48,7 +48,7 @@ pub record IsUnknown (number : ℕ) (output : Output) : Type 0 where
   pub understood : output.understood ≡ false
 
 -- a line was run, and what it gives was written
-pub record GaveLine (place : Place) (w : World) (number : ℕ) (line : List ℕ) (new : WorldState) (before after : Option (List ℕ)) (understood : Bool) : Type 0 where
+pub record GaveLine (place : ScriptSites) (w : World) (number : ℕ) (line : List ℕ) (new : WorldState) (before after : Option (List ℕ)) (understood : Bool) : Type 0 where
   pub given : Given
   pub gives : LineGives place w number line given
   pub stands : StandsAt new given.after
@@ -56,7 +56,7 @@ pub record GaveLine (place : Place) (w : World) (number : ℕ) (line : List ℕ)
   pub is : understood ≡ given.understood
 
 -- a line was run, and the front of what it gives was written
-pub record BeganLine (place : Place) (w : World) (number : ℕ) (line : List ℕ) (before after : Option (List ℕ)) : Type 0 where
+pub record BeganLine (place : ScriptSites) (w : World) (number : ℕ) (line : List ℕ) (before after : Option (List ℕ)) : Type 0 where
   pub given : Given
   pub gives : LineGives place w number line given
   pub taken : HasTaken before after given.text

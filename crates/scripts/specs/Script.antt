@@ -26,7 +26,7 @@ use Rattle.scripts.specs.Answers.{frame_text, no_entry, offer_text, outcome_text
 use Rattle.script_lines.specs.ScriptLines.{Sense, Nothing, Message, Count, Offer, Cut, Whole, Take, Show, Unknown, IsMessage, lines_of, queue_in, sense_of, tried_in}
 
 -- the sites of a script: how many there are, and the names of the queues that each has
-pub record Place : Type 0 where
+pub record ScriptSites : Type 0 where
   pub sites : ℕ
   pub names : List (List ℕ)
 
@@ -37,7 +37,7 @@ pub record Given : Type 0 where
   pub understood : Bool
 
 -- an event gives the lines of what comes of it
-abbrev pub given_by_event : Place → World → Event → Given
+abbrev pub given_by_event : ScriptSites → World → Event → Given
 given_by_event place w e = let h = happens place.names w e in record { after = h.0; text = outcome_text h.1; understood = true }
 
 -- a session that needs no Login
@@ -50,14 +50,14 @@ waited_reply waiting (outcome.Answered answer) = answer_reply waiting answer
 waited_reply waiting other = []
 
 -- what is written of what a session does upon a message; where it asks, the site is asked
-abbrev pub given_by_reaction : Place → World → ℕ → Reaction → Given
+abbrev pub given_by_reaction : ScriptSites → World → ℕ → Reaction → Given
 given_by_reaction place w site (Replies bytes) = record { after = w; text = bytes; understood = true }
 given_by_reaction place w site (Ends bytes) = record { after = w; text = bytes; understood = true }
 given_by_reaction place w site (Asks ask waiting) =
     let h = happens place.names w (event.Ask site ask) in record { after = h.0; text = waited_reply waiting h.1; understood = true }
 
 -- a message gives the reply of a session that needs no Login
-abbrev pub given_by_message : Place → World → ℕ → Fields → Given
+abbrev pub given_by_message : ScriptSites → World → ℕ → Fields → Given
 given_by_message place w site message = given_by_reaction place w site (reaction trusted_session message)
 
 -- the ask for a call of a queue to be counted
@@ -66,7 +66,7 @@ count_of Completed queue = ask.Command (command.Completed queue)
 count_of Abandoned queue = ask.Command (command.Abandoned queue)
 
 -- a call that is counted gives the site's answer; where there is no queue name, there is no such queue
-abbrev pub given_by_count : Place → World → ℕ → Calls → Option (List ℕ) → Given
+abbrev pub given_by_count : ScriptSites → World → ℕ → Calls → Option (List ℕ) → Given
 given_by_count place w site calls None = record { after = w; text = refused_text (refusal_name NoSuchQueue); understood = true }
 given_by_count place w site calls (Some queue) = given_by_event place w (event.Ask site (count_of calls queue))
 
@@ -76,7 +76,7 @@ text_of_offer names None queue tried = []
 text_of_offer names (Some s) queue tried = offer_text (option_and_then (λ name. offered names (rows_of (dot_view s.known)) name tried) queue)
 
 -- an offer changes nothing
-abbrev pub given_by_offer : Place → World → ℕ → Option (List ℕ) → List (List ℕ) → Given
+abbrev pub given_by_offer : ScriptSites → World → ℕ → Option (List ℕ) → List (List ℕ) → Given
 given_by_offer place w site queue tried = record {
   after = w;
   text = text_of_offer place.names (slice_get w.sites site) queue tried;
@@ -90,9 +90,9 @@ pub record AreOfEntry (place : ℕ) (entry : Entry) (bytes : List ℕ) : Type 0 
   pub spells : Spells frame bytes
 
 -- an entry that is shown gives the bytes that spell its frame
-abbrev pub IsShown : ℕ → Option Entry → List ℕ → Type 0
-IsShown place None text = text ≡ no_entry
-IsShown place (Some entry) text = (bytes : List ℕ) × AreOfEntry place entry bytes × (text ≡ frame_text bytes)
+abbrev pub IsEntryShown : ℕ → Option Entry → List ℕ → Type 0
+IsEntryShown place None text = text ≡ no_entry
+IsEntryShown place (Some entry) text = (bytes : List ℕ) × AreOfEntry place entry bytes × (text ≡ frame_text bytes)
 
 -- a line that is understood and changes nothing
 abbrev pub written_alone : World → List ℕ → Given
@@ -103,33 +103,33 @@ abbrev pub not_understood : World → ℕ → Given
 not_understood w number = record { after = w; text = unknown_text number; understood = false }
 
 -- what the line of this number gives, by what it asks; fields that aren't exactly one message aren't understood
-abbrev pub Gives : Place → World → ℕ → Sense → Given → Type 0
-Gives place w number Nothing given = given ≡ written_alone w []
-Gives place w number (Message site fields) given =
+abbrev pub SenseGives : ScriptSites → World → ℕ → Sense → Given → Type 0
+SenseGives place w number Nothing given = given ≡ written_alone w []
+SenseGives place w number (Message site fields) given =
     ((message : Fields) × IsMessage fields message × (given ≡ given_by_message place w site message))
     ⊎ (((message : Fields) → IsMessage fields message → ⊥) × (given ≡ not_understood w number))
-Gives place w number (Count site calls queue) given = given ≡ given_by_count place w site calls (name_of queue)
-Gives place w number (Offer site parts) given = given ≡ given_by_offer place w site (queue_in parts) (tried_in parts)
-Gives place w number (Cut site) given = given ≡ given_by_event place w (event.Cut site)
-Gives place w number (Whole site) given = given ≡ given_by_event place w (event.Whole site)
-Gives place w number (Take site entry) given = given ≡ given_by_event place w (event.Take site entry)
-Gives place w number (Show entry) given = (text : List ℕ) × IsShown entry (slice_get w.pool entry) text × (given ≡ written_alone w text)
-Gives place w number Unknown given = given ≡ not_understood w number
+SenseGives place w number (Count site calls queue) given = given ≡ given_by_count place w site calls (name_of queue)
+SenseGives place w number (Offer site parts) given = given ≡ given_by_offer place w site (queue_in parts) (tried_in parts)
+SenseGives place w number (Cut site) given = given ≡ given_by_event place w (event.Cut site)
+SenseGives place w number (Whole site) given = given ≡ given_by_event place w (event.Whole site)
+SenseGives place w number (Take site entry) given = given ≡ given_by_event place w (event.Take site entry)
+SenseGives place w number (Show entry) given = (text : List ℕ) × IsEntryShown entry (slice_get w.pool entry) text × (given ≡ written_alone w text)
+SenseGives place w number Unknown given = given ≡ not_understood w number
 
 -- what a line of this number gives
-abbrev pub LineGives : Place → World → ℕ → List ℕ → Given → Type 0
-LineGives place w number line given = Gives place w number (sense_of place.sites line) given
+abbrev pub LineGives : ScriptSites → World → ℕ → List ℕ → Given → Type 0
+LineGives place w number line given = SenseGives place w number (sense_of place.sites line) given
 
 -- how many lines aren't understood, of one
 abbrev pub unknown_in : Given → ℕ
 unknown_in given = if given.understood then 0 else 1
 
 -- what lines give, the first of which has this number: their text, and how many of them aren't understood
-abbrev pub AreGiven : Place → World → ℕ → List (List ℕ) → List ℕ → ℕ → Type 0
-AreGiven place w number [] text unknown = (text ≡ []) × (unknown ≡ 0)
-AreGiven place w number (line ∷ lines) text unknown =
+abbrev pub LinesGive : ScriptSites → World → ℕ → List (List ℕ) → List ℕ → ℕ → Type 0
+LinesGive place w number [] text unknown = (text ≡ []) × (unknown ≡ 0)
+LinesGive place w number (line ∷ lines) text unknown =
     (given : Given) × (more : List ℕ) × (others : ℕ) × LineGives place w number line given
-    × AreGiven place given.after (number + 1) lines more others
+    × LinesGive place given.after (number + 1) lines more others
     × (text ≡ given.text ++ more) × (unknown ≡ unknown_in given + others)
 
 -- a list is the front of another
@@ -137,7 +137,7 @@ abbrev pub IsFront : List ℕ → List ℕ → Type 0
 IsFront front whole = (rest : List ℕ) × (whole ≡ front ++ rest)
 
 -- what was begun of lines, the first of which has this number: nothing; a front of what the first line gives; or all of that, and what was begun of the others
-abbrev pub AreBegun : Place → World → ℕ → List (List ℕ) → List ℕ → Type 0
+abbrev pub AreBegun : ScriptSites → World → ℕ → List (List ℕ) → List ℕ → Type 0
 AreBegun place w number [] text = text ≡ []
 AreBegun place w number (line ∷ lines) text =
     (text ≡ [])
@@ -145,33 +145,33 @@ AreBegun place w number (line ∷ lines) text =
     × (IsFront text given.text ⊎ ((more : List ℕ) × AreBegun place given.after (number + 1) lines more × (text ≡ given.text ++ more))))
 
 -- a device has taken the text of a script's lines, of which `unknown` aren't understood
-pub record HasWritten (place : Place) (w : World) (script : List ℕ) (before after : Option (List ℕ)) (unknown : ℕ) : Type 0 where
+pub record HasWritten (place : ScriptSites) (w : World) (script : List ℕ) (before after : Option (List ℕ)) (unknown : ℕ) : Type 0 where
   pub text : List ℕ
-  pub is_text : AreGiven place w 1 (lines_of script) text unknown
+  pub is_text : LinesGive place w 1 (lines_of script) text unknown
   pub taken : Appends before after text
 
 -- a device has taken what was begun of a script's lines
-pub record HasBegun (place : Place) (w : World) (script : List ℕ) (before after : Option (List ℕ)) : Type 0 where
+pub record HasBegunText (place : ScriptSites) (w : World) (script : List ℕ) (before after : Option (List ℕ)) : Type 0 where
   pub text : List ℕ
   pub is_begun : AreBegun place w 1 (lines_of script) text
   pub taken : Appends before after text
 
 -- a script of at most 16,777,216 bytes was read, and its text was written, over sites that knew nothing
-pub record IsRun (place : Place) (left_before left_after taken_before taken_after : Option (List ℕ)) (unknown : ℕ) : Type 0 where
+pub record IsScriptRun (place : ScriptSites) (left_before left_after taken_before taken_after : Option (List ℕ)) (unknown : ℕ) : Type 0 where
   pub script : List ℕ
   pub short : length script ≤ 16777216
   pub read : Consumes left_before left_after script
   pub written : HasWritten place (new_world place.sites) script taken_before taken_after unknown
 
 -- a script of at most 16,777,216 bytes was read, and its text was begun
-pub record IsRunInPart (place : Place) (left_before left_after taken_before taken_after : Option (List ℕ)) : Type 0 where
+pub record IsRunInPart (place : ScriptSites) (left_before left_after taken_before taken_after : Option (List ℕ)) : Type 0 where
   pub script : List ℕ
   pub short : length script ≤ 16777216
   pub read : Consumes left_before left_after script
-  pub written : HasBegun place (new_world place.sites) script taken_before taken_after
+  pub written : HasBegunText place (new_world place.sites) script taken_before taken_after
 
 -- lines have at most one text and one number of lines that aren't understood, and what was begun of them is a front of that text
-pub record HaveOneText (place : Place) (w : World) (number : ℕ) (lines : List (List ℕ)) : Type 0 where
-  pub text : (text other : List ℕ) (unknown others : ℕ) → AreGiven place w number lines text unknown → AreGiven place w number lines other others → other ≡ text
-  pub unknown : (text other : List ℕ) (unknown others : ℕ) → AreGiven place w number lines text unknown → AreGiven place w number lines other others → others ≡ unknown
-  pub begun : (text front : List ℕ) (unknown : ℕ) → AreGiven place w number lines text unknown → AreBegun place w number lines front → IsFront front text
+pub record HaveOneText (place : ScriptSites) (w : World) (number : ℕ) (lines : List (List ℕ)) : Type 0 where
+  pub text : (text other : List ℕ) (unknown others : ℕ) → LinesGive place w number lines text unknown → LinesGive place w number lines other others → other ≡ text
+  pub unknown : (text other : List ℕ) (unknown others : ℕ) → LinesGive place w number lines text unknown → LinesGive place w number lines other others → others ≡ unknown
+  pub begun : (text front : List ℕ) (unknown : ℕ) → LinesGive place w number lines text unknown → AreBegun place w number lines front → IsFront front text

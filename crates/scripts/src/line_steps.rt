@@ -9,10 +9,10 @@ ghost use Rattle.ami_session.specs.FieldValues.{name_of};
 ghost use Rattle.ami_session.specs.Views.{reaction_of};
 ghost use Rattle.script_lines.specs.ScriptLines.{Message as asks_message, queue_in, tried_in};
 ghost use Rattle.scripts.specs.Answers.{frame_text};
-ghost use Rattle.scripts.specs.Script.{IsShown, count_of, given_by_count, given_by_event};
+ghost use Rattle.scripts.specs.Script.{IsEntryShown, count_of, given_by_count, given_by_event};
 ghost use Rattle.scripts.specs.Script.{given_by_message, given_by_reaction, text_of_offer};
 ghost use Rattle.scripts.specs.Script.{waited_reply};
-ghost use Rattle.scripts.specs.LineSteps.{Holds, IsHappening, IsOutput, IsUnknown};
+ghost use Rattle.scripts.specs.LineSteps.{StandsForGiven, IsHappening, IsOutput, IsUnknown};
 ghost use Rattle.scripts.specs.LineSteps.{StandsAt, place_of};
 
 use crate::answers::{
@@ -51,7 +51,7 @@ impl Script {
     // What is written of an event. The one fault is `Memory`.
     pub(crate) fn run_event(&mut self, event: Event) -> Result<Vec<u8>, ScriptFault>
         ensures ok { IfOk result (λ text. (w : world_of_operations) → StandsAt self.old.world w
-            → Holds (given_by_event (place_of self.old) w event) self.new.world text.items) }
+            → StandsForGiven (given_by_event (place_of self.old) w event) self.new.world text.items) }
         ensures place { place_of self.new ≡ place_of self.old }
         ensures fault { IfErr result (λ fault. fault ≡ ScriptFault.Memory) }
     {
@@ -67,7 +67,7 @@ impl Script {
         queue: &[u8],
     ) -> Result<Vec<u8>, ScriptFault>
         ensures ok { IfOk result (λ text. (w : world_of_operations) → StandsAt self.old.world w
-            → Holds (given_by_count (place_of self.old) w site calls (name_of queue.now))
+            → StandsForGiven (given_by_count (place_of self.old) w site calls (name_of queue.now))
             self.new.world text.items) }
         ensures place { place_of self.new ≡ place_of self.old }
         ensures fault { IfErr result (λ fault. fault ≡ ScriptFault.Memory) }
@@ -117,7 +117,7 @@ impl Script {
     // What a site replies to a message, in a trusted session of its own. The one fault is `Memory`.
     fn run_message(&mut self, site: SiteId, message: &Message) -> Result<Vec<u8>, ScriptFault>
         ensures ok { IfOk result (λ text. (w : world_of_operations) → StandsAt self.old.world w
-            → Holds (given_by_message (place_of self.old) w site message.now)
+            → StandsForGiven (given_by_message (place_of self.old) w site message.now)
             self.new.world text.items) }
         ensures place { place_of self.new ≡ place_of self.old }
         ensures fault { IfErr result (λ fault. fault ≡ ScriptFault.Memory) }
@@ -130,7 +130,7 @@ impl Script {
     // What is written of what a session does. The one fault is `Memory`.
     fn run_act(&mut self, site: SiteId, act: Act) -> Result<Vec<u8>, ScriptFault>
         ensures ok { IfOk result (λ text. (w : world_of_operations) → StandsAt self.old.world w
-            → Holds (given_by_reaction (place_of self.old) w site (reaction_of act))
+            → StandsForGiven (given_by_reaction (place_of self.old) w site (reaction_of act))
             self.new.world text.items) }
         ensures place { place_of self.new ≡ place_of self.old }
         ensures fault { IfErr result (λ fault. fault ≡ ScriptFault.Memory) }
@@ -147,7 +147,7 @@ impl Script {
     // What is written of an entry that is shown. The one fault is `Memory`.
     pub(crate) fn show(&self, entry: usize) -> Result<Vec<u8>, ScriptFault>
         ensures ok { IfOk result (λ text. (w : world_of_operations) → StandsAt self.now.world w
-            → IsShown entry (slice_get w.pool entry) text.items) }
+            → IsEntryShown entry (slice_get w.pool entry) text.items) }
         ensures fault { IfErr result (λ fault. fault ≡ ScriptFault.Memory) }
     {
         match self.world.entry(entry) {

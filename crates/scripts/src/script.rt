@@ -4,7 +4,7 @@ ghost use Rattle.std.specs.Prelude.{true};
 ghost use Rattle.ami_text.specs.Devices.{HasEnded, HasGiven};
 ghost use Rattle.sites_world.specs.Worlds.{World as world_of_operations, new_world};
 ghost use Rattle.script_lines.specs.ScriptLines.{sense_of};
-ghost use Rattle.scripts.specs.Script.{HasBegun, HasWritten, IsRun, IsRunInPart};
+ghost use Rattle.scripts.specs.Script.{HasBegunText, HasWritten, IsScriptRun, IsRunInPart};
 ghost use Rattle.scripts.specs.LineSteps.{BeganLine, GaveLine, IsOutput, StandsAt};
 ghost use Rattle.scripts.specs.LineSteps.{listed_place, place_of};
 
@@ -54,7 +54,7 @@ pub fn run_script<S: Source, W: Sink>(
         → HasEnded (S.ended reader.new) (S.left reader.new) }
 
     // The script's text was written; `unknown` tells how many of its lines were not understood.
-    ensures text { IfOk result (λ unknown. IsRun (listed_place sites list.now)
+    ensures text { IfOk result (λ unknown. IsScriptRun (listed_place sites list.now)
         (S.left reader.old) (S.left reader.new)
         (W.taken writer.old) (W.taken writer.new) unknown) }
 
@@ -109,7 +109,7 @@ impl Script {
             → StandsAt self.old.world w → HasWritten (place_of self.old) w text.now
             (W.taken writer.old) (W.taken writer.new) unknown) }
         ensures err { IfErr result (λ _. (w : world_of_operations)
-            → StandsAt self.old.world w → HasBegun (place_of self.old) w text.now
+            → StandsAt self.old.world w → HasBegunText (place_of self.old) w text.now
             (W.taken writer.old) (W.taken writer.new)) }
         ensures works { OnOk result (W.failed writer.new ≡ false) }
         ensures write { IsErrOf result ScriptFault.Write → W.failed writer.new ≡ true }

@@ -7,11 +7,11 @@ use Rattle.status_report.specs.declared.asks.Ask.{Ask}
 use Rattle.ami_session.specs.Checks.{Asks, Reaction, Waiting, answer_reply}
 use Rattle.serve.specs.declared.serve_fault.ServeFault.{ServeFault}
 use Rattle.serve.specs.declared.serve_fault.ServeFault.TheVariants.{Write}
-use Rattle.serve.specs.Steps.{BreaksOff, HasDone, HasSaid, IsUnsaid}
+use Rattle.serve.specs.Steps.{BreaksOff, HasReacted, HasSaid, IsUnsaid}
 
 -- the reply upon the answer is to be written
 pub ask_done : {D : Type 0} (Answers : D → Ask → Answer → D → Type 0) (ask : Ask) (waiting : Waiting) (answer : Answer) (d e : D) (text : List ℕ)
-    → Answers d ask answer e → text ≡ answer_reply waiting answer → HasDone Answers (Asks ask waiting) d e text
+    → Answers d ask answer e → text ≡ answer_reply waiting answer → HasReacted Answers (Asks ask waiting) d e text
 ask_done Answers ask waiting answer d e text answered is = record {
   answers = answer ∷ [];
   run = (e, answered, refl);
@@ -20,13 +20,13 @@ ask_done Answers ask waiting answer d e text answered is = record {
 
 -- it was written
 pub all_said : {D T E : Type 0} (Answers : D → Ask → Answer → D → Type 0) (r : Reaction) (d e : D) (old new : Option (List ℕ)) (text : List ℕ) (result : Result T E)
-    → HasDone Answers r d e text → OnOk result (Appends old new text) → OnOk result (HasSaid Answers r d e old new)
+    → HasReacted Answers r d e text → OnOk result (Appends old new text) → OnOk result (HasSaid Answers r d e old new)
 all_said Answers r d e old new text (Ok x) done taken = record { text = text; done = done; taken = taken }
 all_said Answers r d e old new text (Err f) done taken = tt
 
 -- or a front of it was
 pub front_said : {D T : Type 0} (Answers : D → Ask → Answer → D → Type 0) (Refuses : D → Ask → D → Type 0) (r : Reaction) (d e : D) (old new : Option (List ℕ)) (text : List ℕ)
-    (result : Result T ServeFault) → HasDone Answers r d e text → IfErr result (λ fault. fault ≡ Write) → OnErr result (HasTaken old new text)
+    (result : Result T ServeFault) → HasReacted Answers r d e text → IfErr result (λ fault. fault ≡ Write) → OnErr result (HasTaken old new text)
     → IfErr result (λ fault. BreaksOff Answers Refuses r d e old new fault)
 front_said Answers Refuses r d e old new text (Ok x) done is taken = tt
 front_said Answers Refuses r d e old new text (Err f) done is taken =

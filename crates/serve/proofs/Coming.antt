@@ -10,7 +10,7 @@ use Rattle.ami_text.specs.Stream.{Gives, HasFault, IsRest, Reads, Rest}
 use Rattle.serve.specs.declared.serve_fault.ServeFault.{ServeFault}
 use Rattle.serve.specs.declared.serve_fault.ServeFault.TheVariants.{Read, Write, LineTooLong, TooManyFields, DeskDown, Turns, Memory}
 use Rattle.serve.specs.Faults.{session_fault}
-use Rattle.serve.specs.Steps.{HasCome, IsHeld, IsNext, IsWanted}
+use Rattle.serve.specs.Steps.{HasCome, IsHeld, StandsFirst, IsWanted}
 
 -- more bytes change no message
 abbrev pub MoreStays : Type 0
@@ -103,7 +103,7 @@ none_came given now after held rest more reads left last stays is_rest come piec
 -- reading broke off
 pub broken_came : (fault : ServeFault) (given now after : Option (List ℕ)) (held rest more : List ℕ) (reads left last : ℕ) → MoreStays → IsRest rest
     → HasCome given now held reads left (λ stream. Gives stream [] rest) → HasCome now after rest left last (IsHeld (Err fault) rest more)
-    → HasCome given after held reads last (IsNext (Err fault) held more)
+    → HasCome given after held reads last (StandsFirst (Err fault) held more)
 broken_came Read given now after held rest more reads left last stays is_rest come piece = none_came given now after held rest more reads left last stays is_rest come piece
 broken_came Turns given now after held rest more reads left last stays is_rest come piece = none_came given now after held rest more reads left last stays is_rest come piece
 broken_came Memory given now after held rest more reads left last stays is_rest come piece = piece_lost given now after held rest more reads left last is_rest come piece
@@ -119,17 +119,17 @@ held_so now after rest more left last result told is come = subst (λ r. HasCome
 
 -- what came, told
 pub next_so : (now after : Option (List ℕ)) (held rest : List ℕ) (reads left : ℕ) (result told : Result (Option (List NameAndValue)) ServeFault) → result ≡ told
-    → HasCome now after held reads left (IsNext result held rest) → HasCome now after held reads left (IsNext told held rest)
-next_so now after held rest reads left result told is come = subst (λ r. HasCome now after held reads left (IsNext r held rest)) is come
+    → HasCome now after held reads left (StandsFirst result held rest) → HasCome now after held reads left (StandsFirst told held rest)
+next_so now after held rest reads left result told is come = subst (λ r. HasCome now after held reads left (StandsFirst r held rest)) is come
 
 not_both : (o : Option FeedFault) (fault : FeedFault) → o ≡ None → o ≡ Some fault → ⊥
 not_both o fault none some = cc
 
 -- what a feed shows that fails
 pub fault_next : (fault : FeedFault) (told : ServeFault) (was : FeedState) (old held stream : List ℕ) → told ≡ session_fault fault → was.fault ≡ None
-    → (IsStreamFault (Some fault) → (was.fault ≡ Some fault) ⊎ HasFault fault was.held) → Gives stream [] was.held → IsWanted old stream → IsNext (Err told) old held stream
+    → (IsStreamFault (Some fault) → (was.fault ≡ Some fault) ⊎ HasFault fault was.held) → Gives stream [] was.held → IsWanted old stream → StandsFirst (Err told) old held stream
 fault_next stream_fault.LineTooLong told was old held stream is works shows gives wants =
-    subst (λ f. IsNext (Err f) old held stream) (sym is) (was.held, gives, ⊎_elim (λ failed. absurd (not_both was.fault stream_fault.LineTooLong works failed)) (λ has. has) (shows tt))
+    subst (λ f. StandsFirst (Err f) old held stream) (sym is) (was.held, gives, ⊎_elim (λ failed. absurd (not_both was.fault stream_fault.LineTooLong works failed)) (λ has. has) (shows tt))
 fault_next stream_fault.TooManyFields told was old held stream is works shows gives wants =
-    subst (λ f. IsNext (Err f) old held stream) (sym is) (was.held, gives, ⊎_elim (λ failed. absurd (not_both was.fault stream_fault.TooManyFields works failed)) (λ has. has) (shows tt))
-fault_next stream_fault.Memory told was old held stream is works shows gives wants = subst (λ f. IsNext (Err f) old held stream) (sym is) wants
+    subst (λ f. StandsFirst (Err f) old held stream) (sym is) (was.held, gives, ⊎_elim (λ failed. absurd (not_both was.fault stream_fault.TooManyFields works failed)) (λ has. has) (shows tt))
+fault_next stream_fault.Memory told was old held stream is works shows gives wants = subst (λ f. StandsFirst (Err f) old held stream) (sym is) wants

@@ -14,8 +14,8 @@ use Rattle.ami_session.specs.FieldValues.{Fields}
 use Rattle.ami_session.specs.Text.{after_all, greeting, is_end, is_over}
 use Rattle.serve.specs.declared.serve_fault.ServeFault.{ServeFault}
 use Rattle.serve.specs.declared.serve_fault.ServeFault.TheVariants.{Read, Write, LineTooLong, TooManyFields, DeskDown, Turns, Memory}
-use Rattle.serve.specs.Sessions.{AreAnswered, Carries, EndsInPiece, HasText, IsBegun, IsLeftBy, IsRefused, IsServed, IsUnfinished}
-use Rattle.serve.specs.Steps.{BreaksOff, HasAnswered, HasBegun, HasCome, HasSaid, IsDown, IsNext, IsUnsaid, IsWanted, WantsPiece}
+use Rattle.serve.specs.Sessions.{AreAnswered, HasCarried, EndsInPiece, HasText, IsSessionBegun, IsLeftBy, IsRefused, IsServed, IsUnfinished}
+use Rattle.serve.specs.Steps.{BreaksOff, HasAnswered, HasWrittenFront, HasCome, HasSaid, IsDown, StandsFirst, IsUnsaid, IsWanted, WantsPiece}
 use Rattle.serve.proofs.Coming.{LaterFollows, MoreStays}
 use Rattle.serve.proofs.TextSteps.{after_one, over_one, text_one}
 
@@ -89,7 +89,7 @@ greeted Answers s d = record { answers = []; run = refl; is = sym (append-nil (g
 
 -- it begins with the greeting
 pub going_start : {D : Type 0} (Answers : D → Ask → Answer → D → Type 0) (s : SessionState) (d : D) (given old new : Option (List ℕ)) (held : List ℕ) (reads : ℕ) → ((bytes : List ℕ) → Gives bytes [] bytes)
-    → held ≡ [] → reads ≡ 1000000 → Appends old new (greeting s) → Carries given given old new (Going Answers s d d s held reads)
+    → held ≡ [] → reads ≡ 1000000 → Appends old new (greeting s) → HasCarried given given old new (Going Answers s d d s held reads)
 going_start Answers s d given old new held reads none is_held is_reads taken = record {
   bytes = [];
   text = greeting s;
@@ -109,7 +109,7 @@ going_start Answers s d given old new held reads none is_held is_reads taken = r
 
 -- which may break off
 greeting_begun : {D : Type 0} (Answers : D → Ask → Answer → D → Type 0) (s : SessionState) (d : D) (given old new : Option (List ℕ)) → ((bytes : List ℕ) → Gives bytes [] bytes)
-    → HasTaken old new (greeting s) → Carries given given old new (IsBegun Answers s d d)
+    → HasTaken old new (greeting s) → HasCarried given given old new (IsSessionBegun Answers s d d)
 greeting_begun Answers s d given old new none taken = record {
   bytes = [];
   text = taken.front;
@@ -126,13 +126,13 @@ greeting_begun Answers s d given old new none taken = record {
 }
 
 pub greeting_breaks : {D : Type 0} (Answers : D → Ask → Answer → D → Type 0) (Refuses : D → Ask → D → Type 0) (fault : ServeFault) (s : SessionState) (d : D) (given old new : Option (List ℕ))
-    → ((bytes : List ℕ) → Gives bytes [] bytes) → fault ≡ Write → HasTaken old new (greeting s) → Carries given given old new (IsLeftBy Answers Refuses s d d fault)
+    → ((bytes : List ℕ) → Gives bytes [] bytes) → fault ≡ Write → HasTaken old new (greeting s) → HasCarried given given old new (IsLeftBy Answers Refuses s d d fault)
 greeting_breaks Answers Refuses fault s d given old new none is taken =
-    subst (λ f. Carries given given old new (IsLeftBy Answers Refuses s d d f)) (sym is) (greeting_begun Answers s d given old new none taken)
+    subst (λ f. HasCarried given given old new (IsLeftBy Answers Refuses s d d f)) (sym is) (greeting_begun Answers s d given old new none taken)
 
 -- what was read and written, and what holds of it
 carries_so : (given given_new old new : Option (List ℕ)) (H K : List ℕ → List ℕ → Type 0) → ((bytes text : List ℕ) → H bytes text → K bytes text)
-    → Carries given given_new old new H → Carries given given_new old new K
+    → HasCarried given given_new old new H → HasCarried given given_new old new K
 carries_so given given_new old new H K so c = record { bytes = c.bytes; text = c.text; given = c.given; taken = c.taken; holds = so c.bytes c.text c.holds }
 
 -- bytes of which one part was served, and this holds of what was held behind it and the other part
@@ -146,7 +146,7 @@ record ReadOn (held : List ℕ) (reads left : ℕ) (H : List ℕ → List ℕ �
   pub few : length piece + 1024 * left ≤ 1024 * reads
 
 reads_on : (given now after old new : Option (List ℕ)) (held : List ℕ) (reads left : ℕ) (H : List ℕ → List ℕ → Type 0) (K : List ℕ → Type 0)
-    → Carries given now old new H → HasCome now after held reads left K → Carries given after old new (ReadOn held reads left H K)
+    → HasCarried given now old new H → HasCome now after held reads left K → HasCarried given after old new (ReadOn held reads left H K)
 reads_on given now after old new held reads left H K c come = record {
   bytes = c.bytes ++ come.bytes;
   text = c.text;
@@ -188,31 +188,31 @@ unfinished Answers s now d e held reads left bytes text join stays x =
 -- the reader has ended
 pub served_at_end : {D : Type 0} (Answers : D → Ask → Answer → D → Type 0) (s now : SessionState) (d e : D) (given before after old new : Option (List ℕ)) (held rest : List ℕ)
     (reads left : ℕ) (ended : Bool) → PiecesJoin → HasEnded ended after
-    → Carries given before old new (Going Answers s d e now held reads) → HasCome before after held reads left (IsNext (Ok None) held rest)
-    → Carries given after old new (IsServed Answers s d e ended after)
+    → HasCarried given before old new (Going Answers s d e now held reads) → HasCome before after held reads left (StandsFirst (Ok None) held rest)
+    → HasCarried given after old new (IsServed Answers s d e ended after)
 served_at_end Answers s now d e given before after old new held rest reads left ended join is c come =
     carries_so given after old new _ _
     (λ bytes text x.
-    let all = ended_by Answers s now d e held reads left (IsNext (Ok None) held rest) bytes text (Rest rest) join (λ stream more. more) x in
+    let all = ended_by Answers s now d e held reads left (StandsFirst (Ok None) held rest) bytes text (Rest rest) join (λ stream more. more) x in
     record { messages = all.messages; rest = rest; gives = all.reads.0; has_text = all.has_text; at_end = inr (all.reads.1, is) })
     (reads_on given before after old new held reads left _ _ c come)
 
 -- reading broke off
 pub reading_breaks : {D : Type 0} (Answers : D → Ask → Answer → D → Type 0) (Refuses : D → Ask → D → Type 0) (fault : ServeFault) (s now : SessionState) (d e : D)
     (given before after old new : Option (List ℕ)) (held rest : List ℕ) (reads left : ℕ) → PiecesJoin → MoreStays
-    → Carries given before old new (Going Answers s d e now held reads) → HasCome before after held reads left (IsNext (Err fault) held rest)
-    → Carries given after old new (IsLeftBy Answers Refuses s d e fault)
+    → HasCarried given before old new (Going Answers s d e now held reads) → HasCome before after held reads left (StandsFirst (Err fault) held rest)
+    → HasCarried given after old new (IsLeftBy Answers Refuses s d e fault)
 reading_breaks Answers Refuses Read s now d e given before after old new held rest reads left join stays c come =
-    carries_so given after old new _ _ (λ bytes text x. (rest, ended_by Answers s now d e held reads left (IsNext (Err Read) held rest) bytes text _ join (λ stream more. more) x))
+    carries_so given after old new _ _ (λ bytes text x. (rest, ended_by Answers s now d e held reads left (StandsFirst (Err Read) held rest) bytes text _ join (λ stream more. more) x))
     (reads_on given before after old new held reads left _ _ c come)
 reading_breaks Answers Refuses Turns s now d e given before after old new held rest reads left join stays c come =
-    carries_so given after old new _ _ (λ bytes text x. (rest, ended_by Answers s now d e held reads left (IsNext (Err Turns) held rest) bytes text _ join (λ stream more. more) x))
+    carries_so given after old new _ _ (λ bytes text x. (rest, ended_by Answers s now d e held reads left (StandsFirst (Err Turns) held rest) bytes text _ join (λ stream more. more) x))
     (reads_on given before after old new held reads left _ _ c come)
 reading_breaks Answers Refuses LineTooLong s now d e given before after old new held rest reads left join stays c come =
-    carries_so given after old new _ _ (λ bytes text x. ended_by Answers s now d e held reads left (IsNext (Err LineTooLong) held rest) bytes text _ join (λ stream more. more) x)
+    carries_so given after old new _ _ (λ bytes text x. ended_by Answers s now d e held reads left (StandsFirst (Err LineTooLong) held rest) bytes text _ join (λ stream more. more) x)
     (reads_on given before after old new held reads left _ _ c come)
 reading_breaks Answers Refuses TooManyFields s now d e given before after old new held rest reads left join stays c come =
-    carries_so given after old new _ _ (λ bytes text x. ended_by Answers s now d e held reads left (IsNext (Err TooManyFields) held rest) bytes text _ join (λ stream more. more) x)
+    carries_so given after old new _ _ (λ bytes text x. ended_by Answers s now d e held reads left (StandsFirst (Err TooManyFields) held rest) bytes text _ join (λ stream more. more) x)
     (reads_on given before after old new held reads left _ _ c come)
 reading_breaks Answers Refuses Memory s now d e given before after old new held rest reads left join stays c come =
     carries_so given after old new _ _ (λ bytes text x. unfinished Answers s now d e held reads left bytes text join stays x)
@@ -222,7 +222,7 @@ reading_breaks Answers Refuses DeskDown s now d e given before after old new hel
 
 -- 1,000,000 reads gave a byte each
 pub turns_over : {D : Type 0} (Answers : D → Ask → Answer → D → Type 0) (s now : SessionState) (d e : D) (given before after old new : Option (List ℕ)) (held : List ℕ)
-    (reads left : ℕ) (K : List ℕ → Type 0) → left ≡ 0 → Carries given before old new (Going Answers s d e now held reads) → HasCome before after held reads left K
+    (reads left : ℕ) (K : List ℕ → Type 0) → left ≡ 0 → HasCarried given before old new (Going Answers s d e now held reads) → HasCome before after held reads left K
     → HasGiven given after 1000000
 turns_over Answers s now d e given before after old new held reads left K none c come = record {
   bytes = c.bytes ++ come.bytes;
@@ -232,7 +232,7 @@ turns_over Answers s now d e given before after old new held reads left K none c
 
 -- no more bytes came than the reads may give
 pub given_few : {D : Type 0} (Answers : D → Ask → Answer → D → Type 0) (s now : SessionState) (d e : D) (given before after old new : Option (List ℕ)) (held : List ℕ)
-    (reads left : ℕ) (K : List ℕ → Type 0) → Carries given before old new (Going Answers s d e now held reads) → HasCome before after held reads left K
+    (reads left : ℕ) (K : List ℕ → Type 0) → HasCarried given before old new (Going Answers s d e now held reads) → HasCome before after held reads left K
     → HasGivenUpTo given after 1024000000
 given_few Answers s now d e given before after old new held reads left K c come = record {
   bytes = c.bytes ++ come.bytes;
@@ -260,8 +260,8 @@ record MessageCame {D : Type 0} (Answers : D → Ask → Answer → D → Type 0
 -- what was written, and then this
 message_came : {D : Type 0} (Answers : D → Ask → Answer → D → Type 0) (s now : SessionState) (d e : D) (given before after old new : Option (List ℕ)) (held rest : List ℕ) (message : Fields)
     (reads left : ℕ) → PiecesJoin → MoreStays → LaterFollows
-    → Carries given before old new (Going Answers s d e now held reads) → HasCome before after held reads left (IsNext (Ok (Some message)) held rest)
-    → Carries given after old new (MessageCame Answers s d e now message rest left)
+    → HasCarried given before old new (Going Answers s d e now held reads) → HasCome before after held reads left (StandsFirst (Ok (Some message)) held rest)
+    → HasCarried given after old new (MessageCame Answers s d e now message rest left)
 message_came Answers s now d e given before after old new held rest message reads left join stays later c come =
     carries_so given after old new _ _
     (λ bytes text x.
@@ -294,8 +294,8 @@ record Said {D : Type 0} (Answers : D → Ask → Answer → D → Type 0) (s : 
   pub in_piece : EndsInPiece messages bytes
 
 said : {D : Type 0} (Answers : D → Ask → Answer → D → Type 0) (s now : SessionState) (d mid e : D) (given after old before new : Option (List ℕ)) (rest : List ℕ) (message : Fields) (left : ℕ)
-    → Carries given after old before (MessageCame Answers s d mid now message rest left) → HasSaid Answers (reaction now message) mid e before new
-    → Carries given after old new (Said Answers s d e now message rest left)
+    → HasCarried given after old before (MessageCame Answers s d mid now message rest left) → HasSaid Answers (reaction now message) mid e before new
+    → HasCarried given after old new (Said Answers s d e now message rest left)
 said Answers s now d mid e given after old before new rest message left c has =
     let x = c.holds in
     record {
@@ -318,9 +318,9 @@ said Answers s now d mid e given after old before new rest message left c has =
 -- it is answered, and the session goes on
 pub going_on : {D : Type 0} (Answers : D → Ask → Answer → D → Type 0) (s now next : SessionState) (d mid e : D) (given before after old written new : Option (List ℕ)) (held rest : List ℕ) (message : Fields)
     (reads left : ℕ) → PiecesJoin → MoreStays → LaterFollows
-    → Carries given before old written (Going Answers s d mid now held reads) → HasCome before after held reads left (IsNext (Ok (Some message)) held rest)
+    → HasCarried given before old written (Going Answers s d mid now held reads) → HasCome before after held reads left (StandsFirst (Ok (Some message)) held rest)
     → HasSaid Answers (reaction now message) mid e written new → next ≡ session_after now message → is_end (reaction now message) ≡ false
-    → Carries given after old new (Going Answers s d e next rest left)
+    → HasCarried given after old new (Going Answers s d e next rest left)
 going_on Answers s now next d mid e given before after old written new held rest message reads left join stays later c come has is on =
     carries_so given after old new _ _
     (λ bytes text x. record {
@@ -338,9 +338,9 @@ going_on Answers s now next d mid e given before after old written new held rest
 -- or ends
 pub served_by_end : {D : Type 0} (Answers : D → Ask → Answer → D → Type 0) (s now : SessionState) (d mid e : D) (given before after old written new : Option (List ℕ)) (held rest : List ℕ) (message : Fields)
     (reads left : ℕ) (ended : Bool) → PiecesJoin → MoreStays → LaterFollows
-    → Carries given before old written (Going Answers s d mid now held reads) → HasCome before after held reads left (IsNext (Ok (Some message)) held rest)
+    → HasCarried given before old written (Going Answers s d mid now held reads) → HasCome before after held reads left (StandsFirst (Ok (Some message)) held rest)
     → HasSaid Answers (reaction now message) mid e written new → is_end (reaction now message) ≡ true
-    → Carries given after old new (IsServed Answers s d e ended after)
+    → HasCarried given after old new (IsServed Answers s d e ended after)
 served_by_end Answers s now d mid e given before after old written new held rest message reads left ended join stays later c come has over =
     carries_so given after old new _ _
     (λ bytes text x. record {
@@ -361,8 +361,8 @@ served_by_end Answers s now d mid e given before after old written new held rest
 
 -- a front of its text was written
 begun : {D : Type 0} (Answers : D → Ask → Answer → D → Type 0) (s now : SessionState) (d mid e : D) (given after old before new : Option (List ℕ)) (rest : List ℕ) (message : Fields) (left : ℕ)
-    → Carries given after old before (MessageCame Answers s d mid now message rest left) → HasBegun Answers (reaction now message) mid e before new
-    → Carries given after old new (IsBegun Answers s d e)
+    → HasCarried given after old before (MessageCame Answers s d mid now message rest left) → HasWrittenFront Answers (reaction now message) mid e before new
+    → HasCarried given after old new (IsSessionBegun Answers s d e)
 begun Answers s now d mid e given after old before new rest message left c has =
     let x = c.holds in
     let all = text_one Answers s now d mid e x.messages message c.text has.text x.goes_on x.is_now x.has_text has.done in
@@ -395,8 +395,8 @@ begun Answers s now d mid e given after old before new rest message left c has =
 
 -- nothing of it was
 unsaid : {D : Type 0} (Answers : D → Ask → Answer → D → Type 0) (s now : SessionState) (d mid e : D) (given after old before new : Option (List ℕ)) (rest : List ℕ) (message : Fields) (left : ℕ)
-    → Carries given after old before (MessageCame Answers s d mid now message rest left) → IsUnsaid Answers (reaction now message) mid e before new
-    → Carries given after old new (IsUnfinished Answers s d e)
+    → HasCarried given after old before (MessageCame Answers s d mid now message rest left) → IsUnsaid Answers (reaction now message) mid e before new
+    → HasCarried given after old new (IsUnfinished Answers s d e)
 unsaid Answers s now d mid e given after old before new rest message left c none =
     let x = c.holds in
     record {
@@ -429,8 +429,8 @@ unsaid Answers s now d mid e given after old before new rest message left c none
 
 -- the desk gave no answer
 refused : {D : Type 0} (Answers : D → Ask → Answer → D → Type 0) (Refuses : D → Ask → D → Type 0) (s now : SessionState) (d mid e : D) (given after old before new : Option (List ℕ)) (rest : List ℕ) (message : Fields)
-    (left : ℕ) → Carries given after old before (MessageCame Answers s d mid now message rest left) → IsDown Refuses (reaction now message) mid e before new
-    → Carries given after old new (IsRefused Answers Refuses s d e)
+    (left : ℕ) → HasCarried given after old before (MessageCame Answers s d mid now message rest left) → IsDown Refuses (reaction now message) mid e before new
+    → HasCarried given after old new (IsRefused Answers Refuses s d e)
 refused Answers Refuses s now d mid e given after old before new rest message left c down =
     let x = c.holds in
     record {
@@ -457,8 +457,8 @@ refused Answers Refuses s now d mid e given after old before new rest message le
 -- answering it broke off
 pub answering_breaks : {D : Type 0} (Answers : D → Ask → Answer → D → Type 0) (Refuses : D → Ask → D → Type 0) (fault : ServeFault) (s now : SessionState) (d mid e : D)
     (given before after old written new : Option (List ℕ)) (held rest : List ℕ) (message : Fields) (reads left : ℕ) → PiecesJoin → MoreStays → LaterFollows
-    → Carries given before old written (Going Answers s d mid now held reads) → HasCome before after held reads left (IsNext (Ok (Some message)) held rest)
-    → BreaksOff Answers Refuses (reaction now message) mid e written new fault → Carries given after old new (IsLeftBy Answers Refuses s d e fault)
+    → HasCarried given before old written (Going Answers s d mid now held reads) → HasCome before after held reads left (StandsFirst (Ok (Some message)) held rest)
+    → BreaksOff Answers Refuses (reaction now message) mid e written new fault → HasCarried given after old new (IsLeftBy Answers Refuses s d e fault)
 answering_breaks Answers Refuses Write s now d mid e given before after old written new held rest message reads left join stays later c come broken =
     begun Answers s now d mid e given after old written new rest message left (message_came Answers s now d mid given before after old written held rest message reads left join stays later c come) broken
 answering_breaks Answers Refuses Memory s now d mid e given before after old written new held rest message reads left join stays later c come broken =

@@ -7,7 +7,7 @@ use Rattle.ami_session.specs.FieldValues.{Fields}
 use Rattle.ami_session.specs.Text.{after_all, asks, asks_upon, greeting, is_end, is_over, replies, text_upon}
 use Rattle.serve.specs.Desks.{DeskRun}
 use Rattle.serve.specs.Sessions.{HasText}
-use Rattle.serve.specs.Steps.{HasDone}
+use Rattle.serve.specs.Steps.{HasReacted}
 
 -- a desk answers asks, and then others
 pub run_then : {D : Type 0} (Answers : D → Ask → Answer → D → Type 0) (asked : List Ask) (answers : List Answer) (more : List Ask) (others : List Answer) (d mid e : D)
@@ -80,11 +80,11 @@ replies_one Answers (n ∷ ms) s m answers others d e going run =
 
 -- the session's text grows by the text of one message more
 pub text_one : {D : Type 0} (Answers : D → Ask → Answer → D → Type 0) (s now : SessionState) (d mid e : D) (ms : List Fields) (m : Fields) (text more : List ℕ)
-    → is_over s ms ≡ false → now ≡ after_all s ms → HasText Answers s d mid ms text → HasDone Answers (reaction now m) mid e more
+    → is_over s ms ≡ false → now ≡ after_all s ms → HasText Answers s d mid ms text → HasReacted Answers (reaction now m) mid e more
     → HasText Answers s d e (ms ++ m ∷ []) (text ++ more)
 text_one Answers s now d mid e ms m text more going is has done =
     let r = reaction (after_all s ms) m in
-    let here : HasDone Answers r mid e more = subst (λ x. HasDone Answers (reaction x m) mid e more) is done in
+    let here : HasReacted Answers r mid e more = subst (λ x. HasReacted Answers (reaction x m) mid e more) is done in
     record {
       answers = has.answers ++ here.answers;
       run = subst (λ asked. DeskRun Answers d asked (has.answers ++ here.answers) e) (sym (asks_one ms s m going))

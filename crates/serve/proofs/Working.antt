@@ -7,7 +7,7 @@ use Rattle.ami_session.specs.Text.{asks, asks_upon}
 use Rattle.serve.specs.declared.serve_fault.ServeFault.{ServeFault}
 use Rattle.serve.specs.declared.serve_fault.ServeFault.TheVariants.{Read, Write, LineTooLong, TooManyFields, DeskDown, Turns, Memory}
 use Rattle.serve.specs.Desks.{DeskRun, EachKeeps, HasWorked}
-use Rattle.serve.specs.Sessions.{Carries}
+use Rattle.serve.specs.Sessions.{HasCarried}
 use Rattle.serve.specs.Steps.{BreaksOff, HasAnswered, HasSaid}
 use Rattle.serve.proofs.Serving.{Going}
 use Rattle.serve.proofs.TextSteps.{run_then}
@@ -18,13 +18,13 @@ no_work Answers Refuses d = record { asks = []; answers = []; left = d; run = re
 
 -- it has answered what was asked so far
 pub work_so_far : {D : Type 0} (Answers : D → Ask → Answer → D → Type 0) (Refuses : D → Ask → D → Type 0) (s now : SessionState) (d e : D) (given before old new : Option (List ℕ))
-    (held : List ℕ) (reads : ℕ) → Carries given before old new (Going Answers s d e now held reads) → HasWorked Answers Refuses d e
+    (held : List ℕ) (reads : ℕ) → HasCarried given before old new (Going Answers s d e now held reads) → HasWorked Answers Refuses d e
 work_so_far Answers Refuses s now d e given before old new held reads c =
     record { asks = asks s c.holds.messages; answers = c.holds.has_text.answers; left = e; run = c.holds.has_text.run; last = inl refl }
 
 -- and then what one message more asks
 work_then : {D : Type 0} (Answers : D → Ask → Answer → D → Type 0) (Refuses : D → Ask → D → Type 0) (s now : SessionState) (d mid e : D) (given before old new : Option (List ℕ))
-    (held : List ℕ) (reads : ℕ) (more : List Ask) (others : List Answer) → Carries given before old new (Going Answers s d mid now held reads)
+    (held : List ℕ) (reads : ℕ) (more : List Ask) (others : List Answer) → HasCarried given before old new (Going Answers s d mid now held reads)
     → DeskRun Answers mid more others e → HasWorked Answers Refuses d e
 work_then Answers Refuses s now d mid e given before old new held reads more others c run =
     let x = c.holds in
@@ -37,14 +37,14 @@ work_then Answers Refuses s now d mid e given before old new held reads more oth
     }
 
 pub work_said : {D : Type 0} (Answers : D → Ask → Answer → D → Type 0) (Refuses : D → Ask → D → Type 0) (s now : SessionState) (r : Reaction) (d mid e : D)
-    (given before old written new : Option (List ℕ)) (held : List ℕ) (reads : ℕ) → Carries given before old written (Going Answers s d mid now held reads)
+    (given before old written new : Option (List ℕ)) (held : List ℕ) (reads : ℕ) → HasCarried given before old written (Going Answers s d mid now held reads)
     → HasSaid Answers r mid e written new → HasWorked Answers Refuses d e
 work_said Answers Refuses s now r d mid e given before old written new held reads c has =
     work_then Answers Refuses s now d mid e given before old written held reads (asks_upon r []) has.done.answers c has.done.run
 
 -- also where that breaks off
 pub work_broken : {D : Type 0} (Answers : D → Ask → Answer → D → Type 0) (Refuses : D → Ask → D → Type 0) (fault : ServeFault) (s now : SessionState) (r : Reaction) (d mid e : D)
-    (given before old written new : Option (List ℕ)) (held : List ℕ) (reads : ℕ) → Carries given before old written (Going Answers s d mid now held reads)
+    (given before old written new : Option (List ℕ)) (held : List ℕ) (reads : ℕ) → HasCarried given before old written (Going Answers s d mid now held reads)
     → BreaksOff Answers Refuses r mid e written new fault → HasWorked Answers Refuses d e
 work_broken Answers Refuses Write s now r d mid e given before old written new held reads c broken =
     work_then Answers Refuses s now d mid e given before old written held reads (asks_upon r []) broken.done.answers c broken.done.run

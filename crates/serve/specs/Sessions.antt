@@ -14,7 +14,7 @@ use Rattle.serve.specs.declared.serve_fault.ServeFault.TheVariants.{Read, Write,
 use Rattle.serve.specs.Desks.{DeskRun}
 
 -- a source has given bytes and a sink has taken a text, of which this holds; the source tells what it has left, and the sink what it has taken
-pub record Carries (left_old left_new taken_old taken_new : Option (List ℕ)) (Holds : List ℕ → List ℕ → Type 0) : Type 0 where
+pub record HasCarried (left_old left_new taken_old taken_new : Option (List ℕ)) (Holds : List ℕ → List ℕ → Type 0) : Type 0 where
   pub bytes : List ℕ
   pub text : List ℕ
   pub given : Consumes left_old left_new bytes
@@ -80,7 +80,7 @@ pub record IsAtLast {D : Type 0} (Answers : D → Ask → Answer → D → Type 
 
 -- the text is a front of that of the messages that were answered; it ends in the greeting, before which nothing was read, or in what is
 -- written upon the last message
-pub record IsBegun {D : Type 0} (Answers : D → Ask → Answer → D → Type 0) (s : SessionState) (d e : D) (bytes text : List ℕ) : Type 0 where
+pub record IsSessionBegun {D : Type 0} (Answers : D → Ask → Answer → D → Type 0) (s : SessionState) (d e : D) (bytes text : List ℕ) : Type 0 where
   pub messages : List Fields
   pub rest : List ℕ
   pub gives : Gives bytes messages rest
@@ -134,5 +134,5 @@ IsLeftBy Answers Refuses s d e Turns bytes text = (rest : List ℕ) × AreAnswer
 IsLeftBy Answers Refuses s d e LineTooLong bytes text = AreAnswered Answers s d e (Fault feed.LineTooLong) bytes text
 IsLeftBy Answers Refuses s d e TooManyFields bytes text = AreAnswered Answers s d e (Fault feed.TooManyFields) bytes text
 IsLeftBy Answers Refuses s d e DeskDown bytes text = IsRefused Answers Refuses s d e bytes text
-IsLeftBy Answers Refuses s d e Write bytes text = IsBegun Answers s d e bytes text
+IsLeftBy Answers Refuses s d e Write bytes text = IsSessionBegun Answers s d e bytes text
 IsLeftBy Answers Refuses s d e Memory bytes text = IsUnfinished Answers s d e bytes text

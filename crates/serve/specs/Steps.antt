@@ -53,19 +53,19 @@ abbrev pub IsWanted : List ℕ → List ℕ → Type 0
 IsWanted held stream = (stream ≡ held) ⊎ WantsPiece held stream
 
 -- what stands first in the stream that what was held begins, and what is held behind it: a message, nothing more, or a fault
-abbrev pub IsNext : Result (Option Fields) ServeFault → List ℕ → List ℕ → List ℕ → Type 0
-IsNext (Ok (Some message)) old new stream = Gives stream (message ∷ []) new × IsWanted old stream
-IsNext (Ok None) old new stream = Reads stream [] (Rest new)
-IsNext (Err Read) old new stream = Reads stream [] (Rest new)
-IsNext (Err Turns) old new stream = Reads stream [] (Rest new)
-IsNext (Err LineTooLong) old new stream = Reads stream [] (Fault feed.LineTooLong)
-IsNext (Err TooManyFields) old new stream = Reads stream [] (Fault feed.TooManyFields)
-IsNext (Err Memory) old new stream = IsWanted old stream
-IsNext (Err Write) old new stream = ⊥
-IsNext (Err DeskDown) old new stream = ⊥
+abbrev pub StandsFirst : Result (Option Fields) ServeFault → List ℕ → List ℕ → List ℕ → Type 0
+StandsFirst (Ok (Some message)) old new stream = Gives stream (message ∷ []) new × IsWanted old stream
+StandsFirst (Ok None) old new stream = Reads stream [] (Rest new)
+StandsFirst (Err Read) old new stream = Reads stream [] (Rest new)
+StandsFirst (Err Turns) old new stream = Reads stream [] (Rest new)
+StandsFirst (Err LineTooLong) old new stream = Reads stream [] (Fault feed.LineTooLong)
+StandsFirst (Err TooManyFields) old new stream = Reads stream [] (Fault feed.TooManyFields)
+StandsFirst (Err Memory) old new stream = IsWanted old stream
+StandsFirst (Err Write) old new stream = ⊥
+StandsFirst (Err DeskDown) old new stream = ⊥
 
 -- the desk has answered what a reaction asks, and this text is to be written
-pub record HasDone {D : Type 0} (Answers : D → Ask → Answer → D → Type 0) (r : Reaction) (d e : D) (text : List ℕ) : Type 0 where
+pub record HasReacted {D : Type 0} (Answers : D → Ask → Answer → D → Type 0) (r : Reaction) (d e : D) (text : List ℕ) : Type 0 where
   pub answers : List Answer
   pub run : DeskRun Answers d (asks_upon r []) answers e
   pub is : text ≡ text_upon r (λ _. []) answers
@@ -73,13 +73,13 @@ pub record HasDone {D : Type 0} (Answers : D → Ask → Answer → D → Type 0
 -- the same, and a sink has taken the text
 pub record HasSaid {D : Type 0} (Answers : D → Ask → Answer → D → Type 0) (r : Reaction) (d e : D) (taken_old taken_new : Option (List ℕ)) : Type 0 where
   pub text : List ℕ
-  pub done : HasDone Answers r d e text
+  pub done : HasReacted Answers r d e text
   pub taken : Appends taken_old taken_new text
 
 -- the same, and a sink has taken a front of the text
-pub record HasBegun {D : Type 0} (Answers : D → Ask → Answer → D → Type 0) (r : Reaction) (d e : D) (taken_old taken_new : Option (List ℕ)) : Type 0 where
+pub record HasWrittenFront {D : Type 0} (Answers : D → Ask → Answer → D → Type 0) (r : Reaction) (d e : D) (taken_old taken_new : Option (List ℕ)) : Type 0 where
   pub text : List ℕ
-  pub done : HasDone Answers r d e text
+  pub done : HasReacted Answers r d e text
   pub taken : HasTaken taken_old taken_new text
 
 -- the desk has refused what a reaction asks, and nothing was written
@@ -105,7 +105,7 @@ pub record IsUnsaid {D : Type 0} (Answers : D → Ask → Answer → D → Type 
 
 -- where a fault breaks off what is done upon a reaction
 abbrev pub BreaksOff : {D : Type 0} → (D → Ask → Answer → D → Type 0) → (D → Ask → D → Type 0) → Reaction → D → D → Option (List ℕ) → Option (List ℕ) → ServeFault → Type 0
-BreaksOff Answers Refuses r d e taken_old taken_new Write = HasBegun Answers r d e taken_old taken_new
+BreaksOff Answers Refuses r d e taken_old taken_new Write = HasWrittenFront Answers r d e taken_old taken_new
 BreaksOff Answers Refuses r d e taken_old taken_new Memory = IsUnsaid Answers r d e taken_old taken_new
 BreaksOff Answers Refuses r d e taken_old taken_new DeskDown = IsDown Refuses r d e taken_old taken_new
 BreaksOff Answers Refuses r d e taken_old taken_new Read = ⊥

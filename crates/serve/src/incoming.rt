@@ -2,7 +2,7 @@
 ghost use Rattle.std.specs.Prelude.{◌≡◌, ◌≤◌, ◌<◌, ◌+◌, [], None, Ok, true, false, IfOk, IfSome};
 ghost use Rattle.std.specs.Prelude.{OnOk, IsErrOf};
 ghost use Rattle.ami_text.specs.Devices.{HasEnded};
-ghost use Rattle.serve.specs.Steps.{HasCome, IsHeld, IsNext, bytes_ahead};
+ghost use Rattle.serve.specs.Steps.{HasCome, IsHeld, StandsFirst, bytes_ahead};
 
 use crate::ServeFault;
 use ami_text::laws::messages_so_far;
@@ -48,7 +48,7 @@ pub fn next_message<S: Source>(
     requires goes_on { incoming.old.reads < 1000000 → S.ended reader.old ≡ false }
     ensures come { HasCome (S.left reader.old) (S.left reader.new) incoming.old.feed.held
         incoming.old.reads incoming.new.reads
-        (IsNext result incoming.old.feed.held incoming.new.feed.held) }
+        (StandsFirst result incoming.old.feed.held incoming.new.feed.held) }
     ensures counted { IfOk result (λ next. IfSome next (λ _.
         S.reads_left reader.old + incoming.new.reads
         ≤ S.reads_left reader.new + incoming.old.reads)) }

@@ -7,7 +7,7 @@
 ghost use Rattle.std.specs.Prelude.{◌≡◌, ◌≤◌, ◌+◌, true, false, IfErr, OnOk, IsErrOf};
 ghost use Rattle.ami_text.specs.Devices.{HasGiven, HasGivenUpTo};
 ghost use Rattle.serve.specs.Desks.{HasWorked};
-ghost use Rattle.serve.specs.Sessions.{Carries, IsLeftBy, IsServed};
+ghost use Rattle.serve.specs.Sessions.{HasCarried, IsLeftBy, IsServed};
 
 mod desk;
 mod incoming;
@@ -50,12 +50,12 @@ pub fn serve<R, S: Source, W: Sink, D: Desk<R>>(
     requires writer { W.failed writer.old ≡ false }
 
     // The session's text was written, upon the bytes that were read and the desk's answers.
-    ensures served { OnOk result (Carries (S.left reader.old) (S.left reader.new)
+    ensures served { OnOk result (HasCarried (S.left reader.old) (S.left reader.new)
         (W.taken writer.old) (W.taken writer.new)
         (IsServed D.answers session desk.old desk.new (S.ended reader.new) (S.left reader.new))) }
 
     // After a fault a front of it was.
-    ensures left { IfErr result (λ fault. Carries (S.left reader.old) (S.left reader.new)
+    ensures left { IfErr result (λ fault. HasCarried (S.left reader.old) (S.left reader.new)
         (W.taken writer.old) (W.taken writer.new)
         (IsLeftBy D.answers D.refuses session desk.old desk.new fault)) }
 

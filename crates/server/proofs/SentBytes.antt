@@ -8,7 +8,7 @@ use Rattle.server.specs.declared.first_message.FirstMessage.{FirstMessage}
 use Rattle.server.specs.declared.first_message.FirstMessage.TheVariants.{Awaited, Begun, Ended}
 use Rattle.server.specs.declared.first_message.LineSoFar.{LineSoFar}
 use Rattle.server.specs.declared.first_message.LineSoFar.TheVariants.{Empty, Cr, Full}
-use Rattle.server.specs.FirstMessages.{HasContent, HasMessage, HasSent, IsAwaited, IsBegun, IsLineSoFar, after_content, after_end, line_after, message_after}
+use Rattle.server.specs.FirstMessages.{HasContent, HasMessage, HasSent, IsAwaited, IsLineBegun, IsLineSoFar, after_content, after_end, line_after, message_after}
 
 -- ---- lines
 
@@ -109,7 +109,7 @@ empty_more sent line h is_empty = record {
 }
 
 -- an empty line has ended behind others
-message_ends : (sent : List ℕ) (line : LineSoFar) (h : IsBegun sent line) → IsEmptyLine h.part → HasMessage (sent ++ 10 ∷ [])
+message_ends : (sent : List ℕ) (line : LineSoFar) (h : IsLineBegun sent line) → IsEmptyLine h.part → HasMessage (sent ++ 10 ∷ [])
 message_ends sent line h is_empty = record {
   empties = h.empties;
   lines = h.lines;

@@ -63,7 +63,7 @@ pub record IsAwaited (sent : List ℕ) (line : LineSoFar) : Type 0 where
   pub whole : sent ≡ lines_text empties ++ part
 
 -- empty lines were sent, then some with content, and then this of a line
-pub record IsBegun (sent : List ℕ) (line : LineSoFar) : Type 0 where
+pub record IsLineBegun (sent : List ℕ) (line : LineSoFar) : Type 0 where
   pub empties : List (List ℕ)
   pub lines : List (List ℕ)
   pub part : List ℕ
@@ -88,5 +88,5 @@ pub record HasMessage (sent : List ℕ) : Type 0 where
 -- so far has come who has sent these bytes
 abbrev pub HasSent : List ℕ → FirstMessage → Type 0
 HasSent sent (Awaited line) = IsAwaited sent line
-HasSent sent (Begun line) = IsBegun sent line
+HasSent sent (Begun line) = IsLineBegun sent line
 HasSent sent Ended = HasMessage sent

@@ -12,8 +12,8 @@ use Rattle.sites_world.specs.declared.event.Event.{Event}
 use Rattle.sites_world.specs.Worlds.{World, after_happening, happens, happens_at, happens_where, new_world, site_of}
 use Rattle.sites_world.specs.WorldStates.{IsSiteOf}
 use Rattle.sites_world.proofs.Lists.{get_set_same, get_set_other, one_some}
-use Rattle.site_audit.specs.Runs.{AreGiven, Gives, names_in, world_after}
-use Rattle.site_audit.specs.Places.{IsAt, IsSiteAt}
+use Rattle.site_audit.specs.Runs.{AreGiven, GivesDeed, names_in, world_after}
+use Rattle.site_audit.specs.Places.{HaveGiven, IsSiteAt}
 use Rattle.site_audit.proofs.Lists.{same_or_not, take_next}
 use Rattle.site_audit.proofs.Given.{given_more, given_other, run_more}
 
@@ -22,7 +22,7 @@ pub happens_known : (names : List (List ℕ)) (w : World) (e : Event) (s : SiteK
     → happens names w e ≡ (after_happening w (site_of e) (happens_at names w.pool s e), (happens_at names w.pool s e).outcome)
 happens_known names w e s k = ap (λ x. happens_where names w (site_of e) x e) k
 
-module _ (journals : List JournalState) (at : List ℕ) (events : List Event) (is : IsAt journals at events)
+module _ (journals : List JournalState) (at : List ℕ) (events : List Event) (is : HaveGiven journals at events)
     (j : JournalState) (n : ℕ) (step : Step) (e : Event) (s : SiteKnowledge)
     (journal : slice_get journals (site_of e) ≡ Some j) (place : slice_get at (site_of e) ≡ Some n) (next : slice_get j.steps n ≡ Some step)
     (knows : slice_get (world_after journals events).sites (site_of e) ≡ Some s) where
@@ -32,9 +32,9 @@ module _ (journals : List JournalState) (at : List ℕ) (events : List Event) (i
   world_more = run_more (names_in journals) (new_world (length journals)) events e ∙ ap (λ x. x.0) (happens_known (names_in journals) (world_after journals events) e s knows)
 
   -- the search with one step more
-  pub advance : (to : SiteState) → Gives (names_in journals) (world_after journals events) e step.deed
+  pub advance : (to : SiteState) → GivesDeed (names_in journals) (world_after journals events) e step.deed
       → IsSiteOf (names_in journals) (site_of e) to (happens_at (names_in journals) (world_after journals events).pool s e).site → LeadAll to (drop (suc n) j.steps) j.replica
-      → IsAt journals (slice_set at (site_of e) (suc n)) (events ++ e ∷ [])
+      → HaveGiven journals (slice_set at (site_of e) (suc n)) (events ++ e ∷ [])
   advance to gives stands leads = record {
     places = length-set at (site_of e) (suc n) ∙ is.places;
     sites = All-append (λ x. site_of x < length journals) events (e ∷ []) is.sites

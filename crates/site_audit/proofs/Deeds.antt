@@ -35,13 +35,13 @@ use Rattle.sites_world.specs.Worlds.{Entry, IsReached, World, entries_of, frame_
 use Rattle.sites_world.specs.WorldStates.{IsSiteOf}
 use Rattle.site_audit.specs.Places.{AreSpelled}
 use Rattle.site_audit.specs.Replays.{made_by}
-use Rattle.site_audit.specs.Runs.{Gives, IsSpelling, IsSpelledAt, MakesBytes}
+use Rattle.site_audit.specs.Runs.{GivesDeed, IsSpelling, IsSpelledAt, MakesBytes}
 use Rattle.site_audit.proofs.Lists.{get_last}
 use Rattle.site_audit.proofs.Advance.{happens_known}
 
 -- what comes of an event is what a deed has
 pub record Comes (names : List (List ℕ)) (w : World) (s : SiteKnowledge) (e : Event) (deed : StepDeed) (to : SiteState) : Type 0 where
-  pub gives : Gives names w e deed
+  pub gives : GivesDeed names w e deed
   pub is : IsSiteOf names (site_of e) to (happens_at names w.pool s e).site
   pub added : AreSpelled (made_by deed) (happens_at names w.pool s e).added
 
@@ -61,7 +61,7 @@ module _ (names : List (List ℕ)) (w : World) (s : SiteKnowledge) (site : ℕ) 
 
   -- a frame that was made
   made_comes : (e : Event) (deed : StepDeed) (bytes : List ℕ) (frame : Frame) (done : SiteKnowledge × Outcome) → site_of e ≡ site
-      → happens_at names w.pool s e ≡ framed (site_of e) (length w.pool) done → (MakesBytes names w e bytes → Gives names w e deed) → made_by deed ≡ Some bytes
+      → happens_at names w.pool s e ≡ framed (site_of e) (length w.pool) done → (MakesBytes names w e bytes → GivesDeed names w e deed) → made_by deed ≡ Some bytes
       → IsSiteOf names site to done.0 → IsFramed frame done.1 → frame.maker ≡ site → Spells frame bytes → Comes names w s e deed to
   made_comes e deed bytes frame done of happening gives made stands said maker spelled =
       let entry : Entry = record { maker = site_of e; number = frame.number; carried = said.says } in

@@ -13,10 +13,10 @@ use Rattle.sites_world.specs.declared.event.Event.TheVariants as event
 use Rattle.sites_world.specs.Worlds.{World, new_world, site_of}
 use Rattle.sites_world.proofs.Lists.{none_some, one_some}
 use Rattle.site_audit.specs.declared.replay.Replay.{Replay}
-use Rattle.site_audit.specs.Ending.{HasAll, IsLeastLeft}
-use Rattle.site_audit.specs.Places.{IsAt, IsIndexOf, IsSiteAt}
-use Rattle.site_audit.specs.Replays.{CannotGoOn, Ended, HasPlayed, IsBegun, IsReplay, Waits, found_in}
-use Rattle.site_audit.specs.Runs.{AreGiven, AreSites, Gives, IsFromNew, IsRun, IsStuck, names_in, world_after}
+use Rattle.site_audit.specs.Ending.{HasAllSteps, IsLeastLeft}
+use Rattle.site_audit.specs.Places.{HaveGiven, IsIndexOf, IsSiteAt}
+use Rattle.site_audit.specs.Replays.{CannotGoOn, Ended, HasPlayed, IsUnplayed, IsReplay, Waits, found_in}
+use Rattle.site_audit.specs.Runs.{AreGiven, AreSites, GivesDeed, IsFromNew, IsRun, IsStuck, names_in, world_after}
 use Rattle.site_audit.proofs.Lists.{drop_all, same_or_not, take_all}
 use Rattle.site_audit.proofs.Deeds.{same_site_of}
 
@@ -52,16 +52,16 @@ module _ (journals : List JournalState) (sites : AreSites journals) (fresh : (si
         leads = subst (λ steps. LeadAll j.base steps j.replica) (sym (drop_none j.steps)) (legal site j known).legal;
       }
 
-  begun_all : (at : List ℕ) → length at ≡ length journals → ((site n : ℕ) → slice_get at site ≡ Some n → n ≡ 0) → IsAt journals at []
+  begun_all : (at : List ℕ) → length at ≡ length journals → ((site n : ℕ) → slice_get at site ≡ Some n → n ≡ 0) → HaveGiven journals at []
   begun_all at count zero_at = record {
     places = count;
     sites = All-from_recursion (λ x. site_of x < length journals) [] tt;
     each = λ site n j known here. subst (λ m. IsSiteAt journals [] site m j) (sym (zero_at site n here)) (begun_at site j known);
   }
 
-  pub begins : (r : Replay) → IsBegun r (length journals) → IsReplay journals r
+  pub begins : (r : Replay) → IsUnplayed r (length journals) → IsReplay journals r
   begins r b = record {
-    is = subst (IsAt journals r.at.items) (sym b.events) (begun_all r.at.items b.count b.at);
+    is = subst (HaveGiven journals r.at.items) (sym b.events) (begun_all r.at.items b.count b.at);
     index = subst (λ es. IsIndexOf (found_in r.pool) (world_after journals es).pool) (sym b.events) (record {
       some = λ bytes place h. absurd (none_some place (sym (b.found bytes) ∙ h));
       none = λ bytes place h there. none_some there.entry there.is;
@@ -101,7 +101,7 @@ round_on journals start old new false false site r h = subst (λ now. InRound jo
 -- ---- the ends
 
 -- a take of bytes that no entry is spelled by is given by no event
-waiting_gives : (names : List (List ℕ)) (w : World) (find : List ℕ → Option ℕ) (e : Event) (bytes : List ℕ) → IsIndexOf find w.pool → find bytes ≡ None → Gives names w e (Took bytes) → ⊥
+waiting_gives : (names : List (List ℕ)) (w : World) (find : List ℕ → Option ℕ) (e : Event) (bytes : List ℕ) → IsIndexOf find w.pool → find bytes ≡ None → GivesDeed names w e (Took bytes) → ⊥
 waiting_gives names w find (event.Take site place) bytes index others g = index.none bytes place others g.1
 waiting_gives names w find (event.Cut site) bytes index others g = absurd g
 waiting_gives names w find (event.Whole site) bytes index others g = absurd g
@@ -109,7 +109,7 @@ waiting_gives names w find (event.Ask site asked) bytes index others g = absurd 
 
 -- no event gives a site that can't go on its next step
 gives_none : (journals : List JournalState) (r : Replay) → IsReplay journals r → (site n : ℕ) (j : JournalState) (step : Step) (e : Event) → slice_get journals site ≡ Some j
-    → slice_get r.at.items site ≡ Some n → slice_get j.steps n ≡ Some step → Gives (names_in journals) (world_after journals r.events.items) e step.deed → CannotGoOn journals r site → ⊥
+    → slice_get r.at.items site ≡ Some n → slice_get j.steps n ≡ Some step → GivesDeed (names_in journals) (world_after journals r.events.items) e step.deed → CannotGoOn journals r site → ⊥
 gives_none journals r is site n j step e journal place next gives (Ended k known all) =
     let same : k ≡ j = one_some k j (sym known ∙ journal) in
     let m : length k.steps ≡ n = one_some _ _ (sym all ∙ place) in
@@ -120,7 +120,7 @@ gives_none journals r is site n j step e journal place next gives (Waits bytes x
     let k : x.j ≡ j = one_some _ _ (sym x.journal ∙ journal) in
     let same : x.step ≡ step = one_some _ _ (sym x.next ∙ ap (λ y. slice_get y.steps x.n) k ∙ ap (slice_get j.steps) m ∙ next) in
     waiting_gives (names_in journals) (world_after journals r.events.items) (found_in r.pool) e bytes is.index others
-    (subst (Gives (names_in journals) (world_after journals r.events.items) e) (sym (ap (λ y. y.deed) same) ∙ x.deed_is) gives)
+    (subst (GivesDeed (names_in journals) (world_after journals r.events.items) e) (sym (ap (λ y. y.deed) same) ∙ x.deed_is) gives)
 
 -- where no site can go on the events are stuck at the first step that is left of the least site that hasn't all
 pub ends_stuck : (journals : List JournalState) (r : Replay) (site position : ℕ) → IsReplay journals r → ((other : ℕ) → other < length journals → CannotGoOn journals r other)
@@ -139,7 +139,7 @@ ends_stuck journals r site position is cannot least here =
     }
 
 -- where each site has all its steps they are one run
-pub ends_as_run : (journals : List JournalState) (r : Replay) → IsReplay journals r → ((site : ℕ) → HasAll journals r.at.items site) → IsRun journals r.events.items
+pub ends_as_run : (journals : List JournalState) (r : Replay) → IsReplay journals r → ((site : ℕ) → HasAllSteps journals r.at.items site) → IsRun journals r.events.items
 ends_as_run journals r is all = record {
   sites = is.is.sites;
   given = λ site j known. let x = is.is.each site (length j.steps) j known (all site j known) in

@@ -3,7 +3,7 @@ use Rattle.std.proofs.Common.{◌≡◌, ◌≢◌, inl, inr, ℕ, List, [], ◌
 use Rattle.site_journal.specs.declared.step.Step.{Step}
 use Rattle.sites_world.specs.declared.event.Event.{Event}
 use Rattle.sites_world.specs.Worlds.{World, happens, run, site_of}
-use Rattle.site_audit.specs.Runs.{AreGiven, Gives}
+use Rattle.site_audit.specs.Runs.{AreGiven, GivesDeed}
 
 -- the world after one event more
 pub run_more : (names : List (List ℕ)) (w : World) (es : List Event) (e : Event) → (run names w (es ++ e ∷ [])).0 ≡ (happens names (run names w es).0 e).0
@@ -12,7 +12,7 @@ run_more names w (x ∷ es) e = run_more names (happens names w x).0 es e
 
 -- it gives its site a step more
 pub given_more : (names : List (List ℕ)) (w : World) (es : List Event) (e : Event) (site : ℕ) (steps : List Step) (step : Step) → AreGiven names w es site steps → site_of e ≡ site
-    → Gives names (run names w es).0 e step.deed → AreGiven names w (es ++ e ∷ []) site (steps ++ step ∷ [])
+    → GivesDeed names (run names w es).0 e step.deed → AreGiven names w (es ++ e ∷ []) site (steps ++ step ∷ [])
 given_more names w [] e site steps step h of gives = inl (of, step, [], ap (λ s. s ++ step ∷ []) h, gives, refl)
 given_more names w (x ∷ es) e site steps step (inl p) of gives =
     inl (p.0, p.1, p.2 ++ step ∷ [], ap (λ s. s ++ step ∷ []) p.3, p.4, given_more names (happens names w x).0 es e site p.2 step p.5 of gives)

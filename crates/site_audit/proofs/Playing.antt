@@ -22,9 +22,9 @@ use Rattle.sites_world.specs.WorldStates.{IsSiteOf}
 use Rattle.sites_world.proofs.Lists.{get_push, none_some, one_some}
 use Rattle.site_audit.specs.declared.pool.Pool.{Pool}
 use Rattle.site_audit.specs.declared.replay.Replay.{Replay}
-use Rattle.site_audit.specs.Places.{AreSpelled, IsAt, IsIndexOf, IsSiteAt}
-use Rattle.site_audit.specs.Replays.{CannotGoOn, Ended, HasFound, HasPut, IsNext, IsReplay, Waits, event_for, found_in, made_by}
-use Rattle.site_audit.specs.Runs.{AreSites, Gives, IsSpelledAt, IsSpelling, names_in, world_after}
+use Rattle.site_audit.specs.Places.{AreSpelled, HaveGiven, IsIndexOf, IsSiteAt}
+use Rattle.site_audit.specs.Replays.{CannotGoOn, Ended, HasFound, HasPut, IsNextStep, IsReplay, Waits, event_for, found_in, made_by}
+use Rattle.site_audit.specs.Runs.{AreSites, GivesDeed, IsSpelledAt, IsSpelling, names_in, world_after}
 use Rattle.site_audit.proofs.Lists.{drop_next, get_front, get_last}
 use Rattle.site_audit.proofs.Advance.{advance, world_more}
 use Rattle.site_audit.proofs.Deeds.{Comes, ask_comes, cut_comes, empty_comes, take_comes, whole_comes}
@@ -116,11 +116,11 @@ module _ (may : MayTakeEntries) (names : List (List ℕ)) (sites : ℕ) (w : Wor
   must_come e (Whole bytes) h l = subst (λ (x : Event). (site_of x ≡ site) × Comes names w s x (Whole bytes) to) (one_some _ e h) (refl, whole_comes names w s site from to knows is bytes l)
 
 -- an event was put that is the one for a site's next step
-pub put_plays : MayTakeEntries → (journals : List JournalState) (old new : Replay) (site : ℕ) (e : Event) (deed : StepDeed) → IsReplay journals old → IsNext journals old site deed
+pub put_plays : MayTakeEntries → (journals : List JournalState) (old new : Replay) (site : ℕ) (e : Event) (deed : StepDeed) → IsReplay journals old → IsNextStep journals old site deed
     → event_for (found_in old.pool) site deed ≡ Some e → HasPut old new site e deed → IsReplay journals new × (length new.events.items ≡ length old.events.items + 1)
 put_plays may journals old new site e deed r x event_is put = (
   record {
-    is = subst (λ at. IsAt journals at new.events.items) (sym (put.at x.n x.at)) (subst (λ es. IsAt journals (slice_set old.at.items site (suc x.n)) es) (sym put.events) now);
+    is = subst (λ at. HaveGiven journals at new.events.items) (sym (put.at x.n x.at)) (subst (λ es. HaveGiven journals (slice_set old.at.items site (suc x.n)) es) (sym put.events) now);
     index = subst (λ es. IsIndexOf (found_in new.pool) (world_after journals es).pool) (sym put.events) (subst (IsIndexOf (found_in new.pool)) (sym pool_is) pool.0.index);
     entries = pool.0.count ∙ ap length (sym pool_is) ∙ ap (λ es. length (world_after journals es).pool) (sym put.events);
     few = let a = r.few in let b = pool.1 in let c = more in omega (arith, a, b, c);
@@ -144,10 +144,10 @@ put_plays may journals old new site e deed r x event_is put = (
     at-site : slice_get w.sites (site_of e) ≡ Some was.s
     at-site = ap (slice_get w.sites) c.0 ∙ was.knows
 
-    now : IsAt journals (slice_set old.at.items site (suc x.n)) (old.events.items ++ e ∷ [])
-    now = subst (λ n. IsAt journals (slice_set old.at.items n (suc x.n)) (old.events.items ++ e ∷ [])) c.0
+    now : HaveGiven journals (slice_set old.at.items site (suc x.n)) (old.events.items ++ e ∷ [])
+    now = subst (λ n. HaveGiven journals (slice_set old.at.items n (suc x.n)) (old.events.items ++ e ∷ [])) c.0
         (advance journals old.at.items old.events.items r.is x.j x.n x.step e was.s (ap (slice_get journals) c.0 ∙ x.journal) (ap (slice_get old.at.items) c.0 ∙ x.at) x.next at-site
-        l.0 (subst (λ d. Gives (names_in journals) w e d) (sym x.deed_is) c.1.gives) c.1.is l.2)
+        l.0 (subst (λ d. GivesDeed (names_in journals) w e d) (sym x.deed_is) c.1.gives) c.1.is l.2)
 
     pool_is : (world_after journals (old.events.items ++ e ∷ [])).pool ≡ w.pool ++ (happens_at (names_in journals) w.pool was.s e).added
     pool_is = ap (λ v. v.pool) (world_more journals old.at.items old.events.items r.is x.j x.n x.step e was.s (ap (slice_get journals) c.0 ∙ x.journal)
@@ -163,7 +163,7 @@ put_plays may journals old new site e deed r x event_is put = (
 
 -- what was read of a site whose next step is this deed
 pub next_of : (journals : List JournalState) (r : Replay) (place at : ℕ) (j : JournalState) (steps : List Step) (step : Step) → IsReplay journals r → place < length journals
-    → j ≡ get_or journals place j → at ≡ get_or r.at.items place at → steps ≡ j.steps → at < length steps → step ≡ get_or steps at step → IsNext journals r place step.deed
+    → j ≡ get_or journals place j → at ≡ get_or r.at.items place at → steps ≡ j.steps → at < length steps → step ≡ get_or steps at step → IsNextStep journals r place step.deed
 next_of journals r place at j steps step is low j-is at-is steps-are left step-is = record {
   j = j;
   n = at;
@@ -185,7 +185,7 @@ ended_of journals r place at j steps is low j-is at-is steps-are all =
     Ended j known (here ∙ ap Some (let e : at ≡ length j.steps = omega (arith, up, len, all) in e))
 
 -- a deed has no event where it is a take of bytes that aren't found
-pub waits_of : (journals : List JournalState) (r : Replay) (site : ℕ) (deed : StepDeed) → IsNext journals r site deed → event_for (found_in r.pool) site deed ≡ None → CannotGoOn journals r site
+pub waits_of : (journals : List JournalState) (r : Replay) (site : ℕ) (deed : StepDeed) → IsNextStep journals r site deed → event_for (found_in r.pool) site deed ≡ None → CannotGoOn journals r site
 waits_of journals r site (Took bytes) x h = by (found_in r.pool bytes) refl h
   where
     by : (found : Option ℕ) → found_in r.pool bytes ≡ found → option_map (event.Take site) found ≡ None → CannotGoOn journals r site

@@ -3,8 +3,8 @@ use Rattle.std.specs.Prelude.{ℕ, ◌≡◌, ◌<◌, List, Some, length, slice
 use Rattle.site_journal.specs.Journals.{JournalState}
 
 -- a site has been given all its steps
-abbrev pub HasAll : List JournalState → List ℕ → ℕ → Type 0
-HasAll journals at site = (j : JournalState) → slice_get journals site ≡ Some j → slice_get at site ≡ Some (length j.steps)
+abbrev pub HasAllSteps : List JournalState → List ℕ → ℕ → Type 0
+HasAllSteps journals at site = (j : JournalState) → slice_get journals site ≡ Some j → slice_get at site ≡ Some (length j.steps)
 
 -- a site is the least that has steps left
 pub record IsLeastLeft (journals : List JournalState) (at : List ℕ) (site : ℕ) : Type 0 where
@@ -13,4 +13,4 @@ pub record IsLeastLeft (journals : List JournalState) (at : List ℕ) (site : �
   pub journal : slice_get journals site ≡ Some j
   pub here : slice_get at site ≡ Some n
   pub left : n < length j.steps
-  pub before : (earlier : ℕ) → earlier < site → HasAll journals at earlier
+  pub before : (earlier : ℕ) → earlier < site → HasAllSteps journals at earlier

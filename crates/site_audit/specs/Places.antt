@@ -20,7 +20,7 @@ pub record IsSiteAt (journals : List JournalState) (events : List Event) (site n
   pub leads : LeadAll state (drop n j.steps) j.replica
 
 -- these events have given each site the first steps of its journal, as many as `at` has for it
-pub record IsAt (journals : List JournalState) (at : List ℕ) (events : List Event) : Type 0 where
+pub record HaveGiven (journals : List JournalState) (at : List ℕ) (events : List Event) : Type 0 where
   pub places : length at ≡ length journals
   pub sites : All (λ e. site_of e < length journals) events
   pub each : (site n : ℕ) (j : JournalState) → slice_get journals site ≡ Some j → slice_get at site ≡ Some n → IsSiteAt journals events site n j

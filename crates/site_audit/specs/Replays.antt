@@ -13,7 +13,7 @@ use Rattle.sites_world.specs.declared.event.Event.{Event}
 use Rattle.sites_world.specs.declared.event.Event.TheVariants as event
 use Rattle.site_audit.specs.declared.pool.Pool.{Pool}
 use Rattle.site_audit.specs.declared.replay.Replay.{Replay}
-use Rattle.site_audit.specs.Places.{IsAt, IsIndexOf}
+use Rattle.site_audit.specs.Places.{HaveGiven, IsIndexOf}
 use Rattle.site_audit.specs.Runs.{world_after}
 
 -- where bytes are found
@@ -22,13 +22,13 @@ found_in pool bytes = tree.get_by (λ key. slice_cmp nat_cmp bytes key.now) pool
 
 -- a replay stands where the search has come
 pub record IsReplay (journals : List JournalState) (r : Replay) : Type 0 where
-  pub is : IsAt journals r.at.items r.events.items
+  pub is : HaveGiven journals r.at.items r.events.items
   pub index : IsIndexOf (found_in r.pool) (world_after journals r.events.items).pool
   pub entries : r.pool.entries ≡ length (world_after journals r.events.items).pool
   pub few : r.pool.entries ≤ length r.events.items
 
 -- a site's next step
-pub record IsNext (journals : List JournalState) (r : Replay) (site : ℕ) (deed : StepDeed) : Type 0 where
+pub record IsNextStep (journals : List JournalState) (r : Replay) (site : ℕ) (deed : StepDeed) : Type 0 where
   pub j : JournalState
   pub n : ℕ
   pub step : Step
@@ -40,7 +40,7 @@ pub record IsNext (journals : List JournalState) (r : Replay) (site : ℕ) (deed
 -- a site can't go on: it has all its steps, or waits for a frame that isn't in the pool
 pub data CannotGoOn (journals : List JournalState) (r : Replay) (site : ℕ) : Type 0 where
   Ended : (j : JournalState) → slice_get journals site ≡ Some j → slice_get r.at.items site ≡ Some (length j.steps) → CannotGoOn journals r site
-  Waits : (bytes : List ℕ) → IsNext journals r site (Took bytes) → found_in r.pool bytes ≡ None → CannotGoOn journals r site
+  Waits : (bytes : List ℕ) → IsNextStep journals r site (Took bytes) → found_in r.pool bytes ≡ None → CannotGoOn journals r site
 
 -- a step of a site was placed; or it can't go on, and nothing has changed
 abbrev pub HasPlayed : List JournalState → Replay → Replay → ℕ → Bool → Type 0
@@ -74,7 +74,7 @@ pub record HasPut (old new : Replay) (site : ℕ) (e : Event) (deed : StepDeed) 
   pub found : HasFound old.pool new.pool (made_by deed)
 
 -- nothing is played yet of any of `sites` journals
-pub record IsBegun (r : Replay) (sites : ℕ) : Type 0 where
+pub record IsUnplayed (r : Replay) (sites : ℕ) : Type 0 where
   pub count : length r.at.items ≡ sites
   pub at : (site n : ℕ) → slice_get r.at.items site ≡ Some n → n ≡ 0
   pub events : r.events.items ≡ []

@@ -39,19 +39,19 @@ pub record MakesBytes (names : List (List ℕ)) (w : World) (e : Event) (bytes :
   pub spelled : IsSpelledAt (happens names w e).0.pool place bytes
 
 -- an event gives its site this deed: what was asked is answered so; the frame that was taken, or made, is the one that the bytes spell
-abbrev pub Gives : List (List ℕ) → World → Event → StepDeed → Type 0
-Gives names w (event.Ask site asked) (Asked told answer) = (told ≡ asked) × ((happens names w (event.Ask site asked)).1 ≡ outcome.Answered answer)
-Gives names w (event.Take site place) (Took bytes) = ((happens names w (event.Take site place)).1 ≡ outcome.Took (Ok tt)) × IsSpelledAt w.pool place bytes
-Gives names w (event.Cut site) (Cut None) = (happens names w (event.Cut site)).1 ≡ outcome.Cut (Ok None)
-Gives names w (event.Cut site) (Cut (Some bytes)) = MakesBytes names w (event.Cut site) bytes
-Gives names w (event.Whole site) (Whole bytes) = MakesBytes names w (event.Whole site) bytes
-Gives names w e deed = ⊥
+abbrev pub GivesDeed : List (List ℕ) → World → Event → StepDeed → Type 0
+GivesDeed names w (event.Ask site asked) (Asked told answer) = (told ≡ asked) × ((happens names w (event.Ask site asked)).1 ≡ outcome.Answered answer)
+GivesDeed names w (event.Take site place) (Took bytes) = ((happens names w (event.Take site place)).1 ≡ outcome.Took (Ok tt)) × IsSpelledAt w.pool place bytes
+GivesDeed names w (event.Cut site) (Cut None) = (happens names w (event.Cut site)).1 ≡ outcome.Cut (Ok None)
+GivesDeed names w (event.Cut site) (Cut (Some bytes)) = MakesBytes names w (event.Cut site) bytes
+GivesDeed names w (event.Whole site) (Whole bytes) = MakesBytes names w (event.Whole site) bytes
+GivesDeed names w e deed = ⊥
 
 -- events give a site these steps, in their order, and no others
 abbrev pub AreGiven : List (List ℕ) → World → List Event → ℕ → List Step → Type 0
 AreGiven names w [] site steps = steps ≡ []
 AreGiven names w (e ∷ es) site steps =
-    ((site_of e ≡ site) × (step : Step) × (rest : List Step) × (steps ≡ step ∷ rest) × Gives names w e step.deed × AreGiven names (happens names w e).0 es site rest)
+    ((site_of e ≡ site) × (step : Step) × (rest : List Step) × (steps ≡ step ∷ rest) × GivesDeed names w e step.deed × AreGiven names (happens names w e).0 es site rest)
     ⊎ ((site_of e ≢ site) × AreGiven names (happens names w e).0 es site steps)
 
 -- ---- journals of all sites
@@ -105,7 +105,7 @@ pub record IsGivenFirst (journals : List JournalState) (events : List Event) (si
 
 -- no event at a site gives it this step after events
 abbrev pub GivesNone : List JournalState → List Event → ℕ → Step → Type 0
-GivesNone journals events site step = (e : Event) → site_of e ≡ site → Gives (names_in journals) (world_after journals events) e step.deed → ⊥
+GivesNone journals events site step = (e : Event) → site_of e ≡ site → GivesDeed (names_in journals) (world_after journals events) e step.deed → ⊥
 
 -- Events are stuck at a step of a site: each site is given its first steps, this one those before the step and fewer than it has, each lesser site all, and
 -- no further event gives any site its next.

@@ -4,7 +4,7 @@ ghost use Rattle.std.specs.Prelude.{IsTrue, None, Some, length, slice_get};
 ghost use Rattle.site_journal.specs.Journals.{IsJournal, JournalState};
 ghost use Rattle.replica.specs.Deeds.{IsNew};
 ghost use Rattle.sites_world.specs.declared.event.Event.{Event};
-ghost use Rattle.site_audit.specs.Ending.{HasAll, IsLeastLeft};
+ghost use Rattle.site_audit.specs.Ending.{HasAllSteps, IsLeastLeft};
 ghost use Rattle.site_audit.specs.Runs.{AreSites, IsFirstStale, IsFromNew, IsRun, IsStuck};
 
 use crate::AuditFault;
@@ -77,7 +77,7 @@ fn least_left(journals: &[Journaled], at: &[usize]) -> Option<usize>
     requires within { (site n : ℕ) (j : JournalState) → slice_get journals.now site ≡ Some j
         → slice_get at.now site ≡ Some n → n ≤ length j.steps }
     ensures left { IfSome result (λ site. IsLeastLeft journals.now at.now site) }
-    ensures none { IfNone result ((site : ℕ) → HasAll journals.now at.now site) }
+    ensures none { IfNone result ((site : ℕ) → HasAllSteps journals.now at.now site) }
 {
     let mut place = 0;
     while place < journals.len() {

@@ -1,7 +1,7 @@
 //! The search for one list of events: each site in turn gets its next step, until none can go on.
 ghost use Rattle.std.specs.Prelude.{◌≡◌, ◌+◌, ◌<◌, ◌≤◌, ◌^◌, ◌||◌, ℕ, IfOk, OnOk, true, false};
 ghost use Rattle.std.specs.Prelude.{length, slice_index};
-ghost use Rattle.site_audit.specs.Replays.{CannotGoOn, HasPlayed, HasPut, IsBegun, IsReplay};
+ghost use Rattle.site_audit.specs.Replays.{CannotGoOn, HasPlayed, HasPut, IsUnplayed, IsReplay};
 ghost use Rattle.site_audit.specs.Replays.{event_for, found_in};
 ghost use Rattle.site_audit.specs.Runs.{AreSites};
 
@@ -26,7 +26,7 @@ pub(crate) struct Replay<'a> {
 impl<'a> Replay<'a> {
     // Nothing is played yet of any of `sites` journals.
     pub(crate) fn begin(alloc: Global, sites: usize) -> Result<Replay<'a>, Memory>
-        ensures { IfOk result (λ replay. IsBegun replay sites) }
+        ensures { IfOk result (λ replay. IsUnplayed replay sites) }
     {
         let mut at = Vec::new(alloc);
         for _ in 0..sites {

@@ -52,7 +52,7 @@ pub record IsJournal (j : JournalState) : Type 0 where
   pub few : j.limit ≤ MOST_STEPS
 
 -- a journal of a replica, without a step
-pub record IsBegun (replica : SiteState) (limit : ℕ) (j : JournalState) : Type 0 where
+pub record IsNewJournal (replica : SiteState) (limit : ℕ) (j : JournalState) : Type 0 where
   pub base : IsSameSite replica j.base
   pub steps : j.steps ≡ []
   pub start : j.start ≡ 0

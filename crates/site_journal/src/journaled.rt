@@ -8,7 +8,7 @@ ghost use Rattle.delta_codec.specs.Frames.{Spells};
 ghost use Rattle.replica.specs.Site as sites;
 ghost use Rattle.site_journal.specs.Keeping.{kept_by_steps};
 ghost use Rattle.site_journal.specs.Journals.{HasAdded, HasDropped, HasFaultAlone, IsAnswerTo};
-ghost use Rattle.site_journal.specs.Journals.{IsBegun, IsStepOfCut, IsFull, IsJournal, IsRefusedFor};
+ghost use Rattle.site_journal.specs.Journals.{IsNewJournal, IsStepOfCut, IsFull, IsJournal, IsRefusedFor};
 ghost use Rattle.site_journal.specs.Journals.{RefusesTake, IsRefusedFrame, IsUnchanged, IsStepOfWhole};
 ghost use Rattle.site_journal.specs.Legal.{IsAsked, Leads};
 
@@ -189,7 +189,7 @@ impl Journaled {
     pub fn new(alloc: Global, replica: Replica, limit: u32) -> Result<Journaled, (Memory, Replica)>
         requires some { 1 ≤ limit }
         requires most { limit ≤ MOST_STEPS }
-        ensures begun { IfOk result (λ journal. IsBegun replica limit journal) }
+        ensures begun { IfOk result (λ journal. IsNewJournal replica limit journal) }
         ensures back { IfErr result (λ refused. refused.1 ≡ replica) }
     {
         match replica.copy() {

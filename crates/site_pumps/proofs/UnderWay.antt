@@ -3,7 +3,7 @@ use Rattle.std.proofs.Common.{◌≡◌, ℕ, ◌+◌, List, [], ◌∷◌, ◌+
 use Rattle.site_links.specs.Links.{Sending}
 use Rattle.site_pumps.specs.declared.deed.Deed.{Deed}
 use Rattle.site_journal.specs.declared.receipt.Receipt.{Receipt}
-use Rattle.site_pumps.specs.Carried.{Begins, Carries, EachLink}
+use Rattle.site_pumps.specs.Carried.{BeginsToCarry, Carries, EachLink}
 use Rattle.site_journal.specs.Receipts.{IsOfCut, IsOfWhole}
 use Rattle.site_pumps.specs.Deeds.{cut_frame, whole_frame, cut_frames, whole_frames}
 use Rattle.site_pumps.specs.Outgoing.{IsUnderWay, IsFrontOf}
@@ -96,7 +96,7 @@ one_frame plan receipts r frame used held start links news is bare w c = let fra
 -- ---- the end, and what comes before it
 
 -- a front of a plan
-front : (plan : List Deed) (receipts : List Receipt) (start news : List Sending) → EachLink (Begins (sent_from plan 0 [] (cut_frames receipts))) start news → IsFrontOf plan receipts start news
+front : (plan : List Deed) (receipts : List Receipt) (start news : List Sending) → EachLink (BeginsToCarry (sent_from plan 0 [] (cut_frames receipts))) start news → IsFrontOf plan receipts start news
 front plan receipts start news s = let sent = sent_from plan 0 [] (cut_frames receipts) in let held = held_from plan 0 [] (cut_frames receipts) in
     each_longer (sent ++ held) (whole_frames receipts) start news (each_longer sent held start news s)
 
@@ -108,10 +108,10 @@ stopped plan receipts used held start links w = front plan receipts start links 
 -- a pump that stops in the middle of a frame
 pub broken : (plan : List Deed) (receipts : List Receipt) (r : Receipt) (frame : List ℕ) (used : ℕ) (held : List (List ℕ)) (start links news : List Sending)
     → cut_frame r.deed ≡ frame ∷ [] → whole_frame r.deed ≡ [] → IsUnderWay plan receipts used held start links
-    → EachLink (Begins (sent_for (deed_at plan used) held frame)) links news
+    → EachLink (BeginsToCarry (sent_for (deed_at plan used) held frame)) links news
     → IsFrontOf plan (receipts ++ r ∷ []) start news
 broken plan receipts r frame used held start links news is bare w c = front plan (receipts ++ r ∷ []) start news
-    (subst (λ l. EachLink (Begins l) start news) (sym (sent_more plan receipts r frame used held start links is w))
+    (subst (λ l. EachLink (BeginsToCarry l) start news) (sym (sent_more plan receipts r frame used held start links is w))
     (each_begun (sent_from plan 0 [] (cut_frames receipts)) (sent_for (deed_at plan used) held frame) start links news w.carried c))
 
 -- the plan of these receipts' frames, and one of all
@@ -133,17 +133,17 @@ whole_is_no_cut r is = ap cut_frame is.1
 -- held frames and a part of a whole, or nothing of it
 pub broken_at_end : (plan : List Deed) (receipts : List Receipt) (r : Receipt) (used : ℕ) (held : List (List ℕ)) (start links mids news : List Sending)
     → IsOfWhole r → IsUnderWay plan receipts used held start links
-    → EachLink (Carries held) links mids → EachLink (Begins (whole_frame r.deed)) mids news → IsFrontOf plan (receipts ++ r ∷ []) start news
+    → EachLink (Carries held) links mids → EachLink (BeginsToCarry (whole_frame r.deed)) mids news → IsFrontOf plan (receipts ++ r ∷ []) start news
 broken_at_end plan receipts r used held start links mids news is w c d = let sent = sent_from plan 0 [] (cut_frames receipts) in
-    subst (λ l. EachLink (Begins l) start news) (sym (planned_whole plan receipts r used held start links (whole_is_no_cut r is) w))
+    subst (λ l. EachLink (BeginsToCarry l) start news) (sym (planned_whole plan receipts r used held start links (whole_is_no_cut r is) w))
     (each_begun (sent ++ held) (whole_frame r.deed) start mids news (each_more sent held start links mids w.carried c) d)
 
 -- held frames alone, or a part of them
 pub broken_at_held : (plan : List Deed) (receipts : List Receipt) (used : ℕ) (held : List (List ℕ)) (start links mids : List Sending)
-    → IsUnderWay plan receipts used held start links → EachLink (Begins held) links mids → IsFrontOf plan receipts start mids
+    → IsUnderWay plan receipts used held start links → EachLink (BeginsToCarry held) links mids → IsFrontOf plan receipts start mids
 broken_at_held plan receipts used held start links mids w c = let sent = sent_from plan 0 [] (cut_frames receipts) in
     each_longer (sent ++ held_from plan 0 [] (cut_frames receipts)) (whole_frames receipts) start mids
-    (subst (λ h. EachLink (Begins (sent ++ h)) start mids) w.held_is (each_begun sent held start links mids w.carried c))
+    (subst (λ h. EachLink (BeginsToCarry (sent ++ h)) start mids) w.held_is (each_begun sent held start links mids w.carried c))
 
 -- held frames and no whole
 pub refused_at_end : (plan : List Deed) (receipts all : List Receipt) (used : ℕ) (held : List (List ℕ)) (start links mids : List Sending)
@@ -173,9 +173,9 @@ one_burst plan receipts r frame used held held' items deed start links news cut 
 
 pub broken_burst : (plan : List Deed) (receipts : List Receipt) (r : Receipt) (frame : List ℕ) (used : ℕ) (held items : List (List ℕ)) (deed : Deed) (start links news : List Sending)
     → IsOfCut r → cut_frame r.deed ≡ frame ∷ [] → deed ≡ deed_at plan used → items ≡ sent_for deed held frame
-    → IsUnderWay plan receipts used held start links → EachLink (Begins items) links news → IsFrontOf plan (receipts ++ r ∷ []) start news
+    → IsUnderWay plan receipts used held start links → EachLink (BeginsToCarry items) links news → IsFrontOf plan (receipts ++ r ∷ []) start news
 broken_burst plan receipts r frame used held items deed start links news cut is deed_is items_are w c =
-    broken plan receipts r frame used held start links news is (cut_is_no_whole r cut) w (subst (λ l. EachLink (Begins l) links news) (items_are ∙ ap (λ d. sent_for d held frame) deed_is) c)
+    broken plan receipts r frame used held start links news is (cut_is_no_whole r cut) w (subst (λ l. EachLink (BeginsToCarry l) links news) (items_are ∙ ap (λ d. sent_for d held frame) deed_is) c)
 
 pub no_burst : (plan : List Deed) (receipts : List Receipt) (r : Receipt) (frame : List ℕ) (used : ℕ) (held : List (List ℕ)) (start links : List Sending)
     → IsOfCut r → cut_frame r.deed ≡ frame ∷ [] → IsUnderWay plan receipts used held start links → IsFrontOf plan (receipts ++ r ∷ []) start links

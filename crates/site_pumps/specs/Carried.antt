@@ -3,8 +3,8 @@ use Rattle.std.specs.Prelude.{ℕ, ◌≡◌, ◌≤◌, ◌<◌, true, false, L
 use Rattle.site_links.specs.Links.{Sending}
 
 -- a front of these items was sent, and nothing where the link was down before
-abbrev pub Begins : List (List ℕ) → Sending → Sending → Type 0
-Begins items old new = (new.link ≡ old.link) × (old.down ≡ true → new ≡ old) × (front : List (List ℕ)) × (rest : List (List ℕ)) × (items ≡ front ++ rest) × (new.sent ≡ old.sent ++ front)
+abbrev pub BeginsToCarry : List (List ℕ) → Sending → Sending → Type 0
+BeginsToCarry items old new = (new.link ≡ old.link) × (old.down ≡ true → new ≡ old) × (front : List (List ℕ)) × (rest : List (List ℕ)) × (items ≡ front ++ rest) × (new.sent ≡ old.sent ++ front)
 
 -- all of these items were sent, or a front of them where the link is down
 abbrev pub Carries : List (List ℕ) → Sending → Sending → Type 0

@@ -3,7 +3,7 @@ use Rattle.std.specs.Prelude.{ℕ, ◌≡◌, ◌⊎◌, Bool, true, List, [], l
 use Rattle.site_links.specs.Links.{Sending}
 use Rattle.site_pumps.specs.declared.deed.Deed.{Deed}
 use Rattle.site_journal.specs.declared.receipt.Receipt.{Receipt}
-use Rattle.site_pumps.specs.Carried.{Begins, Carries, EachLink}
+use Rattle.site_pumps.specs.Carried.{BeginsToCarry, Carries, EachLink}
 use Rattle.site_pumps.specs.Deeds.{cut_frames, whole_frames}
 use Rattle.site_pumps.specs.Plans.{held_from, planned, sent_from}
 
@@ -16,7 +16,7 @@ pub record IsUnderWay (plan : List Deed) (receipts : List Receipt) (used : ℕ) 
 
 -- what was sent on each link is a front of the plan of these receipts' frames
 abbrev pub IsFrontOf : List Deed → List Receipt → List Sending → List Sending → Type 0
-IsFrontOf plan receipts start links = EachLink (Begins (planned plan (cut_frames receipts) (whole_frames receipts))) start links
+IsFrontOf plan receipts start links = EachLink (BeginsToCarry (planned plan (cut_frames receipts) (whole_frames receipts))) start links
 
 -- these receipts' frames were sent as the plan says, where those that it holds are held still, or were sent too once the bell had ended
 abbrev pub IsStopped : List Deed → List Receipt → Bool → List Sending → List Sending → Type 0

@@ -4,7 +4,7 @@ ghost use Rattle.std.specs.Prelude.{OnErr, OnOk, MatchOption, None, Some};
 ghost use Rattle.site_journal.specs.Ports.{PortRun, PortWork};
 ghost use Rattle.site_journal.specs.Receipts.{IsOfCut, IsOfWhole};
 ghost use Rattle.site_links.specs.Links.{Sending};
-ghost use Rattle.site_pumps.specs.Carried.{Begins, Carries, EachLink};
+ghost use Rattle.site_pumps.specs.Carried.{BeginsToCarry, Carries, EachLink};
 ghost use Rattle.site_pumps.specs.Deeds.{cut_frame, cut_frames, whole_frame, whole_frames};
 ghost use Rattle.site_pumps.specs.Outgoing.{IsFrontOf, IsUnderWay};
 ghost use Rattle.site_pumps.specs.Plans.{deed_at, held_after, planned, sent_for};
@@ -73,7 +73,7 @@ fn send_whole<R: Wait>(rt: &R, links: &mut [LinkSender], receipt: &Receipt) -> R
     ensures ok { OnOk result
         (EachLink (Carries (whole_frame receipt.now.deed)) links.old links.new) }
     ensures err { OnErr result
-        (EachLink (Begins (whole_frame receipt.now.deed)) links.old links.new) }
+        (EachLink (BeginsToCarry (whole_frame receipt.now.deed)) links.old links.new) }
 {
     match &receipt.deed {
         StepDeed::Whole(frame) => send_one(rt, links, frame),

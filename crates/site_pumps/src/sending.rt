@@ -1,6 +1,6 @@
 //! Items that are sent on all links alike.
 ghost use Rattle.std.specs.Prelude.{◌≡◌, ◌∷◌, [], OnErr, OnOk};
-ghost use Rattle.site_pumps.specs.Carried.{Begins, Carries, EachLink};
+ghost use Rattle.site_pumps.specs.Carried.{BeginsToCarry, Carries, EachLink};
 
 use dots::{Bytes, Memory};
 use site_links::LinkSender;
@@ -26,7 +26,7 @@ pub(crate) fn send_one<R: Wait>(
     item: &Bytes,
 ) -> Result<(), Memory>
     ensures ok { OnOk result (EachLink (Carries (item.now ∷ [])) links.old links.new) }
-    ensures err { OnErr result (EachLink (Begins (item.now ∷ [])) links.old links.new) }
+    ensures err { OnErr result (EachLink (BeginsToCarry (item.now ∷ [])) links.old links.new) }
 {
     for i in 0..links.len() {
         send_on(rt, &mut links[i], item)?;
@@ -41,7 +41,7 @@ pub(crate) fn send_each<R: Wait>(
     items: &[Bytes],
 ) -> Result<(), Memory>
     ensures ok { OnOk result (EachLink (Carries items.now) links.old links.new) }
-    ensures err { OnErr result (EachLink (Begins items.now) links.old links.new) }
+    ensures err { OnErr result (EachLink (BeginsToCarry items.now) links.old links.new) }
 {
     for item in items {
         send_one(rt, links, item)?;

@@ -14,7 +14,7 @@ use Rattle.site_journal.specs.declared.desk_fault.DeskFault.{DeskFault}
 use Rattle.site_journal.specs.declared.receipt.Receipt.{Receipt}
 use Rattle.site_journal.specs.Settling.{list_of}
 use Rattle.site_pumps.proofs.Receipts.{map_more}
-use Rattle.site_worker.specs.Runs.{IsGathered}
+use Rattle.site_worker.specs.Runs.{AreGathered}
 use Rattle.site_worker.specs.Working.{AnswerFront, AreLegal, AreOfPasses, HaveSent, HaveTaken, HaveWorked, receipts_in}
 use Rattle.status_report.specs.declared.asks.Ask.{Ask}
 
@@ -162,7 +162,7 @@ sent_of_all receipts all own fault is none sent =
 pub all_gathered : (site : ℕ) (names : List (List ℕ)) (number : ℕ) (asks : List Ask) (passes : List PassState) (lists : List (List Receipt)) (fault : Option DeskFault)
     (asked sent : List Receipt) (of_asked of_sent : Option DeskFault) → length passes ≡ number → HaveWorked site names 0 passes lists
     → list_of lists 0 ≡ asked → list_of lists 1 ≡ sent → ((pass : ℕ) → 2 ≤ pass → HaveTaken (list_of lists pass)) → (fault ≡ None → (of_asked ≡ None) × (of_sent ≡ None))
-    → AnswerFront site names asks asked → (of_asked ≡ None → length asked ≡ length asks) → HaveSent sent of_sent → IsGathered site names number asks passes lists fault
+    → AnswerFront site names asks asked → (of_asked ≡ None → length asked ≡ length asks) → HaveSent sent of_sent → AreGathered site names number asks passes lists fault
 all_gathered site names number asks passes lists fault asked sent of_asked of_sent count worked first second took none front all has_sent = record {
   count = count;
   worked = worked;

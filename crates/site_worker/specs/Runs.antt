@@ -16,7 +16,7 @@ pub record HasBegun (journal : JournalState) : Type 0 where
   pub new : journal.start ≡ 0 → IsNew journal.base
 
 -- the receipts of the first pass answer asks in their order, all of them unless there was a fault
-pub record HasAnswered (site : ℕ) (names : List (List ℕ)) (asks : List Ask) (lists : List (List Receipt)) (fault : Option DeskFault) : Type 0 where
+pub record HasAnsweredAsks (site : ℕ) (names : List (List ℕ)) (asks : List Ask) (lists : List (List Receipt)) (fault : Option DeskFault) : Type 0 where
   pub front : AnswerFront site names asks (list_of lists 0)
   pub all : fault ≡ None → length (list_of lists 0) ≡ length asks
 
@@ -26,10 +26,10 @@ pub record HavePumped (lists : List (List Receipt)) (fault : Option DeskFault) :
   pub took : (pass : ℕ) → 2 ≤ pass → HaveTaken (list_of lists pass)
 
 -- `number` threads of a site have given back these passes, lists of receipts and fault
-pub record IsGathered (site : ℕ) (names : List (List ℕ)) (number : ℕ) (asks : List Ask) (passes : List PassState) (lists : List (List Receipt)) (fault : Option DeskFault) : Type 0 where
+pub record AreGathered (site : ℕ) (names : List (List ℕ)) (number : ℕ) (asks : List Ask) (passes : List PassState) (lists : List (List Receipt)) (fault : Option DeskFault) : Type 0 where
   pub count : length passes ≡ number
   pub worked : HaveWorked site names 0 passes lists
-  pub answered : HasAnswered site names asks lists fault
+  pub answered : HasAnsweredAsks site names asks lists fault
   pub pumped : HavePumped lists fault
 
 -- a site has run with `number` passes: it ends with a list of receipts for each, which are as many as its journal has steps
@@ -40,5 +40,5 @@ pub record HasRun (site : ℕ) (names : List (List ℕ)) (number : ℕ) (asks : 
   pub count : journal.count ≡ receipts_in lists
   pub own : AreOfPasses 0 lists
   pub legal : AreLegal site names lists
-  pub answered : HasAnswered site names asks lists fault
+  pub answered : HasAnsweredAsks site names asks lists fault
   pub pumped : HavePumped lists fault

@@ -6,7 +6,7 @@ ghost use Rattle.std.specs.Prelude.{vec_capacity, vec_len};
 ghost use Rattle.site_journal.specs.Journals.{IsOfSite};
 ghost use Rattle.site_worker.specs.Gates.{IsGatedBy};
 ghost use Rattle.site_worker.specs.Promises.{ArePromised};
-ghost use Rattle.site_worker.specs.Runs.{HasAnswered, HasBegun, HasRun, HavePumped};
+ghost use Rattle.site_worker.specs.Runs.{HasAnsweredAsks, HasBegun, HasRun, HavePumped};
 ghost use Rattle.site_worker.specs.Working.{AreLegal, AreOfPasses, receipts_in};
 ghost use Rattle.status_report.specs.declared.asks.Ask.{Ask};
 
@@ -237,7 +237,7 @@ pub fn run_sites<R: Threads + Wait + Sync, G: Gate + Send + Drop>(
         AreOfPasses 0 (map (λ list. list.items) end.receipts.items)) ends.items) }
     ensures answers { IfOk result (λ ends. (site : ℕ) (work : _) (end : _)
         → slice_get works.items site ≡ Some work → slice_get ends.items site ≡ Some end
-        → HasAnswered site list.now work.asks.items
+        → HasAnsweredAsks site list.now work.asks.items
         (map (λ list. list.items) end.receipts.items) end.fault) }
     ensures gates { IfOk result (λ ends. (site : ℕ) (work : _) (end : _)
         → slice_get works.items site ≡ Some work → slice_get ends.items site ≡ Some end

@@ -5,7 +5,7 @@ ghost use Rattle.site_desk.specs.Passes.{AreFresh};
 ghost use Rattle.site_journal.specs.Journals.{IsOfSite};
 ghost use Rattle.site_journal.specs.declared.journaled.TheConstants.{MOST_STEPS};
 ghost use Rattle.site_worker.specs.Gates.{IsGatedBy};
-ghost use Rattle.site_worker.specs.Runs.{HasRun, IsGathered};
+ghost use Rattle.site_worker.specs.Runs.{HasRun, AreGathered};
 ghost use Rattle.site_worker.specs.Working.{HaveWorked};
 ghost use Rattle.status_report.specs.declared.asks.Ask.{Ask};
 
@@ -43,7 +43,7 @@ fn run_threads<
     links: LinkEnds,
 ) -> Result<(Gathered<L>, G), RunFault>
     requires { AreFresh (vec_len links.from + 2) passes.items }
-    ensures gathered { IfOk result (λ run. IsGathered L.site L.names (vec_len links.from + 2)
+    ensures gathered { IfOk result (λ run. AreGathered L.site L.names (vec_len links.from + 2)
         tasks.entry.asks.now run.0.passes.items
         (map (λ list. list.items) run.0.receipts.items) run.0.fault) }
     ensures gated { IfOk result (λ run. IsGatedBy G.called gate
@@ -85,7 +85,7 @@ fn run_scoped<L: SiteLedger + Send + Sync, R: Threads + Wait + Sync, G: Gate + S
     links: LinkEnds,
 ) -> Result<(Gathered<L>, G), RunFault>
     requires { AreFresh (vec_len links.from + 2) passes.items }
-    ensures gathered { IfOk result (λ run. IsGathered L.site L.names (vec_len links.from + 2)
+    ensures gathered { IfOk result (λ run. AreGathered L.site L.names (vec_len links.from + 2)
         asks.now run.0.passes.items (map (λ list. list.items) run.0.receipts.items)
         run.0.fault) }
     ensures gated { IfOk result (λ run. IsGatedBy G.called gate
@@ -99,7 +99,7 @@ fn run_scoped<L: SiteLedger + Send + Sync, R: Threads + Wait + Sync, G: Gate + S
         rt,
         move |scope| -> Result<(Gathered<L>, G), RunFault>
             requires { AreFresh (vec_len links.from + 2) passes.items }
-            ensures gathered { IfOk result (λ run. IsGathered L.site L.names
+            ensures gathered { IfOk result (λ run. AreGathered L.site L.names
                 (vec_len links.from + 2) asks.entry.now run.0.passes.items
                 (map (λ list. list.items) run.0.receipts.items) run.0.fault) }
             ensures gated { IfOk result (λ run. IsGatedBy G.called gate
@@ -123,7 +123,7 @@ fn ended<L: SiteLedger, G: Drop>(desk: SiteDesk<L>, gathered: Gathered<L>, gate:
     ensures fault { result.fault ≡ gathered.fault }
     ensures gate { result.gate ≡ gate }
     ensures end { (number : ℕ) (asks : List Ask)
-        → IsGathered L.site L.names number asks gathered.passes.items
+        → AreGathered L.site L.names number asks gathered.passes.items
         (map (λ list. list.items) gathered.receipts.items) gathered.fault
         → HasRun L.site L.names number asks result.journal
         (map (λ list. list.items) result.receipts.items) result.fault }

@@ -16,7 +16,7 @@ use Rattle.sites_world.specs.declared.event.Event.TheVariants as event
 use Rattle.sites_world.specs.declared.outcome.Outcome.{Outcome}
 use Rattle.sites_world.specs.declared.outcome.Outcome.TheVariants.{Cut, NoEntry, NoSite, NoMemory}
 use Rattle.sites_world.specs.Histories.{HasHistory}
-use Rattle.sites_world.specs.Telling.{HasAdded, HasHappenedAt, IsAnsweredSo, IsFramedSo, IsTakenSo, MayBeTaken, HasEntry}
+use Rattle.sites_world.specs.Telling.{HasAddedFrame, HasHappenedAt, IsAnsweredSo, IsFramedSo, IsTakenSo, MayBeTaken, HasEntry}
 use Rattle.sites_world.specs.Worlds.{Entry, IsReached, World, answered, done_of, entries_of, framed, frame_told, happens, happens_at, happens_where, is_done, new_world, outcomes_of, run, site_of, taken, has_entry, is_there}
 use Rattle.sites_world.specs.WorldStates.{Correspond, HasHappened, HaveHappened, IsFrameOf, IsSiteOf, IsWorld, StandsForWorld, WorldState, are_there}
 use Rattle.sites_world.proofs.KnownTogether.{in_parts}
@@ -43,7 +43,7 @@ framed_happened new s old pool entries maker after o site c (inl (e, stands, add
     same_pool : pool ≡ old → Correspond IsFrameOf pool (entries ++ [])
     same_pool is = subst (λ p. Correspond IsFrameOf p (entries ++ [])) (sym is) (nothing_added old entries c)
 
-    grown : (x : steps.Outcome) → HasAdded new.site old pool x → Correspond IsFrameOf pool (entries ++ entries_of maker x)
+    grown : (x : steps.Outcome) → HasAddedFrame new.site old pool x → Correspond IsFrameOf pool (entries ++ entries_of maker x)
     grown (Framed number carried) (frame, is, of) =
         subst (λ p. Correspond IsFrameOf p (entries ++ entries_of maker (Framed number carried))) (sym is)
         (correspond_push IsFrameOf old entries c frame (record { maker = maker; number = number; carried = carried })

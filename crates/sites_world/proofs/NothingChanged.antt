@@ -17,7 +17,7 @@ use Rattle.sites_world.specs.declared.event.Event.{Event}
 use Rattle.sites_world.specs.declared.event.Event.TheVariants as event
 use Rattle.sites_world.specs.declared.outcome.Outcome.{Outcome}
 use Rattle.sites_world.specs.declared.outcome.Outcome.TheVariants.{Answered, Cut, NoEntry, NoMemory, NoSite, Took}
-use Rattle.sites_world.specs.Conditions.{ComesAt, ComesOfAsk, ComesOfCut, ComesOfDelta, ComesOfEntry, ComesOfWhole, LeadAll, Leads, LeadsWhere}
+use Rattle.sites_world.specs.Conditions.{ComesAt, ComesOfAsk, ComesOfCut, ComesOfDelta, ComesOfEntry, ComesOfWhole, EventsLead, EventLeads, LeadsWhere}
 use Rattle.sites_world.specs.Outcomes.{changes_nothing}
 use Rattle.sites_world.specs.Worlds.{site_of}
 use Rattle.sites_world.specs.WorldStates.{Correspond, IsUnchanged, WorldState}
@@ -98,7 +98,7 @@ unchanged_itself : (w : WorldState) → IsUnchanged w w
 unchanged_itself w = record { names = refl; sites = sites_unchanged w.sites; pool = refl }
 
 -- an event that tells so leaves what is said
-leads_nothing : (from to : WorldState) (e : Event) (o : Outcome) → Leads from e o to → changes_nothing o ≡ true → IsUnchanged from to
+leads_nothing : (from to : WorldState) (e : Event) (o : Outcome) → EventLeads from e o to → changes_nothing o ≡ true → IsUnchanged from to
 leads_nothing from to e o leads nothing = by (slice_get from.sites (site_of e)) refl leads
   where
     by : (found : Option SiteState) → slice_get from.sites (site_of e) ≡ found → LeadsWhere from e o to found → IsUnchanged from to
@@ -148,7 +148,7 @@ world_through w mid to one two = record {
 }
 
 -- events that tell so leave what is said
-pub all_nothing : (from to : WorldState) (events : List Event) (outcomes : List Outcome) → LeadAll from events outcomes to → AllByRecursion (λ o. changes_nothing o ≡ true) outcomes
+pub all_nothing : (from to : WorldState) (events : List Event) (outcomes : List Outcome) → EventsLead from events outcomes to → AllByRecursion (λ o. changes_nothing o ≡ true) outcomes
     → IsUnchanged from to
 all_nothing from to [] [] all nothing = subst (IsUnchanged from) (sym all) (unchanged_itself from)
 all_nothing from to [] (o ∷ os) all nothing = absurd all

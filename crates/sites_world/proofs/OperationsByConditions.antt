@@ -36,7 +36,7 @@ use Rattle.sites_world.specs.declared.event.Event.{Event}
 use Rattle.sites_world.specs.declared.event.Event.TheVariants as event
 use Rattle.sites_world.specs.declared.outcome.Outcome.{Outcome}
 use Rattle.sites_world.specs.declared.outcome.Outcome.TheVariants.{Answered, Cut, NoEntry, NoMemory, NoSite, Took}
-use Rattle.sites_world.specs.Conditions.{ComesAt, ComesOfAsk, ComesOfCut, ComesOfDelta, ComesOfEntry, ComesOfWhole, LeadAll, Leads, LeadsWhere}
+use Rattle.sites_world.specs.Conditions.{ComesAt, ComesOfAsk, ComesOfCut, ComesOfDelta, ComesOfEntry, ComesOfWhole, EventsLead, EventLeads, LeadsWhere}
 use Rattle.sites_world.specs.Telling.{HasEntry, HasHappenedAt, IsAnsweredSo, IsFramedSo, IsTakenSo, MayBeTaken}
 use Rattle.sites_world.specs.WithinLimits.{HasValuesWithinLimits}
 use Rattle.sites_world.specs.Worlds.{Entry, Happening, IsReached, World, answered, done_of, happens, happens_at, is_done, is_there, outcomes_of, run, site_of, take_told, taken}
@@ -226,7 +226,7 @@ module _ (laws : StandForSteps) where
 
   module _ (from to : WorldState) (w : World) (queues : AreQueues from.names) (reached : IsReached from.names (length from.sites) w) (stands : StandsForWorld from w) where
     -- an event that leads from what stands for a world has happened there
-    pub event_happens : (e : Event) (o : Outcome) → Leads from e o to → HasHappened to w e o
+    pub event_happens : (e : Event) (o : Outcome) → EventLeads from e o to → HasHappened to w e o
     event_happens e o leads = by (slice_get from.sites (site_of e)) refl leads
       where
         by : (found : Option SiteState) → slice_get from.sites (site_of e) ≡ found → LeadsWhere from e o to found → HasHappened to w e o
@@ -280,7 +280,7 @@ module _ (laws : StandForSteps) where
 
   -- events that lead from what stands for a world have happened there
   pub events_happen : (from to : WorldState) (w : World) (es : List Event) (os : List Outcome) → AreQueues from.names → IsReached from.names (length from.sites) w → StandsForWorld from w
-      → LeadAll from es os to → HaveHappened to w es os
+      → EventsLead from es os to → HaveHappened to w es os
   events_happen from to w [] [] queues reached stands all = subst (λ (t : WorldState). HaveHappened t w [] []) (sym all) (none_happened from w [] refl stands)
   events_happen from to w [] (o ∷ os) queues reached stands all = absurd all
   events_happen from to w (e ∷ es) [] queues reached stands all = absurd all
@@ -307,21 +307,21 @@ module _ (laws : StandForSteps) where
       by others (inr (is, here, standing)) = wanting_before to w e o es os (ap is_done is) here (others w reached standing)
 
   -- so an event of values within their limits leads on to what stands for a world that events lead to
-  pub world_leads : (from to : WorldState) (e : Event) (o : Outcome) → IsWorld from → HasValuesWithinLimits e → Leads from e o to → IsWorld to
+  pub world_leads : (from to : WorldState) (e : Event) (o : Outcome) → IsWorld from → HasValuesWithinLimits e → EventLeads from e o to → IsWorld to
   world_leads from to e o is values leads =
       let grows = leads_grow from to e o leads in
       let there : WorldState = record { names = from.names; sites = to.sites; pool = to.pool } in
       let same : to ≡ there = λ i. record { names = grows.names i; sites = to.sites; pool = to.pool } in
       subst IsWorld (sym same)
       (world_after_event from.names from.sites to.sites from.pool to.pool e o is (sym grows.sites.lengths) values
-      (λ w reached stands. event_happens from there w is.queues reached stands e o (subst (Leads from e o) same leads)))
+      (λ w reached stands. event_happens from there w is.queues reached stands e o (subst (EventLeads from e o) same leads)))
 
   -- and so do events in turn
-  worlds_lead_by : (from to : WorldState) (es : List Event) (os : List Outcome) → IsWorld from → AllByRecursion HasValuesWithinLimits es → LeadAll from es os to → IsWorld to
+  worlds_lead_by : (from to : WorldState) (es : List Event) (os : List Outcome) → IsWorld from → AllByRecursion HasValuesWithinLimits es → EventsLead from es os to → IsWorld to
   worlds_lead_by from to [] [] is values all = subst IsWorld (sym all) is
   worlds_lead_by from to [] (o ∷ os) is values all = absurd all
   worlds_lead_by from to (e ∷ es) [] is values all = absurd all
   worlds_lead_by from to (e ∷ es) (o ∷ os) is values (mid, first, rest) = worlds_lead_by mid to es os (world_leads from mid e o is values.0 first) values.1 rest
 
-  pub worlds_lead : (from to : WorldState) (es : List Event) (os : List Outcome) → IsWorld from → All HasValuesWithinLimits es → LeadAll from es os to → IsWorld to
+  pub worlds_lead : (from to : WorldState) (es : List Event) (os : List Outcome) → IsWorld from → All HasValuesWithinLimits es → EventsLead from es os to → IsWorld to
   worlds_lead from to es os is values = worlds_lead_by from to es os is (recursion_from_All HasValuesWithinLimits es values)

@@ -26,7 +26,7 @@ use Rattle.sites_world.specs.declared.event.Event.{Event}
 use Rattle.sites_world.specs.declared.event.Event.TheVariants as event
 use Rattle.sites_world.specs.declared.outcome.Outcome.{Outcome}
 use Rattle.sites_world.specs.declared.outcome.Outcome.TheVariants as outcome
-use Rattle.sites_world.specs.Outcomes.{IsAnswerTo, IsOutcomeOf, IsToldRefusal, changes_nothing}
+use Rattle.sites_world.specs.Outcomes.{MayAnswer, IsOutcomeOf, IsToldRefusal, changes_nothing}
 use Rattle.sites_world.specs.Worlds.{Entry, Happening, World, answered, framed, happens, happens_at, happens_where, has_entry, is_done, run, site_of, take_told, taken}
 use Rattle.sites_world.specs.Promises.{HaveOutcomes, TellNoEntry, TellNoSite}
 use Rattle.sites_world.proofs.Lists.{none_some, set_again}
@@ -88,11 +88,11 @@ take_by s frame cells runs =
     if cells then (s, steps.CellsFull) else if runs then (s, steps.RunsFull) else (record { known = frame ++ s.known; buffer = s.buffer; frames = s.frames }, steps.Taken)
 
 -- the outcome of an ask
-ask_told : (site : ℕ) (names : List (List ℕ)) (s : SiteKnowledge) (asked : Ask) → IsAnswerTo asked (answer_in site names s asked).1
+ask_told : (site : ℕ) (names : List (List ℕ)) (s : SiteKnowledge) (asked : Ask) → MayAnswer asked (answer_in site names s asked).1
 ask_told site names s (Status request) = tt
 ask_told site names s (asked_command command) = by (meaning site names (site_view site s.known) (site_view site s.buffer) (change_of command)) (meaning_told site names _ _ (change_of command))
   where
-    by : (m : Meaning) → IsTold m → IsAnswerTo (asked_command command) (answer_of (result_of (after_meaning s m).1))
+    by : (m : Meaning) → IsTold m → MayAnswer (asked_command command) (answer_of (result_of (after_meaning s m).1))
     by (Makes o) told = tt
     by (refused_meaning r) told = told
 

@@ -27,7 +27,7 @@ use Rattle.status_report.specs.declared.asks.Ask.TheVariants.{Command as asked_c
 use Rattle.status_report.specs.Answers.{answer_of}
 use Rattle.status_report.specs.Knowing.{IsAnswered, answer_in}
 use Rattle.sites_world.specs.declared.outcome.Outcome.TheVariants.{Answered, Cut, NoMemory, Took}
-use Rattle.sites_world.specs.Telling.{HasAdded, IsAnsweredSo, IsFramedSo, IsTakenSo, MayBeTaken, answer_told, take_fault_told}
+use Rattle.sites_world.specs.Telling.{HasAddedFrame, IsAnsweredSo, IsFramedSo, IsTakenSo, MayBeTaken, answer_told, take_fault_told}
 use Rattle.sites_world.specs.Worlds.{take_told, frame_told}
 
 -- ---- answers
@@ -71,7 +71,7 @@ pub told_frame : (new : SiteState) (s : SiteKnowledge) (old pool : List Frame) (
 told_frame new s old pool after frame stands framed maker ranges grown = inl (
   ap (λ x. Cut (frame_told (length old) x)) (sym framed.outcome_is),
   stands,
-  subst (HasAdded new.site old pool) (sym framed.outcome_is) (frame, grown, record { maker = maker; number = refl; delta = framed.stands; ranges = ranges }),
+  subst (HasAddedFrame new.site old pool) (sym framed.outcome_is) (frame, grown, record { maker = maker; number = refl; delta = framed.stands; ranges = ranges }),
 )
 
 -- ---- frames that were taken

@@ -26,7 +26,7 @@ use Rattle.sites_world.specs.declared.event.Event.{Event}
 use Rattle.sites_world.specs.declared.event.Event.TheVariants as event
 use Rattle.sites_world.specs.declared.outcome.Outcome.{Outcome}
 use Rattle.sites_world.specs.declared.outcome.Outcome.TheVariants.{NoMemory, NoSite}
-use Rattle.sites_world.specs.Conditions.{ComesAt, ComesOfAsk, ComesOfDelta, GrowsBy, LeadAll, Leads, LeadsWhere}
+use Rattle.sites_world.specs.Conditions.{ComesAt, ComesOfAsk, ComesOfDelta, GrowsBy, EventsLead, EventLeads, LeadsWhere}
 use Rattle.sites_world.specs.Telling.{IsAsk, MayBeTaken, answer_told, take_fault_told}
 use Rattle.sites_world.specs.Worlds.{Entry, site_of}
 use Rattle.sites_world.specs.WorldStates.{IsSiteOf, IsWorld, WorldState}
@@ -105,16 +105,16 @@ module _ (names : List (List ℕ)) (sites : List SiteState) (pool : List Frame) 
   -- what has come at a site has come in its world
   pub leads_at : (e : Event) (at : ℕ) (old new : SiteState) (grown : List Frame) (o : Outcome) → at ≡ site_of e → slice_get sites at ≡ Some old
       → (((place : ℕ) (entry : Entry) → slice_get is.world.pool place ≡ Some entry → MayBeTaken old entry.carried) → GrowsBy (ComesAt pool old e o new) pool grown)
-      → Leads from e o (record { names = names; sites = slice_set sites at new; pool = grown })
+      → EventLeads from e o (record { names = names; sites = slice_set sites at new; pool = grown })
   leads_at e at old new grown o at_is here come =
       let knows = correspond_get (IsSiteOf names) sites is.world.sites is.stands.sites at old here in
       let may = may_take_all names sites pool is.world is.stands (reached_history names (length sites) is.world is.reached) at old knows.0 here knows.1 in
-      subst (λ n. Leads from e o (record { names = names; sites = slice_set sites n new; pool = grown })) (sym at_is)
+      subst (λ n. EventLeads from e o (record { names = names; sites = slice_set sites n new; pool = grown })) (sym at_is)
       (subst (LeadsWhere from e o (record { names = names; sites = slice_set sites (site_of e) new; pool = grown })) (sym (ap (slice_get sites) (sym at_is) ∙ here))
       (record { new = new; comes = come may; sites = refl; names = refl }))
 
 -- an event at no site changes nothing
-pub leads_nowhere : (from : WorldState) (e : Event) → length from.sites ≤ site_of e → Leads from e NoSite from
+pub leads_nowhere : (from : WorldState) (e : Event) → length from.sites ≤ site_of e → EventLeads from e NoSite from
 leads_nowhere from e past = subst (LeadsWhere from e NoSite from) (sym (slice_get_past from.sites (site_of e) past)) (refl, refl)
 
 -- want of memory comes of an ask for a status where nothing is changed
@@ -124,7 +124,7 @@ wanting_comes old site (Status request) status = itself old
 
 -- so it does of one for whose copy memory was wanting, which no command's is
 pub leads_wanting : (from : WorldState) (e : Event) → IsAsk e → ((site : ℕ) (command : Command) → e ≡ event.Ask site (asked_command command) → ⊥) → site_of e < length from.sites
-    → Leads from e NoMemory from
+    → EventLeads from e NoMemory from
 leads_wanting from (event.Ask site asked) is status within = by (slice_get from.sites site) refl
   where
     by : (found : Option SiteState) → slice_get from.sites site ≡ found → LeadsWhere from (event.Ask site asked) NoMemory from found
@@ -142,9 +142,9 @@ leads_wanting from (event.Take site place) is status within = absurd is
 -- ---- events in turn
 
 -- events lead on with one more
-pub lead_on : (from : WorldState) (es : List Event) (os : List Outcome) (mid to : WorldState) (e : Event) (o : Outcome) → LeadAll from es os mid → Leads mid e o to
-    → LeadAll from (es ++ e ∷ []) (os ++ o ∷ []) to
-lead_on from [] [] mid to e o all one = (to, subst (λ w. Leads w e o to) all one, refl)
+pub lead_on : (from : WorldState) (es : List Event) (os : List Outcome) (mid to : WorldState) (e : Event) (o : Outcome) → EventsLead from es os mid → EventLeads mid e o to
+    → EventsLead from (es ++ e ∷ []) (os ++ o ∷ []) to
+lead_on from [] [] mid to e o all one = (to, subst (λ w. EventLeads w e o to) all one, refl)
 lead_on from [] (p ∷ os) mid to e o all one = absurd all
 lead_on from (f ∷ es) [] mid to e o all one = absurd all
 lead_on from (f ∷ es) (p ∷ os) mid to e o (next, first, rest) one = (next, first, lead_on next es os mid to e o rest one)

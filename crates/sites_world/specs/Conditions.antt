@@ -93,11 +93,11 @@ LeadsWhere from e o to None = (o ≡ NoSite) × (to ≡ from)
 LeadsWhere from e o to (Some old) = LeadsAt from e o to old
 
 -- an event with this outcome leads from one world to another
-abbrev pub Leads : WorldState → Event → Outcome → WorldState → Type 0
-Leads from e o to = LeadsWhere from e o to (slice_get from.sites (site_of e))
+abbrev pub EventLeads : WorldState → Event → Outcome → WorldState → Type 0
+EventLeads from e o to = LeadsWhere from e o to (slice_get from.sites (site_of e))
 
 -- events with one outcome each do, one after the other
-abbrev pub LeadAll : WorldState → List Event → List Outcome → WorldState → Type 0
-LeadAll from [] [] to = to ≡ from
-LeadAll from (e ∷ es) (o ∷ os) to = (mid : WorldState) × Leads from e o mid × LeadAll mid es os to
-LeadAll from es os to = ⊥
+abbrev pub EventsLead : WorldState → List Event → List Outcome → WorldState → Type 0
+EventsLead from [] [] to = to ≡ from
+EventsLead from (e ∷ es) (o ∷ os) to = (mid : WorldState) × EventLeads from e o mid × EventsLead mid es os to
+EventsLead from es os to = ⊥

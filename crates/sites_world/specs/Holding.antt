@@ -13,13 +13,13 @@ use Rattle.operations.specs.OperationLimits.{AreWithinLimits}
 use Rattle.site_totals.specs.Raising.{number_of}
 use Rattle.member_orset.specs.Members.{condition_of, dot_view_of}
 use Rattle.delta.specs.DeltaStates.{DeltaState}
-use Rattle.delta.specs.Joining.{Agree}
+use Rattle.delta.specs.Joining.{AreInAgreement}
 use Rattle.delta.specs.Standing.{IsDeltaOf}
 use Rattle.delta.specs.declared.frame.Frame.{Frame}
 use Rattle.replica.specs.Site.{SiteState}
 use Rattle.replica.specs.Steps.{SiteKnowledge}
 use Rattle.replica.specs.Taking.{MayJoin}
-use Rattle.sites_world.specs.Conditions.{LeadAll, Leads}
+use Rattle.sites_world.specs.Conditions.{EventsLead, EventLeads}
 use Rattle.sites_world.specs.declared.event.Event.{Event}
 use Rattle.sites_world.specs.declared.event.Event.TheVariants as event
 use Rattle.sites_world.specs.declared.outcome.Outcome.{Outcome}
@@ -53,7 +53,7 @@ HoldFewCells = (state : WorldState) (d : DeltaState) → IsWorld state → IsHel
 
 -- any two that are held agree
 abbrev pub HeldAgree : Type 0
-HeldAgree = (state : WorldState) (x y : DeltaState) → IsWorld state → IsHeldIn state x → IsHeldIn state y → Agree x y
+HeldAgree = (state : WorldState) (x y : DeltaState) → IsWorld state → IsHeldIn state x → IsHeldIn state y → AreInAgreement x y
 
 -- what is held stands for operations that are all within their limits
 abbrev pub HoldWithinLimits : Type 0
@@ -121,14 +121,14 @@ pub record StatesGrow (from to : WorldState) : Type 0 where
 
 -- so it is after each event, with whatever outcome
 abbrev pub LeadsGrow : Type 0
-LeadsGrow = (from to : WorldState) (e : Event) (o : Outcome) → Leads from e o to → StatesGrow from to
+LeadsGrow = (from to : WorldState) (e : Event) (o : Outcome) → EventLeads from e o to → StatesGrow from to
 
 -- and after events
 abbrev pub LeadAllGrows : Type 0
-LeadAllGrows = (from to : WorldState) (events : List Event) (outcomes : List Outcome) → LeadAll from events outcomes to → StatesGrow from to
+LeadAllGrows = (from to : WorldState) (events : List Event) (outcomes : List Outcome) → EventsLead from events outcomes to → StatesGrow from to
 
 -- so a site that has taken a frame says all that the frame does, whatever events come then
 abbrev pub TakenStaysSaid : Type 0
 TakenStaysSaid = (from to : WorldState) (site place : ℕ) (frame : Frame) (new : SiteState) (later : List Event) (outcomes : List Outcome)
-    → slice_get from.pool place ≡ Some frame → LeadAll from (event.Take site place ∷ later) (Took (Ok tt) ∷ outcomes) to → slice_get to.sites site ≡ Some new
+    → slice_get from.pool place ≡ Some frame → EventsLead from (event.Take site place ∷ later) (Took (Ok tt) ∷ outcomes) to → slice_get to.sites site ≡ Some new
     → IsSaidBy frame.delta new.state

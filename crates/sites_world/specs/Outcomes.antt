@@ -19,18 +19,18 @@ IsToldRefusal refusal.Memory = ⊥
 IsToldRefusal other = ⊤
 
 -- what may be answered to what is asked
-abbrev pub IsAnswerTo : Ask → Answer → Type 0
-IsAnswerTo (asked_command command) Done = ⊤
-IsAnswerTo (asked_command command) (Refused r) = IsToldRefusal r
-IsAnswerTo (asked_command command) (Report bytes) = ⊥
-IsAnswerTo (Status request) (Report bytes) = ⊤
-IsAnswerTo (Status request) Done = ⊥
-IsAnswerTo (Status request) (Refused r) = ⊥
+abbrev pub MayAnswer : Ask → Answer → Type 0
+MayAnswer (asked_command command) Done = ⊤
+MayAnswer (asked_command command) (Refused r) = IsToldRefusal r
+MayAnswer (asked_command command) (Report bytes) = ⊥
+MayAnswer (Status request) (Report bytes) = ⊤
+MayAnswer (Status request) Done = ⊥
+MayAnswer (Status request) (Refused r) = ⊥
 
 -- what may come of an event; a frame is too much, or is taken
 abbrev pub IsOutcomeOf : Event → Outcome → Type 0
 IsOutcomeOf e outcome.NoSite = ⊤
-IsOutcomeOf (event.Ask site asked) (outcome.Answered answer) = IsAnswerTo asked answer
+IsOutcomeOf (event.Ask site asked) (outcome.Answered answer) = MayAnswer asked answer
 IsOutcomeOf (event.Cut site) (outcome.Cut (Ok entry)) = ⊤
 IsOutcomeOf (event.Cut site) (outcome.Cut (Err fault)) = fault ≡ Exhausted
 IsOutcomeOf (event.Whole site) (outcome.Cut (Ok (Some entry))) = ⊤

@@ -15,7 +15,7 @@ use Rattle.operations.specs.Operations.{Operation}
 use Rattle.operations.specs.Rows.{DotView, dot_view}
 use Rattle.operations.specs.Knowledge.{IsConsistent, Knowledge, SameOperations, member_of, visible_dots}
 use Rattle.delta.specs.DeltaStates.{DeltaState, IsSame}
-use Rattle.delta.specs.Joining.{Agree, IsJoinOf}
+use Rattle.delta.specs.Joining.{AreInAgreement, IsJoinOf}
 use Rattle.delta.specs.Standing.{IsDeltaOf}
 use Rattle.replica.specs.Steps.{SiteKnowledge}
 use Rattle.status_report.specs.declared.asks.Ask.TheVariants.{Status}
@@ -48,7 +48,7 @@ AreConsistentTogether = (names : List (List ℕ)) (sites : ℕ) (w : World) (k l
 -- so their deltas agree
 abbrev pub DeltasAgree : Type 0
 DeltasAgree = (names : List (List ℕ)) (sites : ℕ) (w : World) (k l : Knowledge) (x y : DeltaState) → IsReached names sites w → IsIn w k → IsIn w l
-    → IsDeltaOf x k → IsDeltaOf y l → Agree x y
+    → IsDeltaOf x k → IsDeltaOf y l → AreInAgreement x y
 
 -- and are joined in either order
 abbrev pub DeltasCommute : Type 0
@@ -105,7 +105,7 @@ HaveFewLiveDots = (names : List (List ℕ)) (sites : ℕ) (w : World) (k : Knowl
 
 -- from one world to another the site of this number has taken the entry at this place of the pool: it knows what the entry carries and what it
 -- knew before, and nothing else
-pub record HasTaken (w after : World) (site place : ℕ) : Type 0 where
+pub record HasTakenEntry (w after : World) (site place : ℕ) : Type 0 where
   pub before : SiteKnowledge
   pub entry : Entry
   pub now : SiteKnowledge
@@ -119,7 +119,7 @@ pub record HasTaken (w after : World) (site place : ℕ) : Type 0 where
 -- a take that is told as taken has given every operation of its entry
 abbrev pub TakesGive : Type 0
 TakesGive = (names : List (List ℕ)) (w : World) (site place : ℕ) → (happens names w (event.Take site place)).1 ≡ Took (Ok tt)
-    → HasTaken w (happens names w (event.Take site place)).0 site place
+    → HasTakenEntry w (happens names w (event.Take site place)).0 site place
 
 -- events one after the other are run in parts
 pub record RunsInParts (names : List (List ℕ)) (w : World) (first rest : List Event) : Type 0 where

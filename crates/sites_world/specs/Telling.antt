@@ -37,15 +37,15 @@ abbrev pub IsAnsweredSo : SiteState → SiteKnowledge → SiteKnowledge × Answe
 IsAnsweredSo new s after o = ((o ≡ Answered after.1) × StandsFor new after.0) ⊎ ((o ≡ NoMemory) × StandsFor new s)
 
 -- the pool has one frame more where a step made one, which is that of the entry that comes of it
-abbrev pub HasAdded : ℕ → List Frame → List Frame → steps.Outcome → Type 0
-HasAdded maker old new (Framed number carried) =
+abbrev pub HasAddedFrame : ℕ → List Frame → List Frame → steps.Outcome → Type 0
+HasAddedFrame maker old new (Framed number carried) =
     (frame : Frame) × (new ≡ old ++ frame ∷ []) × IsFrameOf (length old) frame (record { maker = maker; number = number; carried = carried })
-HasAdded maker old new other = new ≡ old
+HasAddedFrame maker old new other = new ≡ old
 
 -- a frame was asked for and is told as the site's step has it, or memory was wanting and nothing is changed
 abbrev pub IsFramedSo : SiteState → SiteKnowledge → List Frame → List Frame → SiteKnowledge × steps.Outcome → Outcome → Type 0
 IsFramedSo new s old pool after o =
-    ((o ≡ Cut (frame_told (length old) after.1)) × StandsFor new after.0 × HasAdded new.site old pool after.1)
+    ((o ≡ Cut (frame_told (length old) after.1)) × StandsFor new after.0 × HasAddedFrame new.site old pool after.1)
     ⊎ ((o ≡ NoMemory) × StandsFor new s × (pool ≡ old))
 
 -- a frame was taken, or is too much, as the site's step has it; or memory was wanting and the site knows what it knew

@@ -4,7 +4,7 @@ ghost use Rattle.std.specs.List.{All};
 ghost use Rattle.replica.specs.Queues.{AreQueues};
 ghost use Rattle.sites_world.specs.declared.event.Event.{Event};
 ghost use Rattle.sites_world.specs.declared.outcome.Outcome.{Outcome};
-ghost use Rattle.sites_world.specs.Conditions.{LeadAll, Leads};
+ghost use Rattle.sites_world.specs.Conditions.{EventsLead, EventLeads};
 ghost use Rattle.sites_world.specs.Holding.{EventsGrow, HeldAgree, HoldFewCells, HoldOneDotASite};
 ghost use Rattle.sites_world.specs.Holding.{HoldWithinLimits};
 ghost use Rattle.sites_world.specs.Holding.{LeadAllGrows, LeadsGrow, MayJoinFrames, MayTakeEntries};
@@ -85,7 +85,7 @@ pub fn what_is_refused_changes_nothing()
 /// Where the outcome of each event tells that nothing is changed, each site says after all of them what it said, and the pool is as it was (this project's own).
 pub fn outcomes_that_change_nothing_leave_what_is_said()
     ensures { (from to : WorldState) (events : List Event) (outcomes : List Outcome)
-        → LeadAll from events outcomes to → All (λ o. changes_nothing o ≡ true) outcomes
+        → EventsLead from events outcomes to → All (λ o. changes_nothing o ≡ true) outcomes
         → IsUnchanged from to }
 {}
 
@@ -151,15 +151,15 @@ pub fn states_only_grow()
 pub fn what_comes_by_conditions_comes_of_operations()
     ensures event { (from to : WorldState) (w : World) (e : Event) (o : Outcome)
         → AreQueues from.names → IsReached from.names (length from.sites) w
-        → StandsForWorld from w → Leads from e o to → HasHappened to w e o }
+        → StandsForWorld from w → EventLeads from e o to → HasHappened to w e o }
     ensures events { (from to : WorldState) (w : World) (events : List Event)
         (outcomes : List Outcome) → AreQueues from.names
         → IsReached from.names (length from.sites) w → StandsForWorld from w
-        → LeadAll from events outcomes to → HaveHappened to w events outcomes }
+        → EventsLead from events outcomes to → HaveHappened to w events outcomes }
     ensures world { (from to : WorldState) (e : Event) (o : Outcome) → IsWorld from
-        → HasValuesWithinLimits e → Leads from e o to → IsWorld to }
+        → HasValuesWithinLimits e → EventLeads from e o to → IsWorld to }
     ensures worlds { (from to : WorldState) (events : List Event) (outcomes : List Outcome)
-        → IsWorld from → All HasValuesWithinLimits events → LeadAll from events outcomes to
+        → IsWorld from → All HasValuesWithinLimits events → EventsLead from events outcomes to
         → IsWorld to }
 {
     deeds_stand_for_steps();

@@ -10,7 +10,7 @@ ghost use Rattle.replica.specs.Standing.{StandsFor};
 ghost use Rattle.replica.specs.Steps.{Cut, SiteKnowledge, Take, Whole, step};
 ghost use Rattle.status_report.specs.Knowing.{answer_in};
 ghost use Rattle.sites_world.specs.Conditions.{ComesAt, ComesOfAsk, ComesOfCut, ComesOfEntry};
-ghost use Rattle.sites_world.specs.Conditions.{ComesOfWhole, GrowsBy, LeadAll, Leads};
+ghost use Rattle.sites_world.specs.Conditions.{ComesOfWhole, GrowsBy, EventsLead, EventLeads};
 ghost use Rattle.sites_world.specs.Outcomes.{changes_nothing};
 ghost use Rattle.sites_world.specs.Telling.{HasEntry, HasHappenedAt, IsAnsweredSo, IsFramedSo};
 ghost use Rattle.sites_world.specs.Telling.{IsTakenSo, MayBeTaken};
@@ -202,7 +202,7 @@ pub(crate) fn happen(
         w event result }
     ensures conditions { (names : List (List ℕ))
         → IsWorld (record { names = names; sites = sites.old.items; pool = pool.old.items })
-        → Leads (record { names = names; sites = sites.old.items; pool = pool.old.items })
+        → EventLeads (record { names = names; sites = sites.old.items; pool = pool.old.items })
         event result
         (record { names = names; sites = sites.new.items; pool = pool.new.items }) }
     ensures values { HasValuesWithinLimits event }
@@ -233,7 +233,7 @@ fn happen_by_copy(
         w event.now result }
     ensures conditions { (names : List (List ℕ))
         → IsWorld (record { names = names; sites = sites.old.items; pool = pool.old.items })
-        → Leads (record { names = names; sites = sites.old.items; pool = pool.old.items })
+        → EventLeads (record { names = names; sites = sites.old.items; pool = pool.old.items })
         event.now result
         (record { names = names; sites = sites.new.items; pool = pool.new.items }) }
     ensures values { HasValuesWithinLimits event.now }
@@ -264,7 +264,7 @@ pub(crate) fn run_all(
         w events.now outcomes.new.items }
     ensures conditions { (names : List (List ℕ))
         → IsWorld (record { names = names; sites = sites.old.items; pool = pool.old.items })
-        → LeadAll (record { names = names; sites = sites.old.items; pool = pool.old.items })
+        → EventsLead (record { names = names; sites = sites.old.items; pool = pool.old.items })
         events.now outcomes.new.items
         (record { names = names; sites = sites.new.items; pool = pool.new.items }) }
     ensures world { (names : List (List ℕ))

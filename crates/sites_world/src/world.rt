@@ -3,7 +3,7 @@ ghost use Rattle.std.specs.Prelude.{length, option_map, slice_get, true};
 ghost use Rattle.delta.specs.Frames.{IsInRanges};
 ghost use Rattle.replica.specs.Queues.{AreQueues};
 ghost use Rattle.replica.specs.Site.{SiteState};
-ghost use Rattle.sites_world.specs.Conditions.{LeadAll, Leads};
+ghost use Rattle.sites_world.specs.Conditions.{EventsLead, EventLeads};
 ghost use Rattle.sites_world.specs.Outcomes.{changes_nothing};
 ghost use Rattle.sites_world.specs.Worlds.{IsReached, World as world_of_operations, new_world};
 ghost use Rattle.sites_world.specs.WorldStates.{HasHappened, HaveHappened, IsFresh, IsSiteOf};
@@ -99,7 +99,7 @@ impl World {
         ensures meaning { (w : world_of_operations)
             → IsReached self.old.names (length self.old.sites) w → StandsForWorld self.old w
             → HasHappened self.new w event result }
-        ensures conditions { Leads self.old event result self.new }
+        ensures conditions { EventLeads self.old event result self.new }
         ensures unchanged { changes_nothing result ≡ true → IsUnchanged self.old self.new }
         ensures names { self.new.names ≡ self.old.names }
         ensures count { length self.new.sites ≡ length self.old.sites }
@@ -117,7 +117,7 @@ impl World {
             → IsReached self.old.names (length self.old.sites) w → StandsForWorld self.old w
             → HaveHappened self.new w events.now outcomes.items) }
         ensures conditions { IfOk result
-            (λ outcomes. LeadAll self.old events.now outcomes.items self.new) }
+            (λ outcomes. EventsLead self.old events.now outcomes.items self.new) }
         ensures unchanged { OnErr result (self.new ≡ self.old) }
         ensures names { self.new.names ≡ self.old.names }
         ensures count { length self.new.sites ≡ length self.old.sites }

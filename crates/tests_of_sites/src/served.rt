@@ -1,7 +1,7 @@
 //! Sessions whose devices or whose desk fail, sessions whose reader sees what was written, and sessions over readers and writers of std's.
 ghost use Rattle.std.specs.Prelude.{◌≡◌, Bool, OnOk, Some, None, false};
 ghost use Rattle.serve.specs.Replicas.{AnswersAs};
-ghost use Rattle.serve.specs.Sessions.{Carries, IsServed};
+ghost use Rattle.serve.specs.Sessions.{HasCarried, IsServed};
 
 use crate::shared::{assert_text, replica, text};
 use ami_session::Session;
@@ -331,7 +331,7 @@ fn served_over_a_slice<'a>(
     desk: &mut ReplicaDesk,
 ) -> (Result<(), ServeFault>, &'a [u8], Vec<u8>)
     ensures site { desk.new.replica.site ≡ desk.old.replica.site }
-    ensures served { OnOk result.0 (Carries (Some bytes.now) (Some result.1.now)
+    ensures served { OnOk result.0 (HasCarried (Some bytes.now) (Some result.1.now)
         (Some held.items) (Some result.2.items) (λ read written. (ended : Bool)
         × IsServed (λ old asked answer new. AnswersAs old.replica asked answer new.replica)
         session desk.old desk.new ended (Some result.1.now) read written)) }

@@ -1,5 +1,5 @@
 use Rattle.std.proofs.Common.{◌≡◌, ◌<◌, ◌≤◌, ◌+◌, None, false}
-use Rattle.serve.specs.Sessions.{Carries}
+use Rattle.serve.specs.Sessions.{HasCarried}
 use Rattle.serve.specs.Steps.{bytes_ahead}
 use Rattle.serve.proofs.Serving.{Going}
 use Rattle.serve.proofs.serve.Given as goal
@@ -12,7 +12,7 @@ invariant-messages g l = record {
   feed : l.incoming.feed.fault ≡ None;
   counted : g.S.Source.reads_left l.fn.reader + l.incoming.reads ≤ g.S.Source.reads_left l.reader + 1000000;
   goes_on : l.incoming.reads < 1000000 → g.S.Source.ended l.reader ≡ false;
-  going : Carries (g.S.Source.left l.fn.reader) (g.S.Source.left l.reader) (g.W.Sink.taken l.fn.writer) (g.W.Sink.taken l.writer)
+  going : HasCarried (g.S.Source.left l.fn.reader) (g.S.Source.left l.reader) (g.W.Sink.taken l.fn.writer) (g.W.Sink.taken l.writer)
       (Going g.D.Desk.answers l.fn.session l.fn.desk l.desk l.session l.incoming.feed.held l.incoming.reads);
 }
 

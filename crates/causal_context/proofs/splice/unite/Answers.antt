@@ -1,13 +1,13 @@
 use Rattle.std.proofs.Common.{◌≡◌, true, false, arith, subst}
 use Rattle.std.proofs.lemmas.List.{drop_all}
 use Rattle.dots.specs.DotSets.{is_apart}
-use Rattle.causal_context.specs.Contexts.{IsRun}
+use Rattle.causal_context.specs.Contexts.{IsRunWithinLimits}
 use Rattle.causal_context.proofs.Uniting.{uniting_starts, uniting_site, uniting_takes_at, uniting_ends_at, uniting_ends_all}
 use Rattle.causal_context.proofs.splice.unite.Goals as goal
 
 pub loop-end-init : goal.loop-end-init
 loop-end-init c =
-    let limit : IsRun c.args.run = subst IsRun c.united.view_is c.united.invariant in
+    let limit : IsRunWithinLimits c.args.run = subst IsRunWithinLimits c.united.view_is c.united.invariant in
     let placed = c.runs_before-start.ensures in
     record {
       order = omega arith;

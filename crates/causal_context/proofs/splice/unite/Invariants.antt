@@ -1,6 +1,6 @@
 -- The run and those that it took in stand between those before it and the rest.
 use Rattle.std.proofs.Common.{◌-◌, ◌≤◌, length, take, drop}
-use Rattle.causal_context.specs.Contexts.{IsRun}
+use Rattle.causal_context.specs.Contexts.{IsRunWithinLimits}
 use Rattle.causal_context.proofs.Uniting.{IsUniting}
 use Rattle.causal_context.proofs.splice.unite.Given as goal
 
@@ -8,7 +8,7 @@ abbrev pub invariant-loop-end : goal.invariant-loop-end
 invariant-loop-end l = record {
   order : l.start ≤ l.end;
   within : l.end ≤ length l.runs;
-  limit : IsRun l.united;
+  limit : IsRunWithinLimits l.united;
   uniting : IsUniting (take l.start l.runs) l.united (drop l.end l.runs) l.fn.run l.runs;
 }
 

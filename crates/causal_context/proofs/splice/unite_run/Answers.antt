@@ -4,7 +4,7 @@ use Rattle.std.specs.List.{All}
 use Rattle.std.proofs.lemmas.List.Elements.{All-append, All-cons, All-drop, All-take}
 use Rattle.dots.specs.DotSets.{AreApart, run_count, set_of}
 use Rattle.dots.proofs.RunCounts.{run_count_runs}
-use Rattle.causal_context.specs.Contexts.{IsRun}
+use Rattle.causal_context.specs.Contexts.{IsRunWithinLimits}
 use Rattle.causal_context.proofs.Uniting.{length_replaced, set_replaced}
 use Rattle.causal_context.proofs.splice.unite_run.Goals as goal
 use Rattle.causal_context.proofs.splice.unite_run.Goals.{else-united-via-then-united+else-len-ge-MOST_RUNS, else-united-via-else-united}
@@ -48,9 +48,9 @@ returns-in-Ok-clause-valid c =
     let whole = ap length c.in-Ok.ensures.ok ∙ length_replaced old united.start united.end united.run c.unite-united.ensures.order (omega (arith, same, c.unite-united.ensures.within)) in
     record {
       apart = subst AreApart (sym c.in-Ok.ensures.ok) (subst (λ xs. AreApart (take united.start xs ++ united.run ∷ drop united.end xs)) c.deref.ensures.value c.unite-united.ensures.united.apart);
-      limits = subst (All IsRun) (sym c.in-Ok.ensures.ok)
-          (All-append IsRun (take united.start old) (united.run ∷ drop united.end old) (All-take IsRun united.start old c.requires.limits)
-          (All-cons IsRun united.run (drop united.end old) c.unite-united.ensures.limit (All-drop IsRun united.end old c.requires.limits)));
+      limits = subst (All IsRunWithinLimits) (sym c.in-Ok.ensures.ok)
+          (All-append IsRunWithinLimits (take united.start old) (united.run ∷ drop united.end old) (All-take IsRunWithinLimits united.start old c.requires.limits)
+          (All-cons IsRunWithinLimits united.run (drop united.end old) c.unite-united.ensures.limit (All-drop IsRunWithinLimits united.end old c.requires.limits)));
       few = elim c.else-united.branch [ else-united-via-then-united+else-len-ge-MOST_RUNS w ↦ omega (arith, whole) | else-united-via-else-united w ↦ omega (arith, whole) ];
     }
 

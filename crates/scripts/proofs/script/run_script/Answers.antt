@@ -4,14 +4,14 @@ use Rattle.std.specs.Io.KnownBytes.{Consumes}
 use Rattle.sites_world.specs.Worlds.{World, new_world}
 use Rattle.scripts.specs.declared.script.Script.{Script}
 use Rattle.scripts.specs.LineSteps.{StandsAt, place_of}
-use Rattle.scripts.specs.Script.{HasBegun, HasWritten, IsRun, IsRunInPart, Place}
+use Rattle.scripts.specs.Script.{HasBegunText, HasWritten, IsScriptRun, IsRunInPart, ScriptSites}
 use Rattle.scripts.proofs.script.run_script.Goals as goal
 
 -- a script that was read, and whose lines were run over new sites, was run
-run_whole : (place : Place) (script : Script) (text : List ℕ) (left left_new taken taken_new : Option (List ℕ)) (unknown : ℕ)
+run_whole : (place : ScriptSites) (script : Script) (text : List ℕ) (left left_new taken taken_new : Option (List ℕ)) (unknown : ℕ)
     → place_of script ≡ place → StandsAt script.world (new_world place.sites) → length text ≤ 16777216 → Consumes left left_new text
     → ((w : World) → StandsAt script.world w → HasWritten (place_of script) w text taken taken_new unknown)
-    → IsRun place left left_new taken taken_new unknown
+    → IsScriptRun place left left_new taken taken_new unknown
 run_whole place script text left left_new taken taken_new unknown same stands short read written = record {
   script = text;
   short = short;
@@ -20,15 +20,15 @@ run_whole place script text left left_new taken taken_new unknown same stands sh
 }
 
 -- one whose lines were begun there was run in part
-run_in_part : (place : Place) (script : Script) (text : List ℕ) (left left_new taken taken_new : Option (List ℕ))
+run_in_part : (place : ScriptSites) (script : Script) (text : List ℕ) (left left_new taken taken_new : Option (List ℕ))
     → place_of script ≡ place → StandsAt script.world (new_world place.sites) → length text ≤ 16777216 → Consumes left left_new text
-    → ((w : World) → StandsAt script.world w → HasBegun (place_of script) w text taken taken_new)
+    → ((w : World) → StandsAt script.world w → HasBegunText (place_of script) w text taken taken_new)
     → IsRunInPart place left left_new taken taken_new
 run_in_part place script text left left_new taken taken_new same stands short read begun = record {
   script = text;
   short = short;
   read = read;
-  written = subst (λ p. HasBegun p (new_world place.sites) text taken taken_new) same (begun (new_world place.sites) stands);
+  written = subst (λ p. HasBegunText p (new_world place.sites) text taken taken_new) same (begun (new_world place.sites) stands);
 }
 
 pub returns-clause-text : goal.returns-clause-text

@@ -1,6 +1,6 @@
 use Rattle.std.proofs.Common.{◌≡◌, ℕ, length, slice_get, Some, IsTrue, refl, ap, sym, ◌∙◌, subst, arith, rules}
 use Rattle.std.proofs.lemmas.Option.{slice_get_read, slice_get_within}
-use Rattle.site_audit.specs.Ending.{HasAll, IsLeastLeft}
+use Rattle.site_audit.specs.Ending.{HasAllSteps, IsLeastLeft}
 use Rattle.site_audit.specs.Runs.{IsStuck}
 use Rattle.site_audit.proofs.Ends.{begins, ends_as_run, ends_stuck}
 use Rattle.site_audit.proofs.auditing.audit.Goals as goal
@@ -45,4 +45,4 @@ returns-in-Some-least_left-clause-no_run c = λ site position told.
 -- each site has all its steps
 pub returns-in-None-clause-run : goal.returns-in-None-clause-run
 returns-in-None-clause-run c =
-    ends_as_run c.args.journals.now c.search.new.replay c.in_ok-search.ensures.kept (subst (λ xs. (site : ℕ) → HasAll c.args.journals.now xs site) c.as_slice.ensures.value c.in-None.ensures.none)
+    ends_as_run c.args.journals.now c.search.new.replay c.in_ok-search.ensures.kept (subst (λ xs. (site : ℕ) → HasAllSteps c.args.journals.now xs site) c.as_slice.ensures.value c.in-None.ensures.none)

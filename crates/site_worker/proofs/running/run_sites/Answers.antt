@@ -1,6 +1,6 @@
 use Rattle.std.proofs.Common.{◌≡◌, ◌+◌, [], arith, map, subst, vec_len}
 use Rattle.std.proofs.lemmas.Result.{IfOk-weaker}
-use Rattle.site_worker.specs.Runs.{HasAnswered, HasBegun, HavePumped}
+use Rattle.site_worker.specs.Runs.{HasAnsweredAsks, HasBegun, HavePumped}
 use Rattle.site_worker.specs.Working.{AreOfPasses, receipts_in}
 use Rattle.site_worker.specs.declared.work.SiteEnd.{SiteEnd}
 use Rattle.site_worker.specs.declared.work.SiteWork.{SiteWork}
@@ -30,7 +30,7 @@ returns-clause-own g c = IfOk-weaker c.scoped.result _ _
 
 pub returns-clause-answers : goal.returns-clause-answers
 returns-clause-answers g c = IfOk-weaker c.scoped.result _ _
-    (λ ends are site work end at is. subst (λ asks. HasAnswered site c.args.list.now asks (map (λ list. list.items) end.receipts.items) end.fault) (mapped_at (λ (work : SiteWork g.row.G.Denot). work.asks.items) c.args.works.items site work [] at) (are site end is).answered) c.scoped.ensures.1.1.0
+    (λ ends are site work end at is. subst (λ asks. HasAnsweredAsks site c.args.list.now asks (map (λ list. list.items) end.receipts.items) end.fault) (mapped_at (λ (work : SiteWork g.row.G.Denot). work.asks.items) c.args.works.items site work [] at) (are site end is).answered) c.scoped.ensures.1.1.0
 
 pub returns-clause-pumped : goal.returns-clause-pumped
 returns-clause-pumped g c = IfOk-weaker c.scoped.result _ _

@@ -2,7 +2,7 @@ use Rattle.std.proofs.Common.{[], ◌∷◌, ◌++◌, length, refl, take, sym, 
 use Rattle.std.proofs.lemmas.List.{take_all, take_more}
 use Rattle.sites_world.specs.Worlds.{IsReached, done_of, run}
 use Rattle.sites_world.specs.WorldStates.{HaveHappened, WorldState}
-use Rattle.sites_world.specs.Conditions.{LeadAll}
+use Rattle.sites_world.specs.Conditions.{EventsLead}
 use Rattle.sites_world.proofs.ToldByConditions.{lead_on}
 use Rattle.sites_world.proofs.Happenings.{happened_more, none_happened, reached_more}
 use Rattle.sites_world.proofs.KeptWorlds.{world_after_event}
@@ -16,7 +16,7 @@ loop-event-init c = record {
   room = let room = c.requires.room in omega (arith, room);
   happened = λ names w reached stands. none_happened (record { names = names; sites = c.args.sites.now.items; pool = c.args.pool.now.items }) w c.args.outcomes.now.items c.requires.none stands;
   world = λ names is. is;
-  led = λ names is. let old : WorldState = record { names = names; sites = c.args.sites.now.items; pool = c.args.pool.now.items } in subst (λ os. LeadAll old [] os old) (sym c.requires.none) refl;
+  led = λ names is. let old : WorldState = record { names = names; sites = c.args.sites.now.items; pool = c.args.pool.now.items } in subst (λ os. EventsLead old [] os old) (sym c.requires.none) refl;
 }
 
 -- the event has happened after those before it
@@ -54,7 +54,7 @@ loop-event-preserved c = record {
       let new : WorldState = record { names = names; sites = c.happen_by_copy-outcome.new.sites.items; pool = c.happen_by_copy-outcome.new.pool.items } in
       let more = lead_on old es os mid new e o (c.loop-event.invariant.led names is) (c.happen_by_copy-outcome.ensures.conditions names (c.loop-event.invariant.world names is)) in
       let grown = take_more events c.loop-event.event-index e c.loop-event-test.true ∙ ap (λ x. es ++ x ∷ []) (sym c.event-item.is) in
-      subst (λ xs. LeadAll old xs c.push_reserved.new.self.items new) (sym grown) (subst (λ xs. LeadAll old (es ++ e ∷ []) xs new) (sym c.push_reserved.ensures.items) more);
+      subst (λ xs. EventsLead old xs c.push_reserved.new.self.items new) (sym grown) (subst (λ xs. EventsLead old (es ++ e ∷ []) xs new) (sym c.push_reserved.ensures.items) more);
 }
 
 -- all have
@@ -68,5 +68,5 @@ returns c = record {
   conditions = λ names is.
       let old : WorldState = record { names = names; sites = c.args.sites.now.items; pool = c.args.pool.now.items } in
       let new : WorldState = record { names = names; sites = c.loop-event.sites.items; pool = c.loop-event.pool.items } in
-      subst (λ xs. LeadAll old xs c.loop-event.outcomes.items new) (take_all c.loop-event.event-index c.args.events.now c.loop-event-test.false) (c.loop-event.invariant.led names is);
+      subst (λ xs. EventsLead old xs c.loop-event.outcomes.items new) (take_all c.loop-event.event-index c.args.events.now c.loop-event-test.false) (c.loop-event.invariant.led names is);
 }

@@ -1,6 +1,6 @@
 use Rattle.std.proofs.Common.{◌≡◌, ◌≤◌, ℕ, List, length, take, vec_len, vec_capacity}
 use Rattle.sites_world.specs.Worlds.{IsReached, World}
-use Rattle.sites_world.specs.Conditions.{LeadAll}
+use Rattle.sites_world.specs.Conditions.{EventsLead}
 use Rattle.sites_world.specs.WorldStates.{HaveHappened, IsWorld, StandsForWorld}
 use Rattle.sites_world.proofs.run.run_all.Given as goal
 
@@ -16,6 +16,6 @@ invariant-loop-event l = record {
   world : (names : List (List ℕ)) → IsWorld (record { names = names; sites = l.initial.sites.items; pool = l.initial.pool.items })
       → IsWorld (record { names = names; sites = l.sites.items; pool = l.pool.items });
   led : (names : List (List ℕ)) → IsWorld (record { names = names; sites = l.initial.sites.items; pool = l.initial.pool.items })
-      → LeadAll (record { names = names; sites = l.initial.sites.items; pool = l.initial.pool.items }) (take l.event-index l.events) l.outcomes.items
+      → EventsLead (record { names = names; sites = l.initial.sites.items; pool = l.initial.pool.items }) (take l.event-index l.events) l.outcomes.items
       (record { names = names; sites = l.sites.items; pool = l.pool.items });
 }

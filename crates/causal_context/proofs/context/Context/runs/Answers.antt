@@ -10,12 +10,12 @@ use Rattle.dots.specs.WithinLimits.{AreDots, IsDot}
 use Rattle.general_lemmas.proofs.Membership.{in_any}
 use Rattle.dots.proofs.RunCounts.{run_count_runs}
 use Rattle.dots.proofs.Runs.{contains_set_of}
-use Rattle.causal_context.specs.Contexts.{IsRun}
+use Rattle.causal_context.specs.Contexts.{IsRunWithinLimits}
 use Rattle.causal_context.proofs.Views.{is_runs}
 use Rattle.causal_context.proofs.context.Context.runs.Goals as goal
 
 -- a dot of a run that is within the limits is
-of_run : (q : Dot) (r : Run) → IsRun r → in_run q r ≡ true → IsDot q
+of_run : (q : Dot) (r : Run) → IsRunWithinLimits r → in_run q r ≡ true → IsDot q
 of_run q r limits h = record {
   site = subst IsSite (same_site q r h) limits.site;
   count = let first = limits.least in let last = limits.most in let from = least q r h in let to = most q r h in (omega (arith, first, from), omega (arith, last, to));
@@ -31,9 +31,9 @@ of_run q r limits h = record {
     most q r h = grind (arith, nat_tests)
 
 -- and so is each dot of such runs
-are_dots : (rs : List Run) (dots : sets.FinSet dot_cmp) → set_of rs ≡ dots → All IsRun rs → AreDots dots
+are_dots : (rs : List Run) (dots : sets.FinSet dot_cmp) → set_of rs ≡ dots → All IsRunWithinLimits rs → AreDots dots
 are_dots rs dots is limits q h =
-    let found = in_any (in_run q) rs (sym (contains_set_of rs q) ∙ ap (λ s. sets.contains s q) is ∙ h) in of_run q found.0 (All-contains IsRun rs found.0 limits found.1) found.2
+    let found = in_any (in_run q) rs (sym (contains_set_of rs q) ∙ ap (λ s. sets.contains s q) is ∙ h) in of_run q found.0 (All-contains IsRunWithinLimits rs found.0 limits found.1) found.2
 
 pub returns-clause-value : goal.returns-clause-value
 returns-clause-value c =

@@ -4,7 +4,7 @@ use Rattle.op_arena.specs.Ids.{id_of}
 use Rattle.operations.specs.Conditions.{FieldsAgree}
 use Rattle.member_orset.specs.declared.placed.Placed.{Placed}
 use Rattle.member_orset.specs.LiveLists.{live_of}
-use Rattle.member_orset.specs.LiveStates.{HasTaken}
+use Rattle.member_orset.specs.LiveStates.{HasTakenDot}
 use Rattle.member_orset.specs.PlacedStates.{cells_of}
 use Rattle.member_orset.proofs.Changes.{gap_live}
 use Rattle.member_orset.proofs.LiveChanges.{has_taken, indexed_joined}
@@ -41,6 +41,6 @@ returns-clause-live g c =
     let s = c.self.inside.placed in
     let t = c.join_fields.new.self in
     let none : Placed = record { dot = c.args.dot; id = id_of 0 0 } in
-    subst (λ x. HasTaken x.live c.args.dot c.args.fields (live_of (cells_of t))) c.self.view_is
+    subst (λ x. HasTakenDot x.live c.args.dot c.args.fields (live_of (cells_of t))) c.self.view_is
     (has_taken s t c.self.inside.members.items c.self.invariant c.args.dot c.in-Ok.place none c.args.fields c.in-Ok.ensures.found
     (c.join_fields.ensures.held none (no_cell c.args.dot)) (c.join_fields.ensures.cells (no_cell c.args.dot)))

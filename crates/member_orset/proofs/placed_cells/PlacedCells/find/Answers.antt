@@ -6,7 +6,7 @@ use Rattle.std.specs.List.{AllWithin}
 use Rattle.std.specs.Ordering.{is_lt}
 use Rattle.std.specs.Prelude.{false}
 use Rattle.member_orset.specs.declared.placed.Placed.{Placed}
-use Rattle.member_orset.specs.LiveLists.{IsAt, IsGap}
+use Rattle.member_orset.specs.LiveLists.{IsCellAt, IsGap}
 use Rattle.member_orset.specs.PlacedStates.{cells_of}
 use Rattle.member_orset.proofs.DotTests.{told_apart, told_same}
 use Rattle.member_orset.proofs.PlacedDots.{Ahead, at_cells, gap_cells}
@@ -49,5 +49,5 @@ returns-clause-found g c =
     let len : vec_len s.dots ≡ length s.dots.items = search rules in
     let inside : at < length s.dots.items = omega (arith, within, len, c.if-place-len.false, c.len.ensures) in
     let same = told_same x.dot c.args.dot c.ne.result c.ne.ensures c.if-ne.false in
-    subst (λ y. IsAt (cells_of y) c.args.dot at) c.self.view_is
+    subst (λ y. IsCellAt (cells_of y) c.args.dot at) c.self.view_is
     (at_cells s.dots.items s.cells.held c.self.invariant.there c.args.dot at x inside ahead (same ∙ ap (λ p. p.dot) c.index.ensures))

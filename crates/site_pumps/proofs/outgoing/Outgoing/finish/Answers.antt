@@ -1,6 +1,6 @@
 use Rattle.std.proofs.Common.{refl, subst, sym, ap, inl, inr, ◌∙◌, ◌++◌, ◌∷◌, []}
 use Rattle.std.proofs.lemmas.Result.{err_from_is_err_and}
-use Rattle.site_pumps.specs.Carried.{Begins, Carries, EachLink}
+use Rattle.site_pumps.specs.Carried.{BeginsToCarry, Carries, EachLink}
 use Rattle.site_pumps.specs.Deeds.{cut_frames, whole_frames}
 use Rattle.site_pumps.specs.Outgoing.{IsFrontOf}
 use Rattle.site_pumps.specs.Plans.{planned}
@@ -14,7 +14,7 @@ returns-then-is_err-clause-err g c = λ start plan w. subst (λ l. IsFrontOf pla
 
 pub returns-in_err-send_each-clause-err : goal.returns-in_err-send_each-clause-err
 returns-in_err-send_each-clause-err g c = on_err c.from_residual.result (λ start plan w. subst (λ l. IsFrontOf plan l start c.send_each.new.links) (sym c.reserve.ensures.items)
-    (broken_at_held _ _ _ _ _ _ _ w (subst (λ l. EachLink (Begins l) c.args.links.now c.send_each.new.links) c.as_slice.ensures.value c.in_err-send_each.ensures.err)))
+    (broken_at_held _ _ _ _ _ _ _ w (subst (λ l. EachLink (BeginsToCarry l) c.args.links.now c.send_each.new.links) c.as_slice.ensures.value c.in_err-send_each.ensures.err)))
 
 pub returns-in_err-receipt-clause-err : goal.returns-in_err-receipt-clause-err
 returns-in_err-receipt-clause-err g c = on_err c.from_residual-in_err-receipt.result (λ start plan w. subst (λ l. IsFrontOf plan l start c.send_each.new.links) (sym c.reserve.ensures.items)

@@ -1,6 +1,6 @@
 use Rattle.sites_world.proofs.KeptWorlds.{world_after_event}
 use Rattle.std.proofs.Common.{subst}
-use Rattle.sites_world.specs.Conditions.{Leads}
+use Rattle.sites_world.specs.Conditions.{EventLeads}
 use Rattle.sites_world.specs.WorldStates.{WorldState}
 use Rattle.sites_world.proofs.world.World.happen.Goals as goal
 
@@ -18,5 +18,5 @@ returns-clause-world c =
 -- the event leads from the old state
 pub returns-clause-conditions : goal.returns-clause-conditions
 returns-clause-conditions c =
-    subst (λ (s : WorldState). Leads s c.args.event c.happen.result (record { names = c.self.inside.list; sites = c.happen.new.sites.items; pool = c.happen.new.pool.items })) c.self.view_is
+    subst (λ (s : WorldState). EventLeads s c.args.event c.happen.result (record { names = c.self.inside.list; sites = c.happen.new.sites.items; pool = c.happen.new.pool.items })) c.self.view_is
     (c.happen.ensures.conditions c.self.inside.list c.self.invariant)

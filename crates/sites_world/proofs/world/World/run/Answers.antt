@@ -1,7 +1,7 @@
 use Rattle.std.proofs.Common.{length, subst}
 use Rattle.sites_world.specs.Worlds.{IsReached}
 use Rattle.sites_world.specs.WorldStates.{HaveHappened, StandsForWorld, WorldState}
-use Rattle.sites_world.specs.Conditions.{LeadAll}
+use Rattle.sites_world.specs.Conditions.{EventsLead}
 use Rattle.sites_world.proofs.world.World.run.Goals as goal
 
 -- the sites stand for the world after the events
@@ -19,5 +19,5 @@ returns-clause-world c = c.run_all.ensures.world c.self.inside.list c.self.invar
 -- the events lead from the old state
 pub returns-clause-conditions : goal.returns-clause-conditions
 returns-clause-conditions c =
-    subst (λ (s : WorldState). LeadAll s c.args.events.now c.run_all.new.outcomes.items (record { names = c.self.inside.list; sites = c.run_all.new.sites.items; pool = c.run_all.new.pool.items })) c.self.view_is
+    subst (λ (s : WorldState). EventsLead s c.args.events.now c.run_all.new.outcomes.items (record { names = c.self.inside.list; sites = c.run_all.new.sites.items; pool = c.run_all.new.pool.items })) c.self.view_is
     (c.run_all.ensures.conditions c.self.inside.list c.self.invariant)
