@@ -10,9 +10,9 @@ mod frames;
 #[cfg(test)]
 mod histories;
 #[cfg(test)]
-mod model_lines;
+mod made_operations;
 #[cfg(test)]
-mod operations;
+mod model_lines;
 #[cfg(test)]
 mod registers;
 #[cfg(test)]

@@ -1,5 +1,5 @@
 //! What the lines of a story give at two sites of the reference model.
-use crate::operations::{calls, operations, setting};
+use crate::made_operations::{calls, operations, setting};
 use crate::told::{
     Words, interface, label, list, member, name, number, penalty, queue, queue_number, row_text,
     site, text, utf8, word,

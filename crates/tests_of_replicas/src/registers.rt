@@ -1,5 +1,5 @@
 //! Registers and fields: what their joins keep.
-use crate::operations::stamp;
+use crate::made_operations::stamp;
 use crate::told::label;
 use dots::{Pause, Penalty, Text80};
 use lww_registers::{Fields, Register};
