@@ -1,21 +1,22 @@
 -- What is read of runs, cells and totals is spelled so, and what is spelled so is read.
-use Rattle.std.proofs.Common.{◌≡◌, ℕ, zero, suc, ◌+◌, ◌*◌, ◌<◌, ◌≤◌, Bool, true, false, not, List, ◌∷◌, ◌++◌, Option, Some, None, is_some, refl, sym, ap, ◌∙◌, append_assoc, arith}
+use Rattle.std.proofs.Common.{◌≡◌, ℕ, ◌+◌, ◌*◌, ◌/◌, ◌%◌, ◌<◌, ◌≤◌, Bool, true, false, not, List, ◌∷◌, ◌++◌, Option, Some, None, is_some, refl, sym, ap, ◌∙◌, append_assoc, arith, inl, inr}
+use Rattle.std.specs.Prelude.{◌==◌}
 use Rattle.std.specs.Int.{w16, w64, to_be_bytes}
+use Rattle.std.proofs.lemmas.Bool.{cases_lt}
 use Rattle.std.proofs.lemmas.Bool.Decides.{nat_tests}
 use Rattle.dots.specs.declared.call_totals.CallTotals.{CallTotals}
 use Rattle.dots.specs.declared.limits.TheConstants.{MOST_CALLS, QUEUES}
-use Rattle.dots.specs.declared.label.Label.{Label}
 use Rattle.operations.specs.Conditions.{DotFields, no_fields}
-use Rattle.operations.specs.Registers.{Entry}
 use Rattle.dots.specs.CountedCalls.{is_zero}
 use Rattle.operations.specs.Totals.{IsTotal}
-use Rattle.dots.specs.Values.{IsCount, IsPenalty, IsSite, PauseState}
+use Rattle.dots.specs.Values.{IsCount, IsPenalty, IsSite}
 use Rattle.dots.specs.WithinLimits.{IsDot, IsLabel, IsPause}
 use Rattle.causal_context.specs.Contexts.{IsRunWithinLimits}
+use Rattle.member_orset.specs.Members.{HasField}
 use Rattle.delta_codec.specs.declared.decode_fault.DecodeFault.TheVariants.{BadRange}
 use Rattle.delta_codec.specs.Faults.{IsFlagged, IsFlags, IsPlace, label_flag, pause_flag, penalty_flag, place_bytes}
 use Rattle.delta_codec.specs.Frames.{IsHeading, heading_bytes}
-use Rattle.delta_codec.specs.Parts.{AreFields, IsCell, TotalParts, bit_of, byte, cell_bytes, dot_bytes, field_bytes, fields_bytes, flags_of, label_bytes, pause_bytes, penalty_bytes, run_bytes, text_bytes, total_bytes}
+use Rattle.delta_codec.specs.Parts.{AreFields, AreInLimits, IsCell, TotalParts, bit_of, byte, cell_bytes, dot_bytes, field_bytes, fields_bytes, flags_of, label_bytes, pause_bytes, penalty_bytes, run_bytes, text_bytes, total_bytes}
 use Rattle.delta_codec.specs.Reading.{both, calls_at, cell_at, count_at, dot_at, field_at, fields_at, flags_at, heading_at, label_at, last_at, made, pause_at, penalty_at, place_at, queue_at, run_at, set_fields_at, site_at, text_at, total_at}
 use Rattle.delta_codec.proofs.FieldLaws.{IsLast, IsTextOf, calls_reads, count_reads, field_reads, flags_reads, label_reads, last_reads, pause_reads, penalty_reads, queue_reads, site_reads, text_reads}
 use Rattle.delta_codec.proofs.PartLaws.{Reads, reads_both, reads_good, reads_made, reads_tested}
@@ -43,89 +44,66 @@ set_fields_reads flags =
     (λ p g. (record { penalty = g.0; pause = g.1.0; label = g.1.1 }, refl))
     (λ f g. ((g.penalty, (g.pause, g.label)), refl, refl))
 
+few_bit : (b : Bool) → bit_of b ≤ 1
+few_bit true = omega arith
+few_bit false = omega arith
+
+-- what a flag says of a number whose last bit is n
+flag_bit : (n : ℕ) → bit_of (n % 2 == 1) ≡ n % 2
+flag_bit n = grind (arith, nat_tests)
+
+-- a number whose last bit is that of a flag says the flag
+says : (n : ℕ) (b : Bool) → n % 2 ≡ bit_of b → b ≡ (n % 2 == 1)
+says n true h = grind (arith, nat_tests)
+says n false h = grind (arith, nat_tests)
+
 flags_back : (n : ℕ) → IsFlags n → bit_of (penalty_flag n) + (2 * bit_of (pause_flag n) + 4 * bit_of (label_flag n)) ≡ n
-flags_back zero h = absurd (omega (arith, h.0))
-flags_back (suc zero) h = refl
-flags_back (suc (suc zero)) h = refl
-flags_back (suc (suc (suc zero))) h = refl
-flags_back (suc (suc (suc (suc zero)))) h = refl
-flags_back (suc (suc (suc (suc (suc zero))))) h = refl
-flags_back (suc (suc (suc (suc (suc (suc zero)))))) h = refl
-flags_back (suc (suc (suc (suc (suc (suc (suc zero))))))) h = refl
-flags_back (suc (suc (suc (suc (suc (suc (suc (suc n)))))))) h = absurd (omega (arith, h.1))
+flags_back n h = omega (arith, h.0, h.1, flag_bit n, flag_bit (n / 2), flag_bit (n / 4))
 
 flags_are : (n : ℕ) (f : DotFields) → IsFlags n → AreFlagged n f → flags_of f ≡ n
 flags_are n f h g = (λ i. bit_of (g.penalty.set i) + (2 * bit_of (g.pause.set i) + 4 * bit_of (g.label.set i))) ∙ flags_back n h
 
-abbrev flags_by : Bool → Bool → Bool → ℕ
-flags_by p q l = bit_of p + (2 * bit_of q + 4 * bit_of l)
-
-penalty_by : (p q l : Bool) → p ≡ penalty_flag (flags_by p q l)
-penalty_by true true true = refl
-penalty_by true true false = refl
-penalty_by true false true = refl
-penalty_by true false false = refl
-penalty_by false true true = refl
-penalty_by false true false = refl
-penalty_by false false true = refl
-penalty_by false false false = refl
-
-pause_by : (p q l : Bool) → q ≡ pause_flag (flags_by p q l)
-pause_by true true true = refl
-pause_by true true false = refl
-pause_by true false true = refl
-pause_by true false false = refl
-pause_by false true true = refl
-pause_by false true false = refl
-pause_by false false true = refl
-pause_by false false false = refl
-
-label_by : (p q l : Bool) → l ≡ label_flag (flags_by p q l)
-label_by true true true = refl
-label_by true true false = refl
-label_by true false true = refl
-label_by true false false = refl
-label_by false true true = refl
-label_by false true false = refl
-label_by false false true = refl
-label_by false false false = refl
-
-few_flags : (p q l : Bool) → flags_by p q l ≤ 7
-few_flags true true true = omega arith
-few_flags true true false = omega arith
-few_flags true false true = omega arith
-few_flags true false false = omega arith
-few_flags false true true = omega arith
-few_flags false true false = omega arith
-few_flags false false true = omega arith
-few_flags false false false = omega arith
-
-some_flag : (p : Option (Entry ℕ)) (q : Option (Entry PauseState)) (l : Option (Entry Label)) → (◌≡◌ {A = DotFields} (record { penalty = p; pause = q; label = l }) no_fields → ⊥) → 1 ≤ flags_by (is_some p) (is_some q) (is_some l)
-some_flag None None None h = absurd (h refl)
-some_flag None None (Some l) h = omega arith
-some_flag None (Some q) None h = omega arith
-some_flag None (Some q) (Some l) h = omega arith
-some_flag (Some p) None None h = omega arith
-some_flag (Some p) None (Some l) h = omega arith
-some_flag (Some p) (Some q) None h = omega arith
-some_flag (Some p) (Some q) (Some l) h = omega arith
+none_of : {T : Type 0} (field : Option T) → bit_of (is_some field) ≡ 0 → field ≡ None
+none_of None h = refl
+none_of (Some x) h = absurd (omega (arith, h))
 
 none_flagged : (f : DotFields) → f ≡ no_fields → flags_of f ≡ 0
 none_flagged f h = ap (λ (g : DotFields). flags_of g) h
 
-flagged : (f : DotFields) → AreFields f → AreFlagged (flags_of f) f
-flagged f g = record {
-  penalty = record { set = penalty_by (is_some f.penalty) (is_some f.pause) (is_some f.label); value = g.penalty };
-  pause = record { set = pause_by (is_some f.penalty) (is_some f.pause) (is_some f.label); value = g.pause };
-  label = record { set = label_by (is_some f.penalty) (is_some f.pause) (is_some f.label); value = g.label };
-}
+none_set : (f : DotFields) → flags_of f ≡ 0 → f ≡ no_fields
+none_set f h =
+    let penalty = none_of f.penalty (omega (arith, h)) in
+    let pause = none_of f.pause (omega (arith, h)) in
+    let label = none_of f.label (omega (arith, h)) in
+    λ i. record { penalty = penalty i; pause = pause i; label = label i }
+
+are_flags : (f : DotFields) → HasField f → IsFlags (flags_of f)
+are_flags f some =
+    let penalty = few_bit (is_some f.penalty) in
+    let pause = few_bit (is_some f.pause) in
+    let label = few_bit (is_some f.label) in
+    elim (cases_lt 0 (flags_of f)) [
+      | inl one ↦ (omega arith, omega arith)
+      | inr none ↦ absurd (some (none_set f (omega arith)))
+    ]
+
+flagged : (f : DotFields) → AreInLimits f → AreFlagged (flags_of f) f
+flagged f g =
+    let penalty = few_bit (is_some f.penalty) in
+    let pause = few_bit (is_some f.pause) in
+    let label = few_bit (is_some f.label) in
+    record {
+      penalty = record { set = says (flags_of f) (is_some f.penalty) (omega arith); value = g.penalty };
+      pause = record { set = says (flags_of f / 2) (is_some f.pause) (omega arith); value = g.pause };
+      label = record { set = says (flags_of f / 4) (is_some f.label) (omega arith); value = g.label };
+    }
 
 pub fields_reads : Reads fields_at AreFields fields_bytes
 unfolding fields_at
 fields_reads = reads_made (λ bytes. both (flags_at bytes) set_fields_at) (λ p. IsFlags p.0 × AreFlagged p.0 p.1) (λ p. byte p.0 ++ set_fields_bytes p.1) AreFields fields_bytes (λ p. p.1) (λ f. (flags_of f, f))
     (reads_both flags_at set_fields_at IsFlags AreFlagged byte set_fields_bytes flags_reads (λ n _. set_fields_reads n))
-    (λ p g. (record { penalty = g.1.penalty.value; pause = g.1.pause.value; label = g.1.label.value; some = λ h. absurd (let none = none_flagged p.1 h in let are = flags_are p.0 p.1 g.0 g.1 in omega (arith, none, are, g.0.0)) }, ap (λ (n : ℕ). n ∷ set_fields_bytes p.1) (sym (flags_are p.0 p.1 g.0 g.1))))
-    (λ f g. (((some_flag f.penalty f.pause f.label g.some, few_flags (is_some f.penalty) (is_some f.pause) (is_some f.label)), flagged f g), refl, refl))
+    (λ p g. (record { within = record { penalty = g.1.penalty.value; pause = g.1.pause.value; label = g.1.label.value }; some = λ h. absurd (let none = none_flagged p.1 h in let are = flags_are p.0 p.1 g.0 g.1 in omega (arith, none, are, g.0.0)) }, ap (λ (n : ℕ). n ∷ set_fields_bytes p.1) (sym (flags_are p.0 p.1 g.0 g.1))))
+    (λ f g. ((are_flags f g.some, flagged f g.within), refl, refl))
 
 -- ---- runs, cells, totals
 

@@ -29,7 +29,7 @@ use Rattle.delta_codec.proofs.ListLaws.{by_recursion}
 use Rattle.delta_codec.proofs.Measuring.{content_size}
 use Rattle.dots.specs.declared.label.Label.{Label}
 use Rattle.operations.specs.Registers.{Entry}
-use Rattle.dots.specs.Values.{Dot, PauseState}
+use Rattle.dots.specs.Values.{Dot, IsPenalty, PauseState}
 use Rattle.dots.specs.WithinLimits.{IsLabel, IsPause}
 use Rattle.member_orset.specs.Members.{Holding, condition_at}
 use Rattle.delta_codec.specs.declared.decode_fault.DecodeFault.{DecodeFault}
@@ -39,6 +39,7 @@ use Rattle.delta_codec.specs.declared.limits.TheConstants.{LEAST_LENGTH, MOST_LE
 use Rattle.delta.specs.Frames.{IsSameFrame}
 use Rattle.delta_codec.specs.Decoding.{frame_kept}
 use Rattle.delta_codec.specs.Frames.{AreParts, FrameParts, Spells, content_bytes, frame_bytes}
+use Rattle.delta_codec.specs.Measures.{most_cell, most_field, most_label, most_pause, most_penalty}
 use Rattle.delta_codec.specs.Parts.{CellParts, IsCell, IsField, TotalParts, cell_bytes, field_bytes, fields_bytes, label_bytes, pause_bytes, penalty_bytes, text_bytes}
 use Rattle.delta_codec.specs.Reading.{◌>>=◌, Kept, content_in, kept_at, kept_in, known_of, live_of, number_at, totals_of, with_cell, with_total, within_at}
 use Rattle.delta_codec.proofs.ContentLaws.{contains_known_of, content_read, content_spelled, kept_of, kept_of_read, read_of_kept}
@@ -205,27 +206,28 @@ frame_spelled bytes frame n fits e =
 
 -- ---- the length of what stands behind the length
 
-penalty_length : (field : Option (Entry ℕ)) → length (field_bytes penalty_bytes field) ≤ 13
-penalty_length None = omega arith
-penalty_length (Some e) = omega arith
+field_length : {T : Type 0} (IsValue : T → Type 0) (value : T → List ℕ) (most : ℕ) → ((x : T) → IsValue x → length (value x) ≤ most) → (field : Option (Entry T)) → IsField IsValue field → length (field_bytes value field) ≤ most_field most
+field_length IsValue value most short None h = omega arith
+field_length IsValue value most short (Some e) h = omega (arith, short e.value h.value)
 
-pause_length : (field : Option (Entry PauseState)) → IsField IsPause field → length (field_bytes pause_bytes field) ≤ 91
-pause_length None h = omega arith
-pause_length (Some e) h = omega (arith, h.value.reason.short)
+pause_length : (pause : PauseState) → IsPause pause → length (pause_bytes pause) ≤ most_pause
+pause_length pause h = omega (arith, h.reason.short)
 
-label_length : (field : Option (Entry Label)) → IsField IsLabel field → length (field_bytes label_bytes field) ≤ 171
-label_length None h = omega arith
-label_length (Some e) h = omega (arith, length-append e.value.name (text_bytes e.value.state), h.value.name.short, h.value.state.short)
+label_length : (label : Label) → IsLabel label → length (label_bytes label) ≤ most_label
+label_length label h = omega (arith, length-append label.name (text_bytes label.state), h.name.short, h.state.short)
 
-cell_length : (cell : CellParts) → IsCell cell → length (cell_bytes cell) ≤ 368
+cell_length : (cell : CellParts) → IsCell cell → length (cell_bytes cell) ≤ most_cell
 cell_length cell good =
     let f = cell.1.1 in
     let a = length-append cell.1.0.interface (fields_bytes f) in
     let b = length-append (field_bytes penalty_bytes f.penalty) (field_bytes pause_bytes f.pause ++ field_bytes label_bytes f.label) in
     let c = length-append (field_bytes pause_bytes f.pause) (field_bytes label_bytes f.label) in
-    omega (arith, a, b, c, penalty_length f.penalty, pause_length f.pause good.fields.pause, label_length f.label good.fields.label, good.member.interface.text.short)
+    let penalty = field_length IsPenalty penalty_bytes most_penalty (λ n h. omega arith) f.penalty good.fields.within.penalty in
+    let pause = field_length IsPause pause_bytes most_pause pause_length f.pause good.fields.within.pause in
+    let label = field_length IsLabel label_bytes most_label label_length f.label good.fields.within.label in
+    omega (arith, a, b, c, penalty, pause, label, good.member.interface.text.short)
 
-cells_length : (cells : List CellParts) → AllByRecursion IsCell cells → length (flat_map cell_bytes cells) ≤ 368 * length cells
+cells_length : (cells : List CellParts) → AllByRecursion IsCell cells → length (flat_map cell_bytes cells) ≤ most_cell * length cells
 cells_length [] h = omega arith
 cells_length (cell ∷ cells) h = omega (arith, length-append (cell_bytes cell) (flat_map cell_bytes cells), cell_length cell h.0, cells_length cells h.1)
 

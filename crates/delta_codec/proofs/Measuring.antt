@@ -1,9 +1,8 @@
 -- Measuring cells one after the other.
-use Rattle.std.proofs.Common.{◌≡◌, ℕ, ◌+◌, ◌*◌, ◌≤◌, List, [], ◌∷◌, ◌++◌, length, ap, subst, sym, refl, arith}
-use Rattle.std.specs.List.{All, flat_map}
+use Rattle.std.proofs.Common.{◌≡◌, ℕ, ◌+◌, ◌*◌, ◌≤◌, List, [], ◌∷◌, ◌++◌, length, ap, refl, arith}
+use Rattle.std.specs.List.{flat_map}
 use Rattle.std.proofs.lemmas.List.{length-append}
-use Rattle.std.proofs.lemmas.List.Elements.{All-cons}
-use Rattle.delta_codec.specs.Measures.{IsMeasured, most_cell}
+use Rattle.delta_codec.specs.Measures.{most_cell}
 use Rattle.delta_codec.specs.Parts.{CellParts, TotalParts, cell_bytes, list_bytes, run_bytes, total_bytes}
 use Rattle.delta_codec.specs.Frames.{FrameParts, content_bytes}
 use Rattle.dots.specs.DotSets.{Run}
@@ -16,12 +15,6 @@ value_more x left rest size n total step n_is so_far =
 
 pub limit_more : (x : CellParts) (left rest : List CellParts) (size n most : ℕ) → left ≡ x ∷ rest → n ≤ most_cell → size + most_cell * length left ≤ most → size + n + most_cell * length rest ≤ most
 limit_more x left rest size n most step few so_far = let len : length left ≡ length (x ∷ rest) = ap length step in omega (arith, len, few, so_far)
-
-pub within_more : (x : CellParts) (left rest entries : List CellParts) → left ≡ x ∷ rest → IsMeasured x → (All IsMeasured left → All IsMeasured entries) → All IsMeasured rest → All IsMeasured entries
-within_more x left rest entries step good so_far others = so_far (subst (λ (xs : List CellParts). All IsMeasured xs) (sym step) (All-cons IsMeasured x rest good others))
-
-pub within_all : (left entries : List CellParts) → left ≡ [] → (All IsMeasured left → All IsMeasured entries) → All IsMeasured entries
-within_all left entries none so_far = so_far (subst (λ (xs : List CellParts). All IsMeasured xs) (sym none) (λ k d lt. absurd (omega arith)))
 
 runs_size : (runs : List Run) → length (flat_map run_bytes runs) ≡ 17 * length runs
 runs_size [] = refl

@@ -1,5 +1,5 @@
 -- Which fault bytes have: well-spelled parts stand at their front, and what must come next breaks the rule that gives the fault.
-use Rattle.std.specs.Prelude.{ℕ, ◌≡◌, ◌≢◌, ◌≤◌, ◌<◌, ◌^◌, ◌⊎◌, Bool, true, false, List, [], ◌∷◌, ◌++◌, length, take, Option, None, IfSome, IsTrue, is_some, nat_le, ◌/◌, ◌%◌, ◌==◌}
+use Rattle.std.specs.Prelude.{ℕ, ◌≡◌, ◌≢◌, ◌≤◌, ◌<◌, ◌^◌, ◌⊎◌, Bool, true, false, List, [], ◌∷◌, ◌++◌, length, take, Option, None, IfSome, IsTrue, is_some, ◌/◌, ◌%◌, ◌==◌}
 use Rattle.std.specs.List.{flat_map, last_or, list_any}
 use Rattle.std.specs.Ordering.{is_lt}
 use Rattle.std.specs.Int.{w16, w32, to_be_bytes}
@@ -86,7 +86,7 @@ pause_flag flags = flags / 2 % 2 == 1
 
 -- that the label is
 abbrev pub label_flag : ℕ → Bool
-label_flag flags = nat_le 4 flags
+label_flag flags = flags / 4 % 2 == 1
 
 -- a field is set where its flag is, and within its limits
 pub record IsFlagged {T : Type 0} (IsValue : T → Type 0) (flag : Bool) (field : Option (Entry T)) : Type 0 where

@@ -5,3 +5,4 @@ pub mod Reading
 pub mod Elements
 pub mod Decoding
 pub mod Measures
+pub mod Written

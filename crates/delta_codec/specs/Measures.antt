@@ -1,17 +1,31 @@
--- How large the parts of a frame are at most.
-use Rattle.std.specs.Prelude.{ℕ}
-use Rattle.dots.specs.Values.{IsName, IsPenalty}
-use Rattle.dots.specs.WithinLimits.{IsDot, IsLabel, IsPause}
-use Rattle.delta_codec.specs.Parts.{CellParts, IsField}
+-- How large the parts of a frame are at most, in bytes.
+use Rattle.std.specs.Prelude.{ℕ, ◌+◌}
+use Rattle.dots.specs.declared.limits.TheConstants.{TEXT_BYTES}
 
--- the greatest number of bytes of a cell
+-- a text, behind its length
+abbrev pub most_text : ℕ
+most_text = 1 + TEXT_BYTES
+
+-- a penalty
+abbrev pub most_penalty : ℕ
+most_penalty = 4
+
+-- a pause, with its reason
+abbrev pub most_pause : ℕ
+most_pause = 1 + most_text
+
+-- a label of two texts
+abbrev pub most_label : ℕ
+most_label = most_text + most_text
+
+-- a field whose value has so many at most: its stamp has nine
+abbrev pub most_field : ℕ → ℕ
+most_field most = 9 + most
+
+-- fields, with their flags
+abbrev pub most_fields : ℕ
+most_fields = 1 + (most_field most_penalty + (most_field most_pause + most_field most_label))
+
+-- a cell, whose dot and queue have eleven
 abbrev pub most_cell : ℕ
-most_cell = 368
-
--- all that a cell has is within its limits; its queue may be any, and all its fields may be unset
-pub record IsMeasured (cell : CellParts) : Type 0 where
-  pub dot : IsDot cell.0
-  pub interface : IsName cell.1.0.interface
-  pub penalty : IsField IsPenalty cell.1.1.penalty
-  pub pause : IsField IsPause cell.1.1.pause
-  pub label : IsField IsLabel cell.1.1.label
+most_cell = 11 + (most_text + most_fields)

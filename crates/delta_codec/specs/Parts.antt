@@ -95,11 +95,15 @@ pub record IsEntry {T : Type 0} (IsValue : T → Type 0) (entry : Entry T) : Typ
 abbrev pub IsField : {T : Type 0} → (T → Type 0) → Option (Entry T) → Type 0
 IsField IsValue field = IfSome field (IsEntry IsValue)
 
--- fields: at least one is set
-pub record AreFields (fields : DotFields) : Type 0 where
+-- fields are within their limits, each where it is set
+pub record AreInLimits (fields : DotFields) : Type 0 where
   pub penalty : IsField IsPenalty fields.penalty
   pub pause : IsField IsPause fields.pause
   pub label : IsField IsLabel fields.label
+
+-- fields: at least one is set
+pub record AreFields (fields : DotFields) : Type 0 where
+  pub within : AreInLimits fields
   pub some : HasField fields
 
 -- a cell: of a dot, a member and fields within their limits

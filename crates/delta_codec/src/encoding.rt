@@ -1,11 +1,9 @@
 ghost use Rattle.std.specs.Prelude.{◌≡◌, ◌++◌, ◌≤◌, IfOk, OnOk, length};
-ghost use Rattle.std.specs.FinMap as map;
-ghost use Rattle.std.specs.List.{All};
 ghost use Rattle.dots.specs.declared.limits.TheConstants.{MOST_RUNS};
 ghost use Rattle.delta.specs.Frames.{IsInRanges, frame_of};
 ghost use Rattle.delta_codec.specs.Frames.{Spells, content_bytes, frame_bytes};
 ghost use Rattle.delta_codec.specs.Frames.{parts_with};
-ghost use Rattle.delta_codec.specs.Measures.{IsMeasured};
+ghost use Rattle.delta_codec.specs.Written.{AreWritten};
 
 use crate::sizes::content_size;
 use crate::writing::{put_cell_list, put_number4, put_opening, put_run_list, put_total_list};
@@ -24,8 +22,9 @@ fn put_content(
     runs: &[Run],
 ) -> Result<(), Memory>
     requires { length runs.now ≤ MOST_RUNS }
-    ensures { OnOk result (out.new.items ≡ out.old.items ++ content_bytes
+    ensures written { OnOk result (out.new.items ≡ out.old.items ++ content_bytes
         (parts_with (record { maker = maker; number = number }) delta.now runs.now)) }
+    ensures within { OnOk result (AreWritten maker delta.now) }
 {
     put_opening(out, maker, number)?;
     put_run_list(out, runs)?;
@@ -45,7 +44,7 @@ fn encode_with(
     requires { length runs.now ≤ MOST_RUNS }
     ensures value { IfOk result (λ bytes. bytes.items ≡ frame_bytes
         (parts_with (record { maker = maker; number = number }) delta.now runs.now)) }
-    ensures within { All IsMeasured (map.entries delta.now.members.live) }
+    ensures within { OnOk result (AreWritten maker delta.now) }
 {
     let size = content_size(delta, runs);
     let mut out = Vec::new(alloc);
@@ -66,9 +65,6 @@ pub fn encode_parts(
     ensures { let frame = frame_of maker number delta.now in
         IsInRanges frame → IfOk result (λ bytes. Spells frame bytes.items) }
 {
-    let _ = maker.number(); // so that it is known to be a site's
-    let _ = delta.members().cells(); // so that its limits are known
-    let _ = delta.totals().iter(); // and those of its totals
     let runs = delta.members().context().as_slice();
     encode_with(alloc, maker, number, delta, runs)
 }

@@ -2,19 +2,19 @@
 ghost use Rattle.std.specs.Prelude.{◌≡◌, ◌≤◌, [], length, is_some, IfOk};
 ghost use Rattle.member_orset.specs.Members.{HasField};
 ghost use Rattle.delta_codec.specs.Reading.{ReturnsRead, text_at, no_reason_at, stamp_at, reason_at};
-ghost use Rattle.delta_codec.specs.Reading.{pause_at, label_at, field_at, penalty_at};
-ghost use Rattle.delta_codec.specs.Reading.{set_fields_at, fields_at};
+ghost use Rattle.delta_codec.specs.Reading.{field_at, set_fields_at, fields_at};
 ghost use Rattle.delta_codec.specs.Faults.{IsFlags, penalty_flag, pause_flag, label_flag};
 
 use crate::DecodeFault;
-use crate::numbers::{read_bit, read_count, read_flags, read_penalty, read_site};
+use crate::field_bytes::FieldBytes;
+use crate::numbers::{read_count, read_flags, read_site};
 use crate::reader::Reader;
-use dots::{Interface, Label, Pause, Penalty, Stamp, TEXT_BYTES, Text80};
+use dots::{Interface, Stamp, TEXT_BYTES, Text80};
 use lww_registers::{Fields, Register};
 
 // A text of at least `least` bytes.
 #[tactic(auto, unfolding(crate::specs::Reading::text_at))]
-fn read_text(least: u8, reader: &mut Reader<'_>) -> Result<Text80, DecodeFault>
+pub(crate) fn read_text(least: u8, reader: &mut Reader<'_>) -> Result<Text80, DecodeFault>
     ensures value { ReturnsRead (λ x. (x, reader.new)) result (text_at least reader.old) }
     ensures size { IfOk result (λ x. least ≤ length x) }
 {
@@ -54,7 +54,7 @@ fn read_no_reason(reader: &mut Reader<'_>) -> Result<Text80, DecodeFault>
 
 // The reason behind the byte of a pause: none where it is 0.
 #[tactic(auto, unfolding(crate::specs::Reading::reason_at))]
-fn read_reason(paused: u8, reader: &mut Reader<'_>) -> Result<Text80, DecodeFault>
+pub(crate) fn read_reason(paused: u8, reader: &mut Reader<'_>) -> Result<Text80, DecodeFault>
     ensures value { ReturnsRead (λ x. (x, reader.new)) result (reason_at paused reader.old) }
     ensures none { paused ≡ 0 → IfOk result (λ x. x ≡ []) }
 {
@@ -78,66 +78,21 @@ fn read_stamp(reader: &mut Reader<'_>) -> Result<Stamp, DecodeFault>
     }
 }
 
-// A pause.
-#[tactic(auto, unfolding(crate::specs::Reading::pause_at))]
-fn read_pause(reader: &mut Reader<'_>) -> Result<Pause, DecodeFault>
-    ensures { ReturnsRead (λ x. (x, reader.new)) result (pause_at reader.old) }
-{
-    let paused = read_bit(reader)?;
-    let reason = read_reason(paused, reader)?;
-    Ok(Pause::new(paused == 1, reason))
-}
-
-// A label.
-#[tactic(auto, unfolding(crate::specs::Reading::label_at))]
-fn read_label(reader: &mut Reader<'_>) -> Result<Label, DecodeFault>
-    ensures { ReturnsRead (λ x. (x, reader.new)) result (label_at reader.old) }
-{
-    let name = read_text(0, reader)?;
-    let state = read_text(0, reader)?;
-    Ok(Label { name, state })
-}
-
-// The register of a penalty, with one where the flag says so.
+// A field: its stamp and its value where its flag says that it is set.
 #[tactic(auto, unfolding(crate::specs::Reading::field_at, crate::specs::Reading::entry_at))]
-fn read_penalty_field(flag: bool, reader: &mut Reader<'_>) -> Result<Register<Penalty>, DecodeFault>
-    ensures value { ReturnsRead (λ x. (x, reader.new)) result (field_at flag penalty_at reader.old) }
+fn read_field<T: FieldBytes>(
+    flag: bool,
+    reader: &mut Reader<'_>,
+) -> Result<Register<T>, DecodeFault>
+    ensures value { ReturnsRead (λ x. (x, reader.new)) result (field_at flag T.at reader.old) }
     ensures set { IfOk result (λ x. is_some x ≡ flag) }
 {
     if !flag {
         return Ok(Register::none());
     }
     let stamp = read_stamp(reader)?;
-    let penalty = read_penalty(reader)?;
-    Ok(Register::of(stamp, penalty))
-}
-
-// The register of a pause, with one where the flag says so.
-#[tactic(auto, unfolding(crate::specs::Reading::field_at, crate::specs::Reading::entry_at))]
-fn read_pause_field(flag: bool, reader: &mut Reader<'_>) -> Result<Register<Pause>, DecodeFault>
-    ensures value { ReturnsRead (λ x. (x, reader.new)) result (field_at flag pause_at reader.old) }
-    ensures set { IfOk result (λ x. is_some x ≡ flag) }
-{
-    if !flag {
-        return Ok(Register::none());
-    }
-    let stamp = read_stamp(reader)?;
-    let pause = read_pause(reader)?;
-    Ok(Register::of(stamp, pause))
-}
-
-// The register of a label, with one where the flag says so.
-#[tactic(auto, unfolding(crate::specs::Reading::field_at, crate::specs::Reading::entry_at))]
-fn read_label_field(flag: bool, reader: &mut Reader<'_>) -> Result<Register<Label>, DecodeFault>
-    ensures value { ReturnsRead (λ x. (x, reader.new)) result (field_at flag label_at reader.old) }
-    ensures set { IfOk result (λ x. is_some x ≡ flag) }
-{
-    if !flag {
-        return Ok(Register::none());
-    }
-    let stamp = read_stamp(reader)?;
-    let label = read_label(reader)?;
-    Ok(Register::of(stamp, label))
+    let value = T::read(reader)?;
+    Ok(Register::of(stamp, value))
 }
 
 // The fields behind their flags.
@@ -147,15 +102,14 @@ fn read_set_fields(flags: u8, reader: &mut Reader<'_>) -> Result<Fields, DecodeF
     ensures some { IfOk result (λ x. HasField x) }
     ensures value { ReturnsRead (λ x. (x, reader.new)) result (set_fields_at flags reader.old) }
 {
-    let penalty = read_penalty_field(flags % 2 == 1, reader)?;
-    let pause = read_pause_field(flags / 2 % 2 == 1, reader)?;
-    let label = read_label_field(4 <= flags, reader)?;
-    let fields = Fields {
+    let penalty = read_field(flags % 2 == 1, reader)?;
+    let pause = read_field(flags / 2 % 2 == 1, reader)?;
+    let label = read_field(flags / 4 % 2 == 1, reader)?;
+    Ok(Fields {
         penalty,
         pause,
         label,
-    };
-    Ok(fields)
+    })
 }
 
 // The flags, and the fields behind them.

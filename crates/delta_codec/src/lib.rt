@@ -5,6 +5,7 @@ mod decode_fault;
 mod decoding;
 mod elements;
 mod encoding;
+mod field_bytes;
 mod fields;
 pub mod laws;
 mod limits;

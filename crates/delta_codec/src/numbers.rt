@@ -4,11 +4,11 @@ ghost use Rattle.dots.specs.declared.limits.TheConstants.{MOST_CALLS, MOST_COUNT
 ghost use Rattle.dots.specs.Values.{IsCount};
 ghost use Rattle.delta_codec.specs.Faults.{IsFlags};
 ghost use Rattle.delta_codec.specs.Reading.{ReturnsRead, site_at, count_at, last_at, queue_at};
-ghost use Rattle.delta_codec.specs.Reading.{penalty_at, calls_at, bit_at, flags_at, size_at};
+ghost use Rattle.delta_codec.specs.Reading.{calls_at, bit_at, flags_at, size_at};
 
 use crate::DecodeFault;
 use crate::reader::Reader;
-use dots::{MOST_CALLS, MOST_COUNT, Penalty, QUEUES, SiteId};
+use dots::{MOST_CALLS, MOST_COUNT, QUEUES, SiteId};
 
 // A site.
 #[tactic(auto, unfolding(crate::specs::Reading::site_at))]
@@ -59,18 +59,6 @@ pub(crate) fn read_queue(reader: &mut Reader<'_>) -> Result<u16, DecodeFault>
         return Err(DecodeFault::BadRange);
     }
     Ok(number)
-}
-
-// A penalty.
-#[tactic(auto, unfolding(crate::specs::Reading::penalty_at))]
-pub(crate) fn read_penalty(reader: &mut Reader<'_>) -> Result<Penalty, DecodeFault>
-    ensures { ReturnsRead (λ x. (x, reader.new)) result (penalty_at reader.old) }
-{
-    let number = reader.number4()?;
-    match Penalty::new(number) {
-        Some(penalty) => Ok(penalty),
-        None => Err(DecodeFault::BadRange),
-    }
 }
 
 // How many calls a site has counted.

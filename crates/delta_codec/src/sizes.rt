@@ -1,128 +1,54 @@
-//! How many bytes the parts of a frame have. What is measured is seen to be within its limits.
-ghost use Rattle.std.specs.Prelude.{◌≡◌, ◌+◌, ◌*◌, ◌≤◌, length};
-ghost use Rattle.std.specs.List.{All, flat_map};
+//! How many bytes the parts of a frame have.
+ghost use Rattle.std.specs.Prelude.{◌≡◌, ◌*◌, ◌≤◌, length};
+ghost use Rattle.std.specs.List.{flat_map};
 ghost use Rattle.std.specs.FinMap as map;
 ghost use Rattle.dots.specs.declared.limits.TheConstants.{MOST_LIVE, MOST_RUNS};
-ghost use Rattle.dots.specs.Values.{IsName, IsPenalty, IsText};
-ghost use Rattle.dots.specs.WithinLimits.{IsDot, IsLabel, IsPause, IsStamp};
 ghost use Rattle.delta_codec.specs.declared.limits.TheConstants.{MOST_LENGTH, MOST_TOTALS};
 ghost use Rattle.delta_codec.specs.Frames.{Heading, content_bytes, parts_with};
-ghost use Rattle.delta_codec.specs.Measures.{IsMeasured, most_cell};
-ghost use Rattle.delta_codec.specs.Parts.{IsField, cell_bytes, field_bytes, fields_bytes};
-ghost use Rattle.delta_codec.specs.Parts.{label_bytes, pause_bytes, penalty_bytes, stamp_bytes};
-ghost use Rattle.delta_codec.specs.Parts.{text_bytes, total_bytes};
+ghost use Rattle.delta_codec.specs.Measures.{most_cell, most_field, most_fields, most_text};
+ghost use Rattle.delta_codec.specs.Parts.{cell_bytes, field_bytes, fields_bytes, text_bytes};
+ghost use Rattle.delta_codec.specs.Parts.{total_bytes};
 
+use crate::field_bytes::FieldBytes;
 use causal_context::Run;
 use delta::Delta;
-use dots::{Dot, Label, Member, Pause, Penalty, Stamp, Text80};
+use dots::{Dot, Member, Text80};
 use lww_registers::{Fields, Register};
 use member_orset::MemberSet;
 use site_totals::Totals;
 
 // How many bytes a text has.
-fn text_size(text: &Text80) -> usize
+pub(crate) fn text_size(text: &Text80) -> usize
     ensures value { result ≡ length (text_bytes text.now) }
-    ensures limit { result ≤ 81 }
-    ensures within { IsText text.now }
+    ensures limit { result ≤ most_text }
 {
     1 + text.as_bytes().len()
 }
 
-// How many bytes a stamp has.
-fn stamp_size(stamp: Stamp) -> usize
-    ensures value { result ≡ length (stamp_bytes stamp) }
-    ensures limit { result ≤ 9 }
-    ensures within { IsStamp stamp }
+// How many bytes a field has: where it is set its stamp, nine bytes, and its value.
+fn field_size<T: FieldBytes>(field: &Register<T>) -> usize
+    ensures value { result ≡ length (field_bytes T.bytes field.now) }
+    ensures limit { result ≤ most_field T.most }
 {
-    let _ = stamp.time();
-    let _ = stamp.site();
-    9
-}
-
-// How many bytes a penalty has.
-fn penalty_size(penalty: &Penalty) -> usize
-    ensures value { result ≡ length (penalty_bytes penalty.now) }
-    ensures limit { result ≤ 4 }
-    ensures within { IsPenalty penalty.now }
-{
-    let _ = penalty.get();
-    4
-}
-
-// How many bytes a pause has.
-fn pause_size(pause: &Pause) -> usize
-    ensures value { result ≡ length (pause_bytes pause.now) }
-    ensures limit { result ≤ 82 }
-    ensures within { IsPause pause.now }
-{
-    1 + text_size(pause.reason())
-}
-
-// How many bytes a label has.
-fn label_size(label: &Label) -> usize
-    ensures value { result ≡ length (label_bytes label.now) }
-    ensures limit { result ≤ 162 }
-    ensures within { IsLabel label.now }
-{
-    text_size(&label.name) + text_size(&label.state)
-}
-
-// How many bytes the penalty of a register has.
-fn penalty_field_size(field: &Register<Penalty>) -> usize
-    ensures value { result ≡ length (field_bytes penalty_bytes field.now) }
-    ensures limit { result ≤ 13 }
-    ensures within { IsField IsPenalty field.now }
-{
-    match (field.stamp(), field.value()) {
-        (Some(stamp), Some(penalty)) => stamp_size(stamp) + penalty_size(penalty),
-        _ => 0,
-    }
-}
-
-// How many bytes the pause of a register has.
-fn pause_field_size(field: &Register<Pause>) -> usize
-    ensures value { result ≡ length (field_bytes pause_bytes field.now) }
-    ensures limit { result ≤ 91 }
-    ensures within { IsField IsPause field.now }
-{
-    match (field.stamp(), field.value()) {
-        (Some(stamp), Some(pause)) => stamp_size(stamp) + pause_size(pause),
-        _ => 0,
-    }
-}
-
-// How many bytes the label of a register has.
-fn label_field_size(field: &Register<Label>) -> usize
-    ensures value { result ≡ length (field_bytes label_bytes field.now) }
-    ensures limit { result ≤ 171 }
-    ensures within { IsField IsLabel field.now }
-{
-    match (field.stamp(), field.value()) {
-        (Some(stamp), Some(label)) => stamp_size(stamp) + label_size(label),
-        _ => 0,
+    match field.value() {
+        Some(value) => 9 + value.size(),
+        None => 0,
     }
 }
 
 // How many bytes fields have.
 fn fields_size(fields: &Fields) -> usize
     ensures value { result ≡ length (fields_bytes fields.now) }
-    ensures limit { result ≤ 276 }
-    ensures penalty { IsField IsPenalty fields.now.penalty }
-    ensures pause { IsField IsPause fields.now.pause }
-    ensures label { IsField IsLabel fields.now.label }
+    ensures limit { result ≤ most_fields }
 {
-    1 + (penalty_field_size(&fields.penalty)
-        + (pause_field_size(&fields.pause) + label_field_size(&fields.label)))
+    1 + (field_size(&fields.penalty) + (field_size(&fields.pause) + field_size(&fields.label)))
 }
 
 // How many bytes a cell has.
 fn cell_size(dot: Dot, member: &Member, fields: &Fields) -> usize
     ensures value { result ≡ length (cell_bytes (dot, (member.now, fields.now))) }
     ensures limit { result ≤ most_cell }
-    ensures within { IsMeasured (dot, (member.now, fields.now)) }
 {
-    let _ = dot.site();
-    let _ = dot.count();
     11 + (text_size(member.interface.text()) + fields_size(fields))
 }
 
@@ -130,7 +56,6 @@ fn cell_size(dot: Dot, member: &Member, fields: &Fields) -> usize
 fn cells_size(members: &MemberSet) -> usize
     ensures value { result ≡ length (flat_map cell_bytes (map.entries members.now.live)) }
     ensures limit { result ≤ most_cell * MOST_LIVE }
-    ensures within { All IsMeasured (map.entries members.now.live) }
 {
     let _ = members.cells(); // so that it is known how many there are
     let mut size = 0;
@@ -158,7 +83,6 @@ pub(crate) fn content_size(delta: &Delta, runs: &[Run]) -> usize
     ensures value { (heading : Heading)
         → result ≡ length (content_bytes (parts_with heading delta.now runs.now)) }
     ensures limit { result ≤ MOST_LENGTH }
-    ensures within { All IsMeasured (map.entries delta.now.members.live) }
 {
     let cells = cells_size(delta.members());
     let totals = count_of(delta.totals());

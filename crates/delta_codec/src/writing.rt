@@ -1,26 +1,32 @@
-//! The parts of a frame as bytes, each written at the end of what was written before.
+//! The parts of a frame as bytes, each written at the end of what was written before. What is written is seen to be within its limits.
 ghost use Rattle.std.specs.Prelude.{◌≡◌, ◌++◌, ◌≤◌, OnOk, length};
-ghost use Rattle.std.specs.List.{flat_map};
+ghost use Rattle.std.specs.List.{All, flat_map};
 ghost use Rattle.std.specs.FinMap as map;
 ghost use Rattle.std.specs.Int.{w16, w32, w64, to_be_bytes};
 ghost use Rattle.dots.specs.declared.limits.TheConstants.{MOST_RUNS};
+ghost use Rattle.operations.specs.Totals.{IsTotal};
+ghost use Rattle.dots.specs.Values.{IsSite, IsText};
+ghost use Rattle.dots.specs.WithinLimits.{IsDot, IsStamp};
+ghost use Rattle.member_orset.specs.Members.{IsWithinLimits};
 ghost use Rattle.delta_codec.specs.Frames.{opening_bytes};
-ghost use Rattle.delta_codec.specs.Parts.{byte, cell_bytes, dot_bytes, field_bytes, fields_bytes};
-ghost use Rattle.delta_codec.specs.Parts.{flags_of, label_bytes, list_bytes, pause_bytes};
-ghost use Rattle.delta_codec.specs.Parts.{penalty_bytes, run_bytes, stamp_bytes, text_bytes};
-ghost use Rattle.delta_codec.specs.Parts.{total_bytes};
+ghost use Rattle.delta_codec.specs.Parts.{AreInLimits, IsField, byte, cell_bytes, dot_bytes};
+ghost use Rattle.delta_codec.specs.Parts.{field_bytes, fields_bytes, flags_of, list_bytes};
+ghost use Rattle.delta_codec.specs.Parts.{run_bytes, stamp_bytes, text_bytes, total_bytes};
+ghost use Rattle.delta_codec.specs.Written.{IsWritten};
 
+use crate::field_bytes::FieldBytes;
 use crate::sizes::count_of;
 use crate::{Memory, VERSION};
 use causal_context::Run;
-use dots::{CallTotals, Dot, Label, Member, Pause, Penalty, SiteId, Stamp, Text80};
+use dots::{CallTotals, Dot, Member, SiteId, Stamp, Text80};
 use lww_registers::{Fields, Register};
 use member_orset::MemberSet;
 use site_totals::{TotalKey, Totals};
 
 // A site, in one byte.
 fn put_site(out: &mut Vec<u8>, site: SiteId) -> Result<(), Memory>
-    ensures { OnOk result (out.new.items ≡ out.old.items ++ byte site) }
+    ensures written { OnOk result (out.new.items ≡ out.old.items ++ byte site) }
+    ensures within { OnOk result (IsSite site) }
 {
     out.push(site.number() as u8)?;
     Ok(())
@@ -48,8 +54,9 @@ fn put_number2(out: &mut Vec<u8>, number: u16) -> Result<(), Memory>
 }
 
 // A text, behind its length.
-fn put_text(out: &mut Vec<u8>, text: &Text80) -> Result<(), Memory>
-    ensures { OnOk result (out.new.items ≡ out.old.items ++ text_bytes text.now) }
+pub(crate) fn put_text(out: &mut Vec<u8>, text: &Text80) -> Result<(), Memory>
+    ensures written { OnOk result (out.new.items ≡ out.old.items ++ text_bytes text.now) }
+    ensures within { OnOk result (IsText text.now) }
 {
     let bytes = text.as_bytes();
     out.push(bytes.len() as u8)?;
@@ -58,57 +65,22 @@ fn put_text(out: &mut Vec<u8>, text: &Text80) -> Result<(), Memory>
 
 // A stamp.
 fn put_stamp(out: &mut Vec<u8>, stamp: Stamp) -> Result<(), Memory>
-    ensures { OnOk result (out.new.items ≡ out.old.items ++ stamp_bytes stamp) }
+    ensures written { OnOk result (out.new.items ≡ out.old.items ++ stamp_bytes stamp) }
+    ensures within { OnOk result (IsStamp stamp) }
 {
     put_number8(out, stamp.time())?;
     put_site(out, stamp.site())
 }
 
-// A pause.
-fn put_pause(out: &mut Vec<u8>, pause: &Pause) -> Result<(), Memory>
-    ensures { OnOk result (out.new.items ≡ out.old.items ++ pause_bytes pause.now) }
+// A field: its stamp and its value where it is set, and nothing where it isn't.
+fn put_field<T: FieldBytes>(out: &mut Vec<u8>, field: &Register<T>) -> Result<(), Memory>
+    ensures written { OnOk result
+        (out.new.items ≡ out.old.items ++ field_bytes T.bytes field.now) }
+    ensures within { OnOk result (IsField T.is_within field.now) }
 {
-    out.push(u8::from(pause.paused()))?;
-    put_text(out, pause.reason())
-}
-
-// A label.
-fn put_label(out: &mut Vec<u8>, label: &Label) -> Result<(), Memory>
-    ensures { OnOk result (out.new.items ≡ out.old.items ++ label_bytes label.now) }
-{
-    put_text(out, &label.name)?;
-    put_text(out, &label.state)
-}
-
-// The penalty of a register, if it has one.
-fn put_penalty_field(out: &mut Vec<u8>, field: &Register<Penalty>) -> Result<(), Memory>
-    ensures { OnOk result (out.new.items ≡ out.old.items ++ field_bytes penalty_bytes field.now) }
-{
-    if let (Some(stamp), Some(penalty)) = (field.stamp(), field.value()) {
+    if let (Some(stamp), Some(value)) = (field.stamp(), field.value()) {
         put_stamp(out, stamp)?;
-        put_number4(out, penalty.get())?;
-    }
-    Ok(())
-}
-
-// The pause of a register, if it has one.
-fn put_pause_field(out: &mut Vec<u8>, field: &Register<Pause>) -> Result<(), Memory>
-    ensures { OnOk result (out.new.items ≡ out.old.items ++ field_bytes pause_bytes field.now) }
-{
-    if let (Some(stamp), Some(pause)) = (field.stamp(), field.value()) {
-        put_stamp(out, stamp)?;
-        put_pause(out, pause)?;
-    }
-    Ok(())
-}
-
-// The label of a register, if it has one.
-fn put_label_field(out: &mut Vec<u8>, field: &Register<Label>) -> Result<(), Memory>
-    ensures { OnOk result (out.new.items ≡ out.old.items ++ field_bytes label_bytes field.now) }
-{
-    if let (Some(stamp), Some(label)) = (field.stamp(), field.value()) {
-        put_stamp(out, stamp)?;
-        put_label(out, label)?;
+        value.put(out)?;
     }
     Ok(())
 }
@@ -125,17 +97,19 @@ fn flags(fields: &Fields) -> u8
 
 // Fields, behind their flags.
 fn put_fields(out: &mut Vec<u8>, fields: &Fields) -> Result<(), Memory>
-    ensures { OnOk result (out.new.items ≡ out.old.items ++ fields_bytes fields.now) }
+    ensures written { OnOk result (out.new.items ≡ out.old.items ++ fields_bytes fields.now) }
+    ensures within { OnOk result (AreInLimits fields.now) }
 {
     out.push(flags(fields))?;
-    put_penalty_field(out, &fields.penalty)?;
-    put_pause_field(out, &fields.pause)?;
-    put_label_field(out, &fields.label)
+    put_field(out, &fields.penalty)?;
+    put_field(out, &fields.pause)?;
+    put_field(out, &fields.label)
 }
 
 // A dot.
 fn put_dot(out: &mut Vec<u8>, dot: Dot) -> Result<(), Memory>
-    ensures { OnOk result (out.new.items ≡ out.old.items ++ dot_bytes dot) }
+    ensures written { OnOk result (out.new.items ≡ out.old.items ++ dot_bytes dot) }
+    ensures within { OnOk result (IsDot dot) }
 {
     put_site(out, dot.site())?;
     put_number8(out, dot.count())
@@ -143,8 +117,9 @@ fn put_dot(out: &mut Vec<u8>, dot: Dot) -> Result<(), Memory>
 
 // A cell.
 fn put_cell(out: &mut Vec<u8>, dot: Dot, member: &Member, fields: &Fields) -> Result<(), Memory>
-    ensures { OnOk result
+    ensures written { OnOk result
         (out.new.items ≡ out.old.items ++ cell_bytes (dot, (member.now, fields.now))) }
+    ensures within { OnOk result (IsWritten (dot, (member.now, fields.now))) }
 {
     put_dot(out, dot)?;
     put_number2(out, member.queue)?;
@@ -184,8 +159,9 @@ fn put_runs(out: &mut Vec<u8>, runs: &[Run]) -> Result<(), Memory>
 
 // The cells of a set, one after the other.
 fn put_cells(out: &mut Vec<u8>, members: &MemberSet) -> Result<(), Memory>
-    ensures { OnOk result (out.new.items
+    ensures written { OnOk result (out.new.items
         ≡ out.old.items ++ flat_map cell_bytes (map.entries members.now.live)) }
+    ensures within { OnOk result (All IsWritten (map.entries members.now.live)) }
 {
     for (dot, cell) in members.iter() {
         put_cell(out, dot, cell.member, cell.fields)?;
@@ -195,8 +171,10 @@ fn put_cells(out: &mut Vec<u8>, members: &MemberSet) -> Result<(), Memory>
 
 // Totals, one after the other.
 fn put_totals(out: &mut Vec<u8>, totals: &Totals) -> Result<(), Memory>
-    ensures { OnOk result (out.new.items
+    ensures written { OnOk result (out.new.items
         ≡ out.old.items ++ flat_map total_bytes (map.entries totals.now.entries)) }
+    ensures within { OnOk result
+        (All (λ total. IsTotal total.0 total.1) (map.entries totals.now.entries)) }
 {
     for (key, total) in totals.iter() {
         put_total(out, key, total)?;
@@ -216,8 +194,10 @@ pub(crate) fn put_run_list(out: &mut Vec<u8>, runs: &[Run]) -> Result<(), Memory
 
 // The cells of a set, behind their number.
 pub(crate) fn put_cell_list(out: &mut Vec<u8>, members: &MemberSet) -> Result<(), Memory>
-    ensures { OnOk result (out.new.items
+    ensures written { OnOk result (out.new.items
         ≡ out.old.items ++ list_bytes cell_bytes (map.entries members.now.live)) }
+    ensures within { OnOk result (All IsWritten (map.entries members.now.live)) }
+    ensures limits { OnOk result (IsWithinLimits members.now) }
 {
     put_number4(out, members.cells() as u32)?;
     put_cells(out, members)?;
@@ -226,8 +206,10 @@ pub(crate) fn put_cell_list(out: &mut Vec<u8>, members: &MemberSet) -> Result<()
 
 // Totals, behind their number.
 pub(crate) fn put_total_list(out: &mut Vec<u8>, totals: &Totals) -> Result<(), Memory>
-    ensures { OnOk result (out.new.items
+    ensures written { OnOk result (out.new.items
         ≡ out.old.items ++ list_bytes total_bytes (map.entries totals.now.entries)) }
+    ensures within { OnOk result
+        (All (λ total. IsTotal total.0 total.1) (map.entries totals.now.entries)) }
 {
     put_number4(out, count_of(totals) as u32)?;
     put_totals(out, totals)?;
@@ -236,9 +218,10 @@ pub(crate) fn put_total_list(out: &mut Vec<u8>, totals: &Totals) -> Result<(), M
 
 // The letters that begin each frame, the version, who made it, and its number.
 pub(crate) fn put_opening(out: &mut Vec<u8>, maker: SiteId, number: u64) -> Result<(), Memory>
-    ensures { OnOk result
+    ensures written { OnOk result
         (out.new.items
         ≡ out.old.items ++ opening_bytes (record { maker = maker; number = number })) }
+    ensures within { OnOk result (IsSite maker) }
 {
     out.extend_from_slice(&[b'Q', b'D', VERSION])?;
     put_site(out, maker)?;

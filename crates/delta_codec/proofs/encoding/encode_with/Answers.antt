@@ -10,4 +10,4 @@ returns-clause-value c =
     let parts : FrameParts = parts_with heading c.args.delta.now c.args.runs.now in
     let size : c.content_size-size.result ≡ length (content_bytes parts) = c.content_size-size.ensures.value heading in
     let none = c.in_ok-reserve_exact.ensures.items ∙ c.new-out.ensures.items in
-    c.in_ok-put_content.ensures ∙ ap (λ front. front ++ content_bytes parts) (c.in_ok-put_number4.ensures ∙ (λ i. none i ++ to_be_bytes w32 (size i)))
+    c.in_ok-put_content.ensures.written ∙ ap (λ front. front ++ content_bytes parts) (c.in_ok-put_number4.ensures ∙ (λ i. none i ++ to_be_bytes w32 (size i)))

@@ -1,11 +1,10 @@
-use Rattle.std.proofs.Common.{length, arith}
+use Rattle.std.proofs.Common.{◌*◌, length, arith}
 use Rattle.std.specs.FinMap as map
 use Rattle.std.specs.List.{flat_map}
 use Rattle.member_orset.specs.Reads.{cell_read}
 use Rattle.delta_codec.specs.Parts.{CellParts, cell_bytes}
 use Rattle.delta_codec.specs.Measures.{most_cell}
-use Rattle.std.proofs.Common.{◌*◌}
-use Rattle.delta_codec.proofs.Measuring.{limit_more, value_more, within_all, within_more}
+use Rattle.delta_codec.proofs.Measuring.{limit_more, value_more}
 use Rattle.delta_codec.proofs.sizes.cells_size.Goals as goal
 
 pub loop-dot-preserved : goal.loop-dot-preserved
@@ -16,7 +15,6 @@ loop-dot-preserved c =
     record {
       value = value_more x c.loop-dot.dot-iterator c.next.new.self c.loop-dot.size c.cell_size-size.result (length (flat_map cell_bytes all)) step c.cell_size-size.ensures.value c.loop-dot.invariant.value;
       limit = limit_more x c.loop-dot.dot-iterator c.next.new.self c.loop-dot.size c.cell_size-size.result (most_cell * length all) step c.cell_size-size.ensures.limit c.loop-dot.invariant.limit;
-      within = within_more x c.loop-dot.dot-iterator c.next.new.self all step c.cell_size-size.ensures.within c.loop-dot.invariant.within;
     }
 
 pub overflow_add-size : goal.overflow_add-size
@@ -28,6 +26,3 @@ overflow_add-size c =
 
 pub returns-clause-limit : goal.returns-clause-limit
 returns-clause-limit c = omega (arith, c.loop-dot.invariant.limit, map.len-entries c.args.members.now.live, c.cells.ensures.limits.cells)
-
-pub returns-clause-within : goal.returns-clause-within
-returns-clause-within c = within_all c.loop-dot.dot-iterator (map.entries c.args.members.now.live) c.in-None.ensures.steps.0 c.loop-dot.invariant.within
