@@ -7,5 +7,6 @@ pub mod Outcome
 pub mod Parsing
 pub mod Outcomes
 pub mod Scanning
+pub mod SentBytes
 pub mod Taking
 pub mod WholeLines

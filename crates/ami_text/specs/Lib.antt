@@ -3,6 +3,7 @@ pub mod Field
 pub mod MessageFields
 pub mod Found
 pub mod FeedStates
+pub mod FirstMessages
 pub mod LineKind
 pub mod Lines
 pub mod Progress

@@ -1,4 +1,3 @@
 pub mod PlaceLemmas
 pub mod PortRuns
-pub mod SentBytes
 pub mod Sites

@@ -1,4 +1,3 @@
-pub mod FirstMessages
 pub mod Places
 pub mod Workers
 pub mod Promises

@@ -3,8 +3,7 @@ ghost use Rattle.std.specs.Prelude.{◌≡◌, ◌≤◌, IfOk, false, length};
 
 use crate::SessionSettings;
 use crate::deadlines::{shorter, time_left};
-use crate::first_message::FirstMessage;
-use ami_text::{Failed, Source, StdSource};
+use ami_text::{Failed, FirstMessageSoFar, Source, StdSource};
 use std::net::TcpStream;
 use std::time::{Clock, Duration, Instant};
 
@@ -17,7 +16,7 @@ pub(crate) struct ClientSource<'a, R> {
     connected: Instant,
     first_message: Duration,
     idle: Option<Duration>,
-    message: FirstMessage,
+    message: FirstMessageSoFar,
     ended: bool,
     failed: bool,
 }
@@ -53,7 +52,7 @@ impl<'a, R: Clock> ClientSource<'a, R> {
             connected,
             first_message: settings.first_message,
             idle: settings.idle,
-            message: FirstMessage::new(),
+            message: FirstMessageSoFar::new(),
             ended: false,
             failed: false,
         }

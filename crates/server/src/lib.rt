@@ -10,7 +10,6 @@ mod client;
 mod client_source;
 mod counted_port;
 mod deadlines;
-mod first_message;
 mod keeping_bell;
 mod listening;
 mod pumping;

@@ -1,6 +1,6 @@
 use Rattle.std.specs.Prelude.{ℕ, List, ◌++◌, take}
-use Rattle.server.specs.FirstMessages.{HasSent}
-use Rattle.server.proofs.first_message.FirstMessage.after.Given as goal
+use Rattle.ami_text.specs.FirstMessages.{HasSent}
+use Rattle.ami_text.proofs.first_message_so_far.FirstMessageSoFar.after.Given as goal
 
 -- it tells of the bytes so far
 abbrev pub invariant-loop-byte : goal.invariant-loop-byte

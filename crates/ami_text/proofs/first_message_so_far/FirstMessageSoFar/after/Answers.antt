@@ -1,8 +1,8 @@
 use Rattle.std.proofs.Common.{◌≡◌, ◌∙◌, ◌+◌, ◌<◌, ℕ, List, [], ◌∷◌, ◌++◌, append_assoc, ap, arith, length, slice_index_or, subst, sym, take}
 use Rattle.std.proofs.lemmas.List.{take_all, take_more}
-use Rattle.server.specs.FirstMessages.{HasSent, message_after}
-use Rattle.server.proofs.SentBytes.{sent_byte}
-use Rattle.server.proofs.first_message.FirstMessage.after.Goals as goal
+use Rattle.ami_text.specs.FirstMessages.{HasSent, message_after}
+use Rattle.ami_text.proofs.SentBytes.{sent_byte}
+use Rattle.ami_text.proofs.first_message_so_far.FirstMessageSoFar.after.Goals as goal
 
 -- a byte more
 pub loop-byte-preserved : goal.loop-byte-preserved

@@ -1,14 +1,14 @@
--- One byte more of a client's first message.
+-- One byte more of a stream's first message.
 use Rattle.std.proofs.Common.{◌≡◌, ◌≢◌, ◌<◌, ◌≤◌, ◌-◌, ◌==◌, ℕ, Bool, true, false, List, [], ◌∷◌, ◌++◌, length, take, refl, sym, ◌∙◌, ap, subst, arith, append_assoc, length-append, if◌then◌else◌, eqb-true, eq-eqb}
 use Rattle.std.proofs.lemmas.List.{append-nil, length-take-le}
 use Rattle.std.proofs.lemmas.List.Concat.{flat_map-append}
 use Rattle.std.proofs.lemmas.List.Elements.{All-nil, All-push}
 use Rattle.ami_text.specs.Lines.{HasNoLf, content, IsEmptyLine, lines_text}
-use Rattle.server.specs.declared.first_message.FirstMessage.{FirstMessage}
-use Rattle.server.specs.declared.first_message.FirstMessage.TheVariants.{Awaited, Begun, Ended}
-use Rattle.server.specs.declared.first_message.LineSoFar.{LineSoFar}
-use Rattle.server.specs.declared.first_message.LineSoFar.TheVariants.{Empty, Cr, Full}
-use Rattle.server.specs.FirstMessages.{HasContent, HasMessage, HasSent, IsAwaited, IsLineBegun, IsLineSoFar, after_content, after_end, line_after, message_after}
+use Rattle.ami_text.specs.declared.first_message_so_far.FirstMessageSoFar.{FirstMessageSoFar}
+use Rattle.ami_text.specs.declared.first_message_so_far.FirstMessageSoFar.TheVariants.{Awaited, Begun, Ended}
+use Rattle.ami_text.specs.declared.first_message_so_far.LineSoFar.{LineSoFar}
+use Rattle.ami_text.specs.declared.first_message_so_far.LineSoFar.TheVariants.{Empty, Cr, Full}
+use Rattle.ami_text.specs.FirstMessages.{HasContent, HasMessage, HasSent, IsAwaited, IsBegun, IsLineSoFar, after_content, after_end, line_after, message_after}
 
 -- ---- lines
 
@@ -78,7 +78,7 @@ more_stays sent byte h = record {
 }
 
 -- a byte more that isn't LF
-sent_content : (sent : List ℕ) (m : FirstMessage) (byte : ℕ) → byte ≢ 10 → HasSent sent m → HasSent (sent ++ byte ∷ []) (after_content m byte)
+sent_content : (sent : List ℕ) (m : FirstMessageSoFar) (byte : ℕ) → byte ≢ 10 → HasSent sent m → HasSent (sent ++ byte ∷ []) (after_content m byte)
 sent_content sent (Awaited line) byte other h = record {
   empties = h.empties;
   part = h.part ++ byte ∷ [];
@@ -109,7 +109,7 @@ empty_more sent line h is_empty = record {
 }
 
 -- an empty line has ended behind others
-message_ends : (sent : List ℕ) (line : LineSoFar) (h : IsLineBegun sent line) → IsEmptyLine h.part → HasMessage (sent ++ 10 ∷ [])
+message_ends : (sent : List ℕ) (line : LineSoFar) (h : IsBegun sent line) → IsEmptyLine h.part → HasMessage (sent ++ 10 ∷ [])
 message_ends sent line h is_empty = record {
   empties = h.empties;
   lines = h.lines;
@@ -123,7 +123,7 @@ message_ends sent line h is_empty = record {
 }
 
 -- the end of a line more
-sent_end : (sent : List ℕ) (m : FirstMessage) → HasSent sent m → HasSent (sent ++ 10 ∷ []) (after_end m)
+sent_end : (sent : List ℕ) (m : FirstMessageSoFar) → HasSent sent m → HasSent (sent ++ 10 ∷ []) (after_end m)
 sent_end sent (Awaited Empty) h = empty_more sent Empty h (none_is_empty h.part h.so_far)
 sent_end sent (Awaited Cr) h = empty_more sent Cr h (cr_is_empty h.part h.so_far)
 sent_end sent (Awaited Full) h = record {
@@ -152,11 +152,11 @@ sent_end sent (Begun Full) h = record {
 }
 sent_end sent Ended h = more_stays sent 10 h
 
-sent_by : (sent : List ℕ) (m : FirstMessage) (byte : ℕ) (b : Bool) → (byte == 10) ≡ b → HasSent sent m
+sent_by : (sent : List ℕ) (m : FirstMessageSoFar) (byte : ℕ) (b : Bool) → (byte == 10) ≡ b → HasSent sent m
     → HasSent (sent ++ byte ∷ []) (if b then after_end m else after_content m byte)
 sent_by sent m byte true is h = subst (λ (n : ℕ). HasSent (sent ++ n ∷ []) (after_end m)) (sym (eqb-true byte 10 is)) (sent_end sent m h)
 sent_by sent m byte false is h = sent_content sent m byte (λ e. let yes = eq-eqb byte 10 e in cc) h
 
 -- a byte more
-pub sent_byte : (sent : List ℕ) (m : FirstMessage) (byte : ℕ) → HasSent sent m → HasSent (sent ++ byte ∷ []) (message_after m byte)
+pub sent_byte : (sent : List ℕ) (m : FirstMessageSoFar) (byte : ℕ) → HasSent sent m → HasSent (sent ++ byte ∷ []) (message_after m byte)
 sent_byte sent m byte h = sent_by sent m byte (byte == 10) refl h

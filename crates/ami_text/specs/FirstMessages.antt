@@ -1,11 +1,11 @@
--- Whether a client has sent a whole message (this project's own): lines as those of the Manager stream, without its limits.
+-- Whether a stream has had a whole message (this project's own): lines as those of the Manager stream, without its limits.
 use Rattle.std.specs.Prelude.{ℕ, ◌≡◌, ◌<◌, ◌==◌, ⊤, List, [], ◌∷◌, ◌++◌, length, if◌then◌else◌}
 use Rattle.std.specs.List.{All}
 use Rattle.ami_text.specs.Lines.{HasNoLf, content, IsEmptyLine, lines_text}
-use Rattle.server.specs.declared.first_message.FirstMessage.{FirstMessage}
-use Rattle.server.specs.declared.first_message.FirstMessage.TheVariants.{Awaited, Begun, Ended}
-use Rattle.server.specs.declared.first_message.LineSoFar.{LineSoFar}
-use Rattle.server.specs.declared.first_message.LineSoFar.TheVariants.{Empty, Cr, Full}
+use Rattle.ami_text.specs.declared.first_message_so_far.FirstMessageSoFar.{FirstMessageSoFar}
+use Rattle.ami_text.specs.declared.first_message_so_far.FirstMessageSoFar.TheVariants.{Awaited, Begun, Ended}
+use Rattle.ami_text.specs.declared.first_message_so_far.LineSoFar.{LineSoFar}
+use Rattle.ami_text.specs.declared.first_message_so_far.LineSoFar.TheVariants.{Empty, Cr, Full}
 
 -- ---- byte by byte
 
@@ -16,7 +16,7 @@ line_after Cr byte = Full
 line_after Full byte = Full
 
 -- a message with the end of a line more
-abbrev pub after_end : FirstMessage → FirstMessage
+abbrev pub after_end : FirstMessageSoFar → FirstMessageSoFar
 after_end (Awaited Empty) = Awaited Empty
 after_end (Awaited Cr) = Awaited Empty
 after_end (Awaited Full) = Begun Empty
@@ -26,17 +26,17 @@ after_end (Begun Full) = Begun Empty
 after_end Ended = Ended
 
 -- a message with one byte more, which isn't LF
-abbrev pub after_content : FirstMessage → ℕ → FirstMessage
+abbrev pub after_content : FirstMessageSoFar → ℕ → FirstMessageSoFar
 after_content (Awaited line) byte = Awaited (line_after line byte)
 after_content (Begun line) byte = Begun (line_after line byte)
 after_content Ended byte = Ended
 
 -- a message with one byte more
-abbrev pub message_after : FirstMessage → ℕ → FirstMessage
+abbrev pub message_after : FirstMessageSoFar → ℕ → FirstMessageSoFar
 message_after message byte = if byte == 10 then after_end message else after_content message byte
 
 -- the message has ended
-abbrev pub IsEnded : FirstMessage → Type 0
+abbrev pub IsEnded : FirstMessageSoFar → Type 0
 IsEnded Ended = ⊤
 IsEnded (Awaited line) = ⊥
 IsEnded (Begun line) = ⊥
@@ -54,7 +54,7 @@ IsLineSoFar part Empty = part ≡ []
 IsLineSoFar part Cr = part ≡ 13 ∷ []
 IsLineSoFar part Full = HasContent part
 
--- only empty lines were sent, and then this of a line
+-- only empty lines have come, and then this of a line
 pub record IsAwaited (sent : List ℕ) (line : LineSoFar) : Type 0 where
   pub empties : List (List ℕ)
   pub part : List ℕ
@@ -62,8 +62,8 @@ pub record IsAwaited (sent : List ℕ) (line : LineSoFar) : Type 0 where
   pub so_far : IsLineSoFar part line
   pub whole : sent ≡ lines_text empties ++ part
 
--- empty lines were sent, then some with content, and then this of a line
-pub record IsLineBegun (sent : List ℕ) (line : LineSoFar) : Type 0 where
+-- empty lines have come, then some with content, and then this of a line
+pub record IsBegun (sent : List ℕ) (line : LineSoFar) : Type 0 where
   pub empties : List (List ℕ)
   pub lines : List (List ℕ)
   pub part : List ℕ
@@ -73,7 +73,7 @@ pub record IsLineBegun (sent : List ℕ) (line : LineSoFar) : Type 0 where
   pub so_far : IsLineSoFar part line
   pub whole : sent ≡ lines_text empties ++ (lines_text lines ++ part)
 
--- empty lines were sent, then some with content, then an empty one, and then more
+-- empty lines have come, then some with content, then an empty one, and then more
 pub record HasMessage (sent : List ℕ) : Type 0 where
   pub empties : List (List ℕ)
   pub lines : List (List ℕ)
@@ -85,8 +85,8 @@ pub record HasMessage (sent : List ℕ) : Type 0 where
   pub is_empty : IsEmptyLine last
   pub whole : sent ≡ lines_text empties ++ (lines_text lines ++ (last ++ 10 ∷ more))
 
--- so far has come who has sent these bytes
-abbrev pub HasSent : List ℕ → FirstMessage → Type 0
+-- so far has the stream come that has had these bytes
+abbrev pub HasSent : List ℕ → FirstMessageSoFar → Type 0
 HasSent sent (Awaited line) = IsAwaited sent line
-HasSent sent (Begun line) = IsLineBegun sent line
+HasSent sent (Begun line) = IsBegun sent line
 HasSent sent Ended = HasMessage sent

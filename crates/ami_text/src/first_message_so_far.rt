@@ -1,0 +1,107 @@
+//! Whether a stream has had a whole message, told by its bytes as they come.
+ghost use Rattle.std.specs.Prelude.{◌≡◌, ◌++◌, [], List, ℕ, ◌↔◌, IsTrue};
+ghost use Rattle.ami_text.specs.FirstMessages.{HasSent, IsEnded, after_content, after_end};
+ghost use Rattle.ami_text.specs.FirstMessages.{line_after, message_after};
+
+/// What has come of a line whose LF hasn't.
+#[derive(Clone, Copy)]
+pub enum LineSoFar {
+    /// Nothing.
+    Empty,
+    /// One CR, which belongs to the line's end where that comes next.
+    Cr,
+    /// Some content.
+    Full,
+}
+
+impl LineSoFar {
+    // With one byte more, which isn't LF.
+    fn after(self, byte: u8) -> LineSoFar
+        ensures { result ≡ line_after self byte }
+    {
+        match self {
+            LineSoFar::Empty if byte == b'\r' => LineSoFar::Cr,
+            _ => LineSoFar::Full,
+        }
+    }
+}
+
+/// How far a stream has come with its first message (this project's own). An empty line behind one
+/// with content ends the message, be it of lines that are ignored; lines and messages that are too
+/// long are as others. It keeps none of the bytes.
+#[derive(Clone, Copy)]
+pub enum FirstMessageSoFar {
+    /// No line with content has ended, and this has come of the next line.
+    Awaited(LineSoFar),
+    /// One has, no empty line has ended behind it, and this has come of the next line.
+    Begun(LineSoFar),
+    /// The message has ended.
+    Ended,
+}
+
+impl FirstMessageSoFar {
+    /// That of a stream of which nothing has come.
+    pub fn new() -> FirstMessageSoFar
+        ensures { HasSent [] result }
+    {
+        FirstMessageSoFar::Awaited(LineSoFar::Empty)
+    }
+
+    /// Whether the message has ended.
+    pub fn has_ended(self) -> bool
+        ensures { IsTrue result ↔ IsEnded self }
+    {
+        match self {
+            FirstMessageSoFar::Ended => true,
+            FirstMessageSoFar::Awaited(_) | FirstMessageSoFar::Begun(_) => false,
+        }
+    }
+
+    // With the end of a line more.
+    fn after_end(self) -> FirstMessageSoFar
+        ensures { result ≡ after_end self }
+    {
+        match self {
+            FirstMessageSoFar::Awaited(LineSoFar::Full) => FirstMessageSoFar::Begun(
+                LineSoFar::Empty,
+            ),
+            FirstMessageSoFar::Awaited(_) => FirstMessageSoFar::Awaited(LineSoFar::Empty),
+            FirstMessageSoFar::Begun(LineSoFar::Full) => FirstMessageSoFar::Begun(LineSoFar::Empty),
+            FirstMessageSoFar::Begun(_) => FirstMessageSoFar::Ended,
+            FirstMessageSoFar::Ended => FirstMessageSoFar::Ended,
+        }
+    }
+
+    // With one byte more, which isn't LF.
+    fn after_content(self, byte: u8) -> FirstMessageSoFar
+        ensures { result ≡ after_content self byte }
+    {
+        match self {
+            FirstMessageSoFar::Awaited(line) => FirstMessageSoFar::Awaited(line.after(byte)),
+            FirstMessageSoFar::Begun(line) => FirstMessageSoFar::Begun(line.after(byte)),
+            FirstMessageSoFar::Ended => FirstMessageSoFar::Ended,
+        }
+    }
+
+    // With one byte more.
+    fn after_byte(self, byte: u8) -> FirstMessageSoFar
+        ensures { result ≡ message_after self byte }
+    {
+        if byte == b'\n' {
+            self.after_end()
+        } else {
+            self.after_content(byte)
+        }
+    }
+
+    /// That of the stream with these bytes more, whatever came before them.
+    pub fn after(self, bytes: &[u8]) -> FirstMessageSoFar
+        ensures { (sent : List ℕ) → HasSent sent self → HasSent (sent ++ bytes.now) result }
+    {
+        let mut message = self;
+        for byte in bytes {
+            message = message.after_byte(*byte);
+        }
+        message
+    }
+}
