@@ -16,6 +16,7 @@ from crates import TOP, all_crates, below, folder, stored_words
 MEMORY_OF_A_JOB = 3_000_000_000
 NICENESS = 6  # for each run that goes before
 MOST_NICENESS = 19
+CODE_OF_A_JOB = 1_000  # bytes for each crate below
 LOG = f"{TOP}/out/build.log"
 
 
@@ -30,6 +31,11 @@ def at_once():
 def size(crate):
     """How many bytes of code a crate has: its proof takes the longer, the more there are. What proofs by hand take is little beside it."""
     return sum(os.path.getsize(f"{at}/{file}") for at, _, files in os.walk(f"{folder(crate)}/src") for file in files)
+
+
+def most_jobs(crates, crate):
+    """How many jobs a crate's proof may use well: each of them reads all libraries anew, so that it wants enough code to be worth that."""
+    return max(size(crate) // (CODE_OF_A_JOB * max(len(below(crates, crate)), 1)), 1)
 
 
 def ways(crates, names):
@@ -108,17 +114,18 @@ class Build:
         crates = all_crates()
         names = [it for it in crates if it in wanted or any(it in below(crates, other) for other in wanted)]
         self.log, self.progress, self.below = log, progress, {it: below(crates, it) for it in names}
-        self.longest, self.jobs, self.proved, self.running = ways(crates, names), at_once(), set(), []
+        self.longest, self.most_jobs = ways(crates, names), {it: most_jobs(crates, it) for it in names}
+        self.jobs, self.proved, self.running = at_once(), set(), []
         self.left = sorted(names, key=lambda it: -self.longest[it])
         progress.count += len(names)
 
     def start(self):
-        """Starts crates of which all below are proved. That with the longest way to the top of all that are left has a job for each
-        processor, unless another has that already; the others have half as many. Each goes behind those with longer ways."""
+        """Starts crates of which all below are proved. That with the longest way to the top of all that are left may have a job for each
+        processor, unless another may already; the others half as many. Each goes behind those with longer ways."""
         ready = [it for it in self.left if self.below[it] <= self.proved]
         for crate in ready[:self.jobs - len(self.running)]:
             is_first = crate == self.left[0] and all(it.behind for it in self.running)
-            jobs = self.jobs if is_first else max(self.jobs // 2, 1)
+            jobs = min(self.jobs if is_first else max(self.jobs // 2, 1), self.most_jobs[crate])
             behind = 0 if is_first else max(sum(self.longest[it.crate] > self.longest[crate] for it in self.running), 1)
             self.begin(Run(crate, jobs, [sys.executable, "-B", f"{TOP}/tools/prove.py", crate, str(jobs)], behind))
             self.left.remove(crate)
