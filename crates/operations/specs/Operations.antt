@@ -24,62 +24,65 @@ pub data Operation : Type 0 where
   Remove : (dots : set.FinSet dot_cmp) → Operation
   Count : (site queue : ℕ) (calls : Calls) (total : ℕ) → Operation
 
--- the dots that an operation asserts, each with its member
+-- the dots that an operation asserts, each with its member: the one that an add makes, or those
+-- that a write sets a field of
 abbrev pub asserted_by : Operation → List (Dot × Member)
 asserted_by (Add dot member stamp penalty pause label older) = (dot, member) ∷ []
 asserted_by (Write dots setting stamp older) = dots
 asserted_by (Remove dots) = []
 asserted_by (Count site queue calls total) = []
 
--- the dots that it names: they are dead from then on
+-- the dots that an operation names, so that they are dead from then on: those that a remove
+-- removes, and the older dots of an add or a write
 abbrev pub named_by : Operation → set.FinSet dot_cmp
 named_by (Add dot member stamp penalty pause label older) = older
 named_by (Write dots setting stamp older) = older
 named_by (Remove dots) = dots
 named_by (Count site queue calls total) = set.empty
 
--- A field, by what an operation sets of it on the dots that it asserts: a value and its stamp, or nothing.
+-- a field, as what an operation sets of it on the dots that it asserts: a value with its stamp, or
+-- nothing
 abbrev pub Field : Type 0 → Type 0
 Field T = Operation → Option (Entry T)
 
--- the penalty that is set, if it is one
+-- the penalty that a setting sets; `None` where it sets another field
 abbrev pub set_penalty : Setting → Option ℕ
 set_penalty (SetPenalty n) = Some n
 set_penalty (SetPause p) = None
 set_penalty (SetLabel l) = None
 
--- the pause that is set, if it is one
+-- the pause that a setting sets; `None` where it sets another field
 abbrev pub set_pause : Setting → Option PauseState
 set_pause (SetPenalty n) = None
 set_pause (SetPause p) = Some p
 set_pause (SetLabel l) = None
 
--- the label that is set, if it is one
+-- the label that a setting sets; `None` where it sets another field
 abbrev pub set_label : Setting → Option Label
 set_label (SetPenalty n) = None
 set_label (SetPause p) = None
 set_label (SetLabel l) = Some l
 
--- a value under a stamp, where there is a value
+-- a value, where there is one, as the entry of a register under `stamp`
 abbrev pub entry_under : {T : Type 0} → Stamp → Option T → Option (Entry T)
 entry_under stamp None = None
 entry_under stamp (Some value) = Some (record { stamp = stamp; value = value })
 
--- the penalty that an operation sets
+-- the field penalty: the one that an operation sets, under its stamp; `None` where it sets no penalty
 abbrev pub penalty_field : Field ℕ
 penalty_field (Add dot member stamp penalty pause label older) = entry_under stamp (Some penalty)
 penalty_field (Write dots setting stamp older) = entry_under stamp (set_penalty setting)
 penalty_field (Remove dots) = None
 penalty_field (Count site queue calls total) = None
 
--- the pause that it sets
+-- the field pause: the one that an operation sets, under its stamp; `None` where it sets no pause
 abbrev pub pause_field : Field PauseState
 pause_field (Add dot member stamp penalty pause label older) = entry_under stamp (Some pause)
 pause_field (Write dots setting stamp older) = entry_under stamp (set_pause setting)
 pause_field (Remove dots) = None
 pause_field (Count site queue calls total) = None
 
--- the label that it sets
+-- the field label: the one that an operation sets, under its stamp; `None` where it sets no label
 abbrev pub label_field : Field Label
 label_field (Add dot member stamp penalty pause label older) = entry_under stamp (Some label)
 label_field (Write dots setting stamp older) = entry_under stamp (set_label setting)

@@ -13,7 +13,8 @@ use Rattle.operations.specs.Operations.{penalty_field, pause_field, label_field}
 use Rattle.operations.specs.Knowledge.{Knowledge, visible_dots, member_of, field_of, latest_of}
 use Rattle.general_lemmas.specs.SetItems.{in_order}
 
--- the row of a member: for each field the value that was set last
+-- what a queue shows of a member: penalty, whether it is paused and why, member name and state
+-- interface, each as it was set last
 pub record MemberRow : Type 0 where
   pub penalty : ℕ
   pub paused : Bool
@@ -21,7 +22,8 @@ pub record MemberRow : Type 0 where
   pub name : List ℕ
   pub state : List ℕ
 
--- What is seen of dots, be it of a knowledge or of what stands for one: the visible dots, and of each its member and fields.
+-- what is seen of dots, be it of a knowledge or of what stands for one: the visible dots, and of
+-- each its member and fields
 pub record DotView : Type 0 where
   pub visible : set.FinSet dot_cmp
   pub member : Dot → Option Member
@@ -29,7 +31,8 @@ pub record DotView : Type 0 where
   pub pause : Dot → Option (Entry PauseState)
   pub label : Dot → Option (Entry Label)
 
--- the dot view of a knowledge
+-- the dot view of knowledge `k`: its visible dots, and what its operations give of a dot as its
+-- member and fields
 abbrev pub dot_view : Knowledge → DotView
 dot_view k = record {
   visible = visible_dots k;
@@ -39,8 +42,8 @@ dot_view k = record {
   label = field_of label_field k;
 }
 
--- Two views show alike: they have the same visible dots, and of each of these the same member and fields. Of other dots a view says
--- nothing that counts.
+-- views `r` and `s` show alike: they have the same visible dots, and of each of these the same member and fields;
+-- what they give of other dots doesn't count
 pub record ShowAlike (r s : DotView) : Type 0 where
   pub visible : r.visible ≡ s.visible
   pub member : (dot : Dot) → set.contains r.visible dot ≡ true → r.member dot ≡ s.member dot
@@ -48,28 +51,29 @@ pub record ShowAlike (r s : DotView) : Type 0 where
   pub pause : (dot : Dot) → set.contains r.visible dot ≡ true → r.pause dot ≡ s.pause dot
   pub label : (dot : Dot) → set.contains r.visible dot ≡ true → r.label dot ≡ s.label dot
 
--- whether a dot is one of the member's
+-- whether view `r` gives `dot` the member `member`
 abbrev pub is_of : DotView → Member → Dot → Bool
 is_of r member dot = option_map_or (eq_by_cmp member_cmp member) (r.member dot) false
 
--- the dots of a member that are visible, in their order
+-- the visible dots of `member` in view `r`, in the order of dots: by site, then by count
 abbrev pub dots_of : DotView → Member → List Dot
 dots_of r member = filter (is_of r member) (in_order r.visible)
 
--- a field of a member: the entry of the greatest stamp over its visible dots, of equal stamps that of the least dot
+-- a field of `member` in view `r`: the entry of the greatest stamp over its visible dots, of equal
+-- stamps that of the least dot
 abbrev pub member_field : {T : Type 0} → (Dot → Option (Entry T)) → DotView → Member → Option (Entry T)
 member_field field r member = latest_of (filter_map field (dots_of r member))
 
--- the value of an entry, or a default where there is none
+-- the value of a register's entry, or `default` where the register is empty
 abbrev pub value_or : {T : Type 0} → T → Option (Entry T) → T
 value_or default None = default
 value_or default (Some entry) = entry.value
 
--- the pause of a member of which none is set
+-- the pause of a member of which none was set: it isn't paused, and has no reason
 abbrev pub not_paused : PauseState
 not_paused = record { paused = false; reason = [] }
 
--- the label of a member of which none is set
+-- the label of a member of which none was set: no member name, no state interface
 abbrev pub no_label : Label
 no_label = record { name = []; state = [] }
 
@@ -79,23 +83,24 @@ row_of_fields penalty pause label =
     let p = value_or not_paused pause in let l = value_or no_label label in
     record { penalty = value_or 0 penalty; paused = p.paused; reason = p.reason; name = l.name; state = l.state }
 
--- a row, where there is a dot
+-- `row` as the row of a member that has dots; `None` where the list of its dots is empty
 abbrev pub row_if : List Dot → MemberRow → Option MemberRow
 row_if [] row = None
 row_if (dot ∷ dots) row = Some row
 
--- the row of a member; none where it isn't there, so has no visible dot
+-- the row of `member` in view `r`, from the latest of each field; `None` where no dot of the member
+-- is visible
 abbrev pub row_of : DotView → Member → Option MemberRow
 row_of r member = row_if (dots_of r member) (row_of_fields (member_field r.penalty r member) (member_field r.pause r member) (member_field r.label r member))
 
--- the interface of a member, where it is in the queue
+-- the interface of `member`, where that is a member of `queue`
 abbrev pub interface_in : ℕ → Member → Option (List ℕ)
 interface_in queue member = if nat_eq queue member.queue then Some member.interface else None
 
--- the interfaces in a queue
+-- the interfaces that are members of `queue` in view `r`: those that a visible dot has
 unfoldable pub interfaces_of : DotView → ℕ → set.FinSet text_cmp
 interfaces_of r queue = set.from_list (filter_map (λ dot. option_and_then (interface_in queue) (r.member dot)) (in_order r.visible))
 
--- the rows of a queue, in the order of the interfaces' bytes
+-- the rows of `queue` in view `r`, each with its interface, in the order of the interfaces' bytes
 abbrev pub rows_of : DotView → ℕ → List (List ℕ × MemberRow)
 rows_of r queue = filter_map (λ interface. option_map (λ row. (interface, row)) (row_of r (record { queue = queue; interface = interface }))) (in_order (interfaces_of r queue))

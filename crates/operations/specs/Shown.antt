@@ -12,24 +12,25 @@ use Rattle.operations.specs.Knowledge.{Knowledge, IsFieldOf, asserts, names, set
 use Rattle.operations.specs.Rows.{MemberRow, dot_view, dots_of, member_field, rows_of, value_or, not_paused, no_label}
 use Rattle.operations.specs.Counts.{count_in, site_total, queue_total}
 
--- some operation asserts the dot, and none names it (RR-8083)
+-- some operation of knowledge `k` asserts `dot`, and none names it (RR-8083)
 pub record IsVisible (k : Knowledge) (dot : Dot) : Type 0 where
   pub asserted : (o : Operation) × Contains k o × (asserts dot o ≡ true)
   pub unnamed : (o : Operation) → Contains k o → names dot o ≡ false
 
--- The field of a dot that is computed is the latest setting, and is there exactly where some operation that asserts the dot sets it.
+-- the field of `dot` that is computed from knowledge `k` is the latest setting, and there is one
+-- exactly where some operation that asserts the dot sets the field
 pub record IsComputed {T : Type 0} (field : Field T) (k : Knowledge) (dot : Dot) : Type 0 where
   pub latest : (entry : Entry T) → field_of field k dot ≡ Some entry → IsFieldOf field k dot entry
   pub there : IsSome (field_of field k dot) ↔ ((entry : Entry T) × Contains (settings_of field k dot) entry)
 
--- a dot of the member is visible
+-- a dot of `member` is visible in knowledge `k`
 pub record HasVisibleDot (k : Knowledge) (member : Member) : Type 0 where
   pub dot : Dot
   pub visible : set.contains (visible_dots k) dot ≡ true
   pub of_member : member_of k dot ≡ Some member
 
--- An entry is shown of a member: it is the field of one of its visible dots, none of these has one under a greater stamp, and none of
--- the lesser dots has one under the same.
+-- knowledge `k` shows `entry` as a field of `member`: one of its visible dots has it, none of these has one under a greater stamp,
+-- and none that is a lesser dot has one under the same stamp
 pub record IsShown {T : Type 0} (field : Field T) (k : Knowledge) (member : Member) (entry : Entry T) : Type 0 where
   pub dot : Dot
   pub is_own : Contains (dots_of (dot_view k) member) dot
@@ -37,12 +38,14 @@ pub record IsShown {T : Type 0} (field : Field T) (k : Knowledge) (member : Memb
   pub none_later : (d : Dot) (e : Entry T) → Contains (dots_of (dot_view k) member) d → field_of field k d ≡ Some e → stamp_cmp entry.stamp e.stamp ≢ Less
   pub none_lesser : (d : Dot) (e : Entry T) → Contains (dots_of (dot_view k) member) d → field_of field k d ≡ Some e → e.stamp ≡ entry.stamp → dot_cmp d dot ≢ Less
 
--- What is shown of a field of a member, and that nothing is exactly where none of its visible dots has the field.
+-- a field of `member` that is computed from knowledge `k` is what `k` shows of it, and is `None`
+-- exactly where no visible dot of the member has the field
 pub record ShowsField {T : Type 0} (field : Field T) (k : Knowledge) (member : Member) : Type 0 where
   pub shown : (entry : Entry T) → member_field (field_of field k) (dot_view k) member ≡ Some entry → IsShown field k member entry
   pub unset : (member_field (field_of field k) (dot_view k) member ≡ None) ↔ ((d : Dot) → Contains (dots_of (dot_view k) member) d → field_of field k d ≡ None)
 
--- The row of a member has what is shown of each of its fields, and the default where nothing is.
+-- each value of `row` is what is computed of that field of `member` from knowledge `k`, or the
+-- field's default where none of the member's visible dots has it
 pub record HasValues (k : Knowledge) (member : Member) (row : MemberRow) : Type 0 where
   pub penalty : row.penalty ≡ value_or 0 (member_field (field_of penalty_field k) (dot_view k) member)
   pub paused : row.paused ≡ (value_or not_paused (member_field (field_of pause_field k) (dot_view k) member)).paused
@@ -50,18 +53,21 @@ pub record HasValues (k : Knowledge) (member : Member) (row : MemberRow) : Type 
   pub name : row.name ≡ (value_or no_label (member_field (field_of label_field k) (dot_view k) member)).name
   pub state : row.state ≡ (value_or no_label (member_field (field_of label_field k) (dot_view k) member)).state
 
--- a site's total is one of its counts, or 0, and each of these is at most that
+-- `total` is the greatest number of `calls` that an operation of knowledge `k` says that `site` has
+-- counted in `queue`, or 0
 pub record IsGreatestCount (k : Knowledge) (site queue : ℕ) (calls : Calls) (total : ℕ) : Type 0 where
   pub is_one : (total ≡ 0) ⊎ ((o : Operation) × Contains k o × (count_in site queue calls o ≡ total))
   pub at_least : (o : Operation) → Contains k o → count_in site queue calls o ≤ total
 
--- The field of a member that is shown is that of one of its visible dots, and none of them has one under a greater stamp.
+-- the field of `member` that knowledge `k` shows, if any, is that of one of its visible dots, and
+-- none of these has one under a greater stamp
 abbrev pub ShowsLatest : {T : Type 0} → Field T → Knowledge → Member → Type 0
 ShowsLatest {T} field k member = (entry : Entry T) → member_field (field_of field k) (dot_view k) member ≡ Some entry
     → ((dot : Dot) × Contains (dots_of (dot_view k) member) dot × IsFieldOf field k dot entry)
     × ((dot : Dot) (e : Entry T) → Contains (dots_of (dot_view k) member) dot → IsFieldOf field k dot e → stamp_cmp entry.stamp e.stamp ≢ Less)
 
--- two knowledges show the same rows and totals
+-- knowledges `k` and `l` show the same rows of each queue, and the same totals of each site and of
+-- each queue
 pub record ShowTheSame (k l : Knowledge) : Type 0 where
   pub rows : (queue : ℕ) → rows_of (dot_view k) queue ≡ rows_of (dot_view l) queue
   pub site_totals : (site queue : ℕ) (calls : Calls) → site_total k site queue calls ≡ site_total l site queue calls

@@ -12,62 +12,64 @@ use Rattle.dots.specs.declared.limits.TheConstants.{MOST_CALLS, QUEUES, SITES}
 use Rattle.dots.specs.Values.{IsSite}
 use Rattle.dots.specs.CountedCalls.{no_calls, is_zero}
 
--- whose total it is: a site, and a queue
+-- whose totals an entry has: those of a site in a queue
 pub record Key : Type 0 where
   pub site : ℕ
   pub queue : ℕ
 
--- by site, then by queue
+-- the order of keys: by site, then by queue
 abbrev pub key_cmp : Key → Key → Ordering
 key_cmp = then_cmp (on (λ k. k.site) nat_cmp) (on (λ k. k.queue) nat_cmp)
 
--- a key is stored as the pair of its numbers
+-- a key is stored as the pair of its site and its queue
 abbrev pub key_code : Coded Key
 key_code = code_by (ℕ × ℕ) (coded× coded_ℕ coded_ℕ) (λ k. (k.site, k.queue)) (λ p. record { site = p.0; queue = p.1 }) (λ _. refl)
 
--- totals of calls are stored as the pair of their numbers
+-- totals of calls are stored as the pair of their numbers, completed and abandoned
 abbrev pub call_totals_code : Coded CallTotals
 call_totals_code =
     code_by (ℕ × ℕ) (coded× coded_ℕ coded_ℕ) (λ t. (t.completed, t.abandoned)) (λ p. record { completed = p.0; abandoned = p.1 }) (λ _. refl)
 
--- the totals of all sites, by their keys
+-- the totals of calls of all sites in all queues, by their keys
 abbrev pub Entries : Type 0
 Entries = map.FinMap key_cmp CallTotals
 
--- they are stored as their entries
+-- the totals of all sites are stored as the entries of their map, each a key with its totals
 abbrev pub entries_code : Coded Entries
 entries_code = map.code key_code call_totals_code
 
--- the greater of both, number by number
+-- the greater of `p` and `q`, kind by kind of calls
 abbrev pub greater : CallTotals → CallTotals → CallTotals
 greater p q = record { completed = max p.completed q.completed; abandoned = max p.abandoned q.abandoned }
 
--- a key's totals, no calls where it has none
+-- the totals of `key` in `entries`; no calls where it has no entry
 abbrev pub totals_at : Entries → Key → CallTotals
 totals_at entries key = unwrap_or (map.get entries key) no_calls
 
--- a site's totals in a queue
+-- how many calls of each kind `site` has counted in `queue` by `entries`; no calls where these have
+-- no entry of them
 abbrev pub totals_of : Entries → ℕ → ℕ → CallTotals
 totals_of entries site queue = totals_at entries (record { site = site; queue = queue })
 
--- the join of two: each key of either, with the greater of its totals in both
+-- the join of `x` and `y` (RR-7506): each key of either, with the greater of its totals in both,
+-- kind by kind of calls
 abbrev pub join_of : Entries → Entries → Entries
 join_of x y = map.from_entries (each (λ key. (key, greater (totals_at x key) (totals_at y key))) (map.keys x ++ map.keys y))
 
--- one entry alone; nothing where both numbers are zero
+-- the entry of `key` alone; no entry where both numbers of `totals` are zero
 abbrev pub single : Key → CallTotals → Entries
 single key totals = if is_zero totals then map.empty else map.insert map.empty key totals
 
--- how many keys of the second the first lacks
+-- how many keys that have an entry in `y` have none in `x`
 abbrev pub count_missing : Entries → Entries → ℕ
 count_missing x y = count_by (λ key. is_none (map.get x key)) (map.keys y)
 
--- the sum of f over the sites below a number
+-- the sum of `f` over the numbers below a number, such as all sites
 unfoldable pub sum_below : ℕ → (ℕ → ℕ) → ℕ
 sum_below zero f = 0
 sum_below (suc n) f = sum_below n f + f n
 
--- a queue's totals: the sums over all sites
+-- the totals of `queue`, kind by kind of calls: the sums over all 64 sites
 abbrev pub sum_of : Entries → ℕ → CallTotals
 sum_of entries queue = record {
   completed = sum_below SITES (λ site. (totals_of entries site queue).completed);
@@ -82,6 +84,7 @@ pub record IsTotal (key : Key) (totals : CallTotals) : Type 0 where
   pub abandoned : totals.abandoned ≤ MOST_CALLS
   pub counted : 0 < totals.completed + totals.abandoned
 
--- every entry may be kept
+-- every entry may be kept: it is of a site and a queue, and its numbers are within their limit and
+-- not both zero
 abbrev pub InLimits : Entries → Type 0
 InLimits entries = (key : Key) (totals : CallTotals) → map.get entries key ≡ Some totals → IsTotal key totals

@@ -99,7 +99,7 @@ pub fn conditions_are_joined()
         → (condition_joined None x ≡ x) × (condition_joined x None ≡ x) }
 {}
 
-/// What stands for one knowledge is one: the same conditions, known dots and totals.
+/// All that represents one knowledge is one: the same condition of each dot, the same known dots and the same totals.
 pub fn what_stands_for_a_knowledge_is_one()
     ensures { (c d : Dot → Option Condition) (known heard : set.FinSet dot_cmp)
         (counts totals : Entries) (k : Knowledge)
