@@ -18,28 +18,28 @@ pub record PauseState : Type 0 where
   pub paused : Bool
   pub reason : List ℕ
 
--- a site has a number below 64
+-- `number` is that of a site: it is below 64
 abbrev pub IsSite : ℕ → Type 0
 IsSite number = number < SITES
 
--- a count of adds, and a time of writes, goes from 1 to 2 ^ 40
+-- `n` may be the count of a dot, the time of a stamp or the number of a frame: it is from 1 to 2^40
 abbrev pub IsCount : ℕ → Type 0
 IsCount n = (1 ≤ n) × (n ≤ MOST_COUNT)
 
--- the greatest penalty
+-- `n` may be a penalty: it is at most 2,147,483,647
 abbrev pub IsPenalty : ℕ → Type 0
 IsPenalty n = n ≤ MOST_PENALTY
 
--- NUL, LF and CR, which would end or break a line of the Manager's protocol
+-- whether byte `b` is NUL, LF or CR, which would end or break a line of the Manager's protocol
 abbrev pub is_bad_byte : ℕ → Bool
 is_bad_byte b = b == 0 || (b == 10 || b == 13)
 
--- a text has at most 80 bytes, and none of the bad ones
+-- `bytes` may be a text: there are at most 80, and none is NUL, LF or CR
 pub record IsText (bytes : List ℕ) : Type 0 where
   pub short : length bytes ≤ TEXT_BYTES
   pub clean : list_any is_bad_byte bytes ≡ false
 
--- an interface, and the name of a queue, is a text of at least one byte
+-- `bytes` may be an interface or the name of a queue: a text of at least one byte
 pub record IsName (bytes : List ℕ) : Type 0 where
   pub text : IsText bytes
   pub present : 0 < length bytes

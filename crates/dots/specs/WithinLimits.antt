@@ -7,31 +7,31 @@ use Rattle.dots.specs.declared.member.Member.{Member}
 use Rattle.dots.specs.Values.{Dot, Stamp, PauseState, IsSite, IsCount, IsText, IsName}
 use Rattle.dots.specs.Orders.{dot_cmp}
 
--- a dot of a site, with a count
+-- `dot` is within the limits: it is of a site, and its count is from 1 to 2^40
 pub record IsDot (dot : Dot) : Type 0 where
   pub site : IsSite dot.site
   pub count : IsCount dot.count
 
--- a stamp of a site, with a time
+-- `stamp` is within the limits: it is of a site, and its time is from 1 to 2^40
 pub record IsStamp (stamp : Stamp) : Type 0 where
   pub site : IsSite stamp.site
   pub time : IsCount stamp.time
 
--- a member of one of the queues
+-- `member` is within the limits: its queue has a number below 256, and its interface is a name
 pub record IsMember (member : Member) : Type 0 where
   pub queue : member.queue < QUEUES
   pub interface : IsName member.interface
 
--- a pause, with a reason only where it is one
+-- `pause` is within the limits: its reason is a text, and is empty where the member isn't paused
 pub record IsPause (pause : PauseState) : Type 0 where
   pub reason : IsText pause.reason
   pub none : pause.paused ≡ false → pause.reason ≡ []
 
--- a label of two texts
+-- `label` is within the limits: its member name and its state interface are texts
 pub record IsLabel (label : Label) : Type 0 where
   pub name : IsText label.name
   pub state : IsText label.state
 
--- dots that are named
+-- each dot of the set `dots` is within the limits
 abbrev pub AreDots : set.FinSet dot_cmp → Type 0
 AreDots dots = (dot : Dot) → set.contains dots dot ≡ true → IsDot dot

@@ -18,21 +18,21 @@ impl Model for Bytes {
 }
 
 impl Bytes {
-    /// These bytes.
+    /// Keeps the bytes of a vector. It takes no memory.
     pub fn new(held: Vec<u8>) -> Bytes
         ensures { result ≡ held.items }
     {
         Bytes { held }
     }
 
-    /// The bytes.
+    /// The bytes that are kept.
     pub fn as_slice(&self) -> &[u8]
         ensures { result.now ≡ self.now }
     {
         self.held.as_slice()
     }
 
-    /// Gives the bytes back. It takes no memory.
+    /// Gives the bytes back as a vector. It takes no memory.
     pub fn into_vec(self) -> Vec<u8>
         ensures { result.items ≡ self }
     {
@@ -48,7 +48,7 @@ impl Bytes {
         Ok(Bytes { held })
     }
 
-    /// Whether these are the same bytes as the others.
+    /// Whether both keep the same bytes.
     pub fn same(&self, other: &Bytes) -> bool
         ensures { IsTrue result ↔ (self.now ≡ other.now) }
     {

@@ -1,7 +1,7 @@
 ghost use Rattle.std.specs.Prelude.{◌≡◌};
 ghost use Rattle.dots.specs.CountedCalls.{is_zero, no_calls};
 
-/// How many calls were completed, and how many abandoned.
+/// How many calls were completed, and how many abandoned (this project's own).
 #[derive(Clone, Copy, Debug, PartialEq, Eq)]
 pub struct CallTotals {
     /// How many calls were completed.

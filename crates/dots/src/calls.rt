@@ -11,7 +11,7 @@ pub enum Calls {
 }
 
 impl Calls {
-    /// Whether both are one.
+    /// Whether both are the same kind of calls.
     pub fn same(self, other: Calls) -> bool
         ensures { result ≡ same_calls self other }
     {

@@ -45,7 +45,7 @@ impl Dot {
         }
     }
 
-    /// The site that made the add.
+    /// The site that made the add of this dot.
     pub fn site(self) -> SiteId
         ensures value { result ≡ self.site }
         ensures limit { IsSite result }
@@ -53,7 +53,7 @@ impl Dot {
         self.site
     }
 
-    /// Which of the site's adds it is, from 1.
+    /// Which of its site's adds the dot is of, from 1 to 2^40.
     pub fn count(self) -> u64
         ensures value { result ≡ self.count }
         ensures limit { IsCount result }

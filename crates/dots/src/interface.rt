@@ -47,7 +47,7 @@ impl Interface {
         Ok(Interface { text })
     }
 
-    /// Its bytes.
+    /// The bytes of this interface, 1 to 80.
     pub fn as_bytes(&self) -> &[u8]
         ensures value { result.now ≡ self.now }
         ensures limit { IsName result.now }
@@ -55,7 +55,7 @@ impl Interface {
         self.text.as_bytes()
     }
 
-    /// It as a text.
+    /// This interface as a text.
     pub fn text(&self) -> &Text80
         ensures value { result.now ≡ self.now }
         ensures limit { IsName result.now }

@@ -14,7 +14,7 @@ use std::cmp::Ordering;
 pub struct Member {
     /// The number of the queue, from 0.
     pub queue: u16,
-    /// The interface.
+    /// The interface that is a member of the queue.
     pub interface: Interface,
 }
 

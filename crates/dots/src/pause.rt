@@ -26,7 +26,7 @@ impl Model for Pause {
 }
 
 impl Pause {
-    /// Paused for this reason, or not paused; a reason handed in with the latter is dropped.
+    /// Where `paused`, paused for this reason; else not paused, and the reason is dropped.
     pub fn new(paused: bool, reason: Text80) -> Pause
         ensures paused { result.paused ≡ paused }
         ensures reason { paused ≡ true → result.reason ≡ reason }
@@ -42,14 +42,14 @@ impl Pause {
         }
     }
 
-    /// Whether it is paused.
+    /// Whether the member is paused.
     pub fn paused(&self) -> bool
         ensures { result ≡ self.now.paused }
     {
         self.paused
     }
 
-    /// The reason; empty where it isn't paused.
+    /// The reason of the pause; empty where the member isn't paused.
     pub fn reason(&self) -> &Text80
         ensures value { result.now ≡ self.now.reason }
         ensures limit { IsText result.now }
@@ -59,7 +59,7 @@ impl Pause {
         &self.reason
     }
 
-    /// The same value once more. It takes no memory.
+    /// The same pause once more. It takes no memory.
     pub fn copy(&self) -> Pause
         ensures { result ≡ self.now }
     {

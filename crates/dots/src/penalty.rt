@@ -37,7 +37,7 @@ impl Penalty {
         }
     }
 
-    /// Its number.
+    /// The number of this penalty, 0 to 2,147,483,647.
     pub fn get(self) -> u32
         ensures value { result ≡ self }
         ensures limit { IsPenalty result }

@@ -47,7 +47,7 @@ impl QueueName {
         Ok(QueueName { text })
     }
 
-    /// Its bytes.
+    /// The bytes of this name, 1 to 80.
     pub fn as_bytes(&self) -> &[u8]
         ensures value { result.now ≡ self.now }
         ensures limit { IsName result.now }
@@ -55,7 +55,7 @@ impl QueueName {
         self.text.as_bytes()
     }
 
-    /// It as a text.
+    /// This name as a text.
     pub fn text(&self) -> &Text80
         ensures value { result.now ≡ self.now }
         ensures limit { IsName result.now }

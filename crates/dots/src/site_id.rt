@@ -36,7 +36,7 @@ impl SiteId {
         }
     }
 
-    /// Its number.
+    /// The number of this site, 0 to 63.
     pub fn number(self) -> u16
         ensures value { result ≡ self }
         ensures limit { IsSite result }

@@ -45,7 +45,7 @@ impl Stamp {
         }
     }
 
-    /// The time, from 1.
+    /// The time of the write, from 1 to 2^40.
     pub fn time(self) -> u64
         ensures value { result ≡ self.time }
         ensures limit { IsCount result }
@@ -53,7 +53,7 @@ impl Stamp {
         self.time
     }
 
-    /// The site that wrote.
+    /// The site that wrote the value.
     pub fn site(self) -> SiteId
         ensures value { result ≡ self.site }
         ensures limit { IsSite result }

@@ -34,7 +34,7 @@ impl Model for Text80 {
     ghost inverse = { λ bytes. record { bytes = record { items = bytes } } };
 }
 
-// Whether a byte is there that may not stand in a text.
+// Whether one of the bytes is CR, LF or NUL, which may not stand in a text.
 fn has_bad_byte(bytes: &[u8]) -> bool
     ensures { result ≡ list_any is_bad_byte bytes.now }
 {
@@ -73,7 +73,8 @@ impl Text80 {
         }
     }
 
-    // The text of a name: as `new`, and then `Empty` where there are no bytes.
+    // The text of these bytes as a name. Faults, in order: `TooLong` where there are more than 80; `BadByte`
+    // where one is CR, LF or NUL; `Empty` where there are none.
     pub(crate) fn of_name(bytes: &[u8]) -> Result<Text80, TextFault>
         ensures within { IsOk result ↔ IsName bytes.now }
         ensures value { IfOk result (λ text. text ≡ bytes.now) }
@@ -89,7 +90,7 @@ impl Text80 {
         Ok(text)
     }
 
-    /// Its bytes.
+    /// The bytes of this text, at most 80.
     pub fn as_bytes(&self) -> &[u8]
         ensures value { result.now ≡ self.now }
         ensures limit { IsText result.now }
@@ -97,7 +98,7 @@ impl Text80 {
         self.bytes.as_slice()
     }
 
-    /// Whether it has no bytes.
+    /// Whether this text has no bytes.
     pub fn is_empty(&self) -> bool
         ensures { IsTrue result ↔ (self.now ≡ []) }
     {

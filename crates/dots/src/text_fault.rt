@@ -1,6 +1,6 @@
 use thiserror::Error;
 
-/// Why bytes are no short text. Of several faults the first of this list is answered (this project's own).
+/// Why bytes are no short text, or no name. Of several faults the first of this list is answered (this project's own).
 #[derive(Clone, Copy, Debug, PartialEq, Eq, Error)]
 pub enum TextFault {
     /// There are more than 80 bytes.
