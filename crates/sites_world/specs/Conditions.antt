@@ -26,8 +26,8 @@ use Rattle.sites_world.specs.WorldStates.{WorldState}
 
 -- ---- at one site
 
--- what comes of an ask at a site, and the site after it: a command does what it means, and a status is answered by its report; or memory was wanting, of a command
--- where what it means may want some
+-- an ask leads a site from its state `old` to `new`: a command does what it means, a status gives the report of
+-- `old`; or memory is wanting and the site says what it said, of a command only where its meaning may want memory
 abbrev pub ComesOfAsk : SiteState → Ask → Outcome → SiteState → Type 0
 ComesOfAsk old (asked_command command) (Answered answer) new =
     (result : Result (Unit {0}) Refusal) × (answer ≡ answer_of result) × Follows old (meaning_at old (change_of command)) new result
@@ -36,7 +36,8 @@ ComesOfAsk old (asked_command command) NoMemory new = IsUnchanged old new × May
 ComesOfAsk old (Status request) NoMemory new = IsUnchanged old new
 ComesOfAsk old asked other new = ⊥
 
--- of a cut, where the pool had `entries` entries, and which frames this gets
+-- a cut leads a site from its state `old` to `new`, and puts the frames `added` behind the pool's `entries`
+-- entries: the buffer's frame, or none where the buffer is empty, no number is left or memory is wanting
 abbrev pub ComesOfCut : ℕ → SiteState → Outcome → SiteState → List Frame → Type 0
 ComesOfCut entries old (Cut (Ok None)) new added = IsEmpty old.pending × (new ≡ old) × (added ≡ [])
 ComesOfCut entries old (Cut (Ok (Some place))) new added = (place ≡ entries) × (frame : Frame) × (added ≡ frame ∷ []) × IsCutDeed old frame new
@@ -44,14 +45,16 @@ ComesOfCut entries old (Cut (Err fault)) new added = (fault ≡ Exhausted) × (I
 ComesOfCut entries old NoMemory new added = (new ≡ old) × (added ≡ [])
 ComesOfCut entries old other new added = ⊥
 
--- of a frame of all
+-- a whole leads a site from its state `old` to `new`, and puts the frames `added` behind the pool's `entries`
+-- entries: a frame of all that the site knows, or none where no number is left or memory is wanting
 abbrev pub ComesOfWhole : ℕ → SiteState → Outcome → SiteState → List Frame → Type 0
 ComesOfWhole entries old (Cut (Ok (Some place))) new added = (place ≡ entries) × (frame : Frame) × (added ≡ frame ∷ []) × IsWholeDeed old frame new
 ComesOfWhole entries old (Cut (Err fault)) new added = (fault ≡ Exhausted) × (old.frames ≡ MOST_COUNT) × (new ≡ old) × (added ≡ [])
 ComesOfWhole entries old NoMemory new added = (new ≡ old) × (added ≡ [])
 ComesOfWhole entries old other new added = ⊥
 
--- of the take of a delta: it is taken, or too many dots would be live, or else the known ones would have too many runs
+-- the take of delta `d` leads a site from its state `old` to `new`: it is taken; or it is too much,
+-- in live dots or else in runs, or memory is wanting, and the site says what it said
 abbrev pub ComesOfDelta : SiteState → DeltaState → Outcome → SiteState → Type 0
 ComesOfDelta old d (Took (Ok u)) new = IsTakeDeed old d new
 ComesOfDelta old d (Took (Err take_fault.CellsFull)) new = MayJoin old d × (MOST_LIVE < cells_joined old.state.members d.members) × IsUnchanged old new
@@ -60,19 +63,21 @@ ComesOfDelta old d (Took (Err take_fault.RunsFull)) new =
 ComesOfDelta old d NoMemory new = IsUnchanged old new
 ComesOfDelta old d other new = ⊥
 
--- of the take of an entry's frame, whose delta is copied first; or there is no such entry
+-- the take of an entry's frame leads a site from its state `old` to `new`, as the take of a copy of
+-- its delta does; where there is no such entry, the outcome is `NoEntry` and nothing is changed
 abbrev pub ComesOfEntry : Option Frame → SiteState → Outcome → SiteState → Type 0
 ComesOfEntry None old o new = (o ≡ NoEntry) × (new ≡ old)
 ComesOfEntry (Some frame) old o new = (copy : DeltaState) × IsSame frame.delta copy × ComesOfDelta old copy o new
 
--- of an event, with these frames in the pool
+-- an event with outcome `o` leads its site from state `old` to `new`, and puts the frames `added`
+-- behind those of `pool`
 abbrev pub ComesAt : List Frame → SiteState → Event → Outcome → SiteState → List Frame → Type 0
 ComesAt pool old (event.Ask site asked) o new added = ComesOfAsk old asked o new × (added ≡ [])
 ComesAt pool old (event.Cut site) o new added = ComesOfCut (length pool) old o new added
 ComesAt pool old (event.Whole site) o new added = ComesOfWhole (length pool) old o new added
 ComesAt pool old (event.Take site place) o new added = ComesOfEntry (slice_get pool place) old o new × (added ≡ [])
 
--- a pool grows by frames of which this holds
+-- pool `grown` is `pool` with further frames at its end, of which `Holds` is true
 pub record GrowsBy (Holds : List Frame → Type 0) (pool grown : List Frame) : Type 0 where
   pub added : List Frame
   pub comes : Holds added
@@ -80,23 +85,26 @@ pub record GrowsBy (Holds : List Frame → Type 0) (pool grown : List Frame) : T
 
 -- ---- in a world
 
--- an event at a site leads from one world to another: it comes at that site, and all others are as they were
+-- event `e` with outcome `o` leads from world `from` to world `to`: its site from state `old` to
+-- `new`, and all others stay as they were
 pub record LeadsAt (from : WorldState) (e : Event) (o : Outcome) (to : WorldState) (old : SiteState) : Type 0 where
   pub new : SiteState
   pub comes : GrowsBy (ComesAt from.pool old e o new) from.pool to.pool
   pub sites : to.sites ≡ slice_set from.sites (site_of e) new
   pub names : to.names ≡ from.names
 
--- where there is no such site it changes nothing
+-- event `e` with outcome `o` leads from one world to another, its site being in the state that is
+-- given; where there is no such site, the outcome is `NoSite` and nothing is changed
 abbrev pub LeadsWhere : WorldState → Event → Outcome → WorldState → Option SiteState → Type 0
 LeadsWhere from e o to None = (o ≡ NoSite) × (to ≡ from)
 LeadsWhere from e o to (Some old) = LeadsAt from e o to old
 
--- an event with this outcome leads from one world to another
+-- event `e` with outcome `o` leads from world `from` to world `to`, by what comes of it at its
+-- site, if there is that site
 abbrev pub EventLeads : WorldState → Event → Outcome → WorldState → Type 0
 EventLeads from e o to = LeadsWhere from e o to (slice_get from.sites (site_of e))
 
--- events with one outcome each do, one after the other
+-- events, one after the other, with one outcome each, lead from world `from` to world `to`
 abbrev pub EventsLead : WorldState → List Event → List Outcome → WorldState → Type 0
 EventsLead from [] [] to = to ≡ from
 EventsLead from (e ∷ es) (o ∷ os) to = (mid : WorldState) × EventLeads from e o mid × EventsLead mid es os to

@@ -32,48 +32,51 @@ use Rattle.sites_world.specs.WorldStates.{Correspond, IsSiteOf, IsWorld, WorldSt
 
 -- ---- deltas
 
--- a delta is held: it is the state of a site, or its buffer, or a frame of the pool says it
+-- delta `d` is held in a world: it is the state of a site, or its buffer, or a frame of the pool says it
 pub data IsHeldIn (state : WorldState) (d : DeltaState) : Type 0 where
   State : (site : ℕ) (s : SiteState) → slice_get state.sites site ≡ Some s → d ≡ s.state → IsHeldIn state d
   Pending : (site : ℕ) (s : SiteState) → slice_get state.sites site ≡ Some s → d ≡ s.pending → IsHeldIn state d
   Said : (place : ℕ) (frame : Frame) → slice_get state.pool place ≡ Some frame → d ≡ frame.delta → IsHeldIn state d
 
--- no two of these dots are of one site
+-- no two of `dots` are of one site
 abbrev pub HasOneASite : List Dot → Type 0
 HasOneASite dots = (dot other : Dot) → Contains dots dot → Contains dots other → dot.site ≡ other.site → dot ≡ other
 
--- in whatever is held no two live dots of a member are
+-- in a delta that is held in a world no two live dots of a member are of one site
 abbrev pub HoldOneDotASite : Type 0
 HoldOneDotASite = (state : WorldState) (d : DeltaState) (m : Member) → IsWorld state → IsHeldIn state d → HasOneASite (dots_of (dot_view_of d.members) m)
 
--- so it has at most as many live dots as members that have one times sites
+-- a delta that is held in a world has at most as many live dots as the world has sites, times the
+-- members that have one
 abbrev pub HoldFewCells : Type 0
 HoldFewCells = (state : WorldState) (d : DeltaState) → IsWorld state → IsHeldIn state d
     → map.len d.members.live ≤ set.len (members_seen (dot_view_of d.members)) * length state.sites
 
--- any two that are held agree
+-- any two deltas that are held in one world agree
 abbrev pub HeldAgree : Type 0
 HeldAgree = (state : WorldState) (x y : DeltaState) → IsWorld state → IsHeldIn state x → IsHeldIn state y → AreInAgreement x y
 
--- what is held stands for operations that are all within their limits
+-- a delta that is held in a world stands for operations that are all within their limits
 abbrev pub HoldWithinLimits : Type 0
 HoldWithinLimits = (state : WorldState) (d : DeltaState) → IsWorld state → IsHeldIn state d → (k : Knowledge) × IsDeltaOf d k × AreWithinLimits k
 
 -- ---- takes
 
--- a site of a world that events lead to may take each of its entries
+-- each site of a world that events lead to may join each entry of the pool; of the limits of a join
+-- nothing is said
 abbrev pub MayTakeEntries : Type 0
 MayTakeEntries = (names : List (List ℕ)) (sites : ℕ) (w : World) (site place : ℕ) (state : SiteState) (s : SiteKnowledge) (entry : Entry) → IsReached names sites w
     → slice_get w.sites site ≡ Some s → IsSiteOf names site state s → slice_get w.pool place ≡ Some entry → MayBeTaken state entry.carried
 
--- so each site may join each frame of the pool
+-- each site of a world may join each frame of the pool
 abbrev pub MayJoinFrames : Type 0
 MayJoinFrames = (state : WorldState) (site place : ℕ) (s : SiteState) (frame : Frame) → IsWorld state → slice_get state.sites site ≡ Some s
     → slice_get state.pool place ≡ Some frame → MayJoin s frame.delta
 
 -- ---- later worlds
 
--- a later world has as many sites, each of which knows what it knew and has made no fewer frames, and its pool begins with the same entries
+-- world `after` is `w` or a later one: it has as many sites, each of which knows what it knew and
+-- has made no fewer frames, and its pool begins with the same entries
 pub record HasGrown (w after : World) : Type 0 where
   pub count : length after.sites ≡ length w.sites
   pub known : (site : ℕ) (s : SiteKnowledge) → slice_get w.sites site ≡ Some s
@@ -81,15 +84,17 @@ pub record HasGrown (w after : World) : Type 0 where
   pub added : List Entry
   pub pool : after.pool ≡ w.pool ++ added
 
--- after an event it is a later one
+-- an event leads from each world to one that has grown: what sites knew they know, and what the
+-- pool had it has
 abbrev pub EventsGrow : Type 0
 EventsGrow = (names : List (List ℕ)) (w : World) (e : Event) → HasGrown w (happens names w e).0
 
--- and after events
+-- events in turn lead from each world to one that has grown: what sites knew they know, and what
+-- the pool had it has
 abbrev pub RunsGrow : Type 0
 RunsGrow = (names : List (List ℕ)) (w : World) (events : List Event) → HasGrown w (run names w events).0
 
--- so a site that has taken an entry knows each operation of it, whatever events come then
+-- a site that has taken an entry knows each operation of it, whatever events come then
 abbrev pub TakenStaysKnown : Type 0
 TakenStaysKnown = (names : List (List ℕ)) (w : World) (site place : ℕ) (entry : Entry) (later : List Event) (t : SiteKnowledge)
     → (happens names w (event.Take site place)).1 ≡ Took (Ok tt) → slice_get w.pool place ≡ Some entry
@@ -97,13 +102,15 @@ TakenStaysKnown = (names : List (List ℕ)) (w : World) (site place : ℕ) (entr
 
 -- ---- growth, told of states alone
 
--- another delta says all that a delta does: it knows each dot of it, has each dot's condition or one above, so that a dead dot is dead there, and no total is less
+-- delta `e` says all that `d` says: it knows each dot of it, has each dot's condition or one above,
+-- so that a dead dot is dead there, and no total is less
 pub record IsSaidBy (d e : DeltaState) : Type 0 where
   pub known : (dot : Dot) → set.contains d.members.known dot ≡ true → set.contains e.members.known dot ≡ true
   pub conditions : (dot : Dot) → IsConditionBelow (condition_of d.members dot) (condition_of e.members dot)
   pub totals : (site queue : ℕ) (calls : Calls) → number_of calls (totals_of d.totals.entries site queue) ≤ number_of calls (totals_of e.totals.entries site queue)
 
--- a site says all that it said, and none of its last numbers is less
+-- a site in state `new` says all that it said in state `old`, and none of its last numbers (of
+-- adds, times and frames) is less
 pub record SiteGrows (old new : SiteState) : Type 0 where
   pub site : new.site ≡ old.site
   pub names : new.names ≡ old.names
@@ -112,22 +119,25 @@ pub record SiteGrows (old new : SiteState) : Type 0 where
   pub last_time : old.last_time ≤ new.last_time
   pub frames : old.frames ≤ new.frames
 
--- the sites are as many, with the same queues, each says all that it said, and the pool keeps its frames
+-- from world `from` to `to` the sites are as many, with the same queues, each says all that it
+-- said, and the pool keeps its frames
 pub record StatesGrow (from to : WorldState) : Type 0 where
   pub names : to.names ≡ from.names
   pub sites : Correspond (λ site. SiteGrows) from.sites to.sites
   pub added : List Frame
   pub pool : to.pool ≡ from.pool ++ added
 
--- so it is after each event, with whatever outcome
+-- an event, with whatever outcome, leads to a world in which each site says all that it said, and
+-- the pool keeps its frames
 abbrev pub LeadsGrow : Type 0
 LeadsGrow = (from to : WorldState) (e : Event) (o : Outcome) → EventLeads from e o to → StatesGrow from to
 
--- and after events
+-- events in turn, with whatever outcomes, lead to a world in which each site says all that it said,
+-- and the pool keeps its frames
 abbrev pub LeadAllGrows : Type 0
 LeadAllGrows = (from to : WorldState) (events : List Event) (outcomes : List Outcome) → EventsLead from events outcomes to → StatesGrow from to
 
--- so a site that has taken a frame says all that the frame does, whatever events come then
+-- a site that has taken a frame says all that the frame does, whatever events come then
 abbrev pub TakenStaysSaid : Type 0
 TakenStaysSaid = (from to : WorldState) (site place : ℕ) (frame : Frame) (new : SiteState) (later : List Event) (outcomes : List Outcome)
     → slice_get from.pool place ≡ Some frame → EventsLead from (event.Take site place ∷ later) (Took (Ok tt) ∷ outcomes) to → slice_get to.sites site ≡ Some new

@@ -22,55 +22,62 @@ use Rattle.sites_world.specs.declared.outcome.Outcome.TheVariants.{Answered, Cut
 use Rattle.sites_world.specs.Worlds.{Entry, Happening, frame_told, is_done, take_told}
 use Rattle.sites_world.specs.WorldStates.{Correspond, IsFrameOf}
 
--- an answer as an outcome: want of memory is told as such
+-- the outcome that tells an answer: the answer, or `NoMemory` for a command that was refused for
+-- want of memory
 abbrev pub answer_told : Answer → Outcome
 answer_told (Refused refusal.Memory) = NoMemory
 answer_told answer = Answered answer
 
--- why a frame wasn't taken, as an outcome: want of memory is told as such
+-- the outcome that tells why a frame wasn't taken: the fault, or `NoMemory` for want of memory
 abbrev pub take_fault_told : TakeFault → Outcome
 take_fault_told take_fault.Memory = NoMemory
 take_fault_told fault = Took (Err fault)
 
--- what was asked is answered as the site answers, or memory was wanting and the site knows what it knew
+-- outcome `o` of an ask is the answer of `after`, and state `new` stands for what the site knows
+-- then; or it is want of memory, and `new` stands for `s`, what the site knew before
 abbrev pub IsAnsweredSo : SiteState → SiteKnowledge → SiteKnowledge × Answer → Outcome → Type 0
 IsAnsweredSo new s after o = ((o ≡ Answered after.1) × StandsFor new after.0) ⊎ ((o ≡ NoMemory) × StandsFor new s)
 
--- the pool has one frame more where a step made one, which is that of the entry that comes of it
+-- pool `new` is `old` with one frame more where a step of site `maker` made one, the frame of the
+-- entry that comes of the step; else it is `old`
 abbrev pub HasAddedFrame : ℕ → List Frame → List Frame → steps.Outcome → Type 0
 HasAddedFrame maker old new (Framed number carried) =
     (frame : Frame) × (new ≡ old ++ frame ∷ []) × IsFrameOf (length old) frame (record { maker = maker; number = number; carried = carried })
 HasAddedFrame maker old new other = new ≡ old
 
--- a frame was asked for and is told as the site's step has it, or memory was wanting and nothing is changed
+-- outcome `o` of a cut or a whole is the one of `after`, the site's step, and `new` and `pool` stand for what is
+-- known and made then; or it is want of memory, `new` stands for `s`, what the site knew, and the pool is `old`
 abbrev pub IsFramedSo : SiteState → SiteKnowledge → List Frame → List Frame → SiteKnowledge × steps.Outcome → Outcome → Type 0
 IsFramedSo new s old pool after o =
     ((o ≡ Cut (frame_told (length old) after.1)) × StandsFor new after.0 × HasAddedFrame new.site old pool after.1)
     ⊎ ((o ≡ NoMemory) × StandsFor new s × (pool ≡ old))
 
--- a frame was taken, or is too much, as the site's step has it; or memory was wanting and the site knows what it knew
+-- outcome `o` of a take is the one of `after`, the site's step, and state `new` stands for what the
+-- site knows then; or it is want of memory, and `new` stands for `s`, what the site knew before
 abbrev pub IsTakenSo : SiteState → SiteKnowledge → SiteKnowledge × steps.Outcome → Outcome → Type 0
 IsTakenSo new s after o = ((o ≡ Took (take_told after.1)) × StandsFor new after.0) ⊎ ((o ≡ NoMemory) × StandsFor new s)
 
--- whatever stands for a knowledge may be taken by a site: it is of the site's queues, says nothing of the site that this hasn't made, and is in no conflict
+-- a site in this state may join whatever stands for knowledge `k`: it is of the site's queues, says
+-- of the site nothing that this hasn't made, and agrees with the site's state
 pub record MayBeTaken (state : SiteState) (k : Knowledge) : Type 0 where
   pub queues : (d : DeltaState) → IsDeltaOf d k → SpeaksOfStrangeQueue (length state.names) d → ⊥
   pub own : (d : DeltaState) → IsDeltaOf d k → IsNotMine state d → ⊥
   pub agrees : (d : DeltaState) → IsDeltaOf d k → Disagree state.state d → ⊥
   pub none_later : HasNoneLater state k
 
--- What has happened at a site, with the frames of these entries in the pool, is as it happens in the world of operations; or memory was wanting and nothing is changed.
+-- an event at a site that knew `s` has happened as `h`, what it does in the world of operations: `o` is its outcome,
+-- `new` and `pool` stand for what is known and made then; or memory was wanting, and nothing is changed
 abbrev pub HasHappenedAt : SiteState → SiteKnowledge → List Frame → List Frame → List Entry → Happening → Outcome → Type 0
 HasHappenedAt new s old pool entries h o =
     ((is_done o ≡ true) × (h.outcome ≡ o) × StandsFor new h.site × Correspond IsFrameOf pool (entries ++ h.added))
     ⊎ ((o ≡ NoMemory) × StandsFor new s × (pool ≡ old))
 
--- the entry that an event takes, if it takes one, is in the pool
+-- the entry that an event takes, if it takes one, is in the pool `pool`
 abbrev pub HasEntry : List Frame → Event → Type 0
 HasEntry pool (event.Take site entry) = entry < length pool
 HasEntry pool other = ⊤
 
--- an event is that something is asked
+-- an event is an ask
 abbrev pub IsAsk : Event → Type 0
 IsAsk (event.Ask site asked) = ⊤
 IsAsk other = ⊥

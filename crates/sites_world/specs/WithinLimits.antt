@@ -10,11 +10,13 @@ use Rattle.sites_world.specs.declared.event.Event.TheVariants as event
 use Rattle.sites_world.specs.Histories.{IsIn}
 use Rattle.sites_world.specs.Worlds.{World}
 
--- what an event asks has values within their limits; the types of the values of a program are so
+-- the values of the command that an event asks for, if it does, are within their limits; those of a
+-- program are by their types
 abbrev pub HasValuesWithinLimits : Event → Type 0
 HasValuesWithinLimits (event.Ask site (asked_command command)) = IsChange (change_of command)
 HasValuesWithinLimits other = ⊤
 
--- each operation that a site knows or has in its buffer, and that an entry carries, is within its limits
+-- each operation that a site of world `w` knows or has in its buffer, or that an entry carries, is
+-- within its limits
 abbrev pub KnowsWithinLimits : World → Type 0
 KnowsWithinLimits w = (k : Knowledge) → IsIn w k → AreWithinLimits k

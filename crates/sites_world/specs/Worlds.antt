@@ -15,18 +15,20 @@ use Rattle.sites_world.specs.declared.event.Event.TheVariants as event
 use Rattle.sites_world.specs.declared.outcome.Outcome.{Outcome}
 use Rattle.sites_world.specs.declared.outcome.Outcome.TheVariants as outcome
 
--- a frame that was made: by which site, under which number, and what it carries
+-- an entry of the pool, a frame that was made: by which site, under which number, and which
+-- operations it carries
 pub record Entry : Type 0 where
   pub maker : ℕ
   pub number : ℕ
   pub carried : Knowledge
 
--- what each site knows, by the sites' numbers, and the pool: all frames that were made, in their order
+-- a world of operations: what each site knows, by the sites' numbers, and the pool, all frames that
+-- were made, in their order
 pub record World : Type 0 where
   pub sites : List SiteKnowledge
   pub pool : List Entry
 
--- `sites` sites that know nothing yet, and no frame
+-- a world of `sites` sites that know nothing yet, with no frame
 abbrev pub new_world : ℕ → World
 new_world sites = record { sites = replicate sites new_site; pool = [] }
 
@@ -36,37 +38,42 @@ pub record Happening : Type 0 where
   pub added : List Entry
   pub outcome : Outcome
 
--- what was asked is answered
+-- what happens at a site where an ask is answered: `after` is what the site knows then, and the answer
 abbrev pub answered : SiteKnowledge × Answer → Happening
 answered after = record { site = after.0; added = []; outcome = outcome.Answered after.1 }
 
--- the entry that comes of a site's step, where that made a frame
+-- the entry that comes of a step of site `maker`: the frame that the step made; none where it made none
 abbrev pub entries_of : ℕ → steps.Outcome → List Entry
 entries_of maker (Framed number carried) = record { maker = maker; number = number; carried = carried } ∷ []
 entries_of maker other = []
 
--- how it is told that a frame was asked for: by its place behind the `entries` that stood, or by why there is none
+-- how it is told what came of a cut or a whole: by the place of the frame, behind `entries`
+-- entries; by `Exhausted`, where no number was left; or that there was nothing to cut
 abbrev pub frame_told : ℕ → steps.Outcome → Result (Option ℕ) CutFault
 frame_told entries (Framed number carried) = Ok (Some entries)
 frame_told entries NoNumber = Err Exhausted
 frame_told entries other = Ok None
 
--- a frame was asked for, where the pool had `entries` entries
+-- what happens at site `maker` where a frame is asked for and the pool has `entries` entries:
+-- `after` is what the site knows then, and what came of its step
 abbrev pub framed : ℕ → ℕ → SiteKnowledge × steps.Outcome → Happening
 framed maker entries after = record { site = after.0; added = entries_of maker after.1; outcome = outcome.Cut (frame_told entries after.1) }
 
--- how it is told that a frame was taken, or why it was not
+-- how it is told what came of a take: that the frame was taken, or that too many dots or runs would
+-- stand in the join
 abbrev pub take_told : steps.Outcome → Result (Unit {0}) TakeFault
 take_told steps.CellsFull = Err take_fault.CellsFull
 take_told steps.RunsFull = Err take_fault.RunsFull
 take_told other = Ok tt
 
--- a site takes the frame of an entry, where there is that entry
+-- what happens at a site that knows `s` where it takes the frame of an entry; where there is no
+-- such entry, it is told so
 abbrev pub taken : SiteKnowledge → Option Entry → Happening
 taken s None = record { site = s; added = []; outcome = outcome.NoEntry }
 taken s (Some entry) = let after = take s entry.carried in record { site = after.0; added = []; outcome = outcome.Took (take_told after.1) }
 
--- what an event does at a site that knows this, with this pool; each site has the queues of these names
+-- what an event does at a site that knows `s`, with the entries `pool` in the pool; each site has
+-- the queues of these names
 abbrev pub happens_at : List (List ℕ) → List Entry → SiteKnowledge → Event → Happening
 happens_at names pool s (event.Ask site asked) = answered (answer_in site names s asked)
 happens_at names pool s (event.Cut site) = framed site (length pool) (step site names s Cut)
@@ -80,51 +87,53 @@ site_of (event.Cut site) = site
 site_of (event.Whole site) = site
 site_of (event.Take site entry) = site
 
--- a world after what has happened at the site of this number
+-- world `w` after `h` has happened at the site of the number `site`
 abbrev pub after_happening : World → ℕ → Happening → World
 after_happening w site h = record { sites = slice_set w.sites site h.site; pool = w.pool ++ h.added }
 
--- an event at the site of this number, where there is one
+-- event `e` in world `w`, its site `site` knowing what is given: the world after it, and its
+-- outcome; where there is no such site, the outcome is `NoSite` and nothing is changed
 abbrev pub happens_where : List (List ℕ) → World → ℕ → Option SiteKnowledge → Event → World × Outcome
 happens_where names w site None e = (w, outcome.NoSite)
 happens_where names w site (Some s) e = let h = happens_at names w.pool s e in (after_happening w site h, h.outcome)
 
--- an event: the world after it, and what comes of it
+-- event `e` in world `w`: the world after it, and what comes of it
 abbrev pub happens : List (List ℕ) → World → Event → World × Outcome
 happens names w e = happens_where names w (site_of e) (slice_get w.sites (site_of e)) e
 
--- whether there is the entry that an event takes, if it takes one
+-- whether the pool of world `w` has the entry that an event takes, if it takes one
 abbrev pub has_entry : World → Event → Bool
 has_entry w (event.Take site entry) = is_some (slice_get w.pool entry)
 has_entry w other = true
 
--- whether there is the site at which an event happens, and the entry that it takes
+-- whether world `w` has the site at which event `e` happens, and the entry that it takes, if it takes one
 abbrev pub is_there : World → Event → Bool
 is_there w e = is_some (slice_get w.sites (site_of e)) && has_entry w e
 
--- events in turn: the world after them, and the outcome of each
+-- events in turn, from world `w`: the world after them, and the outcome of each
 abbrev pub run : List (List ℕ) → World → List Event → World × List Outcome
 run names w [] = (w, [])
 run names w (e ∷ es) = let one = happens names w e in let rest = run names one.0 es in (rest.0, one.1 ∷ rest.1)
 
--- Events that lead from sites that know nothing to a world. Values past their limits may stand in them; no program has such.
+-- events lead from `sites` sites that know nothing to world `w`; values past their limits may stand
+-- in them, which no program has
 pub record IsReached (names : List (List ℕ)) (sites : ℕ) (w : World) : Type 0 where
   pub events : List Event
   pub is : (run names (new_world sites) events).0 ≡ w
 
 -- ---- events that were done
 
--- an outcome is that of an event that was done: all are but want of memory
+-- whether an outcome is that of an event that was done: it isn't want of memory
 abbrev pub is_done : Outcome → Bool
 is_done outcome.NoMemory = false
 is_done other = true
 
--- the events that were done, of events with their outcomes
+-- of events with their outcomes, the events that were done: those whose outcome isn't want of memory
 abbrev pub done_of : List Event → List Outcome → List Event
 done_of (e ∷ es) (o ∷ os) = if is_done o then e ∷ done_of es os else done_of es os
 done_of es os = []
 
--- and the outcomes of these
+-- of outcomes, those of events that were done: all but want of memory
 abbrev pub outcomes_of : List Outcome → List Outcome
 outcomes_of [] = []
 outcomes_of (o ∷ os) = if is_done o then o ∷ outcomes_of os else outcomes_of os

@@ -100,8 +100,8 @@ pub fn a_member_has_one_visible_dot_of_a_site()
     ensures { HaveOneDotASite }
 {}
 
-/// So there are in each knowledge of a world at most as many visible dots as members that have one
-/// times sites, and as many live dots in what stands for it (this project's own).
+/// Each knowledge of a world has at most as many visible dots as members that have one times sites, since a member has one of each
+/// site; and what stands for it has at most as many live dots (this project's own).
 pub fn visible_dots_are_at_most_members_times_sites()
     ensures visible { HaveFewVisibleDots }
     ensures live { HaveFewLiveDots }

@@ -26,7 +26,7 @@ use replica::{CutFault, Frame, Refusal, Replica, TakeFault};
 use status_report::{Answer, Ask, ask};
 use std::alloc::Global;
 
-// An answer as an outcome.
+// The outcome that tells an answer; `NoMemory` for a refusal for want of memory.
 fn answer_told(answer: Answer) -> Outcome
     ensures { result ≡ answer_told answer }
 {
@@ -48,7 +48,7 @@ fn ask_site(alloc: Global, replica: &mut Replica, asked: Ask) -> Outcome
     answer_told(ask(alloc, replica, asked))
 }
 
-// Puts a site's buffer into a frame at the end of the pool.
+// Puts a site's buffer into a frame at the end of the pool, or tells why there is none.
 fn cut_site(replica: &mut Replica, pool: &mut Vec<Frame>) -> Outcome
     ensures site { replica.new.site ≡ replica.old.site }
     ensures names { replica.new.names ≡ replica.old.names }
@@ -82,7 +82,7 @@ fn put_frame(pool: &mut Vec<Frame>, frame: Frame) -> Outcome
     Outcome::Cut(Ok(Some(entry)))
 }
 
-// Puts all that a site knows into a frame at the end of the pool.
+// Puts all that a site knows into a frame at the end of the pool, or tells why there is none.
 fn whole_site(replica: &mut Replica, pool: &mut Vec<Frame>) -> Outcome
     ensures site { replica.new.site ≡ replica.old.site }
     ensures names { replica.new.names ≡ replica.old.names }
@@ -107,7 +107,7 @@ fn whole_site(replica: &mut Replica, pool: &mut Vec<Frame>) -> Outcome
     }
 }
 
-// Why a frame wasn't taken, as an outcome.
+// The outcome that tells why a frame wasn't taken; `NoMemory` for want of memory.
 fn take_fault_told(fault: TakeFault) -> Outcome
     ensures { result ≡ take_fault_told fault }
 {
@@ -117,14 +117,14 @@ fn take_fault_told(fault: TakeFault) -> Outcome
     }
 }
 
-// The frame of an entry, where there is that entry.
+// The frame at this place of the pool, if there is one.
 pub(crate) fn frame_at(pool: &[Frame], entry: usize) -> Option<&Frame>
     ensures { option_map (λ frame. frame.now) result ≡ slice_get pool.now entry }
 {
     pool.get(entry)
 }
 
-// Lets a site take a frame that it may take.
+// Lets a site take a copy of a frame. What is said of it is of a frame that the site may join.
 fn take_site(replica: &mut Replica, frame: &Frame) -> Outcome
     ensures site { replica.new.site ≡ replica.old.site }
     ensures names { replica.new.names ≡ replica.old.names }
@@ -157,7 +157,7 @@ fn site_of(event: &Event) -> SiteId
     }
 }
 
-// Does an event at its site.
+// Does an event at its site, which is this replica, and tells what comes of it.
 fn happen_at(alloc: Global, replica: &mut Replica, pool: &mut Vec<Frame>, event: Event) -> Outcome
     ensures site { replica.new.site ≡ replica.old.site }
     ensures names { replica.new.names ≡ replica.old.names }
@@ -187,7 +187,7 @@ fn happen_at(alloc: Global, replica: &mut Replica, pool: &mut Vec<Frame>, event:
     }
 }
 
-// Does an event.
+// Does an event at its site, and tells what comes of it; `NoSite` where there is no such site.
 pub(crate) fn happen(
     alloc: Global,
     sites: &mut Vec<Replica>,

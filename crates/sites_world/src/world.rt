@@ -42,7 +42,7 @@ impl Model for World {
     }) };
 }
 
-// So many new sites, each with a copy of the list.
+// As many new sites as `sites` says, each with a copy of the list.
 fn new_sites(alloc: Global, sites: u16, list: &QueueList) -> Result<Vec<Replica>, Memory>
     requires { sites ≤ SITES }
     ensures count { IfOk result (λ made. length made.items ≡ sites) }
@@ -61,8 +61,8 @@ fn new_sites(alloc: Global, sites: u16, list: &QueueList) -> Result<Vec<Replica>
 }
 
 impl World {
-    /// So many sites that know nothing yet, 1 to 64, each with these queues, and no frame. Faults, in order: `BadSites`, exactly where
-    /// there are none or more than 64; `Memory` (this project's own).
+    /// A world of `sites` sites that know nothing yet, 1 to 64, each with these queues, and of no frame. Faults, in order: `BadSites`,
+    /// exactly where that is 0 or more than 64; `Memory` (this project's own).
     pub fn new(alloc: Global, sites: u16, list: &QueueList) -> Result<World, WorldFault>
         ensures names { IfOk result (λ world. world.names ≡ list.now) }
         ensures count { IfOk result (λ world. length world.sites ≡ sites) }
