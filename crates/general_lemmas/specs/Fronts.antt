@@ -3,7 +3,8 @@ use Rattle.std.specs.Prelude.{List, [], ◌∷◌}
 use Rattle.std.specs.declared.cmp.Ordering.{Ordering}
 use Rattle.std.specs.declared.cmp.Ordering.TheVariants.{Less, Greater}
 
--- which list has the least element in front: `Less` where the first has it, `Equal` where both have it
+-- how the front of a first list is ordered to that of a second; `Less` where the second alone is
+-- empty, `Greater` where the first is
 abbrev pub next_by : {X : Type 0} → (X → X → Ordering) → List X → List X → Ordering
 next_by {X} order [] others = Greater
 next_by {X} order (x ∷ xs) [] = Less
