@@ -17,38 +17,38 @@ use Rattle.reference_model.specs.declared.outcome.Outcome.{Outcome}
 use Rattle.reference_model.specs.declared.outcome.Outcome.TheVariants.{Done, Denied, Framed, Nothing, NoNumber, Taken, CellsFull, RunsFull}
 use Rattle.reference_model.specs.Plain.{setting_of, operation_of, knowledge_of}
 
--- a change
+-- the change of the definitions that a plain change stands for
 abbrev pub change_meant : Change → changes.Change
 change_meant (AddMember queue interface penalty paused label) = changes.AddMember queue interface penalty paused label
 change_meant (RemoveMember queue interface) = changes.RemoveMember queue interface
 change_meant (SetField queue interface setting) = changes.SetField queue interface (setting_of setting)
 change_meant (CountCall queue calls) = changes.CountCall queue calls
 
--- what a change means
+-- the meaning of the definitions that a plain meaning stands for
 abbrev pub meaning_of : Meaning → changes.Meaning
 meaning_of (Refused refusal) = changes.Refused refusal
 meaning_of (Makes operation) = changes.Makes (operation_of operation)
 
--- a site
+-- what a site knows, in the definitions, where `s` says it by plain values
 abbrev pub site_of : SiteKnowledge → steps.SiteKnowledge
 site_of s = record { known = knowledge_of s.known.items; buffer = knowledge_of s.buffer.items; frames = s.frames }
 
--- what the site of this number reads of what it knows
+-- what the site of the number `site` reads of all that it knows
 abbrev pub known_view : ℕ → SiteKnowledge → SiteView
 known_view site s = site_view site (knowledge_of s.known.items)
 
--- what it reads of its buffer
+-- what the site of the number `site` reads of its buffer
 abbrev pub buffer_view : ℕ → SiteKnowledge → SiteView
 buffer_view site s = site_view site (knowledge_of s.buffer.items)
 
--- a step
+-- the step of the definitions that a plain step stands for
 abbrev pub step_of : Step → steps.Step
 step_of (Do change) = steps.Do (change_meant change)
 step_of Cut = steps.Cut
 step_of Whole = steps.Whole
 step_of (Take frame) = steps.Take (knowledge_of frame.items)
 
--- an outcome
+-- the outcome of the definitions that a plain outcome stands for
 abbrev pub outcome_of : Outcome → steps.Outcome
 outcome_of Done = steps.Done
 outcome_of (Denied refusal) = steps.Denied refusal
@@ -59,7 +59,7 @@ outcome_of Taken = steps.Taken
 outcome_of CellsFull = steps.CellsFull
 outcome_of RunsFull = steps.RunsFull
 
--- an operation asserts these dots, and names those
+-- operation `o` asserts the dots `made`, one by one, and names the dots `dead`
 pub record Touches (o : Operation) (made : List Dot) (dead : List Dot) : Type 0 where
   pub asserted_are : each (λ p. p.0) (asserted_by o) ≡ made
   pub named_are : named_by o ≡ set.from_list dead

@@ -9,20 +9,21 @@ use Rattle.operations.specs.Registers.{Entry}
 use Rattle.reference_model.specs.declared.entry.Entry.{Entry as Held}
 use Rattle.reference_model.specs.declared.fields.Fields.{Fields}
 
--- an entry, of what is seen of its value
+-- the entry of the definitions that a plain entry stands for, with what `see` sees of its value
 abbrev pub entry_of : {A B : Type 0} → (A → B) → Option (Held A) → Option (Entry B)
 entry_of see None = None
 entry_of see (Some entry) = Some (record { stamp = entry.stamp; value = see entry.value })
 
--- three fields
+-- the fields of the definitions that three plain fields stand for
 abbrev pub fields_of : Fields → DotFields
 fields_of fields = record { penalty = entry_of (λ n. n) fields.penalty; pause = entry_of (λ p. p.now) fields.pause; label = entry_of (λ l. l.now) fields.label }
 
--- what an operation sets of each field
+-- what operation `o` sets of each of the three fields
 abbrev pub fields_set : Operation → DotFields
 fields_set o = record { penalty = penalty_field o; pause = pause_field o; label = label_field o }
 
--- the fields of dots together: of each the entry of the greatest stamp, of equal stamps that of the first dot
+-- the fields of `dots` together in knowledge `k`: of each the entry of the greatest stamp, of equal
+-- stamps that of the first dot
 abbrev pub fields_over : Knowledge → List Dot → DotFields
 fields_over k dots = record {
   penalty = latest_of (filter_map (field_of penalty_field k) dots);

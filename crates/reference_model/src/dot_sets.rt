@@ -24,14 +24,14 @@ fn listed(alloc: Global, dots: &BTreeSet<Dot>) -> Result<Vec<Dot>, Memory>
     dots.iter().copied().collect(alloc)
 }
 
-// The same dots as plain ones.
+// Dots as plain ones, in the order of the list.
 fn plain_dots(alloc: Global, dots: &[Dot]) -> Result<Vec<PlainDot>, Memory>
     ensures { IfOk result (λ plain. plain.items ≡ each (λ d. d) dots.now) }
 {
     dots.iter().map(|dot| PlainDot::of(*dot)).collect(alloc)
 }
 
-// Adds these dots.
+// Adds plain dots to a set.
 fn insert_plain(found: &mut BTreeSet<PlainDot>, dots: &[PlainDot]) -> Result<(), Memory>
     ensures { OnOk result ((dot : Dot) → list_any (is_dot dot) found.new.keys
         ≡ (list_any (is_dot dot) found.old.keys || list_any (is_dot dot) dots.now)) }
@@ -42,7 +42,7 @@ fn insert_plain(found: &mut BTreeSet<PlainDot>, dots: &[PlainDot]) -> Result<(),
     Ok(())
 }
 
-// A set of dots, with these.
+// The dots of a set and these more, as plain ones.
 fn set_with(
     alloc: Global,
     dots: &BTreeSet<Dot>,
@@ -59,7 +59,7 @@ fn set_with(
     Ok(found)
 }
 
-// The dots that some operation asserts, and these.
+// The dots that some operation asserts, and these more.
 fn asserted_with(
     alloc: Global,
     operations: &[Operation],
@@ -72,7 +72,7 @@ fn asserted_with(
     set_with(alloc, &found, asserted)
 }
 
-// The dots that some operation names, and these.
+// The dots that some operation names, and these more.
 fn named_with(
     alloc: Global,
     operations: &[Operation],
@@ -86,7 +86,7 @@ fn named_with(
     set_with(alloc, &found, &[])
 }
 
-// How many of the first dots aren't among the second.
+// How many dots of the first set aren't in the second.
 fn count_missing(first: &BTreeSet<PlainDot>, second: &BTreeSet<PlainDot>) -> usize
     ensures value { result
         ≡ count_by (λ dot. not (list_any (is_dot dot) second.now.keys)) first.now.keys }
@@ -103,7 +103,7 @@ fn in_vec(alloc: Global, found: &BTreeSet<PlainDot>) -> Result<Vec<PlainDot>, Me
     found.iter().copied().collect(alloc)
 }
 
-// Whether the first of these dots is the one of the next count.
+// Whether the first of `dots` follows `dot`: it is of the same site, with the next count.
 fn goes_on(dot: PlainDot, dots: &[PlainDot]) -> bool
     ensures { result ≡ goes_on dot dots.now }
 {
@@ -113,7 +113,7 @@ fn goes_on(dot: PlainDot, dots: &[PlainDot]) -> bool
     }
 }
 
-// How many runs dots in their order have: one for each dot that the one of the next count doesn't follow.
+// How many runs dots in their order have: one for each dot that isn't followed by the one of the next count.
 fn count_ends(dots: &[PlainDot]) -> usize
     requires { IsStrictlySortedBy dot_cmp dots.now }
     ensures { result ≡ run_count (set.from_list dots.now) }

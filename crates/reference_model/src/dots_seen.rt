@@ -15,14 +15,14 @@ use dots::{Dot, Member, Memory};
 use std::alloc::Global;
 use std::collections::BTreeSet;
 
-// Whether some operation names the dot.
+// Whether one of the operations names `dot`.
 fn is_named(operations: &[Operation], dot: Dot) -> bool
     ensures { result ≡ is_named (knowledge_of operations.now) dot }
 {
     operations.iter().any(|operation| operation.names(dot))
 }
 
-// Adds the dots that an operation asserts.
+// Adds to a set the dots that an operation asserts.
 fn add_asserted(found: &mut BTreeSet<Dot>, operation: &Operation) -> Result<(), Memory>
     ensures { OnOk result ((dot : Dot) → list_any (is_dot dot) found.new.keys
         ≡ (list_any (is_dot dot) found.old.keys || asserts dot (operation_of operation.now))) }
@@ -37,6 +37,7 @@ fn add_asserted(found: &mut BTreeSet<Dot>, operation: &Operation) -> Result<(), 
     }
 }
 
+// Adds to a set the dots of a list of dots with their members.
 fn add_dots(found: &mut BTreeSet<Dot>, dots: &[(Dot, Member)]) -> Result<(), Memory>
     ensures { OnOk result ((dot : Dot) → list_any (is_dot dot) found.new.keys
         ≡ (list_any (is_dot dot) found.old.keys || list_any (λ p. is_dot dot p.0) dots.now)) }
@@ -63,7 +64,7 @@ pub(crate) fn asserted_dots(
     Ok(found)
 }
 
-// Adds these dots.
+// Adds dots to a set.
 pub(crate) fn insert_each(found: &mut BTreeSet<Dot>, dots: &[Dot]) -> Result<(), Memory>
     ensures { OnOk result ((dot : Dot) → list_any (is_dot dot) found.new.keys
         ≡ (list_any (is_dot dot) found.old.keys || list_any (is_dot dot) dots.now)) }
@@ -87,7 +88,7 @@ pub(crate) fn named_dots(alloc: Global, operations: &[Operation]) -> Result<BTre
     Ok(found)
 }
 
-// Those of the dots that no operation names, in their order.
+// Of a set of dots those that no operation names, in their order.
 fn unnamed(
     alloc: Global,
     operations: &[Operation],
@@ -114,7 +115,7 @@ pub(crate) fn visible_dots(alloc: Global, operations: &[Operation]) -> Result<Ve
     unnamed(alloc, operations, &found)
 }
 
-// The member of a dot that some operation asserts.
+// The member with which the first operation that asserts `dot` does so; `None` where none does.
 pub(crate) fn member_of(operations: &[Operation], dot: Dot) -> Option<&Member>
     ensures { option_map (λ m. m.now) result ≡ member_of (knowledge_of operations.now) dot }
 {
@@ -126,7 +127,7 @@ pub(crate) fn member_of(operations: &[Operation], dot: Dot) -> Option<&Member>
     None
 }
 
-// Whether a dot is one of the member's.
+// Whether the member that `dot` has in these operations is `member`.
 fn is_of(operations: &[Operation], member: &Member, dot: Dot) -> bool
     ensures { result ≡ is_of (dot_view (knowledge_of operations.now)) member.now dot }
 {

@@ -17,6 +17,7 @@ pub(crate) struct Fields<'a> {
 }
 
 impl<'a> Fields<'a> {
+    // Fields of which none is set.
     pub(crate) fn none() -> Fields<'a>
         ensures { fields_of result ≡ no_fields }
     {
@@ -38,7 +39,7 @@ impl<'a> Fields<'a> {
         }
     }
 
-    // The row of these fields; what was never set has its default.
+    // The row that these fields show; what was never set has its default.
     pub(crate) fn row(&self) -> Row<'a>
         ensures { row_view result
             ≡ row_of_fields (fields_of self.now).penalty (fields_of self.now).pause

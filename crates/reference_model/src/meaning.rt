@@ -4,8 +4,8 @@ use replica::Refusal;
 /// What a change means at a site.
 #[derive(Drop)]
 pub enum Meaning {
-    /// It is refused, and why.
+    /// The change is refused, for this cause.
     Refused(Refusal),
-    /// It makes this operation.
+    /// The change makes this operation.
     Makes(Operation),
 }

@@ -25,7 +25,8 @@ use replica::laws::a_site_view_foresees_one_operation_more;
 use replica::{QueueList, Refusal};
 use std::alloc::Global;
 
-// Whether these operations, with one more that asserts and names these dots, are too many for a site.
+// Whether too many dots would be visible, or the known ones would have too many runs, with one operation more, which asserts
+// the dots `asserted` and names the dots `named`.
 fn is_full(
     alloc: Global,
     operations: &[Operation],
@@ -41,7 +42,7 @@ fn is_full(
     Ok(dots > MOST_LIVE || runs > MOST_RUNS)
 }
 
-// Whether an operation that asserts and names these dots has too many runs.
+// Whether the dots that an operation asserts and names, which are these, have too many runs by themselves.
 fn is_too_long(alloc: Global, asserted: &[PlainDot], named: &[Dot]) -> Result<bool, Memory>
     ensures { IfOk result
         (λ long. (o : defined.Operation) → Touches o asserted.now named.now
@@ -69,7 +70,7 @@ fn is_past_limits(
     Ok(known || (buffer || long))
 }
 
-// An add of a member: its dot has the site's next count, and its stamp the site's next time.
+// The add of a member, with the site's next count and next time; or its refusal where it is past a limit.
 fn add_at(
     alloc: Global,
     site: SiteId,
@@ -107,7 +108,7 @@ fn add_at(
     }))
 }
 
-// The dots alone, as plain ones.
+// The dots of a list without their members, as plain ones.
 fn plain_dots(alloc: Global, dots: &[(Dot, Member)]) -> Result<Vec<PlainDot>, Memory>
     ensures { IfOk result (λ plain. plain.items ≡ each (λ d. d.0) dots.now) }
 {
@@ -116,14 +117,15 @@ fn plain_dots(alloc: Global, dots: &[(Dot, Member)]) -> Result<Vec<PlainDot>, Me
         .collect(alloc)
 }
 
-// The dots alone.
+// The dots of a list without their members.
 fn dots_alone(alloc: Global, dots: &[(Dot, Member)]) -> Result<Vec<Dot>, Memory>
     ensures { IfOk result (λ alone. alone.items ≡ each (λ d. d.0) dots.now) }
 {
     dots.iter().map(|(dot, _)| *dot).collect(alloc)
 }
 
-// A write of one field on dots, with a time past all that the site has used and all that it replaces.
+// The write of one field on dots, with a time past all that the site has used and all that it replaces; or its refusal where
+// it is past a limit.
 fn write_at(
     alloc: Global,
     site: SiteId,
@@ -153,7 +155,7 @@ fn write_at(
     }))
 }
 
-// A remove of dots.
+// The remove of dots; or its refusal where it is past a limit.
 fn remove_of(alloc: Global, old: &SiteKnowledge, dots: &[(Dot, Member)]) -> Result<Meaning, Memory>
     ensures { IfOk result (λ m. (site : ℕ)
         → meaning_of m
@@ -166,7 +168,7 @@ fn remove_of(alloc: Global, old: &SiteKnowledge, dots: &[(Dot, Member)]) -> Resu
     Ok(Meaning::Makes(Operation::Remove { dots: named }))
 }
 
-// A count of one call more.
+// The count of one call more than the site has counted in the queue; or its refusal where it is past a limit.
 fn count_at(
     alloc: Global,
     site: SiteId,
@@ -193,7 +195,7 @@ fn count_at(
     }
 }
 
-// An add to the queue of this number, where the member isn't there.
+// The add of a member; or its refusal where the member is there already, or a limit is passed.
 fn add_member(
     alloc: Global,
     site: SiteId,
@@ -218,7 +220,7 @@ fn add_member(
     }
 }
 
-// A remove from the queue of this number, where the member is there.
+// The remove of an interface from the queue of this number; or its refusal where it isn't there, or a limit is passed.
 fn remove_member(
     alloc: Global,
     old: &SiteKnowledge,
@@ -240,7 +242,8 @@ fn remove_member(
     }
 }
 
-// A setting, where the interface is in the queue of this number, or, without one, in some queue.
+// The write of a field of an interface in the queue of this number, or, without one, in every queue that it is in; or its
+// refusal where it is in none, or a limit is passed.
 fn set_field(
     alloc: Global,
     site: SiteId,

@@ -61,7 +61,7 @@ pub fn rows(
     Ok(listed)
 }
 
-// The interfaces of a queue's members, in the order of their bytes.
+// The interfaces of the members that a queue has a visible dot of, in the order of their bytes.
 fn interfaces_of(
     alloc: Global,
     operations: &[Operation],
@@ -84,7 +84,7 @@ fn in_vec<'a>(alloc: Global, found: &BTreeSet<&'a Interface>) -> Result<Vec<&'a 
     found.iter().copied().collect(alloc)
 }
 
-// The interfaces of the members in a queue that these dots are of.
+// The interfaces of the members in a queue that one of these dots is of.
 fn interfaces_at<'a>(
     alloc: Global,
     operations: &'a [Operation],
@@ -107,7 +107,7 @@ fn interfaces_at<'a>(
     Ok(found)
 }
 
-// The interface of a dot's member, where that is in the queue.
+// The interface of the member of `dot`, where that is a member of the queue.
 fn interface_of(operations: &[Operation], dot: Dot, queue: u16) -> Option<&Interface>
     ensures { option_map (λ i. i.now) result
         ≡ option_and_then (interface_in queue) (member_of (knowledge_of operations.now) dot) }

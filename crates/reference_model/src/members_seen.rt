@@ -11,14 +11,14 @@ use crate::dots_seen::{dots_of_member, member_of, visible_dots};
 use dots::{Dot, Interface, Member, Memory};
 use std::alloc::Global;
 
-// These dots, each with the member.
+// The dots `dots`, each with the member `member`.
 fn with_member(alloc: Global, dots: &[Dot], member: &Member) -> Result<Vec<(Dot, Member)>, Memory>
     ensures { IfOk result (λ seen. seen.items ≡ each (λ dot. (dot, member.now)) dots.now) }
 {
     dots.iter().map(|dot| (*dot, member.copy())).collect(alloc)
 }
 
-// A dot with its member, where that has this interface.
+// `dot` with its member, where that has this interface; else `None`.
 fn with_interface(
     operations: &[Operation],
     interface: &Interface,
@@ -34,7 +34,7 @@ fn with_interface(
     }
 }
 
-// Those of the dots whose member has this interface, each with its member.
+// Of `dots` those whose member has this interface, each with its member.
 fn of_interface(
     alloc: Global,
     operations: &[Operation],

@@ -20,46 +20,46 @@ use std::alloc::Global;
 pub enum Operation {
     /// A new dot of a member, with its three fields under one stamp (RR-8083: an add makes a unique tag).
     Add {
-        /// The dot.
+        /// The dot that the add makes.
         dot: Dot,
-        /// The member that it is of.
+        /// The member that the dot is of.
         member: Member,
-        /// When it was made, and where.
+        /// When the add was made, and at which site.
         stamp: Stamp,
-        /// The penalty that it sets.
+        /// The penalty that the add sets.
         penalty: Penalty,
-        /// Whether the member is paused.
+        /// The pause that the add sets: whether the member is paused, and why.
         pause: Pause,
-        /// The member name and the state interface.
+        /// The label that the add sets: the member name and the state interface.
         label: Label,
         /// Older dots of the same site, dead where the add was made.
         older: Vec<Dot>,
     },
     /// One field set on the dots of a member that its site sees.
     Write {
-        /// The dots, each with its member.
+        /// The dots on which the field is set, each with its member.
         dots: Vec<(Dot, Member)>,
-        /// The field and its value.
+        /// The field that is set, and its value.
         setting: Setting,
-        /// When it was written, and where.
+        /// When the value was written, and at which site.
         stamp: Stamp,
         /// Older dots of the same sites, dead where the write was made.
         older: Vec<Dot>,
     },
     /// Dots that are dead from now on (RR-8083: a remove takes the tags that its replica has observed).
     Remove {
-        /// The dots.
+        /// The dots that the remove names.
         dots: Vec<Dot>,
     },
     /// How many calls a site has counted in a queue so far.
     Count {
-        /// The site.
+        /// The site that counted the calls.
         site: SiteId,
         /// The number of the queue, from 0.
         queue: u16,
-        /// Which calls.
+        /// The kind of calls that were counted.
         calls: Calls,
-        /// How many.
+        /// How many of these calls the site has counted so far.
         total: Total,
     },
 }
@@ -71,14 +71,14 @@ pub(crate) fn is_dot(dot: Dot, other: Dot) -> bool
     dot.cmp(&other).is_eq()
 }
 
-// Whether a dot is among these.
+// Whether `dot` is among `dots`.
 fn has_dot(dots: &[Dot], dot: Dot) -> bool
     ensures { result ≡ list_any (is_dot dot) dots.now }
 {
     dots.iter().any(|other| is_dot(dot, *other))
 }
 
-// The member of the first of these dots that is this one.
+// The member that stands first with `dot` in a list of dots with their members, if one does.
 fn find_member(dots: &[(Dot, Member)], dot: Dot) -> Option<&Member>
     ensures { option_map (λ m. m.now) result
         ≡ option_map (λ p. p.1) (find (λ p. is_dot dot p.0) dots.now) }
@@ -91,7 +91,7 @@ fn find_member(dots: &[(Dot, Member)], dot: Dot) -> Option<&Member>
     None
 }
 
-// The time of a stamp of a site; 0 where it is another's.
+// The time of a stamp where that is of this site, else 0.
 fn own_time(site: SiteId, stamp: Stamp) -> u64
     ensures value { result ≡ own_time site stamp }
     ensures limit { result ≤ MOST_COUNT }
@@ -103,7 +103,7 @@ fn own_time(site: SiteId, stamp: Stamp) -> u64
     }
 }
 
-// The same dots with their members once more.
+// A copy of a list of dots with their members.
 fn members_copied(alloc: Global, dots: &[(Dot, Member)]) -> Result<Vec<(Dot, Member)>, Memory>
     ensures { IfOk result (λ copy. copy.items ≡ dots.now) }
 {
@@ -113,7 +113,7 @@ fn members_copied(alloc: Global, dots: &[(Dot, Member)]) -> Result<Vec<(Dot, Mem
 }
 
 impl Operation {
-    // The member of a dot that it asserts.
+    // The member with which this operation asserts `dot`; `None` where it doesn't assert it.
     pub(crate) fn member_of(&self, dot: Dot) -> Option<&Member>
         ensures { option_map (λ m. m.now) result
             ≡ option_map (λ p. p.1)
@@ -136,14 +136,14 @@ impl Operation {
         }
     }
 
-    // Whether it asserts the dot.
+    // Whether this operation asserts `dot`.
     pub(crate) fn asserts(&self, dot: Dot) -> bool
         ensures { result ≡ asserts dot (operation_of self.now) }
     {
         self.member_of(dot).is_some()
     }
 
-    // The dots that it names.
+    // The dots that this operation names.
     pub(crate) fn named(&self) -> &[Dot]
         ensures { set.from_list result.now ≡ named_by (operation_of self.now) }
     {
@@ -154,14 +154,14 @@ impl Operation {
         }
     }
 
-    // Whether it names the dot.
+    // Whether this operation names `dot`.
     pub(crate) fn names(&self, dot: Dot) -> bool
         ensures { result ≡ names dot (operation_of self.now) }
     {
         has_dot(self.named(), dot)
     }
 
-    // What it sets of each field.
+    // What this operation sets of each of the three fields.
     pub(crate) fn fields(&self) -> Fields<'_>
         ensures { fields_of result ≡ fields_set (operation_of self.now) }
     {
@@ -191,7 +191,7 @@ impl Operation {
         }
     }
 
-    // The count that a site has used for it; 0 where it has used none.
+    // The count that this site has used for the operation; 0 where it has used none.
     pub(crate) fn count_used(&self, site: SiteId) -> u64
         ensures value { result ≡ count_used site (operation_of self.now) }
         ensures limit { result ≤ MOST_COUNT }
@@ -202,7 +202,7 @@ impl Operation {
         }
     }
 
-    // The time that a site has used for it; 0 where it has used none.
+    // The time that this site has used for the operation; 0 where it has used none.
     pub(crate) fn time_used(&self, site: SiteId) -> u64
         ensures value { result ≡ time_used site (operation_of self.now) }
         ensures limit { result ≤ MOST_COUNT }
@@ -263,7 +263,7 @@ impl Operation {
         }
     }
 
-    // What it says that a site has counted of a queue's calls; 0 where it says nothing of them.
+    // How many calls of a kind the operation says that a site has counted in a queue; 0 where it says nothing of them.
     pub(crate) fn counted(&self, site: u16, queue: u16, calls: Calls) -> u64
         ensures value { result ≡ count_in site queue calls (operation_of self.now) }
         ensures limit { result ≤ MOST_CALLS }

@@ -6,16 +6,16 @@ use replica::Refusal;
 pub enum Outcome {
     /// The command is done.
     Done,
-    /// The command is refused.
+    /// The command is refused, for this cause.
     Denied(Refusal),
-    /// A frame.
+    /// A frame is made.
     Framed {
-        /// Its number.
+        /// The number of the frame, from 1.
         number: u64,
-        /// What it carries.
+        /// The operations that the frame carries.
         frame: Vec<Operation>,
     },
-    /// There is nothing to cut.
+    /// No frame is made, since the buffer is empty.
     Nothing,
     /// No number is left for a frame.
     NoNumber,

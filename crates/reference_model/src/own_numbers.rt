@@ -37,14 +37,14 @@ pub(crate) fn last_time(operations: &[Operation], site: SiteId) -> u64
     last
 }
 
-// Whether a dot is of the site of one of these and has a lesser count.
+// Whether `dot` is of the site of one of `dots` and has a lesser count.
 fn is_older(dots: &[PlainDot], dot: Dot) -> bool
     ensures { result ≡ is_older dots.now dot }
 {
     dots.iter().any(|newer| newer.is_after(dot))
 }
 
-// Those of a set that are older than some of these dots.
+// Of the set `named` the dots that are older than one of `dots`: of its site, with a lesser count.
 fn older_among(alloc: Global, named: &BTreeSet<Dot>, dots: &[PlainDot]) -> Result<Vec<Dot>, Memory>
     ensures { IfOk result (λ older. older.items ≡ filter (is_older dots.now) named.now.keys) }
 {
@@ -55,7 +55,7 @@ fn older_among(alloc: Global, named: &BTreeSet<Dot>, dots: &[PlainDot]) -> Resul
         .collect(alloc)
 }
 
-// The dead dots of the sites of these dots, with lesser counts.
+// The dead dots that are older than one of `dots`: of its site, with a lesser count.
 pub(crate) fn older_dots(
     alloc: Global,
     operations: &[Operation],

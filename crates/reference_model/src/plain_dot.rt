@@ -40,7 +40,7 @@ impl PlainDot {
         }
     }
 
-    // The same dot.
+    // The same dot without its limits.
     pub(crate) fn of(dot: Dot) -> PlainDot
         ensures { result ≡ dot }
     {
@@ -50,14 +50,14 @@ impl PlainDot {
         }
     }
 
-    // Whether the other is the dot of the next count.
+    // Whether the other dot follows this one: it is of the same site, with the next count.
     pub(crate) fn is_before(self, other: PlainDot) -> bool
         ensures { result ≡ is_dot (next_dot self) other }
     {
         self.site == other.site && self.count < other.count && other.count - self.count == 1
     }
 
-    // Whether the other is of the same site, with a lesser count.
+    // Whether the other dot is older than this one: of the same site, with a lesser count.
     pub(crate) fn is_after(self, other: Dot) -> bool
         ensures { result ≡ (nat_eq self.site other.site && nat_lt other.count self.count) }
     {

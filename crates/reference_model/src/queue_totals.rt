@@ -6,8 +6,8 @@ ghost use Rattle.reference_model.specs.Plain.{knowledge_of};
 use crate::{CallTotals, Calls, Operation};
 use dots::{MOST_CALLS, SITES};
 
-/// How many calls of the queue of this number were completed, and how many abandoned: of each the sum over all sites of the
-/// greatest that is said (RR-7506's grow-only counter).
+/// How many calls of the queue of this number were completed, and how many abandoned: of each kind the sum over all sites of
+/// the greatest number that an operation says of the site (RR-7506's grow-only counter).
 pub fn totals(operations: &[Operation], queue: u16) -> CallTotals
     ensures { result ≡ totals_in (knowledge_of operations.now) queue }
 {
@@ -17,6 +17,7 @@ pub fn totals(operations: &[Operation], queue: u16) -> CallTotals
     }
 }
 
+// How many calls of a kind were counted in a queue: the sum over all sites.
 fn queue_total(operations: &[Operation], queue: u16, calls: Calls) -> u64
     ensures { result ≡ queue_total (knowledge_of operations.now) queue calls }
 {
@@ -27,7 +28,7 @@ fn queue_total(operations: &[Operation], queue: u16, calls: Calls) -> u64
     sum
 }
 
-// The greatest that is said of a site's calls; 0 where nothing is.
+// How many calls of a kind a site has counted in a queue: the greatest number that an operation says; 0 where none says any.
 pub(crate) fn site_total(operations: &[Operation], site: u16, queue: u16, calls: Calls) -> u64
     ensures value { result ≡ site_total (knowledge_of operations.now) site queue calls }
     ensures limit { result ≤ MOST_CALLS }

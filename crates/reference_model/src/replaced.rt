@@ -11,7 +11,7 @@ use crate::fields_seen::fields_in;
 use crate::{Operation, Setting};
 use dots::{Dot, MOST_COUNT, Member};
 
-// The time of an entry; 0 where there is none.
+// The time of an entry's stamp; 0 where there is no entry.
 fn time_of<T: Copy>(entry: &Option<Entry<T>>) -> u64
     ensures value { result ≡ time_of (entry_of (λ v. v) entry.now) }
     ensures limit { result ≤ MOST_COUNT }
@@ -22,7 +22,7 @@ fn time_of<T: Copy>(entry: &Option<Entry<T>>) -> u64
     }
 }
 
-// The time of what a setting replaces on a dot.
+// The time of the value that a setting replaces on a dot; 0 where the field isn't set there.
 fn time_replaced(operations: &[Operation], setting: &Setting, dot: Dot) -> u64
     ensures value { result
         ≡ time_replaced (dot_view (knowledge_of operations.now)) (setting_of setting.now) dot }

@@ -19,7 +19,7 @@ pub enum Setting {
 }
 
 impl Setting {
-    // The one field that it sets, under this stamp.
+    // The fields with the one that this setting sets, under this stamp, and no other.
     pub(crate) fn fields(&self, stamp: Stamp) -> Fields<'_>
         ensures { fields_of result ≡ record {
           penalty = entry_under stamp (set_penalty (setting_of self.now));

@@ -4,10 +4,10 @@ use crate::Operation;
 /// last stand first.
 #[derive(Drop)]
 pub struct SiteKnowledge {
-    /// All operations that it has made or taken.
+    /// All operations that the site has made or taken.
     pub known: Vec<Operation>,
-    /// Those of its own that it has put in no frame yet.
+    /// The operations that the site has made and put in no frame yet.
     pub buffer: Vec<Operation>,
-    /// How many frames it has made.
+    /// How many frames the site has made.
     pub frames: u64,
 }

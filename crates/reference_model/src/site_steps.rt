@@ -13,7 +13,7 @@ use std::alloc::Global;
 // A site after a step, and what comes of it.
 type After = (SiteKnowledge, Outcome);
 
-// Adds these operations at the end.
+// Adds copies of operations at the end of `all`.
 fn push_each(
     alloc: Global,
     all: &mut Vec<Operation>,
@@ -28,7 +28,7 @@ fn push_each(
     Ok(())
 }
 
-// Operations, and those behind them.
+// The operations of `front`, and those of `back` behind them.
 fn joined(alloc: Global, front: &[Operation], back: &[Operation]) -> Result<Vec<Operation>, Memory>
     ensures { IfOk result
         (λ all. knowledge_of all.items ≡ knowledge_of front.now ++ knowledge_of back.now) }
@@ -39,7 +39,7 @@ fn joined(alloc: Global, front: &[Operation], back: &[Operation]) -> Result<Vec<
     Ok(all)
 }
 
-// The same operations once more.
+// A copy of a list of operations.
 fn copied(alloc: Global, operations: &[Operation]) -> Result<Vec<Operation>, Memory>
     ensures { IfOk result (λ all. knowledge_of all.items ≡ knowledge_of operations.now) }
 {
@@ -48,7 +48,7 @@ fn copied(alloc: Global, operations: &[Operation]) -> Result<Vec<Operation>, Mem
     Ok(all)
 }
 
-// The same site once more.
+// A copy of what a site knows.
 fn same(alloc: Global, old: &SiteKnowledge) -> Result<SiteKnowledge, Memory>
     ensures { IfOk result (λ same. site_of same ≡ site_of old.now) }
 {
@@ -79,7 +79,7 @@ fn after_meaning(alloc: Global, old: &SiteKnowledge, meaning: Meaning) -> Result
     }
 }
 
-// A site that makes a frame of these operations, and keeps this buffer.
+// A site after it has made a frame of these operations and kept this buffer, or where no number is left for a frame.
 fn framed(
     alloc: Global,
     old: &SiteKnowledge,
@@ -103,7 +103,7 @@ fn framed(
     Ok((new, Outcome::Framed { number, frame }))
 }
 
-// A site that cuts its buffer.
+// A site after it has cut its buffer, if that isn't empty.
 fn cut(alloc: Global, old: &SiteKnowledge) -> Result<After, Memory>
     ensures { IfOk result
         (λ after. (site_of after.0, outcome_of after.1)
@@ -115,7 +115,7 @@ fn cut(alloc: Global, old: &SiteKnowledge) -> Result<After, Memory>
     framed(alloc, old, &old.buffer, &[])
 }
 
-// A site that takes what a frame carries.
+// A site after it has taken what a frame carries, if that isn't too much.
 fn take(alloc: Global, old: &SiteKnowledge, frame: &[Operation]) -> Result<After, Memory>
     ensures { IfOk result
         (λ after. (site_of after.0, outcome_of after.1)

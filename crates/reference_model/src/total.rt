@@ -35,7 +35,7 @@ impl Total {
         }
     }
 
-    /// Its number.
+    /// The number of calls of this total, 0 to 1,000,000,000.
     pub fn get(self) -> u32
         ensures value { result ≡ self }
         ensures limit { result ≤ MOST_CALLS }
