@@ -4,6 +4,6 @@ use Rattle.std.specs.Borrow.{Fml, RattleType, MutBor, Lends}
 use Rattle.op_arena.specs.Columns.{Column, column}
 use Rattle.op_arena.specs.contracts.chunks.Chunks.{the_row}
 
--- the item at the index is the last value written through r
+-- the list of chunks ends with the last value that was written through `r` as its item at `index`
 abbrev pub lends_item : (R : RattleType) → MutBor (Column R.Denot) → ℕ → MutBor R.Denot → Fml
 lends_item R c index r = Lends (the_row R) R c r (λ w. column (slice_set c.now.items index w) c.now.capacity)

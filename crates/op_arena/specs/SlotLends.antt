@@ -5,6 +5,7 @@ use Rattle.op_arena.specs.declared.slot.Slot.{Slot}
 use Rattle.op_arena.specs.declared.slot.State.TheVariants.{Held}
 use Rattle.op_arena.specs.contracts.slot.Slot.{the_row}
 
--- the cell holds the last value written through r
+-- the cell ends with the last value that was written through `r` as the one that it holds, in the
+-- same generation
 abbrev pub lends_value : (R : RattleType) → MutBor (Slot R.Denot) → MutBor R.Denot → Fml
 lends_value R s r = Lends (the_row R) R s r (λ w. slot s.now.generation (Held w))

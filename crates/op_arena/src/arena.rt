@@ -169,6 +169,7 @@ impl<T, const LAST: u32> Arena<T, LAST> {
         self.get(id).is_some()
     }
 
+    // The value of `id`, which is held, for writing.
     fn value_mut(&mut self, id: CellId) -> &mut T
         requires { IsTrue (map.contains_key self.old.held id) }
         ensures* writes_back { sem 𝓛 (lends_value T.row LAST.row self.entry id result) }
@@ -209,6 +210,7 @@ impl<T, const LAST: u32> Arena<T, LAST> {
         }
     }
 
+    // Takes the value of `id`, which is held, out, and spends the id.
     fn take_held(&mut self, id: CellId) -> T
         requires { IsTrue (map.contains_key self.old.held id) }
         ensures value { map.get self.old.held id ≡ Some result }

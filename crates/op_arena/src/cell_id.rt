@@ -42,7 +42,7 @@ impl CellId {
         self.index
     }
 
-    /// How many values the cell held before.
+    /// How many values the cell held before this one.
     pub fn generation(self) -> u32
         ensures value { result ≡ self.generation }
         ensures limit { result < 2 ^ 32 }

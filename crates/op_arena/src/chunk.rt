@@ -64,7 +64,7 @@ impl<T: Drop> Drop for Chunk<T> {
 impl<T> Chunk<T> {
     ghost use Rattle.op_arena.specs.ColumnLends.{lends_item};
 
-    // Memory for `capacity` values.
+    // A chunk with memory for `capacity` values, and none yet.
     pub(crate) fn new(alloc: Global, capacity: usize) -> Result<Self, AllocError>
         ensures { IfOk result (λ c. c ≡ column [] capacity) }
     {
@@ -81,7 +81,7 @@ impl<T> Chunk<T> {
         })
     }
 
-    // Adds a value after the others.
+    // Adds a value after those that the chunk has.
     pub(crate) fn push(&mut self, value: T)
         requires { length self.old.items < self.old.capacity }
         ensures { self.new ≡ column (self.old.items ++ value ∷ []) self.old.capacity }

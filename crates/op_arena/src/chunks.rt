@@ -63,7 +63,7 @@ impl<T> Chunks<T> {
         }
     }
 
-    // How many values there are.
+    // How many values the chunks hold together.
     pub(crate) fn len(&self) -> usize
         ensures value { result ≡ length self.now.items }
         ensures within { result ≤ self.now.capacity }
@@ -71,7 +71,7 @@ impl<T> Chunks<T> {
         self.len
     }
 
-    // How many values there is memory for.
+    // How many values the chunks have memory for together.
     pub(crate) fn capacity(&self) -> usize
         ensures value { result ≡ self.now.capacity }
         ensures limit { result ≤ 2 ^ 20 }
@@ -79,7 +79,7 @@ impl<T> Chunks<T> {
         self.capacity
     }
 
-    // Adds the next chunk.
+    // Adds the next chunk, which is empty.
     pub(crate) fn grow(&mut self) -> Result<(), AllocError>
         requires { self.old.capacity < 2 ^ 20 }
         ensures items { self.new.items ≡ self.old.items }
@@ -114,7 +114,7 @@ impl<T> Chunks<T> {
         Ok(())
     }
 
-    // Adds a value after the others.
+    // Adds a value after those of all chunks.
     pub(crate) fn push(&mut self, value: T)
         requires { length self.old.items < self.old.capacity }
         ensures { self.new ≡ column (self.old.items ++ value ∷ []) self.old.capacity }
@@ -124,7 +124,7 @@ impl<T> Chunks<T> {
         self.len += 1;
     }
 
-    // The value at `index`.
+    // The value at `index`, counted over all chunks.
     pub(crate) fn get(&self, index: usize) -> &T
         requires { index < length self.now.items }
         ensures { slice_get self.now.items index ≡ Some result.now }
@@ -133,7 +133,7 @@ impl<T> Chunks<T> {
         self.chunks[chunk].get(place)
     }
 
-    // The value at `index`, for writing.
+    // The value at `index`, counted over all chunks, for writing.
     pub(crate) fn get_mut(&mut self, index: usize) -> &mut T
         requires { index < length self.old.items }
         ensures* writes_back { sem 𝓛 (lends_item T.row self.entry index result) }

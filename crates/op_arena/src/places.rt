@@ -45,13 +45,13 @@ impl<T, A: Allocator> Model for Lease<T, A> {
 
 unsafe impl<T, A: Allocator + Send> Send for Lease<T, A> {}
 
-// A `&` to it gives nothing.
+// A `&` to a lease gives nothing.
 unsafe impl<T, A: Allocator> Sync for Lease<T, A> {}
 
 impl<T> Places<T> {
     ghost use Rattle.op_arena.specs.RowLends.{lends_value};
 
-    // Memory for `count` places, all empty, and the right to give it back.
+    // Memory for `count` places, all empty, and the lease: the right to give it back.
     pub(crate) fn add<A: Allocator>(
         alloc: &A,
         count: usize,
@@ -86,7 +86,7 @@ impl<T> Places<T> {
         unsafe { self.first.add(index).write(value) }
     }
 
-    // The value at `index`.
+    // The value of the place at `index`.
     pub(crate) fn read(&self, index: usize) -> &T
         requires { Holds self.now.slots index }
         ensures { get_or self.now.slots index None ≡ Some result.now }
@@ -94,7 +94,7 @@ impl<T> Places<T> {
         unsafe { &*self.first.add(index) }
     }
 
-    // The value at `index`, for writing.
+    // The value of the place at `index`, for writing.
     pub(crate) fn write(&mut self, index: usize) -> &mut T
         requires { Holds self.old.slots index }
         ensures* writes_back { sem 𝓛 (lends_value T.row self.entry index result) }
@@ -103,7 +103,7 @@ impl<T> Places<T> {
         unsafe { &mut *self.first.add(index) }
     }
 
-    // Moves the value at `index` out, and leaves the place empty.
+    // Moves the value of the place at `index` out, and leaves that empty.
     pub(crate) fn take(&mut self, index: usize) -> T
         requires { Holds self.old.slots index }
         ensures { (get_or self.old.slots index None ≡ Some result)

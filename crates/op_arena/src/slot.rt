@@ -28,7 +28,7 @@ pub(crate) enum State<T> {
 impl<T> State<T> {
     ghost use Rattle.op_arena.specs.contracts.slot.State.{the_row};
 
-    // The value, if there is one.
+    // The value that this state holds, if there is one.
     fn value(&self) -> Option<&T>
         ensures { option_copied result ≡ value_of self.now }
     {
@@ -38,7 +38,7 @@ impl<T> State<T> {
         }
     }
 
-    // The value, for writing.
+    // The value that this state holds, for writing.
     fn value_mut(&mut self) -> &mut T
         requires { IsSome (value_of self.old) }
         ensures* lends { sem 𝓛 (Lends (the_row T.row) T.row self.entry result State.Held) }
@@ -50,7 +50,7 @@ impl<T> State<T> {
         }
     }
 
-    // The value by itself.
+    // The value that this state held, by itself.
     fn into_value(self) -> T
         requires { IsSome (value_of self) }
         ensures { value_of self ≡ Some result }
@@ -61,7 +61,7 @@ impl<T> State<T> {
         }
     }
 
-    // The next free cell, of a free one.
+    // The index of the next free cell, of the state of a free one.
     fn into_next(self) -> Option<u32>
         requires { IsFree self }
         ensures { self ≡ State.Free result }
@@ -76,7 +76,7 @@ impl<T> State<T> {
 impl<T> Slot<T> {
     ghost use Rattle.op_arena.specs.SlotLends.{lends_value};
 
-    // A cell with its first value.
+    // A cell with its first value, in generation 0.
     pub(crate) fn new(value: T) -> Self
         ensures { result ≡ slot 0 (State.Held value) }
     {
@@ -86,14 +86,14 @@ impl<T> Slot<T> {
         }
     }
 
-    // The value, if there is one.
+    // The value that the cell holds, if there is one.
     pub(crate) fn value(&self) -> Option<&T>
         ensures { option_copied result ≡ value_of self.now.state }
     {
         self.state.value()
     }
 
-    // The value, for writing.
+    // The value that the cell holds, for writing.
     pub(crate) fn value_mut(&mut self) -> &mut T
         requires { IsSome (value_of self.old.state) }
         ensures* writes_back { sem 𝓛 (lends_value T.row self.entry result) }
