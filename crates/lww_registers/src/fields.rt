@@ -8,9 +8,9 @@ use std::marker::Model;
 /// What is set of a member on one dot: three registers, each joined by its own stamps (this project's own).
 #[derive(Drop)]
 pub struct Fields {
-    /// The penalty.
+    /// The penalty of the member.
     pub penalty: Register<Penalty>,
-    /// Whether it is paused, and why.
+    /// Whether the member is paused, and why.
     pub pause: Register<Pause>,
     /// How the member is shown.
     pub label: Register<Label>,
@@ -27,7 +27,7 @@ impl Model for Fields {
 }
 
 impl Fields {
-    /// No field is set.
+    /// Fields of which none is set.
     pub fn none() -> Fields
         ensures { result ≡ no_fields }
     {

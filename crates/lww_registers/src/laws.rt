@@ -1,11 +1,11 @@
-//! What holds of every join, whatever the registers. The functions have no body: their contracts are the laws.
+//! What holds of every join of registers and of fields. The functions have no body: their contracts are the laws.
 ghost use Rattle.std.specs.Prelude.{◌≡◌, Option};
 ghost use Rattle.general_lemmas.specs.Joins.{IsJoin, IsLeastAbove, IsOrder};
 ghost use Rattle.operations.specs.Registers.{Entry, RegistersAgree, IsBelow, KeepsLatest, join_of};
 ghost use Rattle.operations.specs.Conditions.{DotFields, FieldsAgree, fields_joined};
 
-/// A join keeps the entry of the greatest stamp: it has an entry where one of both has one, that of one
-/// of both, and none of either is later.
+/// The join of two registers keeps the entry of the greatest stamp: it is empty only where both are, else
+/// it holds an entry of one of them, and none of theirs is under a greater stamp (RR-7506).
 pub fn join_keeps_latest<T>()
     ensures { (x y : Option (Entry T)) → KeepsLatest x y (join_of x y) }
 {}

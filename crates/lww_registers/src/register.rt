@@ -39,14 +39,14 @@ impl<T> Register<T> {
         }
     }
 
-    /// Whether nothing was written to it.
+    /// Whether nothing was written to this register.
     pub fn is_none(&self) -> bool
         ensures { IsTrue result ↔ (self.now ≡ None) }
     {
         self.entry.is_none()
     }
 
-    /// The stamp of its value, if it has one.
+    /// The stamp of the value that the register holds, if it holds one.
     pub fn stamp(&self) -> Option<Stamp>
         ensures { result ≡ option_map (λ e. e.stamp) self.now }
     {
@@ -56,7 +56,7 @@ impl<T> Register<T> {
         }
     }
 
-    /// Its value, if it has one.
+    /// The value that the register holds, if it holds one.
     pub fn value(&self) -> Option<&T>
         ensures { option_copied result ≡ option_map (λ e. e.value) self.now }
     {
