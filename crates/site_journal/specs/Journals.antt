@@ -23,8 +23,8 @@ use Rattle.site_journal.specs.declared.step.StepDeed.{StepDeed}
 use Rattle.site_journal.specs.declared.step.StepDeed.TheVariants.{Asked, Cut, Whole}
 use Rattle.site_journal.specs.Legal.{IsAsked, LeadAll, Leads}
 
--- The replica that a journal began from, the steps since, how many steps were before, how many there were in all, how many may stand in it, and the
--- replica.
+-- what is seen of a journal: the replica that it began from, the steps since, how many steps were
+-- before, how many there were in all, how many may stand in it, and the replica now
 pub record JournalState : Type 0 where
   pub base : SiteState
   pub steps : List Step
@@ -33,7 +33,7 @@ pub record JournalState : Type 0 where
   pub limit : ℕ
   pub replica : SiteState
 
--- a journal is stored as its fields
+-- a journal is stored as the tuple of its fields
 abbrev pub journal_code : Coded JournalState
 journal_code =
     code_by (SiteState × (List Step × (ℕ × (ℕ × (ℕ × SiteState)))))
@@ -42,7 +42,8 @@ journal_code =
     (λ p. record { base = p.0; steps = p.1.0; start = p.1.1.0; count = p.1.1.1.0; limit = p.1.1.1.1.0; replica = p.1.1.1.1.1 })
     (λ _. refl)
 
--- what holds of every journal: its steps lead from its base to its replica, and are counted; 1 to MOST_STEPS may stand in it
+-- what holds of every journal `j`: its steps lead from its base to its replica and are counted, at
+-- most 2^40 in all, and at most `limit` of them, which is 1 to MOST_STEPS, stand in it
 pub record IsJournal (j : JournalState) : Type 0 where
   pub legal : LeadAll j.base j.steps j.replica
   pub counted : j.count ≡ j.start + length j.steps
@@ -51,7 +52,8 @@ pub record IsJournal (j : JournalState) : Type 0 where
   pub some : 1 ≤ j.limit
   pub few : j.limit ≤ MOST_STEPS
 
--- a journal of a replica, without a step
+-- journal `j` has just begun from `replica`, with no step and this `limit`; its base says what the
+-- replica says
 pub record IsNewJournal (replica : SiteState) (limit : ℕ) (j : JournalState) : Type 0 where
   pub base : IsSameSite replica j.base
   pub steps : j.steps ≡ []
@@ -60,18 +62,18 @@ pub record IsNewJournal (replica : SiteState) (limit : ℕ) (j : JournalState) :
   pub limit_is : j.limit ≡ limit
   pub replica_is : j.replica ≡ replica
 
--- a journal is of the site of this number and of these queues, and was from its base on
+-- journal `j` is that of the site of the number `site`, with the queues `names`, at its base and now
 pub record IsOfSite (site : ℕ) (names : List (List ℕ)) (j : JournalState) : Type 0 where
   pub base_site : j.base.site ≡ site
   pub base_names : j.base.names ≡ names
   pub site_is : j.replica.site ≡ site
   pub names_are : j.replica.names ≡ names
 
--- no step may be added
+-- no step may be added to journal `j`: as many stand in it as may, or 2^40 were done in all
 abbrev pub IsFull : JournalState → Type 0
 IsFull j = (j.limit ≤ length j.steps) ⊎ (j.count ≡ MOST_COUNT)
 
--- nothing has changed but room: the replica's own words say that its ids stay too
+-- from journal `old` to `new` nothing has changed but the room of the replica
 pub record IsUnchanged (old new : JournalState) : Type 0 where
   pub base : new.base ≡ old.base
   pub steps : new.steps ≡ old.steps
@@ -80,7 +82,8 @@ pub record IsUnchanged (old new : JournalState) : Type 0 where
   pub limit : new.limit ≡ old.limit
   pub replica : sites.IsUnchanged old.replica new.replica
 
--- one step was added, which is this, at the position of the journal's length
+-- journal `new` is `old` with `step` as one step more, which has led the replica of `old` to that
+-- of `new`
 pub record HasAdded (old : JournalState) (step : Step) (new : JournalState) : Type 0 where
   pub base : new.base ≡ old.base
   pub steps : new.steps ≡ old.steps ++ step ∷ []
@@ -89,7 +92,8 @@ pub record HasAdded (old : JournalState) (step : Step) (new : JournalState) : Ty
   pub limit : new.limit ≡ old.limit
   pub done : Leads old.replica step.deed new.replica
 
--- the steps of a journal were dropped, and the base is the replica as it was
+-- journal `new` is `old` without its steps: its base says what the replica says, and they still
+-- count as done
 pub record HasDropped (old new : JournalState) : Type 0 where
   pub base : IsSameSite old.replica new.base
   pub steps : new.steps ≡ []
@@ -98,22 +102,24 @@ pub record HasDropped (old new : JournalState) : Type 0 where
   pub limit : new.limit ≡ old.limit
   pub replica : new.replica ≡ old.replica
 
--- a deed is this ask with what the site answered to it, which isn't that memory is wanting
+-- a deed is the ask `asked` with what the site answered to it in state `old`, which isn't want of
+-- memory and led it to `new`
 abbrev pub IsAnswerTo : SiteState → Ask → SiteState → StepDeed → Type 0
 IsAnswerTo old asked new (Asked told answer) = (told ≡ asked) × IsAsked old asked answer new
 IsAnswerTo old asked new other = ⊥
 
--- a deed is a cut
+-- a deed is a cut, of a frame or of an empty buffer
 abbrev pub IsStepOfCut : StepDeed → Type 0
 IsStepOfCut (Cut bytes) = ⊤
 IsStepOfCut other = ⊥
 
--- a deed is a whole
+-- a deed is a whole: all that the site knows was put into a frame
 abbrev pub IsStepOfWhole : StepDeed → Type 0
 IsStepOfWhole (Whole bytes) = ⊤
 IsStepOfWhole other = ⊥
 
--- a take is refused for such a cause: the journal is full, the bytes are no frame, the site refuses the frame, or memory was wanting
+-- a take may be refused for this cause: the journal is full, the bytes are no frame, the site
+-- refuses the frame, or memory was wanting
 abbrev pub RefusesTake : DeskFault → Type 0
 RefusesTake desk_fault.JournalFull = ⊤
 RefusesTake (desk_fault.Decode fault) = fault ≢ decode_fault.Memory
@@ -122,23 +128,24 @@ RefusesTake desk_fault.Memory = ⊤
 RefusesTake desk_fault.Exhausted = ⊥
 RefusesTake (desk_fault.Rewound len) = ⊥
 
--- bytes that came back were refused for this cause
+-- a call was refused for the cause `fault`, and what was handed in came back
 abbrev pub IsRefusedFor : {A B : Type 0} → Result A (DeskFault × B) → DeskFault → Type 0
 IsRefusedFor (Ok x) fault = ⊥
 IsRefusedFor (Err refused) fault = refused.0 ≡ fault
 
--- a frame stands in front of bytes, and more behind it
+-- a frame stands at the front of `bytes`, and more bytes behind it
 pub record HasMore (bytes : List ℕ) : Type 0 where
   pub frame : Frame
   pub len : ℕ
   pub spelled : Spells frame (take len bytes)
   pub more : len < length bytes
 
--- bytes have this fault as one whole frame: their own, or that something follows the frame
+-- `bytes` have `fault` as one whole frame: it is their own as a frame, or it is `BadRange` and more
+-- follows their frame
 abbrev pub HasFaultAlone : List ℕ → DecodeFault → Type 0
 HasFaultAlone bytes fault = HasFault bytes fault ⊎ ((fault ≡ BadRange) × HasMore bytes)
 
--- bytes spell a frame that a site refuses for this cause, the first that stands
+-- `bytes` spell a frame that a site in state `s` refuses for the cause `fault`, the first that stands
 pub record IsRefusedFrame (s : SiteState) (bytes : List ℕ) (fault : TakeFault) : Type 0 where
   pub frame : Frame
   pub spelled : Spells frame bytes

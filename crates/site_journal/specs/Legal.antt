@@ -19,31 +19,32 @@ use Rattle.site_journal.specs.declared.step.Step.{Step}
 use Rattle.site_journal.specs.declared.step.StepDeed.{StepDeed}
 use Rattle.site_journal.specs.declared.step.StepDeed.TheVariants.{Asked, Took, Cut, Whole}
 
--- what was asked is answered: a command by what it means there, and never for want of memory; a status by its report, which changes nothing
+-- an ask was answered, which led a site from state `old` to `new`: a command by what it means
+-- there, and never for want of memory; a status by its report, which changes nothing
 abbrev pub IsAsked : SiteState → Ask → Answer → SiteState → Type 0
 IsAsked old (asked_command command) answer new =
     (result : Result (Unit {0}) Refusal) × (answer ≡ answer_of result) × (result ≢ Err Memory) × IsDone old (meaning_at old (change_of command)) new result
 IsAsked old (Status request) answer new = (answer ≡ Report (report_of old request)) × IsSameSite old new
 
--- a frame that these bytes spell was taken
+-- a frame that `bytes` spell was taken, which led a site from state `old` to `new`
 pub record IsTook (old : SiteState) (bytes : List ℕ) (new : SiteState) : Type 0 where
   pub frame : Frame
   pub spelled : Spells frame bytes
   pub done : IsTakeDeed old frame.delta new
 
--- the buffer was put into a frame that these bytes spell
+-- the buffer was put into a frame that `bytes` spell, which led a site from state `old` to `new`
 pub record IsCut (old : SiteState) (bytes : List ℕ) (new : SiteState) : Type 0 where
   pub frame : Frame
   pub spelled : Spells frame bytes
   pub done : IsCutDeed old frame new
 
--- all that the site knows was put into a frame that these bytes spell
+-- all that a site knows was put into a frame that `bytes` spell, which led it from state `old` to `new`
 pub record IsWhole (old : SiteState) (bytes : List ℕ) (new : SiteState) : Type 0 where
   pub frame : Frame
   pub spelled : Spells frame bytes
   pub done : IsWholeDeed old frame new
 
--- a deed is done at a state
+-- a deed is legal at a site in state `old`, and leads it to state `new`
 abbrev pub IsDeed : SiteState → StepDeed → SiteState → Type 0
 IsDeed old (Asked asked answer) new = IsAsked old asked answer new
 IsDeed old (Took bytes) new = IsTook old bytes new
@@ -51,7 +52,7 @@ IsDeed old (Cut None) new = IsEmpty old.pending × IsSameSite old new
 IsDeed old (Cut (Some bytes)) new = IsCut old bytes new
 IsDeed old (Whole bytes) new = IsWhole old bytes new
 
--- a deed leads from a state to another, whatever room they have
+-- `deed` leads a site from state `from` to state `to`, whatever room these have
 pub record Leads (from : SiteState) (deed : StepDeed) (to : SiteState) : Type 0 where
   pub old : SiteState
   pub new : SiteState
@@ -59,7 +60,7 @@ pub record Leads (from : SiteState) (deed : StepDeed) (to : SiteState) : Type 0 
   pub done : IsDeed old deed new
   pub after : IsSameSite new to
 
--- steps lead from a state to another
+-- steps, one after another, lead a site from state `from` to a last one, whatever room the states have
 abbrev pub LeadAll : SiteState → List Step → SiteState → Type 0
 LeadAll from [] to = IsSameSite from to
 LeadAll from (step ∷ steps) to = (mid : SiteState) × Leads from step.deed mid × LeadAll mid steps to

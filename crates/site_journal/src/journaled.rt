@@ -34,7 +34,7 @@ fn copied_twice(asked: &Ask) -> Result<(Ask, Ask), Memory>
     Ok((one, other))
 }
 
-// Asks a site, and answers what it answers twice. The one fault is want of memory, be it the site's.
+// Asks a site, and gives its answer twice. The one fault is want of memory, also where the site answers so.
 fn ask_twice(alloc: Global, replica: &mut Replica, asked: &Ask) -> Result<(Answer, Answer), Memory>
     ensures same { IfOk result (λ both. both.1 ≡ both.0) }
     ensures asked { IfOk result (λ both. IsAsked replica.old asked.now both.0 replica.new) }
@@ -224,7 +224,7 @@ impl Journaled {
         self.start
     }
 
-    /// The steps since the base.
+    /// The steps since the base, in their order.
     pub fn steps(&self) -> &[Step]
         ensures { result.now ≡ self.now.steps }
     {
@@ -255,14 +255,14 @@ impl Journaled {
         kept_by_steps(self.steps.as_slice())
     }
 
-    // Whether no step may be added.
+    // Whether no step may be added: as many stand here as may, or 2^40 were done in all.
     fn is_full(&self) -> bool
         ensures { IsTrue result ↔ IsFull self.now }
     {
         self.steps.len() >= self.limit as usize || self.count == MOST_COUNT
     }
 
-    /// Asks the site, by the pass of this number, and answers a copy of the step. Faults, in order: 1 `JournalFull`, exactly where so
+    /// Asks the site, by the pass of this number, and answers a copy of the step. Faults, in order: 1 `JournalFull`, exactly where as
     /// many steps stand here as may, or 2^40 were done in all; 2 `Memory`, also where the site answers so. A command that is refused
     /// for another cause is a step.
     pub fn call(&mut self, pass: u32, asked: &Ask) -> Result<Step, DeskFault>
@@ -299,8 +299,8 @@ impl Journaled {
     }
 
     /// Puts the site's buffer into its next frame, if there is something in it, by the pass of this number, and answers a copy of the
-    /// step. Faults, in order: 1 `JournalFull`, as of a call; 2 `Exhausted`, exactly where the buffer isn't empty and the site has
-    /// made 2^40 frames; 3 `Memory`.
+    /// step. Faults, in order: 1 `JournalFull`, exactly where as many steps stand here as may, or 2^40 were done in all; 2 `Exhausted`,
+    /// exactly where the buffer isn't empty and the site has made 2^40 frames; 3 `Memory`.
     pub fn cut(&mut self, pass: u32) -> Result<Step, DeskFault>
         ensures added { IfOk result (λ step. HasAdded self.old step self.new) }
         ensures pass { IfOk result (λ step. step.pass ≡ pass) }
@@ -337,7 +337,8 @@ impl Journaled {
     }
 
     /// Puts all that the site knows into its next frame, by the pass of this number, and answers a copy of the step. Faults, in order:
-    /// 1 `JournalFull`, as of a call; 2 `Exhausted`, exactly where the site has made 2^40 frames; 3 `Memory`.
+    /// 1 `JournalFull`, exactly where as many steps stand here as may, or 2^40 were done in all; 2 `Exhausted`, exactly where the
+    /// site has made 2^40 frames; 3 `Memory`.
     pub fn whole(&mut self, pass: u32) -> Result<Step, DeskFault>
         ensures added { IfOk result (λ step. HasAdded self.old step self.new) }
         ensures pass { IfOk result (λ step. step.pass ≡ pass) }
@@ -373,9 +374,10 @@ impl Journaled {
     }
 
     /// Lets the site take the frame that bytes spell, by the pass of this number, and answers a copy of the step. The bytes come back
-    /// where it doesn't. Faults, in order: 1 `JournalFull`, as of a call; 2 `Decode`, with the fault of the bytes, or `BadRange` where
-    /// more follows their frame; 3 `Take`, with the fault for which the site refuses the frame; 4 `Memory`, which may also stand in
-    /// place of `Take`, and of a `Decode` that stands behind a whole heading, but never of one that comes up to there.
+    /// where it doesn't. Faults, in order: 1 `JournalFull`, exactly where as many steps stand here as may, or 2^40 were done in all;
+    /// 2 `Decode`, with the fault of the bytes, or `BadRange` where more follows their frame; 3 `Take`, with the fault for which the
+    /// site refuses the frame; 4 `Memory`, which may also stand in place of `Take`, and of a `Decode` whose fault stands behind a
+    /// whole heading, but never of one that comes up to there.
     pub fn take(&mut self, pass: u32, bytes: Vec<u8>) -> Result<Step, (DeskFault, Vec<u8>)>
         ensures added { IfOk result (λ step. HasAdded self.old step self.new) }
         ensures pass { IfOk result (λ step. step.pass ≡ pass) }

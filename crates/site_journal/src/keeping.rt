@@ -5,7 +5,7 @@ ghost use Rattle.site_journal.specs.Keeping.{kept_by, kept_by_answer, kept_by_as
 use crate::{Step, StepDeed};
 use status_report::{Answer, Ask};
 
-// What an ask keeps.
+// How many bytes an ask keeps beside itself: those of a status's ActionID.
 fn kept_by_ask(asked: &Ask) -> usize
     ensures { result ≡ kept_by_ask asked.now }
 {
@@ -15,7 +15,7 @@ fn kept_by_ask(asked: &Ask) -> usize
     }
 }
 
-// What an answer keeps.
+// How many bytes an answer keeps beside itself: those of a report.
 fn kept_by_answer(answer: &Answer) -> usize
     ensures { result ≡ kept_by_answer answer.now }
 {
@@ -25,7 +25,7 @@ fn kept_by_answer(answer: &Answer) -> usize
     }
 }
 
-// What a deed keeps, 2^64 - 1 at most.
+// How many bytes a deed keeps beside itself, 2^64 - 1 at most.
 fn kept_by_deed(deed: &StepDeed) -> u64
     ensures { result ≡ min (kept_by deed.now) (2 ^ 64 - 1) }
 {
@@ -41,7 +41,7 @@ fn kept_by_deed(deed: &StepDeed) -> u64
     }
 }
 
-// What steps keep, 2^64 - 1 at most.
+// How many bytes steps keep beside themselves, 2^64 - 1 at most.
 pub(crate) fn kept_by_steps(steps: &[Step]) -> u64
     ensures { result ≡ min (kept_by_steps steps.now) (2 ^ 64 - 1) }
 {

@@ -24,7 +24,7 @@ pub trait Port<R> {
     /// How many steps were done by the pass.
     ghost share: { Self → ℕ };
 
-    /// The fault of the last call, if it had one.
+    /// The fault of the port's last call, if that had one.
     ghost fault: { Self → Option DeskFault };
 
     /// Puts the site's buffer into its next frame, if there is something in it.

@@ -3,9 +3,9 @@ use crate::StepDeed;
 /// What a caller has of a step: by which pass it was done, where it stands among all steps of the site, from 0, and what was done.
 #[derive(Drop)]
 pub struct Receipt {
-    /// The number of the pass.
+    /// The number of the pass by which the step was done.
     pub pass: u32,
-    /// How many steps were before it.
+    /// How many steps of the site were done before it.
     pub position: u64,
     /// What was done.
     pub deed: StepDeed,

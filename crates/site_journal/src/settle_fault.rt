@@ -6,7 +6,7 @@ pub enum SettleFault {
     /// Steps were dropped, so that nobody can tell whose they were.
     #[error("steps were dropped")]
     Checkpointed,
-    /// The first pass whose receipts aren't those of its steps.
+    /// The receipts of this pass aren't those of its steps; it is the first of which that is so.
     #[error("receipts of pass {0} differ")]
     Differs(u32),
 }

@@ -5,7 +5,7 @@ ghost use Rattle.site_journal.specs.Settling.{AreSettled, IsLeastPass, IsUnsettl
 
 use crate::{Journaled, Receipt, SettleFault, Step};
 
-// Whether a receipt is that of a step at this position.
+// Whether a receipt is that of `step`, which stands at `position` among all steps.
 fn is_receipt_of(receipt: &Receipt, position: usize, step: &Step) -> bool
     ensures { IsTrue result ↔ (receipt.now ≡ record {
       pass = step.now.pass;
@@ -18,7 +18,7 @@ fn is_receipt_of(receipt: &Receipt, position: usize, step: &Step) -> bool
         && receipt.deed.same(&step.deed)
 }
 
-// Whether a list has the receipts of a pass's steps, in their order, and no other.
+// Whether `list` has the receipts of the steps of the pass of this number, in their order, and no other.
 fn is_list_of(steps: &[Step], pass: u32, list: &[Receipt]) -> bool
     ensures { IsTrue result ↔ (list.now ≡ receipts_of pass 0 steps.now) }
 {
@@ -40,7 +40,7 @@ fn is_list_of(steps: &[Step], pass: u32, list: &[Receipt]) -> bool
     next == list.len()
 }
 
-// The lesser of a pass that isn't below a number and the one found so far, if there is one.
+// The lesser of `found`, the least pass so far, and `pass`, of those that aren't below `from`, if there is one.
 fn lesser(from: u32, found: Option<u32>, pass: u32) -> Option<u32>
     ensures { (steps : List Step) (step : Step) → step.pass ≡ pass → IsLeastPass from steps found
         → IsLeastPass from (steps ++ step ∷ []) result }
@@ -57,7 +57,7 @@ fn lesser(from: u32, found: Option<u32>, pass: u32) -> Option<u32>
     Some(pass)
 }
 
-// The least pass of some steps that isn't below a number, if there is one.
+// The least pass of `steps` that isn't below `from`, if there is one.
 fn least_pass(steps: &[Step], from: u32) -> Option<u32>
     ensures { IsLeastPass from steps.now result }
 {

@@ -6,7 +6,7 @@ use status_report::{Answer, Ask};
 /// What was done at a site. Frames are the bytes that spell them.
 #[derive(Drop)]
 pub enum StepDeed {
-    /// This was asked, and so it was answered.
+    /// This ask was answered with this answer.
     Asked(Ask, Answer),
     /// The frame that these bytes spell was taken.
     Took(Bytes),
@@ -19,7 +19,7 @@ pub enum StepDeed {
 /// A step of a site: who did it, and what was done.
 #[derive(Drop)]
 pub struct Step {
-    /// The number of the pass by which it was done.
+    /// The number of the pass by which the step was done.
     pub pass: u32,
     /// What was done.
     pub deed: StepDeed,
@@ -52,7 +52,7 @@ impl StepDeed {
         }
     }
 
-    /// Whether it is the same deed as the other. It takes no memory.
+    /// Whether both are the same deed. It takes no memory.
     pub fn same(&self, other: &StepDeed) -> bool
         ensures { IsTrue result ↔ (self.now ≡ other.now) }
     {
