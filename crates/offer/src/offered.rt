@@ -3,8 +3,8 @@ use dots::Interface;
 /// A member that is offered a call (this project's own).
 #[derive(Debug, Drop, PartialEq, Eq)]
 pub struct Offer {
-    /// Its interface.
+    /// The interface of the member that is offered.
     pub interface: Interface,
-    /// Its penalty: 0 to 2,147,483,647.
+    /// The penalty of the member that is offered, 0 to 2,147,483,647.
     pub penalty: u32,
 }
