@@ -6,21 +6,21 @@ use Rattle.dots.specs.declared.calls.Calls.{Calls}
 use Rattle.dots.specs.declared.calls.Calls.TheVariants.{Completed, Abandoned}
 use Rattle.operations.specs.Totals.{Key, Entries, totals_at}
 
--- how many of these calls are counted
+-- how many calls of the given kind `totals` count
 abbrev pub number_of : Calls → CallTotals → ℕ
 number_of Completed totals = totals.completed
 number_of Abandoned totals = totals.abandoned
 
--- the totals with one more of these calls
+-- `totals` with one call more of the given kind
 abbrev pub one_more : Calls → CallTotals → CallTotals
 one_more Completed totals = record { completed = totals.completed + 1; abandoned = totals.abandoned }
 one_more Abandoned totals = record { completed = totals.completed; abandoned = totals.abandoned + 1 }
 
--- the entries with one more of these calls at a key
+-- `entries` with one call more of the kind `calls` at `key`
 abbrev pub raised_totals : Entries → Key → Calls → Entries
 raised_totals entries key calls = map.insert entries key (one_more calls (totals_at entries key))
 
--- a number of these calls alone
+-- `n` calls of the given kind, and none of the other
 abbrev pub alone : Calls → ℕ → CallTotals
 alone Completed n = record { completed = n; abandoned = 0 }
 alone Abandoned n = record { completed = 0; abandoned = n }

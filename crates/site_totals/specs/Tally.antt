@@ -3,15 +3,15 @@ use Rattle.std.specs.Prelude.{ℕ, ◌≤◌, refl}
 use Rattle.std.specs.Coded.{Coded, code_by, coded×, coded_ℕ}
 use Rattle.operations.specs.Totals.{Entries, entries_code, count_missing}
 
--- the totals, and for how many more entries room is reserved
+-- what is seen of `Totals`: its entries, and for how many more entries room is reserved
 pub record Tally : Type 0 where
   pub entries : Entries
   pub room : ℕ
 
--- it is stored as the pair of its fields
+-- a tally is stored as the pair of its entries and its room
 abbrev pub tally_code : Coded Tally
 tally_code = code_by (Entries × ℕ) (coded× entries_code coded_ℕ) (λ t. (t.entries, t.room)) (λ p. record { entries = p.0; room = p.1 }) (λ _. refl)
 
--- there is room for all that the other has and these lack
+-- `tally` has room for an entry at each key that `entries` has and it lacks
 abbrev pub HasRoomFor : Tally → Entries → Type 0
 HasRoomFor tally entries = count_missing tally.entries entries ≤ tally.room

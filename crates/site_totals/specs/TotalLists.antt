@@ -11,34 +11,37 @@ use Rattle.general_lemmas.specs.SortedEntries.{IsRising}
 use Rattle.dots.specs.CountedCalls.{no_calls}
 use Rattle.operations.specs.Totals.{Key, key_cmp, Entries, InLimits, greater}
 
--- an entry: a key with its totals
+-- an entry of the list that totals are kept in: a key with its totals
 abbrev pub Row : Type 0
 Row = Key × CallTotals
 
--- what the list has at a key, no calls where it has none
+-- the totals that the list `rows` has at `key`; no calls where it has no entry there
 abbrev pub row_totals : List Row → Key → CallTotals
 row_totals rows key = unwrap_or (map.find key_cmp key rows) no_calls
 
--- the entries as a map
+-- the entries of the list `rows` as a map
 abbrev pub entries_of : List Row → Entries
 entries_of rows = map.from_sorted rows
 
--- a list that totals may be kept in: its keys rise, and each entry is within the limits
+-- `rows` is a list that totals may be kept in: its keys rise, and each entry is within the limits
 pub record IsKept (rows : List Row) : Type 0 where
   pub rising : IsRising key_cmp rows
   pub limits : InLimits (entries_of rows)
 
--- which list has the least key in front: `Less` where the first has it, `Equal` where both have it
+-- how the key in front of a first list is ordered to that in front of a second; `Less` where the
+-- second alone is empty, `Greater` where the first is
 abbrev pub next_order : List Row → List Row → Ordering
 next_order = next_by (on (λ row. row.0) key_cmp)
 
--- the join of an entry and what follows it with others, by the join of what follows it with any
+-- the join of a list that begins with `row` and of another list, where `rest` joins what follows
+-- `row` with any list
 abbrev pub joined_from : Row → (List Row → List Row) → List Row → List Row
 joined_from row rest [] = row ∷ rest []
 joined_from row rest (other ∷ others) =
     by_order (key_cmp row.0 other.0) (row ∷ rest (other ∷ others)) ((row.0, greater row.1 other.1) ∷ rest others) (other ∷ joined_from row rest others)
 
--- the join of two lists whose keys rise: of a key of both the greater totals
+-- the join of two lists whose keys rise: each key of either once, with the greater totals where
+-- both have it
 abbrev pub joined_rows : List Row → List Row → List Row
 joined_rows [] others = others
 joined_rows (row ∷ rows) others = joined_from row (joined_rows rows) others
