@@ -2,6 +2,6 @@
 use Rattle.std.specs.Prelude.{ℕ, ◌<◌, ◌≤◌}
 use Rattle.dots.specs.declared.limits.TheConstants.{SITES}
 
--- one at least, and no more than there are numbers of sites
+-- a script may have `sites` sites: 1 to 64
 abbrev pub IsSiteCount : ℕ → Type 0
 IsSiteCount sites = (0 < sites) × (sites ≤ SITES)

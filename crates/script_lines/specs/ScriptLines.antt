@@ -10,12 +10,13 @@ use Rattle.ami_session.specs.FieldValues.{name_of, number_of}
 use Rattle.dots.specs.declared.calls.Calls.{Calls}
 use Rattle.dots.specs.declared.calls.Calls.TheVariants.{Completed, Abandoned}
 
--- the last line, which no LF ends: bytes, if there are any
+-- the lines of bytes behind the last LF: these bytes as one line, or none where there are no bytes
 abbrev pub last_line : List ℕ → List (List ℕ)
 last_line [] = []
 last_line (b ∷ bs) = (b ∷ bs) ∷ []
 
--- the lines of bytes that follow the front of a line: LF ends a line, and one CR right before it belongs to the end
+-- the lines of a script from the middle of a line on, of which `front` came before: LF ends a line,
+-- and one CR right before it belongs to the end
 abbrev pub lines_after : List ℕ → List ℕ → List (List ℕ)
 lines_after front [] = last_line front
 lines_after front (b ∷ bs) = if b == 10 then content front ∷ lines_after [] bs else lines_after (front ++ b ∷ []) bs
@@ -24,10 +25,8 @@ lines_after front (b ∷ bs) = if b == 10 then content front ∷ lines_after [] 
 abbrev pub lines_of : List ℕ → List (List ℕ)
 lines_of script = lines_after [] script
 
--- What a line asks: nothing; of the site of this number that it takes one message, whose lines stand between bars, counts a call of
--- the queue of this name, offers a member of the queue whose name stands before the first bar, beside the interfaces that stand behind
--- it, makes a frame of its buffer or of the whole, or takes the frame of an entry; that the frame of an entry is shown; or it isn't
--- understood.
+-- what a line asks: nothing; of a site, to take a message (its lines between bars), count a call of a queue, offer a member (behind the
+-- queue's name the tried interfaces, between bars), cut, make a whole or take an entry; to show an entry; or it isn't understood
 pub data Sense : Type 0 where
   Nothing : Sense
   Message : (site : ℕ) → (fields : List ℕ) → Sense
@@ -39,47 +38,47 @@ pub data Sense : Type 0 where
   Show : (entry : ℕ) → Sense
   Unknown : Sense
 
--- what stands behind a front, where the bytes begin with it
+-- the bytes behind a front, where the bytes begin with that; else `None`
 abbrev pub behind : List ℕ → List ℕ → Option (List ℕ)
 behind [] bytes = Some bytes
 behind (f ∷ front) [] = None
 behind (f ∷ front) (b ∷ bytes) = if b == f then behind front bytes else None
 
--- the number that 1 to `most` decimal digits spell
+-- the number that a word of 1 to `most` decimal digits spells; `None` of any other word
 abbrev pub number_in : ℕ → List ℕ → Option ℕ
 number_in most [] = None
 number_in most (d ∷ ds) =
     if nat_lt most (length (d ∷ ds)) then None else if not (list_all is_ascii_digit (d ∷ ds)) then None else Some (number_of (d ∷ ds))
 
--- the number of an entry, of one digit to nine
+-- the number of an entry that a word of one digit to nine spells
 abbrev pub entry_in : List ℕ → Option ℕ
 entry_in word = number_in 9 word
 
--- the number of a site, where there are `sites` of them
+-- `site`, where that is the number of one of `sites` sites
 abbrev pub one_of : ℕ → ℕ → Option ℕ
 one_of sites site = if nat_lt site sites then Some site else None
 
--- of one digit or two
+-- the number of one of `sites` sites that a word of one digit or two spells
 abbrev pub site_in : ℕ → List ℕ → Option ℕ
 site_in sites word = option_and_then (one_of sites) (number_in 2 word)
 
--- the first sense that is there
+-- the first of a list of senses that is there; `Unknown` where none is
 abbrev pub first_sense : List (Option Sense) → Sense
 first_sense [] = Unknown
 first_sense (None ∷ others) = first_sense others
 first_sense (Some sense ∷ others) = sense
 
--- what is asked where nothing more stands in the line
+-- `sense` where nothing more stands in the line, else `Unknown`
 abbrev pub end_sense : Sense → List ℕ → Sense
 end_sense sense [] = sense
 end_sense sense (b ∷ bs) = Unknown
 
--- what a line asks of an entry, where that is one
+-- what `sense` makes of the number of an entry; `Unknown` where there is none
 abbrev pub entry_sense : (ℕ → Sense) → Option ℕ → Sense
 entry_sense sense None = Unknown
 entry_sense sense (Some entry) = sense entry
 
--- what the words behind a site's number ask of it, by the first of them
+-- what the words behind the number of `site` ask of it, by the first of them
 abbrev pub words_sense : ℕ → List ℕ → Sense
 words_sense site words = first_sense (
     option_map (Message site) (behind (codes "ami ") words)
@@ -92,63 +91,67 @@ words_sense site words = first_sense (
     ∷ []
     )
 
--- the bytes before the first blank
+-- the bytes of a line before its first blank; all where it has none
 abbrev pub before_blank : List ℕ → List ℕ
 before_blank [] = []
 before_blank (b ∷ bs) = if b == 32 then [] else b ∷ before_blank bs
 
--- the bytes behind the first blank, where there is one
+-- the bytes of a line behind its first blank; `None` where it has none
 abbrev pub behind_blank : List ℕ → Option (List ℕ)
 behind_blank [] = None
 behind_blank (b ∷ bs) = if b == 32 then Some bs else behind_blank bs
 
--- what a line asks whose first word is a site's number, if it is one
+-- what a line asks by the site that its first word names and the words behind that; `Unknown` where
+-- it names no site, or nothing stands behind it
 abbrev pub site_sense : Option ℕ → Option (List ℕ) → Sense
 site_sense (Some site) (Some words) = words_sense site words
 site_sense site words = Unknown
 
--- what a line asks of one of `sites` sites, or of the pool
+-- what `line` asks of one of `sites` sites, or, where it begins with `show `, of the pool; the last
+-- argument is what stands behind that word
 abbrev pub asked_in : ℕ → List ℕ → Option (List ℕ) → Sense
 asked_in sites line (Some word) = entry_sense Show (entry_in word)
 asked_in sites line None = site_sense (site_in sites (before_blank line)) (behind_blank line)
 
--- what a line asks; an empty line and one that begins with `#` ask nothing
+-- what a line asks where there are `sites` sites; an empty line and one that begins with `#` ask nothing
 abbrev pub sense_of : ℕ → List ℕ → Sense
 sense_of sites [] = Nothing
 sense_of sites (b ∷ bs) = if b == 35 then Nothing else asked_in sites (b ∷ bs) (behind (codes "show ") (b ∷ bs))
 
--- the stream that a message's fields are: each bar ends a line, and so does the end, and then comes an empty line
+-- the stream of the message whose lines stand between bars: CR and LF in place of each bar and at
+-- the end, and then an empty line
 abbrev pub stream_of : List ℕ → List ℕ
 stream_of [] = codes "\r\n\r\n"
 stream_of (b ∷ bs) = if b == 124 then codes "\r\n" ++ stream_of bs else b ∷ stream_of bs
 
--- the fields are this one message, with no other and no fault
+-- the lines of `fields`, between bars, are this one message, with no other and no fault
 abbrev pub IsMessage : List ℕ → List NameAndValue → Type 0
 IsMessage fields message = (rest : List ℕ) × Reads (stream_of fields) (message ∷ []) (Rest rest)
 
--- a bar, which ends a part
+-- whether a byte is a bar, which ends a part
 abbrev pub is_bar : ℕ → Bool
 is_bar b = b == 124
 
--- the parts between bars, where there are any
+-- the parts between the bars of some bytes; none where there are no such bytes
 abbrev pub parts_of : Option (List ℕ) → List (List ℕ)
 parts_of None = []
 parts_of (Some parts) = slice_split is_bar parts
 
--- the first of parts
+-- the first of a list of parts; no bytes where the list is empty
 abbrev pub first_part : List (List ℕ) → List ℕ
 first_part [] = []
 first_part (part ∷ parts) = part
 
--- the parts behind the first one
+-- the parts of a list behind the first one
 abbrev pub later_parts : List (List ℕ) → List (List ℕ)
 later_parts [] = []
 later_parts (part ∷ parts) = parts
 
--- the queue of which an offer is asked, where what stands before the first bar is a queue name
+-- the queue of which an `offer` line asks: what stands before the first bar, where that is a queue's name
 abbrev pub queue_in : List ℕ → Option (List ℕ)
 queue_in parts = name_of (first_part (slice_split is_bar parts))
 
--- the interfaces that were tried: what stands behind the first bar, between bars, but for what is no interface
+-- the interfaces that an `offer` line says were tried: the parts behind the first bar, without
+-- those that are no interface
 abbrev pub tried_in : List ℕ → List (List ℕ)
 tried_in parts = filter_map name_of (later_parts (slice_split is_bar parts))

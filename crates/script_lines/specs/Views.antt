@@ -3,7 +3,7 @@ use Rattle.script_lines.specs.declared.line.Line.{Line}
 use Rattle.script_lines.specs.declared.line.Line.TheVariants as line
 use Rattle.script_lines.specs.ScriptLines.{Sense, Nothing, Message, Count, Offer, Cut, Whole, Take, Show, Unknown}
 
--- the sense that it has
+-- what a line that was read asks, with its texts as the bytes that they have now
 abbrev pub sense : Line → Sense
 sense line.Nothing = Nothing
 sense (line.Message site fields) = Message site fields.now

@@ -30,11 +30,11 @@ pub enum Line<'a> {
     Take(SiteId, usize),
     /// `show K`: the frame of an entry is to be shown.
     Show(usize),
-    /// It is none of these.
+    /// The line has none of the other forms, so it isn't understood.
     Unknown,
 }
 
-/// The first line, without its LF and one CR before that, and what follows it. The last line may lack its end.
+/// The first line of bytes, without its LF and one CR before that, and what follows it. The last line may lack its end.
 pub fn cut_line(bytes: &[u8]) -> (&[u8], &[u8])
     requires { 0 < length bytes.now }
     ensures lines { lines_of bytes.now ≡ result.0.now ∷ lines_of result.1.now }
@@ -76,7 +76,7 @@ pub fn read_line(sites: SiteCount, line: &[u8]) -> Line<'_>
     }
 }
 
-// What stands before the first blank, and what stands behind it, if there is one.
+// What stands before the first blank of a line, and what stands behind it, if there is one.
 fn cut_at_blank(line: &[u8]) -> (&[u8], Option<&[u8]>)
     ensures before { result.0.now ≡ before_blank line.now }
     ensures behind { option_copied result.1 ≡ behind_blank line.now }
@@ -87,7 +87,7 @@ fn cut_at_blank(line: &[u8]) -> (&[u8], Option<&[u8]>)
     }
 }
 
-// What the words behind a site's number ask of it.
+// What the words behind the number of a site ask of that.
 fn read_words(site: SiteId, words: &[u8]) -> Line<'_>
     ensures { sense result ≡ words_sense site words.now }
 {
@@ -116,7 +116,7 @@ fn read_words(site: SiteId, words: &[u8]) -> Line<'_>
     }
 }
 
-// What stands behind a front, where the bytes begin with it.
+// What stands behind `front`, where `bytes` begin with that; else `None`.
 fn behind<'a>(front: &[u8], bytes: &'a [u8]) -> Option<&'a [u8]>
     ensures { option_copied result ≡ behind front.now bytes.now }
 {

@@ -26,7 +26,7 @@ pub fn message_of(alloc: Global, fields: &[u8]) -> Result<Option<Message>, Memor
     }
 }
 
-// A feed that holds the stream that the fields are.
+// A feed that holds the stream of `fields`: a line for each part between bars, and an empty line behind them.
 fn feed_of(alloc: Global, fields: &[u8]) -> Result<Feed, Memory>
     ensures { IfOk result (λ feed. feed ≡ record { held = stream_of fields.now; fault = None }) }
 {
@@ -41,7 +41,7 @@ fn feed_of(alloc: Global, fields: &[u8]) -> Result<Feed, Memory>
     Ok(feed)
 }
 
-// Feeds one line, with its end.
+// Feeds one line, with CR and LF behind it.
 fn feed_line(feed: &mut Feed, line: &[u8]) -> Result<(), Memory>
     requires { feed.old.fault ≡ None }
     ensures { OnOk result (feed.new
@@ -51,7 +51,7 @@ fn feed_line(feed: &mut Feed, line: &[u8]) -> Result<(), Memory>
     feed.feed(b"\r\n")
 }
 
-// The message that a feed gave, where there is no other and no fault behind it.
+// `message`, which the feed gave, where no other message and no fault follows; else `None`.
 fn only_message(feed: Feed, message: Message) -> Result<Option<Message>, Memory>
     requires { feed.fault ≡ None }
     ensures one { IfOk result (λ found. IfSome found (λ only. only ≡ message)) }
@@ -67,7 +67,7 @@ fn only_message(feed: Feed, message: Message) -> Result<Option<Message>, Memory>
     }
 }
 
-// There is no message where the stream has a fault; want of memory is none of the stream's.
+// No message where the stream has this fault; but want of memory, which is no fault of the stream, is answered as such.
 fn without_message(fault: FeedFault) -> Result<Option<Message>, Memory>
     ensures none { IfOk result (λ found. found ≡ None) }
     ensures stream { OnOk result (fault ≢ FeedFault.Memory) }

@@ -18,7 +18,7 @@ pub fn site_of(sites: SiteCount, word: &[u8]) -> Option<SiteId>
     }
 }
 
-/// The number of an entry, of one digit to nine.
+/// The number of an entry that a word spells by one digit to nine; `None` of any other word.
 pub fn entry_of(word: &[u8]) -> Option<usize>
     ensures { result ≡ entry_in word.now }
 {
@@ -26,7 +26,7 @@ pub fn entry_of(word: &[u8]) -> Option<usize>
     Some(number as usize)
 }
 
-// The number that 1 to `most` decimal digits spell; `most` is at most nine.
+// The number that a word of 1 to `most` decimal digits spells; `None` of any other word. `most` is at most nine.
 fn number_in(most: usize, word: &[u8]) -> Option<u32>
     requires { most ≤ 9 }
     ensures { result ≡ number_in most word.now }

@@ -10,7 +10,7 @@ use bstr::ByteSlice;
 use dots::{Interface, Memory};
 use std::alloc::Global;
 
-/// What stands before the first bar, and what stands behind it, if there is one.
+/// What stands before the first bar of `parts`, and what stands behind it, if there is one.
 pub fn cut_at_bar(parts: &[u8]) -> (&[u8], Option<&[u8]>)
     ensures parts { slice_split is_bar parts.now
         ≡ result.0.now ∷ parts_of (option_copied result.1) }
@@ -22,7 +22,7 @@ pub fn cut_at_bar(parts: &[u8]) -> (&[u8], Option<&[u8]>)
     }
 }
 
-/// The interfaces among parts; what is no interface is left out. The one fault is want of memory.
+/// The interfaces among the parts between bars; what is no interface is left out. The one fault is want of memory.
 pub fn interfaces_of(alloc: Global, parts: Option<&[u8]>) -> Result<Vec<Interface>, Memory>
     ensures { IfOk result (λ tried. tried.items
         ≡ filter_map name_of (parts_of (option_copied parts.entry))) }

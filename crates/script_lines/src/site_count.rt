@@ -24,7 +24,7 @@ impl Model for SiteCount {
 }
 
 impl SiteCount {
-    /// So many sites. `None` exactly where there are none, or more than 64.
+    /// The count of `sites` sites. `None` exactly where that is 0, or more than 64.
     pub fn new(sites: u16) -> Option<SiteCount>
         ensures within { IsSome result ↔ IsSiteCount sites }
         ensures value { IfSome result (λ count. count ≡ sites) }
@@ -36,7 +36,7 @@ impl SiteCount {
         }
     }
 
-    /// How many they are.
+    /// How many sites the script has, 1 to 64.
     pub fn get(self) -> u16
         ensures value { result ≡ self }
         ensures limit { IsSiteCount result }
