@@ -2,11 +2,12 @@
 use Rattle.std.specs.Prelude.{ℕ, ◌≡◌, ◌<◌, List, Some, length, slice_get}
 use Rattle.site_journal.specs.Journals.{JournalState}
 
--- a site has been given all its steps
+-- the site of the number `site` has been given all steps of its journal, where `at` says how many
+-- each site has been given
 abbrev pub HasAllSteps : List JournalState → List ℕ → ℕ → Type 0
 HasAllSteps journals at site = (j : JournalState) → slice_get journals site ≡ Some j → slice_get at site ≡ Some (length j.steps)
 
--- a site is the least that has steps left
+-- `site` is the least site that has steps left, where `at` says how many each has been given
 pub record IsLeastLeft (journals : List JournalState) (at : List ℕ) (site : ℕ) : Type 0 where
   pub j : JournalState
   pub n : ℕ

@@ -16,18 +16,19 @@ use Rattle.site_audit.specs.declared.replay.Replay.{Replay}
 use Rattle.site_audit.specs.Places.{HaveGiven, IsIndexOf}
 use Rattle.site_audit.specs.Runs.{world_after}
 
--- where bytes are found
+-- the place at which `pool` finds the entry of the bytes `bytes`, if it does
 abbrev pub found_in : Pool → List ℕ → Option ℕ
 found_in pool bytes = tree.get_by (λ key. slice_cmp nat_cmp bytes key.now) pool.places
 
--- a replay stands where the search has come
+-- replay `r` stands where its events have come: they have given each site as many steps as `r.at`
+-- says, and its pool finds the entries that they made
 pub record IsReplay (journals : List JournalState) (r : Replay) : Type 0 where
   pub is : HaveGiven journals r.at.items r.events.items
   pub index : IsIndexOf (found_in r.pool) (world_after journals r.events.items).pool
   pub entries : r.pool.entries ≡ length (world_after journals r.events.items).pool
   pub few : r.pool.entries ≤ length r.events.items
 
--- a site's next step
+-- `deed` is that of the next step of `site`, behind those that replay `r` has given it
 pub record IsNextStep (journals : List JournalState) (r : Replay) (site : ℕ) (deed : StepDeed) : Type 0 where
   pub j : JournalState
   pub n : ℕ
@@ -37,43 +38,47 @@ pub record IsNextStep (journals : List JournalState) (r : Replay) (site : ℕ) (
   pub next : slice_get j.steps n ≡ Some step
   pub deed_is : step.deed ≡ deed
 
--- a site can't go on: it has all its steps, or waits for a frame that isn't in the pool
+-- `site` can't go on in replay `r`: it has all its steps, or waits for a frame that isn't in the pool
 pub data CannotGoOn (journals : List JournalState) (r : Replay) (site : ℕ) : Type 0 where
   Ended : (j : JournalState) → slice_get journals site ≡ Some j → slice_get r.at.items site ≡ Some (length j.steps) → CannotGoOn journals r site
   Waits : (bytes : List ℕ) → IsNextStep journals r site (Took bytes) → found_in r.pool bytes ≡ None → CannotGoOn journals r site
 
--- a step of a site was placed; or it can't go on, and nothing has changed
+-- from replay `old` to `new` a step of `site` was placed, if the last argument is true; else the
+-- site can't go on, and nothing has changed
 abbrev pub HasPlayed : List JournalState → Replay → Replay → ℕ → Bool → Type 0
 HasPlayed journals old new site true = IsReplay journals new × (length new.events.items ≡ length old.events.items + 1)
 HasPlayed journals old new site false = (new ≡ old) × CannotGoOn journals new site
 
--- the event that is tried for a site's deed, where bytes are found so: none for a take of bytes that aren't found
+-- the event that is tried for a deed of `site`, where `find` finds entries by their bytes: none for
+-- a take of bytes that aren't found
 abbrev pub event_for : (List ℕ → Option ℕ) → ℕ → StepDeed → Option Event
 event_for find site (Asked asked answer) = Some (event.Ask site asked)
 event_for find site (Took bytes) = option_map (event.Take site) (find bytes)
 event_for find site (Cut made) = Some (event.Cut site)
 event_for find site (Whole made) = Some (event.Whole site)
 
--- the bytes of the frame that a deed made
+-- the bytes of the frame that a deed made; none where it made no frame
 abbrev pub made_by : StepDeed → Option (List ℕ)
 made_by (Asked asked answer) = None
 made_by (Took bytes) = None
 made_by (Cut made) = made
 made_by (Whole made) = Some made
 
--- bytes that were made are found at the place of the next entry, and all others where they were
+-- from pool `old` to `new` the bytes that were made, if any, are found at the place of the next
+-- entry, and all others where they were
 abbrev pub HasFound : Pool → Pool → Option (List ℕ) → Type 0
 HasFound old new None = ((bytes : List ℕ) → found_in new bytes ≡ found_in old bytes) × (new.entries ≡ old.entries)
 HasFound old new (Some made) =
     ((bytes : List ℕ) → found_in new bytes ≡ update bytes_eq (found_in old) made (Some old.entries) bytes) × (new.entries ≡ old.entries + 1)
 
--- an event was put at the end that gives a site its next step, a deed that may have made a frame
+-- from replay `old` to `new` event `e` was put at the end, which gives `site` its next step, with
+-- `deed`, and the frame that this made, if any, is in the pool
 pub record HasPut (old new : Replay) (site : ℕ) (e : Event) (deed : StepDeed) : Type 0 where
   pub at : (n : ℕ) → slice_get old.at.items site ≡ Some n → new.at.items ≡ slice_set old.at.items site (suc n)
   pub events : new.events.items ≡ old.events.items ++ e ∷ []
   pub found : HasFound old.pool new.pool (made_by deed)
 
--- nothing is played yet of any of `sites` journals
+-- in replay `r` nothing is played yet of any of `sites` journals
 pub record IsUnplayed (r : Replay) (sites : ℕ) : Type 0 where
   pub count : length r.at.items ≡ sites
   pub at : (site n : ℕ) → slice_get r.at.items site ≡ Some n → n ≡ 0

@@ -18,7 +18,7 @@ use Rattle.sites_world.specs.WorldStates.{IsSiteOf}
 
 -- ---- what an event gives
 
--- bytes spell the frame of an entry: it has its maker and number, and says what the entry carries
+-- `bytes` spell the frame of `entry`: it has its maker and number, and says what the entry carries
 pub record IsSpelling (bytes : List ℕ) (entry : Entry) : Type 0 where
   pub frame : Frame
   pub maker : frame.maker ≡ entry.maker
@@ -26,19 +26,20 @@ pub record IsSpelling (bytes : List ℕ) (entry : Entry) : Type 0 where
   pub says : IsDeltaOf frame.delta entry.carried
   pub spelled : Spells frame bytes
 
--- they spell that of the entry at a place of the pool
+-- `bytes` spell the frame of the entry at `place` of `pool`
 pub record IsSpelledAt (pool : List Entry) (place : ℕ) (bytes : List ℕ) : Type 0 where
   pub entry : Entry
   pub is : slice_get pool place ≡ Some entry
   pub spelling : IsSpelling bytes entry
 
--- an event makes an entry that these bytes spell
+-- event `e` in world `w` makes an entry whose frame `bytes` spell
 pub record MakesBytes (names : List (List ℕ)) (w : World) (e : Event) (bytes : List ℕ) : Type 0 where
   pub place : ℕ
   pub told : (happens names w e).1 ≡ outcome.Cut (Ok (Some place))
   pub spelled : IsSpelledAt (happens names w e).0.pool place bytes
 
--- an event gives its site this deed: what was asked is answered so; the frame that was taken, or made, is the one that the bytes spell
+-- event `e` in world `w` gives its site this deed: what was asked is answered so; the frame that
+-- was taken, or made, is the one that the bytes spell
 abbrev pub GivesDeed : List (List ℕ) → World → Event → StepDeed → Type 0
 GivesDeed names w (event.Ask site asked) (Asked told answer) = (told ≡ asked) × ((happens names w (event.Ask site asked)).1 ≡ outcome.Answered answer)
 GivesDeed names w (event.Take site place) (Took bytes) = ((happens names w (event.Take site place)).1 ≡ outcome.Took (Ok tt)) × IsSpelledAt w.pool place bytes
@@ -47,7 +48,7 @@ GivesDeed names w (event.Cut site) (Cut (Some bytes)) = MakesBytes names w (even
 GivesDeed names w (event.Whole site) (Whole bytes) = MakesBytes names w (event.Whole site) bytes
 GivesDeed names w e deed = ⊥
 
--- events give a site these steps, in their order, and no others
+-- events in turn, from world `w` on, give `site` these steps, in their order, and no others
 abbrev pub AreGiven : List (List ℕ) → World → List Event → ℕ → List Step → Type 0
 AreGiven names w [] site steps = steps ≡ []
 AreGiven names w (e ∷ es) site steps =
@@ -56,41 +57,43 @@ AreGiven names w (e ∷ es) site steps =
 
 -- ---- journals of all sites
 
--- the names of the queues, which are those of the first journal
+-- the names of the queues of all journals, which are those of the first
 abbrev pub names_in : List JournalState → List (List ℕ)
 names_in [] = []
 names_in (j ∷ js) = j.base.names
 
--- journals are those of the sites 0, 1, .. in their order, of one list of queues
+-- `journals` are those of the sites 0, 1, .. in their order, with one list of queues
 pub record AreSites (journals : List JournalState) : Type 0 where
   pub numbers : (site : ℕ) (j : JournalState) → slice_get journals site ≡ Some j → j.base.site ≡ site
   pub names : (site : ℕ) (j : JournalState) → slice_get journals site ≡ Some j → j.base.names ≡ names_in journals
 
--- a journal has all that its site did: no step was dropped, and it began from a new replica
+-- journal `j` has all that its site did: no step was dropped, and it began from a new replica
 pub record IsFromNew (j : JournalState) : Type 0 where
   pub start : j.start ≡ 0
   pub base : IsNew j.base
 
--- a site is the first whose journal hasn't
+-- `site` is the first whose journal hasn't all that the site did
 pub record IsFirstStale (journals : List JournalState) (site : ℕ) : Type 0 where
   pub j : JournalState
   pub is : slice_get journals site ≡ Some j
   pub stale : IsFromNew j → ⊥
   pub before : (earlier : ℕ) (k : JournalState) → earlier < site → slice_get journals earlier ≡ Some k → IsFromNew k
 
--- the world after events at as many sites
+-- the world that `events` lead to, from as many sites that know nothing as there are journals
 abbrev pub world_after : List JournalState → List Event → World
 world_after journals events = (run (names_in journals) (new_world (length journals)) events).0
 
 -- ---- one run
 
--- a site of the world after events knows what its replica stands for
+-- in the world after `events` the site of the number `site` knows what the replica of its journal
+-- `j` stands for
 pub record Knows (journals : List JournalState) (events : List Event) (site : ℕ) (j : JournalState) : Type 0 where
   pub s : SiteKnowledge
   pub is : slice_get (world_after journals events).sites site ≡ Some s
   pub stands : IsSiteOf (names_in journals) site j.replica s
 
--- Events are one run of all journals: each is at one of the sites, each site is given its journal, and knows then what its replica stands for.
+-- `events` are one run of all journals: each is at one of the sites, each site is given just its
+-- journal, and knows then what its replica stands for
 pub record IsRun (journals : List JournalState) (events : List Event) : Type 0 where
   pub sites : All (λ e. site_of e < length journals) events
   pub given : (site : ℕ) (j : JournalState) → slice_get journals site ≡ Some j → AreGiven (names_in journals) (new_world (length journals)) events site j.steps
@@ -98,17 +101,17 @@ pub record IsRun (journals : List JournalState) (events : List Event) : Type 0 w
 
 -- ---- stuck
 
--- a site is given its first steps
+-- `events` give `site` the first `n` steps of its journal `j`, and no others
 pub record IsGivenFirst (journals : List JournalState) (events : List Event) (site n : ℕ) (j : JournalState) : Type 0 where
   pub within : n ≤ length j.steps
   pub given : AreGiven (names_in journals) (new_world (length journals)) events site (take n j.steps)
 
--- no event at a site gives it this step after events
+-- no event at `site`, in the world after `events`, gives the site the deed of `step`
 abbrev pub GivesNone : List JournalState → List Event → ℕ → Step → Type 0
 GivesNone journals events site step = (e : Event) → site_of e ≡ site → GivesDeed (names_in journals) (world_after journals events) e step.deed → ⊥
 
--- Events are stuck at a step of a site: each site is given its first steps, this one those before the step and fewer than it has, each lesser site all, and
--- no further event gives any site its next.
+-- `events` are stuck at the step at `position` of `site`: each site is given its first steps, this one
+-- those before that step and not all, each lesser site all, and no further event gives any site its next
 pub record IsStuck (journals : List JournalState) (site position : ℕ) (events : List Event) : Type 0 where
   -- how many steps each site is given
   pub at : List ℕ

@@ -45,7 +45,7 @@ fn is_new(replica: &Replica) -> bool
         && frames == 0
 }
 
-// Whether a journal has all that its site did.
+// Whether a journal has all that its site did: no step was dropped, and it began from a new replica.
 fn is_from_new(journal: &Journaled) -> bool
     ensures whole { IsTrue result ↔ IsFromNew journal.now }
     ensures journal { IsJournal journal.now }
@@ -53,7 +53,7 @@ fn is_from_new(journal: &Journaled) -> bool
     journal.start() == 0 && is_new(journal.base())
 }
 
-// The first site whose journal hasn't all that it did.
+// The first site whose journal hasn't all that the site did, if there is one.
 fn first_stale(journals: &[Journaled]) -> Option<usize>
     ensures stale { IfSome result (λ site. IsFirstStale journals.now site) }
     ensures fresh { IfNone result ((site : ℕ) (j : JournalState)
@@ -71,7 +71,7 @@ fn first_stale(journals: &[Journaled]) -> Option<usize>
     None
 }
 
-// The least site whose journal has steps left, where the first `at` of each have been given.
+// The least site whose journal has steps left, if there is one, where `at` says how many steps each site has been given.
 fn least_left(journals: &[Journaled], at: &[usize]) -> Option<usize>
     requires count { length at.now ≡ length journals.now }
     requires within { (site n : ℕ) (j : JournalState) → slice_get journals.now site ≡ Some j

@@ -11,11 +11,11 @@ use std::collections::BTreeMap;
 #[derive(Drop)]
 pub(crate) struct Pool<'a> {
     places: BTreeMap<&'a [u8], usize>,
-    // How many entries there are.
+    // How many entries the pool has.
     entries: usize,
 }
 
-// The bytes of the frame that a deed made.
+// The bytes of the frame that a deed made; `None` where it made no frame.
 fn made_by(deed: &StepDeed) -> Option<&[u8]>
     ensures { option_map (λ bytes. bytes.now) result ≡ made_by deed.now }
 {
@@ -27,7 +27,7 @@ fn made_by(deed: &StepDeed) -> Option<&[u8]>
 }
 
 impl<'a> Pool<'a> {
-    // No entry.
+    // A pool with no entry.
     pub(crate) fn new(alloc: Global) -> Pool<'a>
         ensures found { (bytes : List ℕ) → found_in result bytes ≡ None }
         ensures entries { result.entries ≡ 0 }
@@ -38,14 +38,14 @@ impl<'a> Pool<'a> {
         }
     }
 
-    // The place of the entry that these bytes spell.
+    // The place of the entry that was put in with these bytes, if one was.
     pub(crate) fn find(&self, bytes: &'a [u8]) -> Option<usize>
         ensures { result ≡ found_in self.now bytes.now }
     {
         self.places.get(&bytes).copied()
     }
 
-    // Puts the entry at the end that a deed made, if it made one.
+    // Puts the entry that a deed made, if it made one, at the end.
     pub(crate) fn add(&mut self, deed: &'a StepDeed) -> Result<(), Memory>
         requires { self.old.entries + 1 < 2 ^ 64 }
         ensures { OnOk result (HasFound self.old self.new (made_by deed.now)) }

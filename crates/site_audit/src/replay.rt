@@ -17,14 +17,14 @@ use std::alloc::Global;
 pub(crate) struct Replay<'a> {
     // How many steps each site was given, by the sites' numbers.
     pub(crate) at: Vec<usize>,
-    // The events that gave them.
+    // The events that gave the sites these steps.
     pub(crate) events: Vec<Event>,
-    // The entries that these made.
+    // The entries that the events made.
     pub(crate) pool: Pool<'a>,
 }
 
 impl<'a> Replay<'a> {
-    // Nothing is played yet of any of `sites` journals.
+    // A replay in which nothing is played yet of any of `sites` journals.
     pub(crate) fn begin(alloc: Global, sites: usize) -> Result<Replay<'a>, Memory>
         ensures { IfOk result (λ replay. IsUnplayed replay sites) }
     {
@@ -39,7 +39,7 @@ impl<'a> Replay<'a> {
         })
     }
 
-    // Puts an event at the end that gives a site its next step, which is this deed.
+    // Puts an event at the end that gives `site` its next step, with this deed, and the frame that this made, if any, into the pool.
     fn put(&mut self, site: SiteId, event: Event, deed: &'a StepDeed) -> Result<(), Memory>
         requires within { site < length self.old.at.items }
         requires fits { slice_index self.old.at.items site + 1 < 2 ^ 64 }
@@ -53,7 +53,7 @@ impl<'a> Replay<'a> {
     }
 }
 
-// The event that gives a site a deed, if there is one: a frame is taken once its maker has made it.
+// The event that gives `site` a deed; `None` for the take of a frame that its maker hasn't made yet.
 fn event_for<'a>(pool: &Pool<'a>, site: SiteId, deed: &'a StepDeed) -> Result<Option<Event>, Memory>
     ensures { IfOk result (λ event. event ≡ event_for (found_in pool.now) site deed.now) }
 {
@@ -71,7 +71,7 @@ fn event_for<'a>(pool: &Pool<'a>, site: SiteId, deed: &'a StepDeed) -> Result<Op
     }
 }
 
-// Gives a site its next step, if that can be.
+// Gives the site at this place of the journals its next step, if that can be; tells whether it could.
 fn play<'a>(
     journals: &'a [Journaled],
     replay: &mut Replay<'a>,
