@@ -14,20 +14,21 @@ use Rattle.ami_session.specs.declared.action.Action.TheVariants.{QueueAdd, Queue
 use Rattle.ami_session.specs.FieldValues.{Fields, is_word, is_yes, id_of, text_of, name_of, penalty_of, number_of}
 use Rattle.ami_session.specs.Replies.{refusal_text, removal_refusal_text}
 
--- how a field is read: as a name, which has a byte, as a text, as a penalty, or as yes or no, which every value is
+-- how the value of a field is read: as a name, which is a text that has a byte, as a text, as a
+-- penalty, or as yes or no, which every value is
 pub data Kind : Type 0 where
   Name : Kind
   Text : Kind
   Number : Kind
   YesOrNo : Kind
 
--- a field of an action
+-- a field of an action: its name, and how its value is read
 pub record FieldRow : Type 0 where
   pub name : List ℕ
   pub kind : Kind
 
--- An action: its name, its required fields and its optional ones, in order, and what it asks where all of them can be read; and what is
--- said where the site has done it, by whether its `Paused` says yes, and where the site has refused it.
+-- a row of the table: an action's name, its required and its optional fields, in order, what a message asks by
+-- it where all can be read, and what is said of success, by whether its `Paused` says yes, and of a refusal
 pub record ActionRow : Type 0 where
   pub name : List ℕ
   pub required : List FieldRow
@@ -36,43 +37,44 @@ pub record ActionRow : Type 0 where
   pub success : Bool → List ℕ
   pub refusal : Refusal → List ℕ
 
--- the field that names a queue
+-- the field `Queue`, which names a queue
 abbrev pub queue : FieldRow
 queue = record { name = codes "Queue"; kind = Name }
 
--- the field that names an interface
+-- the field `Interface`, which names an interface
 abbrev pub interface : FieldRow
 interface = record { name = codes "Interface"; kind = Name }
 
--- the field of a penalty
+-- the field `Penalty`, which has the number of a penalty
 abbrev pub penalty : FieldRow
 penalty = record { name = codes "Penalty"; kind = Number }
 
--- the field that says whether to pause
+-- the field `Paused`, which says whether to pause
 abbrev pub paused : FieldRow
 paused = record { name = codes "Paused"; kind = YesOrNo }
 
--- a field of this name that has a text
+-- the field of the name `name` that has a text
 abbrev pub text : List ℕ → FieldRow
 text name = record { name = name; kind = Text }
 
--- the value of a field; an absent one counts as empty
+-- the value of the field `name` of message `m`; an absent one counts as empty
 abbrev pub text_at : List ℕ → Fields → List ℕ
 text_at name m = unwrap_or (value_of name m) []
 
--- the penalty of a message; 0 where it is absent
+-- the penalty that message `m` has; 0 where it has no `Penalty`
 abbrev pub penalty_in : Fields → ℕ
 penalty_in m = number_of (unwrap_or (value_of (codes "Penalty") m) (codes "0"))
 
--- whether its `Paused` says yes
+-- whether the field `Paused` of message `m` says yes
 abbrev pub says_yes : Fields → Bool
 says_yes m = is_yes (text_at (codes "Paused") m)
 
--- the pause of a message: whether its `Paused` says yes, and then its reason; one that comes with another value is dropped
+-- the pause that message `m` has: where its `Paused` says yes, for its `Reason`; else none, and a
+-- `Reason` is dropped
 abbrev pub pause_in : Fields → PauseState
 pause_in m = record { paused = says_yes m; reason = if says_yes m then text_at (codes "Reason") m else [] }
 
--- a member is added to a queue; it may be paused at once
+-- `QueueAdd`, by which a member is added to a queue; it may be paused at once
 abbrev pub queue_add : ActionRow
 queue_add = record {
   name = codes "QueueAdd";
@@ -85,7 +87,7 @@ queue_add = record {
   refusal = refusal_text;
 }
 
--- a member is removed from a queue
+-- `QueueRemove`, by which a member is removed from a queue
 abbrev pub queue_remove : ActionRow
 queue_remove = record {
   name = codes "QueueRemove";
@@ -96,7 +98,8 @@ queue_remove = record {
   refusal = removal_refusal_text;
 }
 
--- without a queue it is of every one that the interface is a member of
+-- `QueuePause`, by which a member is paused or not; without a queue it is of every one that the
+-- interface is a member of
 abbrev pub queue_pause : ActionRow
 queue_pause = record {
   name = codes "QueuePause";
@@ -107,7 +110,8 @@ queue_pause = record {
   refusal = refusal_text;
 }
 
--- without a queue it is of every one that the interface is a member of
+-- `QueuePenalty`, by which a member gets a penalty; without a queue it is of every one that the
+-- interface is a member of
 abbrev pub queue_penalty : ActionRow
 queue_penalty = record {
   name = codes "QueuePenalty";
@@ -118,7 +122,7 @@ queue_penalty = record {
   refusal = refusal_text;
 }
 
--- its success is a report, and has no text
+-- `QueueStatus`, by which the queues are reported; its success is a report, and has no text
 abbrev pub queue_status : ActionRow
 queue_status = record {
   name = codes "QueueStatus";
@@ -129,7 +133,7 @@ queue_status = record {
   refusal = refusal_text;
 }
 
--- the row of an action
+-- the row of the table that an action has
 abbrev pub row_of : Action → ActionRow
 row_of QueueAdd = queue_add
 row_of QueueRemove = queue_remove
@@ -137,39 +141,41 @@ row_of QueuePause = queue_pause
 row_of QueuePenalty = queue_penalty
 row_of QueueStatus = queue_status
 
--- all actions
+-- all actions of the table, in its order
 abbrev pub actions : List Action
 actions = QueueAdd ∷ QueueRemove ∷ QueuePause ∷ QueuePenalty ∷ QueueStatus ∷ []
 
--- the action of this name, if it has one
+-- the action of the name `name`, compared without ASCII case, if there is one
 abbrev pub action_named : List ℕ → Option Action
 action_named name = find (λ action. is_word name (row_of action).name) actions
 
--- whether a value can be read
+-- whether `value` can be read as a field of this kind
 abbrev pub can_read : Kind → List ℕ → Bool
 can_read Name value = is_some (name_of value)
 can_read Text value = is_some (text_of value)
 can_read Number value = is_some (penalty_of value)
 can_read YesOrNo value = true
 
--- whether a value that is there can't be read
+-- whether a field has a value and this can't be read as one of its kind
 abbrev pub is_unread : Kind → Option (List ℕ) → Bool
 is_unread kind None = false
 is_unread kind (Some value) = not (can_read kind value)
 
--- the first of these names of which a message has no field
+-- the first of `names` of which message `m` has no field
 abbrev pub absent_of : List (List ℕ) → Fields → Option (List ℕ)
 absent_of names m = find (λ name. is_none (value_of name m)) names
 
--- the name of the first required field that is absent
+-- the name of the first required field of `row` that is absent from message `m`
 abbrev pub absent_in : ActionRow → Fields → Option (List ℕ)
 absent_in row m = absent_of (each (λ f. f.name) row.required) m
 
--- the name of the first field that can't be read, the required ones first
+-- the name of the first field of `row` that message `m` has and whose value can't be read, the
+-- required ones first
 abbrev pub unread_in : ActionRow → Fields → Option (List ℕ)
 unread_in row m = option_map (λ f. f.name) (find (λ field. is_unread field.kind (value_of field.name m)) (row.required ++ row.optional))
 
--- a message asks this by the row of an action
+-- message `m` asks `ask` by the row `row` of an action: each field that it has can be read, and
+-- this is what the row asks
 pub record AsksBy (row : ActionRow) (m : Fields) (ask : Ask) : Type 0 where
   pub readable : unread_in row m ≡ None
   pub asked : ask ≡ row.ask m

@@ -10,7 +10,7 @@ use Rattle.ami_session.specs.Actions.{absent_in, action_named, row_of, says_yes,
 use Rattle.ami_session.specs.FieldValues.{Fields, is_word, id_of}
 use Rattle.ami_session.specs.Replies.{reply}
 
--- who may log in
+-- who may log in to a session: this user, with this secret
 pub record Login : Type 0 where
   pub user : List ℕ
   pub secret : List ℕ
@@ -21,12 +21,13 @@ pub record SessionState : Type 0 where
   pub login : Option Login
   pub logged_in : Bool
 
--- whether a Login is accepted: user and secret are the session's, byte by byte
+-- whether message `m` is accepted as a Login: its user and secret are those of the session's login,
+-- byte by byte, or the session has none
 abbrev pub accepts : Option Login → Fields → Bool
 accepts None m = true
 accepts (Some login) m = bytes_eq (text_at (codes "Username") m) login.user && bytes_eq (text_at (codes "Secret") m) login.secret
 
--- an error, under the message's ActionID
+-- the reply to message `m` that tells an error, under its ActionID
 abbrev pub error_reply : Fields → List ℕ → List ℕ
 error_reply m text = reply (codes "Error") (id_of m) text
 
@@ -36,36 +37,38 @@ pub record Waiting : Type 0 where
   pub says_yes : Bool
   pub id : List ℕ
 
--- the reply upon the site's answer
+-- the reply to `w`, a message that waits for an answer, upon the site's answer
 abbrev pub answer_reply : Waiting → Answer → List ℕ
 answer_reply w Done = reply (codes "Success") w.id ((row_of w.action).success w.says_yes)
 answer_reply w (Refused refusal) = reply (codes "Error") w.id ((row_of w.action).refusal refusal)
 answer_reply w (Report report) = report
 
--- what a session does: it replies by itself, or asks the site and keeps what waits for the answer, or replies and ends
+-- what a session does upon a message: it replies by itself, or asks the site and keeps what waits
+-- for the answer, or replies and ends
 pub data Reaction : Type 0 where
   Replies : List ℕ → Reaction
   Asks : Ask → Waiting → Reaction
   Ends : List ℕ → Reaction
 
--- a message of an action by its row: a required field that is absent, then a field that can't be read, and then what is asked
+-- what is done upon message `m` of `action`, where its first absent field and its first unreadable
+-- one are given: an error for the former, else for the latter, else the site is asked
 abbrev pub row_reaction : Action → Fields → Option (List ℕ) → Option (List ℕ) → Reaction
 row_reaction action m (Some name) unread = Replies (error_reply m (codes "'" ++ name ++ codes "' not specified."))
 row_reaction action m None (Some name) = Replies (error_reply m (codes "Field not valid: " ++ name))
 row_reaction action m None None = Asks ((row_of action).ask m) (record { action = action; says_yes = says_yes m; id = id_of m })
 
--- an action that is known, or not
+-- what is done upon message `m` of an action that is in the table, by its row; of another an error
 abbrev pub named_reaction : Option Action → Fields → Reaction
 named_reaction None m = Replies (error_reply m (codes "Invalid/unknown command"))
 named_reaction (Some action) m = row_reaction action m (absent_in (row_of action) m) (unread_in (row_of action) m)
 
--- a Login
+-- what session `s` does upon message `m` as a Login: it says whether it is accepted
 abbrev pub login_reaction : SessionState → Fields → Reaction
 login_reaction s m =
     if accepts s.login m then Replies (reply (codes "Success") (id_of m) (codes "Authentication accepted"))
     else Replies (error_reply m (codes "Authentication failed"))
 
--- a message with this action
+-- what session `s` does upon message `m` whose field `Action` has this value, if it has the field
 abbrev pub reaction_to : SessionState → Fields → Option (List ℕ) → Reaction
 reaction_to s m None = Replies (error_reply m (codes "Missing action in request"))
 reaction_to s m (Some name) =
@@ -74,19 +77,20 @@ reaction_to s m (Some name) =
     else if not s.logged_in then Replies (error_reply m (codes "Permission denied"))
     else named_reaction (action_named name) m
 
--- what a session does upon a message
+-- what session `s` does upon message `m`
 abbrev pub reaction : SessionState → Fields → Reaction
 reaction s m = reaction_to s m (value_of (codes "Action") m)
 
--- whether a message is a Login that is accepted
+-- whether message `m`, whose field `Action` has this value, is a Login that session `s` accepts
 abbrev pub logs_in : SessionState → Fields → Option (List ℕ) → Bool
 logs_in s m None = false
 logs_in s m (Some name) = not (is_word name (codes "Logoff")) && (is_word name (codes "Login") && accepts s.login m)
 
--- the session after a message with this action: a Login that is accepted logs in, and nothing logs out
+-- session `s` after message `m` whose field `Action` has the value `name`: a Login that is accepted
+-- logs in, and nothing logs out
 abbrev pub after_action : SessionState → Fields → Option (List ℕ) → SessionState
 after_action s m name = if logs_in s m name then record s { logged_in = true } else s
 
--- the session after a message
+-- session `s` after message `m`
 abbrev pub after : SessionState → Fields → SessionState
 after s m = after_action s m (value_of (codes "Action") m)

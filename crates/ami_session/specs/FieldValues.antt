@@ -10,47 +10,48 @@ use Rattle.ami_text.specs.MessageFields.{same_name, value_of}
 abbrev pub Fields : Type 0
 Fields = List (List ℕ × List ℕ)
 
--- a word, compared without ASCII case as names are
+-- whether `text` is `word`, compared without ASCII case, as names are
 abbrev pub is_word : List ℕ → List ℕ → Bool
 is_word text word = same_name text word
 
--- CR and NUL may not stand in an ActionID
+-- whether byte `b` is CR or NUL, which may not stand in an ActionID
 abbrev pub is_bad_in_id : ℕ → Bool
 is_bad_in_id b = b == 13 || b == 0
 
--- an ActionID as it is repeated: none where a byte may not stand in it
+-- an ActionID as replies repeat it: no bytes where one stands in it that may not
 abbrev pub clean_id : List ℕ → List ℕ
 clean_id value = if list_any is_bad_in_id value then [] else value
 
--- the ActionID of a message; no bytes where it has none
+-- the ActionID of message `m` as replies repeat it; no bytes where it has none
 abbrev pub id_of : Fields → List ℕ
 id_of m = clean_id (unwrap_or (value_of (codes "ActionID") m) [])
 
--- the words that say yes
+-- whether `value` is one of the words that say yes, compared without ASCII case
 abbrev pub is_yes : List ℕ → Bool
 is_yes value =
     is_word value (codes "yes") || is_word value (codes "true") || is_word value (codes "y") || is_word value (codes "t") || is_word value (codes "1")
     || is_word value (codes "on")
 
--- a text of at most 80 bytes, without CR, LF and NUL
+-- `bytes` as a text, where there are at most 80, without CR, LF and NUL
 abbrev pub text_of : List ℕ → Option (List ℕ)
 text_of bytes = if nat_lt TEXT_BYTES (length bytes) then None else if list_any is_bad_byte bytes then None else Some bytes
 
--- a text that has a byte
+-- bytes as a name: a text that has a byte
 abbrev pub name_of : List ℕ → Option (List ℕ)
 name_of [] = None
 name_of (b ∷ bs) = text_of (b ∷ bs)
 
--- the number of which this one's digits and then these are the decimal digits
+-- the number whose decimal digits are those of `n` and then these
 abbrev pub read_on : ℕ → List ℕ → ℕ
 read_on n [] = n
 read_on n (d ∷ ds) = read_on (n * 10 + (d - 48)) ds
 
--- the number that decimal digits stand for
+-- the number that the decimal digits `digits` stand for
 abbrev pub number_of : List ℕ → ℕ
 number_of digits = read_on 0 digits
 
--- a penalty of 1 to 10 decimal digits, at most 2147483647
+-- the penalty that a value of 1 to 10 decimal digits stands for, at most 2,147,483,647; `None` of
+-- any other value
 abbrev pub penalty_of : List ℕ → Option ℕ
 penalty_of [] = None
 penalty_of (d ∷ ds) =

@@ -8,7 +8,7 @@ use Rattle.replica.specs.declared.refusal.Refusal.TheVariants.{NoSuchQueue, Alre
 abbrev pub reply : List ℕ → List ℕ → List ℕ → List ℕ
 reply response id message = field (codes "Response") response ++ action_id_line id ++ field (codes "Message") message ++ codes "\r\n"
 
--- what a reply says of a refusal
+-- what a reply says of a refusal of a command
 abbrev pub refusal_text : Refusal → List ℕ
 refusal_text NoSuchQueue = codes "No such queue"
 refusal_text AlreadyThere = codes "Unable to add interface: Already there"
@@ -18,7 +18,8 @@ refusal_text Exhausted = codes "Unable to change members: Numbers used up"
 refusal_text TotalFull = codes "Total full"
 refusal_text Memory = codes "Out of memory"
 
--- what a reply to a removal says of it: the same, but for a member that isn't there
+-- what a reply to `QueueRemove` says of a refusal: what all replies say, but for a member that
+-- isn't there
 abbrev pub removal_refusal_text : Refusal → List ℕ
 removal_refusal_text NotThere = codes "Unable to remove interface: Not there"
 removal_refusal_text refusal = refusal_text refusal

@@ -3,7 +3,7 @@ use Rattle.std.specs.Prelude.{ℕ, List, codes}
 use Rattle.ami_session.specs.declared.reply.Response.{Response}
 use Rattle.ami_session.specs.declared.reply.Response.TheVariants.{Success, Error, Goodbye}
 
--- the word for it
+-- the word by which the field `Response` of a reply says how it went
 abbrev pub response_text : Response → List ℕ
 response_text Success = codes "Success"
 response_text Error = codes "Error"

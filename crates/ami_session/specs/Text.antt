@@ -12,38 +12,40 @@ use Rattle.ami_session.specs.Checks.{answer_reply}
 abbrev pub own_greeting : List ℕ
 own_greeting = codes "Queue Sites Call Manager/1.0.0"
 
--- a session's greeting: its line
+-- the greeting of session `s`: its line, with CR and LF
 abbrev pub greeting : SessionState → List ℕ
 greeting s = s.greeting ++ codes "\r\n"
 
--- what a reaction writes before the rest; an ask takes the first of the answers, and without one nothing more is written
+-- what a session writes upon a reaction, and then by `rest`; an ask takes the first of the answers,
+-- and without one nothing more is written
 abbrev pub text_upon : Reaction → (List Answer → List ℕ) → List Answer → List ℕ
 text_upon (Replies bytes) rest answers = bytes ++ rest answers
 text_upon (Ends bytes) rest answers = bytes
 text_upon (Asks ask waiting) rest [] = []
 text_upon (Asks ask waiting) rest (answer ∷ answers) = answer_reply waiting answer ++ rest answers
 
--- the replies to messages, up to the first Logoff or the end
+-- the replies of session `s` to messages, upon these answers of the site, up to the first Logoff or
+-- the end
 abbrev pub replies : SessionState → List Fields → List Answer → List ℕ
 replies s [] answers = []
 replies s (m ∷ ms) answers = text_upon (reaction s m) (replies (after s m) ms) answers
 
--- the session's text
+-- the text of session `s`: its greeting, and its replies to the messages `ms` upon the answers `answers`
 abbrev pub session_text : SessionState → List Fields → List Answer → List ℕ
 session_text s ms answers = greeting s ++ replies s ms answers
 
--- what the site is asked before the rest; nothing after the end
+-- what the site is asked upon a reaction, and then `more`; nothing more after one that ends the session
 abbrev pub asks_upon : Reaction → List Ask → List Ask
 asks_upon (Replies bytes) more = more
 asks_upon (Ends bytes) more = []
 asks_upon (Asks ask waiting) more = ask ∷ more
 
--- all that the site is asked, in order
+-- all that session `s` asks the site upon messages, in order
 abbrev pub asks : SessionState → List Fields → List Ask
 asks s [] = []
 asks s (m ∷ ms) = asks_upon (reaction s m) (asks (after s m) ms)
 
--- a session after messages
+-- session `s` after messages, one after another
 abbrev pub after_all : SessionState → List Fields → SessionState
 after_all s [] = s
 after_all s (m ∷ ms) = after_all (after s m) ms
@@ -54,34 +56,37 @@ is_end (Replies bytes) = false
 is_end (Asks ask waiting) = false
 is_end (Ends bytes) = true
 
--- whether one of the messages ends the session
+-- whether one of the messages ends session `s`
 abbrev pub is_over : SessionState → List Fields → Bool
 is_over s [] = false
 is_over s (m ∷ ms) = is_end (reaction s m) || is_over (after s m) ms
 
--- once a message has ended the session, nothing behind it counts: neither in the text nor in what is asked
+-- where the message `last`, behind those `before`, ends session `s`, nothing behind it counts:
+-- neither in the text nor in what is asked
 pub record NothingFollows (s : SessionState) (before : List Fields) (last : Fields) : Type 0 where
   pub text : (bytes : List ℕ) → reaction (after_all s before) last ≡ Ends bytes → (others more : List Fields) (answers : List Answer)
       → session_text s (before ++ last ∷ others) answers ≡ session_text s (before ++ last ∷ more) answers
   pub asks : (bytes : List ℕ) → reaction (after_all s before) last ≡ Ends bytes → (others more : List Fields) → asks s (before ++ last ∷ others) ≡ asks s (before ++ last ∷ more)
 
--- what is written upon some answers is the front of what is written upon more of them
+-- what session `s` writes upon `answers` is the front of what it writes upon these and `more` of them
 pub record IsFrontOfMore (s : SessionState) (ms : List Fields) (answers more : List Answer) : Type 0 where
   pub rest : List ℕ
   pub is : session_text s ms (answers ++ more) ≡ session_text s ms answers ++ rest
 
--- the text of more messages begins with the text of fewer
+-- the text of session `s` upon the messages `ms` is the front of its text upon these and `more` of them
 pub record IsFrontOfLonger (s : SessionState) (ms more : List Fields) (answers : List Answer) : Type 0 where
   pub rest : List ℕ
   pub is : session_text s (ms ++ more) answers ≡ session_text s ms answers ++ rest
 
--- a session's messages in a stream: one of them ends it, or no other stands behind them
+-- `ms` are the messages of session `s` in the stream `bytes`: one of them ends it, or no other
+-- stands behind them
 pub record AreOf (s : SessionState) (bytes : List ℕ) (ms : List Fields) : Type 0 where
   pub rest : List ℕ
   pub gives : Gives bytes ms rest
   pub whole : (is_over s ms ≡ true) ⊎ IsRest rest
 
--- messages have the same text, and ask the same
+-- session `s` writes the same upon the messages `ms` as upon `others`, whatever the answers, and
+-- asks the same
 pub record SameText (s : SessionState) (ms others : List Fields) : Type 0 where
   pub text : (answers : List Answer) → session_text s ms answers ≡ session_text s others answers
   pub asks : asks s ms ≡ asks s others
