@@ -8,29 +8,29 @@ use Rattle.crossbeam_channel.specs.declared.flavors.array.Key.{Key}
 use Rattle.crossbeam_channel.specs.declared.flavors.array.Rows.{Rows}
 use Rattle.site_links.specs.declared.log.Log.{Log}
 
--- which link it is, and how many items it holds at most
+-- which link it is, by its tables and its key, and how many items it holds at most
 pub record Link : Type 0 where
   pub table : TableId
   pub key : Badge (Key (List ℕ))
   pub messages : TableId
   pub capacity : ℕ
 
--- the end that sends: all that was sent, and whether a send handed its bytes back
+-- the end of a link that sends: all that was sent, and whether a send handed its bytes back
 pub record Sending : Type 0 where
   pub link : Link
   pub sent : List (List ℕ)
   pub down : Bool
 
--- the end that receives: all that was received, and whether a receive found the link's end
+-- the end of a link that receives: all that was received, and whether a receive found the link's end
 pub record Receiving : Type 0 where
   pub link : Link
   pub received : List (List ℕ)
   pub ended : Bool
 
--- the link of a channel
+-- the link that the channel `c` is
 abbrev pub link_of : {D Q M L A : Type 0} → Rows (Badge (Key (List ℕ))) D Q M (Key (List ℕ)) L A → Link
 link_of c = record { table = c.stamps.shared.table_id; key = c.stamps.shared.key; messages = c.messages.shared.table_id; capacity = ruled_capacity c }
 
--- what a pass knows
+-- what a pass of a channel knows: its log
 abbrev pub known_of : Pass (List ℕ) Log → Log
 known_of pass = view pass
