@@ -7,7 +7,7 @@ use Rattle.site_journal.specs.Legal.{Leads}
 use Rattle.site_journal.specs.declared.step.StepDeed.{StepDeed}
 use Rattle.status_report.specs.declared.asks.Ask.{Ask}
 
--- at some state of the site of this number and of these queues, the deed is what was done
+-- `deed` is what was done at some state of the site of the number `site`, with the queues `names`
 pub record IsLegalDeed (site : ℕ) (names : List (List ℕ)) (deed : StepDeed) : Type 0 where
   pub old : SiteState
   pub new : SiteState
@@ -15,7 +15,8 @@ pub record IsLegalDeed (site : ℕ) (names : List (List ℕ)) (deed : StepDeed) 
   pub names_are : old.names ≡ names
   pub leads : Leads old deed new
 
--- at some state of this site, the deed is this ask with what the site answered
+-- `deed` is the ask `asked` with what was answered at some state of the site of the number `site`,
+-- with the queues `names`
 pub record IsLegalAnswer (site : ℕ) (names : List (List ℕ)) (asked : Ask) (deed : StepDeed) : Type 0 where
   pub old : SiteState
   pub new : SiteState
@@ -23,7 +24,8 @@ pub record IsLegalAnswer (site : ℕ) (names : List (List ℕ)) (asked : Ask) (d
   pub names_are : old.names ≡ names
   pub answers : IsAnswerTo old asked new deed
 
--- at some state of this site, it refuses the frame that bytes spell for this cause
+-- at some state the site of the number `site`, with the queues `names`, refuses the frame that
+-- `bytes` spell for the cause `fault`
 pub record IsLegalRefusal (site : ℕ) (names : List (List ℕ)) (bytes : List ℕ) (fault : TakeFault) : Type 0 where
   pub old : SiteState
   pub site_is : old.site ≡ site

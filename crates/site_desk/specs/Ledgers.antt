@@ -12,14 +12,14 @@ use Rattle.delta.specs.DeltaStates.{DeltaState, IsSame}
 use Rattle.member_orset.specs.Members.{condition_of}
 use Rattle.replica.specs.Site.{IsSameSite, SiteState}
 
--- a delta of nothing
+-- the state of a delta that says nothing and has no room
 abbrev nothing : DeltaState
 nothing = record {
   members = record { known = set.empty; live = map.empty; ids = map.empty; spent = set.empty; retired = 0; cell_room = 0; run_room = 0 };
   totals = record { entries = map.empty; room = 0 };
 }
 
--- the site of a ledger that no call has named
+-- the state that stands as the site of a ledger that no call has named
 abbrev pub no_site : SiteState
 no_site = record { site = 0; names = []; state = nothing; pending = nothing; last_count = 0; last_time = 0; frames = 0 }
 

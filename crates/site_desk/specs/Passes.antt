@@ -9,58 +9,62 @@ use Rattle.site_journal.specs.declared.step.StepDeed.TheVariants.{Asked}
 use Rattle.status_report.specs.declared.asks.Answer.{Answer}
 use Rattle.status_report.specs.declared.asks.Ask.{Ask}
 
--- The number of a pass, how many steps it has done, and how long the journal was when it did the last.
+-- what is seen of a pass: its number, how many steps it has done, and how long the journal was when
+-- it did the last
 pub record PassState : Type 0 where
   pub ordinal : ℕ
   pub share : ℕ
   pub seen : ℕ
 
--- How many passes a desk has.
+-- what is seen of a desk: how many passes it has
 pub record DeskState : Type 0 where
   pub passes : ℕ
 
--- a pass that has done nothing
+-- the pass of the number `ordinal` that has done nothing
 abbrev pub fresh_pass : ℕ → PassState
 fresh_pass ordinal = record { ordinal = ordinal; share = 0; seen = 0 }
 
--- a pass that has done one step more, at this position
+-- `pass` after one step more, which stands at `position` in the journal
 abbrev pub one_more : PassState → ℕ → PassState
 one_more pass position = record { ordinal = pass.ordinal; share = pass.share + 1; seen = position + 1 }
 
--- a pass has done the step of this receipt: the step stands not below what the pass had seen, and the pass has counted it and seen one past it
+-- from `old` to `new` a pass has done the step of `receipt`: the step stands not below what the
+-- pass had seen, and the pass has counted it and seen one past it
 pub record HasDone (old : PassState) (receipt : Receipt) (new : PassState) : Type 0 where
   pub pass : receipt.pass ≡ old.ordinal
   pub position : old.seen ≤ receipt.position
   pub counted : new ≡ one_more old receipt.position
 
--- the step of which this is the receipt
+-- the step of which `receipt` is the receipt
 abbrev pub step_of : Receipt → Step
 step_of receipt = record { pass = receipt.pass; deed = receipt.deed }
 
--- a receipt is of this ask, with what was answered
+-- a receipt is of the ask `ask`, with what was answered
 abbrev pub IsOfAsk : Ask → Receipt → Type 0
 IsOfAsk ask receipt = (answer : Answer) × (receipt.deed ≡ Asked ask answer)
 
--- a fault tells a length of the journal, which is less than the pass has seen
+-- a fault tells a length of the journal that is less than `pass` has seen
 abbrev pub IsRewound : PassState → DeskFault → Type 0
 IsRewound pass (Rewound len) = len < pass.seen
 IsRewound pass other = ⊥
 
--- a fault tells no length of the journal, or one that is less than the pass has seen
+-- a fault tells no length of the journal, or one that is less than `pass` has seen
 abbrev pub TellsTruly : PassState → DeskFault → Type 0
 TellsTruly pass (Rewound len) = len < pass.seen
 TellsTruly pass other = ⊤
 
--- the passes of a new desk: `number` of them, with the numbers 0, 1, .., none of which has done anything
+-- `passes` are those of a new desk: `number` of them, with the numbers 0, 1, .., none of which has
+-- done anything
 pub record AreFresh (number : ℕ) (passes : List PassState) : Type 0 where
   pub count : length passes ≡ number
   pub each : (k : ℕ) (none : PassState) → k < number → slice_index_or passes k none ≡ fresh_pass k
 
--- the steps that passes have done, counted together
+-- how many steps the passes of a list have done together
 abbrev pub shares_of : List PassState → ℕ
 shares_of = sum_by (λ (pass : PassState). pass.share)
 
--- all passes of a desk that has `number` of them, each once: their count is right and no number is missing, so none is doubled
+-- `passes` are all passes of a desk that has `number` of them, each once: their count is right and
+-- no number is missing, so none is doubled
 pub record AreAll (number : ℕ) (passes : List PassState) : Type 0 where
   pub count : length passes ≡ number
   pub each : (ordinal : ℕ) → ordinal < number → Any (λ (pass : PassState). pass.ordinal ≡ ordinal) passes

@@ -8,33 +8,36 @@ use Rattle.site_desk.specs.Deeds.{IsLegalDeed}
 use Rattle.site_desk.specs.Passes.{HasDone, PassState, TellsTruly}
 use Rattle.site_desk.specs.declared.desk_port.DeskPort.{DeskPort}
 
--- the pass that a port has borrowed
+-- the pass that the port of a desk has borrowed
 abbrev pub lent_pass : {L : Type 0} → DeskPort L → MutBor PassState
 lent_pass port = port.pass
 
--- the fault of a port's last call, if it had one
+-- the fault of the last call of a desk's port, if that had one
 abbrev pub last_fault : {L : Type 0} → DeskPort L → Option DeskFault
 last_fault port = port.fault
 
--- the pass has done the step of this receipt, and is the same borrow; the deed is so at some state of the site of this number and of these queues
+-- the pass of a port has done the step of `receipt`, and is the same borrow; the deed is what was
+-- done at some state of the site of the number `site`, with the queues `names`
 pub record MakesByPass (site : ℕ) (names : List (List ℕ)) (old : MutBor PassState) (receipt : Receipt) (new : MutBor PassState) : Type 0 where
   pub done : HasDone old.now receipt new.now
   pub legal : IsLegalDeed site names receipt.deed
   pub same : new.ghost_name ≡ old.ghost_name
 
--- the pass is as it was, and the same borrow; the fault tells no length that the pass hasn't seen more of
+-- the pass of a port is as it was, and the same borrow; `fault` tells no length of the journal, or
+-- one that is less than the pass has seen
 pub record RefusesByPass (old : MutBor PassState) (fault : DeskFault) (new : MutBor PassState) : Type 0 where
   pub unchanged : new.now ≡ old.now
   pub told : TellsTruly old.now fault
   pub same : new.ghost_name ≡ old.ghost_name
 
--- the positions of receipts ascend, from a length that the journal had to that which it had with the last of them
+-- the positions of receipts ascend, from the journal's length `seen` before the first of them to
+-- its length `new` after the last
 abbrev pub Ascend : ℕ → List Receipt → ℕ → Type 0
 Ascend seen [] new = new ≡ seen
 Ascend seen (receipt ∷ receipts) new = (seen ≤ receipt.position) × Ascend (receipt.position + 1) receipts new
 
--- a pass has done the steps of these receipts, one after another: all are of its number, which stays, and it has counted and seen them; each deed is so at some
--- state of this site
+-- from `old` to `new` a pass has done the steps of `receipts`, one after another: all are of its number,
+-- which stays, it has counted and seen them, and each deed is what was done at some state of this site
 pub record HasDoneAll (site : ℕ) (names : List (List ℕ)) (old : PassState) (receipts : List Receipt) (new : PassState) : Type 0 where
   pub ordinal : new.ordinal ≡ old.ordinal
   pub passes : All (λ (receipt : Receipt). receipt.pass ≡ old.ordinal) receipts
@@ -42,7 +45,7 @@ pub record HasDoneAll (site : ℕ) (names : List (List ℕ)) (old : PassState) (
   pub share : new.share ≡ old.share + length receipts
   pub seen : Ascend old.seen receipts new.seen
 
--- the pass has done the steps of these receipts, and is the same borrow
+-- the pass of a port has done the steps of `receipts`, one after another, and is the same borrow
 pub record WorksByPass (site : ℕ) (names : List (List ℕ)) (old : MutBor PassState) (receipts : List Receipt) (new : MutBor PassState) : Type 0 where
   pub done : HasDoneAll site names old.now receipts new.now
   pub same : new.ghost_name ≡ old.ghost_name
