@@ -8,33 +8,36 @@ use Rattle.member_orset.specs.Members as sets
 use Rattle.member_orset.specs.Members.{Members, members_code, condition_of}
 use Rattle.site_totals.specs.Tally.{Tally, tally_code}
 
--- A set of members, and totals. Both have rooms beside what they say, and the set its retired places.
+-- what is seen of a delta: a set of members and totals, both with their rooms, and the set with its
+-- retired places
 pub record DeltaState : Type 0 where
   pub members : Members
   pub totals : Tally
 
--- it is stored as the pair of these
+-- a delta is stored as the pair of its members and its totals
 abbrev pub delta_code : Coded DeltaState
 delta_code = code_by (Members × Tally) (coded× members_code tally_code) (λ d. (d.members, d.totals)) (λ p. record { members = p.0; totals = p.1 }) (λ _. refl)
 
--- nothing is known: of no dot a condition, and no total
+-- delta `d` says nothing: it has no condition of a dot, no known dot and no total
 pub record IsEmpty (d : DeltaState) : Type 0 where
   pub conditions : (dot : Dot) → condition_of d.members dot ≡ None
   pub known : d.members.known ≡ set.empty
   pub totals : d.totals.entries ≡ map.empty
 
--- both have the same condition of each dot, know the same dots and have the same totals
+-- deltas `d` and `e` say the same: they have the same condition of each dot, know the same dots and
+-- have the same totals
 pub record IsSame (d e : DeltaState) : Type 0 where
   pub conditions : (dot : Dot) → condition_of d.members dot ≡ condition_of e.members dot
   pub known : d.members.known ≡ e.members.known
   pub totals : d.totals.entries ≡ e.totals.entries
 
--- a delta says the same as before, and as many places aren't used again; of its rooms nothing is said
+-- from `old` to `new` a delta says the same as before, with the same ids and as many retired
+-- places; of its rooms nothing is said
 pub record IsUnchanged (old new : DeltaState) : Type 0 where
   pub members : sets.IsUnchanged old.members new.members
   pub totals : new.totals.entries ≡ old.totals.entries
 
--- no room is less than before
+-- no room of delta `new` is less than that of `old`
 pub record KeepsRoom (old new : DeltaState) : Type 0 where
   pub cells : old.members.cell_room ≤ new.members.cell_room
   pub runs : old.members.run_room ≤ new.members.run_room

@@ -8,29 +8,31 @@ use Rattle.member_orset.specs.declared.join_fault.JoinFault.{JoinFault}
 use Rattle.site_totals.specs.Tally.{HasRoomFor}
 use Rattle.delta.specs.DeltaStates.{DeltaState}
 
--- each dot's conditions agree
+-- deltas `d` and `e` agree: their conditions of each dot do
 abbrev pub AreInAgreement : DeltaState → DeltaState → Type 0
 AreInAgreement d e = sets.CanBeJoined d.members e.members
 
--- some dot's conditions are in conflict
+-- deltas `d` and `e` don't agree: their conditions of some dot are in conflict
 abbrev pub Disagree : DeltaState → DeltaState → Type 0
 Disagree d e = sets.Conflicts d.members e.members
 
--- a delta is the join of two: each dot has the join of its conditions, the dots of both are known, and each total is the greater of both
+-- `joint` is the join of deltas `d` and `e`: each dot has the join of its conditions, the dots of
+-- both are known, and each total is the greater of both
 pub record IsJoinOf (d e joint : DeltaState) : Type 0 where
   pub members : sets.IsJoinOf d.members e.members joint.members
   pub totals : joint.totals.entries ≡ join_of d.totals.entries e.totals.entries
 
--- Nothing is left that could refuse the join with another delta: its members were prepared, if it knows a dot at all, and there is room for its totals.
+-- nothing is left that could refuse the join of `e` into `d`: the members of `d` were prepared for
+-- it, if `e` knows a dot at all, and there is room for its totals
 pub record IsPrepared (d e : DeltaState) : Type 0 where
   pub members : e.members.known ≢ set.empty → sets.IsPrepared d.members e.members
   pub totals : HasRoomFor d.totals e.totals.entries
 
--- the join with another delta is refused for the causes of its members
+-- the join of delta `e` into `d` is refused just for the causes of their members, as `IsRefused` has it
 abbrev pub IsRefusedJoin : DeltaState → DeltaState → (JoinFault → Type 0) → Type 0
 IsRefusedJoin d e IsRefused = refusals.IsRefusedJoin d.members e.members IsRefused
 
--- a delta that came back was refused for this cause
+-- a join was refused for the cause `fault`, and the delta that was handed in came back
 abbrev pub IsRefusedFor : Result (Unit {0}) (JoinFault × DeltaState) → JoinFault → Type 0
 IsRefusedFor (Ok u) fault = ⊥
 IsRefusedFor (Err refused) fault = refused.0 ≡ fault

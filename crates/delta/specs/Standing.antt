@@ -10,11 +10,12 @@ use Rattle.site_totals.specs.Raising.{number_of}
 use Rattle.member_orset.specs.Members.{condition_of, dot_view_of}
 use Rattle.delta.specs.DeltaStates.{DeltaState}
 
--- a delta is that of a knowledge: it has the conditions, the known dots and the totals of that
+-- `d` is a delta of knowledge `k`: it has the conditions, the known dots and the totals of that
 abbrev pub IsDeltaOf : DeltaState → Knowledge → Type 0
 IsDeltaOf d k = Represents (condition_of d.members) d.members.known d.totals.entries k
 
--- a delta is read as a knowledge: it shows the same dots, each with the same member and fields, and the same totals
+-- delta `d` is read as knowledge `k`: it shows the same dots, each with the same member and fields,
+-- and the same totals
 pub record IsReadAs (d : DeltaState) (k : Knowledge) : Type 0 where
   pub dots : ShowAlike (dot_view_of d.members) (dot_view k)
   pub totals : (site queue : ℕ) (calls : Calls) → number_of calls (totals_of d.totals.entries site queue) ≡ site_total k site queue calls
