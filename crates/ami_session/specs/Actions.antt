@@ -69,8 +69,8 @@ penalty_in m = number_of (unwrap_or (value_of (codes "Penalty") m) (codes "0"))
 abbrev pub says_yes : Fields → Bool
 says_yes m = is_yes (text_at (codes "Paused") m)
 
--- the pause that message `m` has: where its `Paused` says yes, for its `Reason`; else none, and a
--- `Reason` is dropped
+-- the pause that message `m` has: where its `Paused` says yes, paused for its `Reason`; else not
+-- paused, and a `Reason` is dropped
 abbrev pub pause_in : Fields → PauseState
 pause_in m = record { paused = says_yes m; reason = if says_yes m then text_at (codes "Reason") m else [] }
 
@@ -98,8 +98,8 @@ queue_remove = record {
   refusal = removal_refusal_text;
 }
 
--- `QueuePause`, by which a member is paused or not; without a queue it is of every one that the
--- interface is a member of
+-- `QueuePause`, by which an interface is paused or unpaused in a queue, or, without one, in every
+-- queue that it is a member of
 abbrev pub queue_pause : ActionRow
 queue_pause = record {
   name = codes "QueuePause";
@@ -110,8 +110,8 @@ queue_pause = record {
   refusal = refusal_text;
 }
 
--- `QueuePenalty`, by which a member gets a penalty; without a queue it is of every one that the
--- interface is a member of
+-- `QueuePenalty`, by which an interface gets a penalty in a queue, or, without one, in every queue
+-- that it is a member of
 abbrev pub queue_penalty : ActionRow
 queue_penalty = record {
   name = codes "QueuePenalty";

@@ -18,7 +18,7 @@ is_word text word = same_name text word
 abbrev pub is_bad_in_id : ℕ → Bool
 is_bad_in_id b = b == 13 || b == 0
 
--- an ActionID as replies repeat it: no bytes where one stands in it that may not
+-- an ActionID as replies repeat it: no bytes where CR or NUL stands in it
 abbrev pub clean_id : List ℕ → List ℕ
 clean_id value = if list_any is_bad_in_id value then [] else value
 
@@ -26,7 +26,7 @@ clean_id value = if list_any is_bad_in_id value then [] else value
 abbrev pub id_of : Fields → List ℕ
 id_of m = clean_id (unwrap_or (value_of (codes "ActionID") m) [])
 
--- whether `value` is one of the words that say yes, compared without ASCII case
+-- whether `value` says yes: it is one of yes, true, y, t, 1 and on, compared without ASCII case
 abbrev pub is_yes : List ℕ → Bool
 is_yes value =
     is_word value (codes "yes") || is_word value (codes "true") || is_word value (codes "y") || is_word value (codes "t") || is_word value (codes "1")

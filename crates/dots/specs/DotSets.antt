@@ -62,7 +62,8 @@ run_ends dots = set.retain dots (λ d. not (set.contains dots (next_dot d)))
 unfoldable pub run_count : set.FinSet dot_cmp → ℕ
 run_count dots = set.len (run_ends dots)
 
--- the dots of `site`, as many as the last argument says, whose counts go up from `first`
+-- dots of `site`, as many as the number says, the first with the count `first` and each other with
+-- the next
 unfoldable pub dots_from : ℕ → ℕ → ℕ → List Dot
 dots_from site first zero = []
 dots_from site first (suc n) = record { site = site; count = first } ∷ dots_from site (suc first) n

@@ -93,7 +93,7 @@ module _ {T : Type 0} where
   KeepsLast last g (Held value) = g ≤ last
   KeepsLast last g Retired = g ≡ last
 
-  -- the cells of an arena: `held` of them hold a value, `retired` are retired, and the others are linked as free from `first` on;
+  -- the cells of an arena: `held` hold a value, `retired` are retired, and the others are linked as free from `first` on;
   -- `capacity`, at most 2^20, is enough for all of them, and no generation is past `last`
   pub record IsArena (last : ℕ) (slots : List (Slot T)) (capacity : ℕ) (first : Option ℕ) (held retired : ℕ) : Type 0 where
     pub counts_held : held ≡ count is_held slots

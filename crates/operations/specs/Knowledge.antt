@@ -22,7 +22,7 @@ abbrev pub is_dot : Dot → Dot → Bool
 is_dot = eq_by_cmp dot_cmp
 
 -- whether operation `o` asserts `dot`: it is the add that makes the dot, or a write that sets a
--- field of it
+-- field on it
 abbrev pub asserts : Dot → Operation → Bool
 asserts dot o = list_any (λ p. is_dot dot p.0) (asserted_by o)
 

@@ -1,4 +1,4 @@
--- What a register holds, over any type of values: when two registers agree, and what they are joined
+-- What a register holds, over any type of values: when two registers agree, and what their join is
 -- (RR-7506's last-writer-wins register).
 use Rattle.std.specs.Prelude.{◌≡◌, ◌≢◌, ◌⊎◌, Option, Some, None, IsSome, if◌then◌else◌}
 use Rattle.std.specs.Ordering.{is_lt}

@@ -97,7 +97,7 @@ row_of r member = row_if (dots_of r member) (row_of_fields (member_field r.penal
 abbrev pub interface_in : ℕ → Member → Option (List ℕ)
 interface_in queue member = if nat_eq queue member.queue then Some member.interface else None
 
--- the interfaces that are members of `queue` in view `r`: those that a visible dot has
+-- the interfaces of the members of `queue` that have a visible dot in view `r`
 unfoldable pub interfaces_of : DotView → ℕ → set.FinSet text_cmp
 interfaces_of r queue = set.from_list (filter_map (λ dot. option_and_then (interface_in queue) (r.member dot)) (in_order r.visible))
 

@@ -53,8 +53,8 @@ pub record HasValues (k : Knowledge) (member : Member) (row : MemberRow) : Type 
   pub name : row.name ≡ (value_or no_label (member_field (field_of label_field k) (dot_view k) member)).name
   pub state : row.state ≡ (value_or no_label (member_field (field_of label_field k) (dot_view k) member)).state
 
--- `total` is the greatest number of `calls` that an operation of knowledge `k` says that `site` has
--- counted in `queue`, or 0
+-- `total` is the greatest number of the calls `calls` that an operation of knowledge `k` says that
+-- `site` has counted in `queue`, or 0
 pub record IsGreatestCount (k : Knowledge) (site queue : ℕ) (calls : Calls) (total : ℕ) : Type 0 where
   pub is_one : (total ≡ 0) ⊎ ((o : Operation) × Contains k o × (count_in site queue calls o ≡ total))
   pub at_least : (o : Operation) → Contains k o → count_in site queue calls o ≤ total

@@ -25,8 +25,8 @@ lines_after front (b ∷ bs) = if b == 10 then content front ∷ lines_after [] 
 abbrev pub lines_of : List ℕ → List (List ℕ)
 lines_of script = lines_after [] script
 
--- what a line asks: nothing; of a site, to take a message (its lines between bars), count a call of a queue, offer a member (behind the
--- queue's name the tried interfaces, between bars), cut, make a whole or take an entry; to show an entry; or it isn't understood
+-- what a line asks: nothing; of a site a message (its lines between bars), a call of a queue, an offer (a queue's
+-- name and the tried interfaces, between bars), a cut, a whole or a take; to show an entry; or it isn't understood
 pub data Sense : Type 0 where
   Nothing : Sense
   Message : (site : ℕ) → (fields : List ℕ) → Sense

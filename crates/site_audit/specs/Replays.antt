@@ -43,8 +43,8 @@ pub data CannotGoOn (journals : List JournalState) (r : Replay) (site : ℕ) : T
   Ended : (j : JournalState) → slice_get journals site ≡ Some j → slice_get r.at.items site ≡ Some (length j.steps) → CannotGoOn journals r site
   Waits : (bytes : List ℕ) → IsNextStep journals r site (Took bytes) → found_in r.pool bytes ≡ None → CannotGoOn journals r site
 
--- from replay `old` to `new` a step of `site` was placed, if the last argument is true; else the
--- site can't go on, and nothing has changed
+-- from replay `old` to `new` a step of `site` was placed, or, where the flag is false, the site
+-- can't go on and nothing has changed
 abbrev pub HasPlayed : List JournalState → Replay → Replay → ℕ → Bool → Type 0
 HasPlayed journals old new site true = IsReplay journals new × (length new.events.items ≡ length old.events.items + 1)
 HasPlayed journals old new site false = (new ≡ old) × CannotGoOn journals new site

@@ -15,8 +15,8 @@ pub record IsLegalDeed (site : ℕ) (names : List (List ℕ)) (deed : StepDeed) 
   pub names_are : old.names ≡ names
   pub leads : Leads old deed new
 
--- `deed` is the ask `asked` with what was answered at some state of the site of the number `site`,
--- with the queues `names`
+-- `deed` is the ask `asked` with what was answered, other than want of memory, at some state of the
+-- site of the number `site`, with the queues `names`
 pub record IsLegalAnswer (site : ℕ) (names : List (List ℕ)) (asked : Ask) (deed : StepDeed) : Type 0 where
   pub old : SiteState
   pub new : SiteState

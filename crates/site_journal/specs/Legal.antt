@@ -60,7 +60,7 @@ pub record Leads (from : SiteState) (deed : StepDeed) (to : SiteState) : Type 0 
   pub done : IsDeed old deed new
   pub after : IsSameSite new to
 
--- steps, one after another, lead a site from state `from` to a last one, whatever room the states have
+-- steps, one after another, lead a site from state `from` to state `to`, whatever room these have
 abbrev pub LeadAll : SiteState → List Step → SiteState → Type 0
 LeadAll from [] to = IsSameSite from to
 LeadAll from (step ∷ steps) to = (mid : SiteState) × Leads from step.deed mid × LeadAll mid steps to

@@ -34,7 +34,8 @@ abbrev pub IsUnsettled : SettleFault → ℕ → List Step → List (List Receip
 IsUnsettled Checkpointed start steps lists = start ≢ 0
 IsUnsettled (Differs pass) start steps lists = (start ≡ 0) × IsFirstThatDiffers steps lists pass
 
--- the last argument is the least pass of `steps` that isn't below `from`, if there is one
+-- the number that is given is the least pass of `steps` that isn't below `from`; where none is
+-- given, all are below it
 abbrev pub IsLeastPass : ℕ → List Step → Option ℕ → Type 0
 IsLeastPass from steps None = All (λ (step : Step). step.pass < from) steps
 IsLeastPass from steps (Some pass) = (from ≤ pass) × Any (λ (step : Step). step.pass ≡ pass) steps × All (λ (step : Step). (step.pass < from) ⊎ (pass ≤ step.pass)) steps

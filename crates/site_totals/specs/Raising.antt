@@ -6,7 +6,7 @@ use Rattle.dots.specs.declared.calls.Calls.{Calls}
 use Rattle.dots.specs.declared.calls.Calls.TheVariants.{Completed, Abandoned}
 use Rattle.operations.specs.Totals.{Key, Entries, totals_at}
 
--- how many calls of the given kind `totals` count
+-- how many calls of the given kind are counted in `totals`
 abbrev pub number_of : Calls → CallTotals → ℕ
 number_of Completed totals = totals.completed
 number_of Abandoned totals = totals.abandoned

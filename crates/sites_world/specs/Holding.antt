@@ -75,8 +75,8 @@ MayJoinFrames = (state : WorldState) (site place : ℕ) (s : SiteState) (frame :
 
 -- ---- later worlds
 
--- world `after` is `w` or a later one: it has as many sites, each of which knows what it knew and
--- has made no fewer frames, and its pool begins with the same entries
+-- world `after` has grown from `w`: it has as many sites, each of which knows what it knew and has
+-- made no fewer frames, and its pool begins with the same entries
 pub record HasGrown (w after : World) : Type 0 where
   pub count : length after.sites ≡ length w.sites
   pub known : (site : ℕ) (s : SiteKnowledge) → slice_get w.sites site ≡ Some s
@@ -109,8 +109,8 @@ pub record IsSaidBy (d e : DeltaState) : Type 0 where
   pub conditions : (dot : Dot) → IsConditionBelow (condition_of d.members dot) (condition_of e.members dot)
   pub totals : (site queue : ℕ) (calls : Calls) → number_of calls (totals_of d.totals.entries site queue) ≤ number_of calls (totals_of e.totals.entries site queue)
 
--- a site in state `new` says all that it said in state `old`, and none of its last numbers (of
--- adds, times and frames) is less
+-- a site of the same number and queues says in state `new` all that it said in state `old`, and
+-- none of its last numbers (of adds, times and frames) is less
 pub record SiteGrows (old new : SiteState) : Type 0 where
   pub site : new.site ≡ old.site
   pub names : new.names ≡ old.names
