@@ -5,7 +5,7 @@ pub struct Row<'a> {
     pub penalty: u32,
     /// Whether the member is paused.
     pub paused: bool,
-    /// Why it is paused; empty where it isn't.
+    /// Why the member is paused; empty where it isn't paused.
     pub reason: &'a [u8],
     /// The member name; empty where none was set.
     pub name: &'a [u8],

@@ -15,7 +15,7 @@ pub enum DeskFault {
     /// The bytes are no frame, or more follows it.
     #[error("{0}")]
     Decode(DecodeFault),
-    /// The site refuses the frame.
+    /// The site refuses the frame, for this cause.
     #[error("{0}")]
     Take(TakeFault),
     /// The site has made 2^40 frames.
