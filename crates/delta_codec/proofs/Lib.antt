@@ -3,8 +3,8 @@ pub mod Counting
 pub mod Encoded
 pub mod Measuring
 pub mod PartLaws
-pub mod ReadCells
 pub mod ReadLists
+pub mod ReadCells
 pub mod FieldLaws
 pub mod CellLaws
 pub mod ListLaws

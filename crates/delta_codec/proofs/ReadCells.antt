@@ -1,8 +1,10 @@
 -- What a builder has been given lies before what is read next.
-use Rattle.std.proofs.Common.{◌≡◌, ℕ, ◌+◌, ◌≤◌, Bool, true, false, cond, Option, Some, None, IsSome, inl, inr, refl, ap, subst, ◌∙◌, arith}
+use Rattle.std.proofs.Common.{◌≡◌, ℕ, ◌+◌, ◌-◌, ◌≤◌, ◌<◌, List, Ok, Bool, true, false, cond, Option, Some, None, IsSome, inl, inr, refl, ap, subst, ◌∙◌, arith}
 use Rattle.std.specs.declared.cmp.Ordering.{Ordering}
 use Rattle.std.specs.declared.cmp.Ordering.TheVariants.{Less, Equal, Greater}
+use Rattle.std.specs.Prelude.{fold}
 use Rattle.std.specs.FinMap as map
+use Rattle.std.specs.FinSet as set
 use Rattle.std.specs.Ordering.{is_lt, eq_by_cmp}
 use Rattle.std.proofs.lemmas.Bool.{cases_Bool}
 use Rattle.dots.specs.Values.{Dot}
@@ -11,11 +13,9 @@ use Rattle.dots.proofs.DotOrder.{dots_total, dots_exact}
 use Rattle.general_lemmas.proofs.TruthTables.{equal_of}
 use Rattle.member_orset.specs.Members.{Holding}
 use Rattle.delta_codec.specs.declared.decode_fault.DecodeFault.TheVariants.{BadOrder}
-use Rattle.delta_codec.specs.Reading.{is_dot_before, order_fault, unless}
-
--- a dot that may stand behind the last one lies behind all live ones
-abbrev pub IsBehind : Option Dot → map.FinMap dot_cmp Holding → Type 0
-IsBehind last live = (q dot : Dot) → IsSome (map.get live q) → order_fault is_dot_before last dot ≡ None → dot_cmp q dot ≡ Less
+use Rattle.delta_codec.specs.Elements.{IsBehind, kept_cell}
+use Rattle.delta_codec.specs.Reading.{Read, cell_elements, elements_at, is_dot_before, made, next_at, order_fault, unless, with_cell}
+use Rattle.delta_codec.proofs.ReadLists.{goes_on, made_of}
 
 -- none is live
 pub behind_none : (last : Option Dot) (live : map.FinMap dot_cmp Holding) → live ≡ map.empty → IsBehind last live
@@ -51,3 +51,25 @@ few_more live d h n le = rw (map.len-insert dots_total live d h) (one_more (map.
 
 pub few_none : (live : map.FinMap dot_cmp Holding) → live ≡ map.empty → map.len live ≤ 0
 few_none live empty = rw (empty, map.len-empty dot_cmp) (omega arith)
+
+-- what holds once a cell was kept, of which the dot and what is live then are given
+abbrev pub AfterCell : (known : set.FinSet dot_cmp) → ℕ → ℕ → List ℕ → Read (map.FinMap dot_cmp Holding) → Dot × map.FinMap dot_cmp Holding → Type 0
+AfterCell known count i rest total kept =
+    (made (fold with_cell kept.1) (elements_at (cell_elements (set.contains known)) (count - (i + 1)) (Some kept.0) rest) ≡ total)
+    × (IsBehind (Some kept.0) kept.1)
+    × (map.len kept.1 ≤ i + 1)
+
+-- one more cell, which stood behind the others
+pub cell_kept : (known : set.FinSet dot_cmp) (live : map.FinMap dot_cmp Holding) (count i : ℕ) (last : Option Dot) (bytes rest : List ℕ) (dot : Dot) (more : map.FinMap dot_cmp Holding) (total : Read (map.FinMap dot_cmp Holding)) → i < count
+    → made (kept_cell live) (next_at (cell_elements (set.contains known)) last bytes) ≡ Ok ((dot, more), rest) → order_fault is_dot_before last dot ≡ None
+    → made (fold with_cell live) (elements_at (cell_elements (set.contains known)) (count - i) last bytes) ≡ total → IsBehind last live → map.len live ≤ i
+    → AfterCell known count i rest total (dot, more)
+cell_kept known live count i last bytes rest dot more total lt h follows so_far behind few =
+    let e = cell_elements (set.contains known) in
+    let read = made_of (kept_cell live) (next_at e last bytes) (dot, more) rest h in
+    let behind_it : order_fault is_dot_before last read.0.0 ≡ None = ap (λ (p : Dot × map.FinMap dot_cmp Holding). order_fault is_dot_before last p.0) read.2 ∙ follows in
+    subst (AfterCell known count i rest total) read.2 (
+      goes_on e with_cell live count i last bytes read.0 rest total lt read.1 so_far,
+      behind_more last live read.0.0 read.0.1 behind_it behind,
+      few_more live read.0.0 read.0.1 i few,
+    )

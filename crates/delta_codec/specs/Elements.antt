@@ -1,12 +1,22 @@
--- What is read of a cell and of totals, seen without where it lies in memory.
-use Rattle.delta_codec.specs.declared.elements.CellRead.{CellRead}
+-- What is read of totals, seen without where it lies in memory, and where what is read stands.
+use Rattle.std.specs.Prelude.{◌≡◌, Option, None, IsSome}
+use Rattle.std.specs.FinMap as map
+use Rattle.std.specs.declared.cmp.Ordering.TheVariants.{Less}
+use Rattle.dots.specs.Orders.{dot_cmp}
+use Rattle.dots.specs.Values.{Dot}
+use Rattle.member_orset.specs.Members.{Holding}
 use Rattle.delta_codec.specs.declared.elements.TotalRead.{TotalRead}
 use Rattle.delta_codec.specs.Parts.{CellParts, TotalParts}
-
--- a cell
-abbrev pub cell_read : CellRead → CellParts
-cell_read cell = (cell.dot, (cell.member, cell.fields))
+use Rattle.delta_codec.specs.Reading.{is_dot_before, order_fault, with_cell}
 
 -- totals
 abbrev pub total_read : TotalRead → TotalParts
 total_read total = (total.key, total.totals)
+
+-- a cell's dot, and what is live with the cell
+abbrev pub kept_cell : map.FinMap dot_cmp Holding → CellParts → Dot × map.FinMap dot_cmp Holding
+kept_cell live cell = (cell.0, with_cell live cell)
+
+-- a dot that may stand behind the last one lies behind all live ones
+abbrev pub IsBehind : Option Dot → map.FinMap dot_cmp Holding → Type 0
+IsBehind last live = (q dot : Dot) → IsSome (map.get live q) → order_fault is_dot_before last dot ≡ None → dot_cmp q dot ≡ Less

@@ -95,6 +95,10 @@ flags_at bytes = tested (λ n. nat_le 1 n && nat_le n 7) BadRange (byte_at bytes
 
 -- ---- texts
 
+-- `len` bytes
+abbrev pub bytes_of : ℕ → List ℕ → Read (List ℕ)
+bytes_of len rest = if nat_lt (length rest) len then Err BadRange else Ok (take len rest, drop len rest)
+
 -- `len` bytes that make a text
 unfoldable pub text_of : ℕ → List ℕ → Read (List ℕ)
 text_of len rest =
@@ -102,9 +106,13 @@ text_of len rest =
     else if list_any is_bad_byte (take len rest) then Err BadText
     else Ok (take len rest, drop len rest)
 
+-- how many bytes a text has: at least `least`
+abbrev pub length_at : ℕ → List ℕ → Read ℕ
+length_at least bytes = tested (λ len. nat_le least len && nat_le len TEXT_BYTES) BadText (byte_at bytes)
+
 -- a text of at least `least` bytes
 unfoldable pub text_at : ℕ → List ℕ → Read (List ℕ)
-text_at least bytes = tested (λ len. nat_le least len && nat_le len TEXT_BYTES) BadText (byte_at bytes) >>= λ len. text_of len.0 len.1
+text_at least bytes = length_at least bytes >>= λ len. text_of len.0 len.1
 
 -- no reason
 unfoldable pub no_reason_at : List ℕ → Read (List ℕ)

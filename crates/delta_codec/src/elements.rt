@@ -10,15 +10,18 @@ ghost use Rattle.dots.specs.Orders.{dot_cmp};
 ghost use Rattle.dots.specs.Values.{Dot};
 ghost use Rattle.causal_context.specs.Contexts.{IsRunWithinLimits};
 ghost use Rattle.member_orset.specs.Members.{HasField};
-ghost use Rattle.delta_codec.specs.Elements.{cell_read, total_read};
+ghost use Rattle.delta_codec.specs.Elements.{IsBehind, kept_cell, total_read};
 ghost use Rattle.delta_codec.specs.Reading.{ReturnsRead, GivesWithMemory, run_at, dot_at, place_at};
 ghost use Rattle.delta_codec.specs.Reading.{cell_at, total_at, next_at, elements_at, runs_at};
 ghost use Rattle.delta_codec.specs.Reading.{cells_at, totals_at, made, order_fault, is_dot_before};
+ghost use Rattle.delta_codec.specs.Reading.{dot_fault};
 ghost use Rattle.delta_codec.specs.Reading.{run_elements, cell_elements, total_elements, known_of};
 ghost use Rattle.delta_codec.specs.Reading.{live_of, totals_of, with_run, with_cell, with_total};
 
-use crate::fields::{read_fields, read_interface};
-use crate::numbers::{read_calls, read_count, read_last, read_queue, read_site, read_size};
+use crate::fields::{read_field, read_interface};
+use crate::numbers::{
+    read_calls, read_count, read_flags, read_last, read_queue, read_site, read_size,
+};
 use crate::reader::Reader;
 use crate::{DecodeFault, MOST_TOTALS};
 use causal_context::{Context, ContextFault, Run};
@@ -27,14 +30,6 @@ use lww_registers::Fields;
 use member_orset::{MemberSet, SetBuilder};
 use site_totals::{TotalKey, Totals};
 use std::alloc::Global;
-
-// A live dot with its member and fields.
-#[derive(Drop)]
-pub(crate) struct CellRead {
-    dot: Dot,
-    member: Member,
-    fields: Fields,
-}
 
 // Whose totals, and how many calls.
 #[derive(Drop)]
@@ -149,24 +144,6 @@ fn read_place(reader: &mut Reader<'_>) -> Result<(Dot, u16), DecodeFault>
     Ok((dot, queue))
 }
 
-// A cell.
-#[tactic(auto, unfolding(crate::specs::Reading::cell_at))]
-fn read_cell(reader: &mut Reader<'_>) -> Result<CellRead, DecodeFault>
-    ensures value { ReturnsRead (λ x. (cell_read x, reader.new)) result (cell_at reader.old) }
-    ensures some { IfOk result (λ x. HasField x.fields) }
-{
-    let (dot, queue) = read_place(reader)?;
-    let interface = read_interface(reader)?;
-    let fields = read_fields(reader)?;
-    let member = Member { queue, interface };
-    let cell = CellRead {
-        dot,
-        member,
-        fields,
-    };
-    Ok(cell)
-}
-
 // Whether a dot may stand behind the last one.
 fn follows(last: Option<Dot>, dot: Dot) -> bool
     ensures { IsTrue result ↔ (order_fault is_dot_before last dot ≡ None) }
@@ -177,43 +154,75 @@ fn follows(last: Option<Dot>, dot: Dot) -> bool
     }
 }
 
-// A cell whose dot may stand behind the last one, and is known.
-fn read_next_cell(
-    known: &Context,
-    last: Option<Dot>,
-    reader: &mut Reader<'_>,
-) -> Result<CellRead, DecodeFault>
-    ensures value { ReturnsRead (λ x. (cell_read x, reader.new)) result
-        (next_at (cell_elements (set.contains known.now.dots)) last reader.old) }
-    ensures some { IfOk result (λ x. HasField x.fields) }
-    ensures order { IfOk result (λ x. order_fault is_dot_before last x.dot ≡ None) }
-    ensures is_known { IfOk result (λ x. set.contains known.now.dots x.dot ≡ true) }
+// Sees that a dot may stand behind the last one, and is known.
+fn see_dot(known: &Context, last: Option<Dot>, dot: Dot) -> Result<(), DecodeFault>
+    ensures ok { OnOk result (dot_fault (set.contains known.now.dots) last dot ≡ None) }
+    ensures err { IfErr result
+        (λ fault. dot_fault (set.contains known.now.dots) last dot ≡ Some fault) }
+    ensures order { OnOk result (order_fault is_dot_before last dot ≡ None) }
+    ensures is_known { OnOk result (set.contains known.now.dots dot ≡ true) }
 {
-    let cell = read_cell(reader)?;
-    if !follows(last, cell.dot) {
+    if !follows(last, dot) {
         return Err(DecodeFault::BadOrder);
     }
-    if !known.contains(cell.dot) {
+    if !known.contains(dot) {
         return Err(DecodeFault::BadRange);
     }
-    Ok(cell)
+    Ok(())
 }
 
-// ReturnsRead a cell to a builder.
-fn keep_cell(builder: &mut SetBuilder, cell: &CellRead) -> Result<(), DecodeFault>
-    requires known { set.contains builder.old.known cell.now.dot ≡ true }
-    requires greater { (q : Dot) → IsSome (map.get builder.old.live q)
-        → dot_cmp q cell.now.dot ≡ Less }
-    requires some { HasField cell.now.fields }
+// Gives a cell to a builder.
+fn keep_cell(
+    builder: &mut SetBuilder,
+    dot: Dot,
+    member: Member,
+    fields: Fields,
+) -> Result<(), DecodeFault>
+    requires known { set.contains builder.old.known dot ≡ true }
+    requires greater { (q : Dot) → IsSome (map.get builder.old.live q) → dot_cmp q dot ≡ Less }
+    requires some { HasField fields }
     requires room { map.len builder.old.live < MOST_LIVE }
-    ensures ok { OnOk result (builder.new.live ≡ with_cell builder.old.live (cell_read cell.now)) }
+    ensures ok { OnOk result
+        (builder.new.live ≡ with_cell builder.old.live (dot, (member, fields))) }
     ensures known { builder.new.known ≡ builder.old.known }
     ensures err { IfErr result (λ fault. fault ≡ DecodeFault.Memory) }
 {
-    match builder.cell(cell.dot, &cell.member, &cell.fields) {
+    match builder.put(dot, member, fields) {
         Ok(_) => Ok(()),
         Err(_) => Err(DecodeFault::Memory),
     }
+}
+
+// Reads a cell whose dot may stand behind the last one and is known, gives it to a builder, and answers its dot. What it reads is moved
+// once, into the set.
+#[tactic(auto, unfolding(crate::specs::Reading::cell_at, crate::specs::Reading::fields_at, crate::specs::Reading::set_fields_at))]
+fn read_cell(
+    builder: &mut SetBuilder,
+    last: Option<Dot>,
+    reader: &mut Reader<'_>,
+) -> Result<Dot, DecodeFault>
+    requires behind { IsBehind last builder.old.live }
+    requires room { map.len builder.old.live < MOST_LIVE }
+    ensures known { builder.new.known ≡ builder.old.known }
+    ensures cell { GivesWithMemory (λ dot. ((dot, builder.new.live), reader.new)) result
+        (made (kept_cell builder.old.live)
+        (next_at (cell_elements (set.contains builder.old.known)) last reader.old)) }
+    ensures order { IfOk result (λ dot. order_fault is_dot_before last dot ≡ None) }
+{
+    let (dot, queue) = read_place(reader)?;
+    let interface = read_interface(reader)?;
+    let flags = read_flags(reader)?;
+    let penalty = read_field(flags % 2 == 1, reader)?;
+    let pause = read_field(flags / 2 % 2 == 1, reader)?;
+    let label = read_field(flags / 4 % 2 == 1, reader)?;
+    see_dot(builder.context(), last, dot)?;
+    let fields = Fields {
+        penalty,
+        pause,
+        label,
+    };
+    keep_cell(builder, dot, Member { queue, interface }, fields)?;
+    Ok(dot)
 }
 
 // So many cells, given to a builder.
@@ -231,9 +240,7 @@ fn read_counted_cells(
 {
     let mut last = None;
     for _ in 0..count {
-        let cell = read_next_cell(builder.context(), last, reader)?;
-        keep_cell(builder, &cell)?;
-        last = Some(cell.dot);
+        last = Some(read_cell(builder, last, reader)?);
     }
     Ok(())
 }

@@ -1,16 +1,27 @@
-//! Texts, and the fields of a dot, at the front of bytes.
+//! Texts, and a field of a dot, at the front of bytes.
 ghost use Rattle.std.specs.Prelude.{◌≡◌, ◌≤◌, [], length, is_some, IfOk};
-ghost use Rattle.member_orset.specs.Members.{HasField};
 ghost use Rattle.delta_codec.specs.Reading.{ReturnsRead, text_at, no_reason_at, stamp_at, reason_at};
-ghost use Rattle.delta_codec.specs.Reading.{field_at, set_fields_at, fields_at};
-ghost use Rattle.delta_codec.specs.Faults.{IsFlags, penalty_flag, pause_flag, label_flag};
+ghost use Rattle.delta_codec.specs.Reading.{field_at, length_at};
 
 use crate::DecodeFault;
 use crate::field_bytes::FieldBytes;
-use crate::numbers::{read_count, read_flags, read_site};
+use crate::numbers::{read_count, read_site};
 use crate::reader::Reader;
 use dots::{Interface, Stamp, TEXT_BYTES, Text80};
-use lww_registers::{Fields, Register};
+use lww_registers::Register;
+
+// How many bytes a text has: at least `least`.
+fn read_length(least: u8, reader: &mut Reader<'_>) -> Result<usize, DecodeFault>
+    ensures value { ReturnsRead (λ x. (x, reader.new)) result (length_at least reader.old) }
+    ensures least { IfOk result (λ x. least ≤ x) }
+    ensures most { IfOk result (λ x. x ≤ TEXT_BYTES) }
+{
+    let len = reader.byte()?;
+    if len < least || usize::from(len) > TEXT_BYTES {
+        return Err(DecodeFault::BadText);
+    }
+    Ok(usize::from(len))
+}
 
 // A text of at least `least` bytes.
 #[tactic(auto, unfolding(crate::specs::Reading::text_at))]
@@ -18,19 +29,18 @@ pub(crate) fn read_text(least: u8, reader: &mut Reader<'_>) -> Result<Text80, De
     ensures value { ReturnsRead (λ x. (x, reader.new)) result (text_at least reader.old) }
     ensures size { IfOk result (λ x. least ≤ length x) }
 {
-    let len = reader.byte()?;
-    if len < least || usize::from(len) > TEXT_BYTES {
-        return Err(DecodeFault::BadText);
-    }
-    reader.text(usize::from(len))
+    let len = read_length(least, reader)?;
+    reader.text(len)
 }
 
 // An interface.
+#[tactic(auto, unfolding(crate::specs::Reading::text_at, crate::specs::Reading::text_of))]
 pub(crate) fn read_interface(reader: &mut Reader<'_>) -> Result<Interface, DecodeFault>
     ensures { ReturnsRead (λ x. (x, reader.new)) result (text_at 1 reader.old) }
 {
-    let text = read_text(1, reader)?;
-    match Interface::new(text.as_bytes()) {
+    let len = read_length(1, reader)?;
+    let bytes = reader.bytes(len)?;
+    match Interface::new(bytes) {
         Ok(interface) => Ok(interface),
         Err(_) => Err(DecodeFault::BadText),
     }
@@ -80,7 +90,7 @@ fn read_stamp(reader: &mut Reader<'_>) -> Result<Stamp, DecodeFault>
 
 // A field: its stamp and its value where its flag says that it is set.
 #[tactic(auto, unfolding(crate::specs::Reading::field_at, crate::specs::Reading::entry_at))]
-fn read_field<T: FieldBytes>(
+pub(crate) fn read_field<T: FieldBytes>(
     flag: bool,
     reader: &mut Reader<'_>,
 ) -> Result<Register<T>, DecodeFault>
@@ -93,32 +103,4 @@ fn read_field<T: FieldBytes>(
     let stamp = read_stamp(reader)?;
     let value = T::read(reader)?;
     Ok(Register::of(stamp, value))
-}
-
-// The fields behind their flags.
-#[tactic(auto, unfolding(crate::specs::Reading::set_fields_at))]
-fn read_set_fields(flags: u8, reader: &mut Reader<'_>) -> Result<Fields, DecodeFault>
-    requires { IsFlags flags }
-    ensures some { IfOk result (λ x. HasField x) }
-    ensures value { ReturnsRead (λ x. (x, reader.new)) result (set_fields_at flags reader.old) }
-{
-    let penalty = read_field(flags % 2 == 1, reader)?;
-    let pause = read_field(flags / 2 % 2 == 1, reader)?;
-    let label = read_field(flags / 4 % 2 == 1, reader)?;
-    Ok(Fields {
-        penalty,
-        pause,
-        label,
-    })
-}
-
-// The flags, and the fields behind them.
-#[tactic(auto, unfolding(crate::specs::Reading::fields_at))]
-pub(crate) fn read_fields(reader: &mut Reader<'_>) -> Result<Fields, DecodeFault>
-    ensures some { IfOk result (λ x. HasField x) }
-    ensures value { ReturnsRead (λ x. (x, reader.new)) result (fields_at reader.old) }
-{
-    let flags = read_flags(reader)?;
-    let fields = read_set_fields(flags, reader)?;
-    Ok(fields)
 }

@@ -3,8 +3,8 @@ ghost use Rattle.std.specs.Int.{w16, w32, w64};
 ghost use Rattle.dots.specs.declared.limits.TheConstants.{TEXT_BYTES};
 ghost use Rattle.delta_codec.specs.Frames.{magic};
 ghost use Rattle.delta_codec.specs.declared.limits.TheConstants.{VERSION};
-ghost use Rattle.delta_codec.specs.Reading.{ReturnsRead, byte_at, magic_at, number_at, text_of};
-ghost use Rattle.delta_codec.specs.Reading.{version_at};
+ghost use Rattle.delta_codec.specs.Reading.{ReturnsRead, byte_at, bytes_of, magic_at, number_at};
+ghost use Rattle.delta_codec.specs.Reading.{text_of, version_at};
 
 use crate::{DecodeFault, VERSION};
 use dots::Text80;
@@ -92,6 +92,19 @@ impl<'a> Reader<'a> {
         Ok(number)
     }
 
+    // So many bytes.
+    pub(crate) fn bytes(&mut self, len: usize) -> Result<&'a [u8], DecodeFault>
+        ensures value { ReturnsRead (λ x. (x.now, self.new)) result (bytes_of len self.old) }
+        ensures size { IfOk result (λ x. length x.now ≡ len) }
+    {
+        if self.left.len() < len {
+            return Err(DecodeFault::BadRange);
+        }
+        let (front, rest) = self.left.split_at(len);
+        self.left = rest;
+        Ok(front)
+    }
+
     // So many bytes that make a text.
     #[tactic(auto, unfolding(crate::specs::Reading::text_of))]
     pub(crate) fn text(&mut self, len: usize) -> Result<Text80, DecodeFault>
@@ -99,11 +112,7 @@ impl<'a> Reader<'a> {
         ensures value { ReturnsRead (λ x. (x, self.new)) result (text_of len self.old) }
         ensures size { IfOk result (λ x. length x ≡ len) }
     {
-        if self.left.len() < len {
-            return Err(DecodeFault::BadRange);
-        }
-        let (front, rest) = self.left.split_at(len);
-        self.left = rest;
+        let front = self.bytes(len)?;
         match Text80::new(front) {
             Ok(text) => Ok(text),
             Err(_) => Err(DecodeFault::BadText),

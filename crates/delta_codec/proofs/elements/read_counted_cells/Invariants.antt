@@ -2,8 +2,8 @@ use Rattle.std.proofs.Common.{◌≡◌, ◌≤◌, ◌-◌, None}
 use Rattle.std.specs.Prelude.{fold}
 use Rattle.std.specs.FinMap as map
 use Rattle.std.specs.FinSet as set
+use Rattle.delta_codec.specs.Elements.{IsBehind}
 use Rattle.delta_codec.specs.Reading.{cell_elements, elements_at, live_of, made, with_cell}
-use Rattle.delta_codec.proofs.ReadCells.{IsBehind}
 use Rattle.delta_codec.proofs.elements.read_counted_cells.Given as goal
 
 -- what is live, with what is still read; a dot that may stand next lies behind all that are live
