@@ -30,6 +30,7 @@ pub fn covers_by_subset()
 /// A set of dots has one list of runs, so that equal contexts have equal slices, and its length is how many runs the
 /// set has.
 pub fn has_one_list_of_runs()
+    ensures some { (dots : set.FinSet dot_cmp) → (a : List Run) × IsRunsOf a dots }
     ensures unique { (a b : List Run) (dots : set.FinSet dot_cmp) → IsRunsOf a dots
         → IsRunsOf b dots → a ≡ b }
     ensures counted { (a : List Run) (dots : set.FinSet dot_cmp) → IsRunsOf a dots

@@ -1,3 +1,4 @@
+pub mod EachDelta
 pub mod EmptySets
 pub mod EmptyTotals
 pub mod Merging

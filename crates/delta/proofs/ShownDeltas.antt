@@ -36,7 +36,7 @@ module _ (d : DeltaState) (k : Knowledge) (is : IsDeltaOf d k) where
   live_by None false false (Some x) f e = absurd (cc)
   live_by None known false None f e = refl
 
-  live_is : (dot : Dot) → map.get d.members.live dot ≡ (if is_named k dot then None else option_map (λ x. (x, fields_in k dot)) (member_of k dot))
+  pub live_is : (dot : Dot) → map.get d.members.live dot ≡ (if is_named k dot then None else option_map (λ x. (x, fields_in k dot)) (member_of k dot))
   live_is dot = live_by (map.get d.members.live dot) (set.contains d.members.known dot) (is_named k dot) (member_of k dot) (fields_in k dot) (is.conditions dot)
 
   visible_is : (dot_view_of d.members).visible ≡ visible_dots k

@@ -37,8 +37,9 @@ pub fn deltas_that_agree_are_not_in_conflict()
     ensures { (x y : DeltaState) → AreInAgreement x y → Disagree x y → ⊥ }
 {}
 
-/// A knowledge has at most one delta: two that stand for it are the same. And what is the same stands for the same.
+/// Each knowledge has a delta, and one alone: two that stand for it are the same. And what is the same stands for the same.
 pub fn a_knowledge_has_one_delta()
+    ensures some { (k : Knowledge) → (x : DeltaState) × IsDeltaOf x k }
     ensures one { (x y : DeltaState) (k : Knowledge)
         → IsDeltaOf x k → IsDeltaOf y k → IsSame x y }
     ensures same { (x y : DeltaState) (k : Knowledge)

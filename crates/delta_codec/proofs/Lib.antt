@@ -20,3 +20,5 @@ pub mod FrameAnswers
 pub mod InnerFaults
 pub mod FaultAnswers
 pub mod FaultLaws
+pub mod Spellings
+pub mod FittingFrames

@@ -1,5 +1,6 @@
 pub mod Parts
 pub mod Frames
+pub mod Fitting
 pub mod Faults
 pub mod Reading
 pub mod Elements

@@ -3,11 +3,16 @@ ghost use Rattle.std.specs.Prelude.{◌≡◌, ◌≢◌, ◌⊎◌, ◌≤◌, 
 ghost use Rattle.delta_codec.specs.declared.decode_fault.DecodeFault.{DecodeFault};
 ghost use Rattle.delta_codec.specs.declared.decode_fault.DecodeFault.TheVariants.{Memory};
 ghost use Rattle.delta_codec.specs.declared.decode_fault.DecodeFault.TheVariants.{Truncated};
+ghost use Rattle.dots.specs.Values.{IsCount, IsSite};
+ghost use Rattle.operations.specs.FrameLimits.{FitsInFrame};
+ghost use Rattle.operations.specs.Knowledge.{Knowledge};
 ghost use Rattle.delta.specs.declared.frame.Frame.{Frame};
 ghost use Rattle.delta_codec.specs.declared.limits.TheConstants.{LEAST_LENGTH, MOST_LENGTH};
 ghost use Rattle.delta.specs.Frames.{IsSameFrame};
+ghost use Rattle.delta.specs.Standing.{IsDeltaOf};
 ghost use Rattle.delta_codec.specs.Decoding.{AreBytes, BeginsWithFrame, IsAtFault};
 ghost use Rattle.delta_codec.specs.Faults.{HasFault};
+ghost use Rattle.delta_codec.specs.Fitting.{FitsFormat};
 ghost use Rattle.delta_codec.specs.Frames.{AreParts, FrameParts, Spells, content_bytes};
 ghost use Rattle.delta_codec.specs.Frames.{frame_bytes};
 
@@ -60,4 +65,18 @@ pub fn a_front_stays()
         → Spells x (take m bytes) → Spells y (take n (bytes ++ more)) → (m ≡ n) × IsSameFrame x y }
     ensures fault { (bytes more : List ℕ) (fault : DecodeFault)
         → fault ≢ Truncated → HasFault bytes fault → HasFault (bytes ++ more) fault }
+{}
+
+/// A frame has a spelling exactly where it fits the format: all that it has is within its limits, and each of its live dots is known.
+pub fn a_frame_that_fits_the_format_has_a_spelling()
+    ensures some { (frame : Frame) → FitsFormat frame → (bytes : List ℕ) × Spells frame bytes }
+    ensures only { (frame : Frame) (bytes : List ℕ) → Spells frame bytes → FitsFormat frame }
+{}
+
+/// The frame of a knowledge fits the format, so that it has a spelling, where the knowledge fits in a frame and the frame's maker and number are within their limits.
+pub fn the_frame_of_a_knowledge_that_fits_has_a_spelling()
+    ensures fits { (frame : Frame) (k : Knowledge) → FitsInFrame k → IsDeltaOf frame.delta k
+        → IsSite frame.maker → IsCount frame.number → FitsFormat frame }
+    ensures some { (frame : Frame) (k : Knowledge) → FitsInFrame k → IsDeltaOf frame.delta k
+        → IsSite frame.maker → IsCount frame.number → (bytes : List ℕ) × Spells frame bytes }
 {}

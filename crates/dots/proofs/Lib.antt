@@ -5,6 +5,7 @@ pub mod KeySets
 pub mod MemberOrder
 pub mod OneMoreDot
 pub mod RunCounts
+pub mod RunsOfSets
 pub mod Runs
 pub mod Unions
 pub mod UniqueRuns

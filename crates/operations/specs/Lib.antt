@@ -1,6 +1,7 @@
 pub mod Codes
 pub mod Conditions
 pub mod Counts
+pub mod FrameLimits
 pub mod Knowledge
 pub mod OperationLimits
 pub mod Operations

@@ -1,0 +1,24 @@
+-- Which frames have a spelling.
+use Rattle.std.specs.Prelude.{◌≡◌, ◌≤◌, true, Some}
+use Rattle.std.specs.FinMap as map
+use Rattle.std.specs.FinSet as set
+use Rattle.dots.specs.declared.limits.TheConstants.{MOST_LIVE, MOST_RUNS}
+use Rattle.dots.specs.DotSets.{run_count}
+use Rattle.dots.specs.Values.{Dot, IsCount, IsSite}
+use Rattle.dots.specs.WithinLimits.{AreDots}
+use Rattle.operations.specs.Totals.{InLimits}
+use Rattle.member_orset.specs.Members.{Holding}
+use Rattle.delta.specs.declared.frame.Frame.{Frame}
+use Rattle.delta_codec.specs.Parts.{IsCell}
+
+-- a frame fits the format: its maker, its number, the dots that it knows, its live dots with all that they have, each of them known, and its totals are within
+-- their limits, and there are no more live dots, and no more runs of known ones, than there may be
+pub record FitsFormat (frame : Frame) : Type 0 where
+  pub maker : IsSite frame.maker
+  pub number : IsCount frame.number
+  pub dots : AreDots frame.delta.members.known
+  pub runs : run_count frame.delta.members.known ≤ MOST_RUNS
+  pub cells : (dot : Dot) (held : Holding) → map.get frame.delta.members.live dot ≡ Some held → IsCell (dot, held)
+  pub known : (dot : Dot) (held : Holding) → map.get frame.delta.members.live dot ≡ Some held → set.contains frame.delta.members.known dot ≡ true
+  pub few : map.len frame.delta.members.live ≤ MOST_LIVE
+  pub totals : InLimits frame.delta.totals.entries

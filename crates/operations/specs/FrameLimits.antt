@@ -1,0 +1,13 @@
+-- Which knowledges fit in a frame.
+use Rattle.std.specs.Prelude.{◌≤◌}
+use Rattle.std.specs.FinSet as set
+use Rattle.dots.specs.declared.limits.TheConstants.{MOST_LIVE, MOST_RUNS}
+use Rattle.dots.specs.DotSets.{run_count}
+use Rattle.operations.specs.Knowledge.{Knowledge, known_dots, visible_dots}
+use Rattle.operations.specs.OperationLimits.{AreWithinLimits}
+
+-- a knowledge fits in a frame: its operations are within their limits, and it has no more visible dots, and no more runs of known ones, than a frame may have
+pub record FitsInFrame (k : Knowledge) : Type 0 where
+  pub within : AreWithinLimits k
+  pub cells : set.len (visible_dots k) ≤ MOST_LIVE
+  pub runs : run_count (known_dots k) ≤ MOST_RUNS
