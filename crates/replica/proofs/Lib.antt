@@ -3,6 +3,7 @@ pub mod Below
 pub mod Doing
 pub mod DotCounts
 pub mod FieldsSet
+pub mod FittingSteps
 pub mod Found
 pub mod FramedSites
 pub mod Fullness

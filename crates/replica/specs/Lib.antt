@@ -4,6 +4,7 @@ pub mod Commands
 pub mod Deeds
 pub mod DotLists
 pub mod Fitting
+pub mod FrameSteps
 pub mod Framing
 pub mod Keeping
 pub mod MadeOperations
