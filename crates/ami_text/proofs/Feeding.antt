@@ -1,15 +1,14 @@
 -- What a feed's calls make of the bytes that it holds.
-use Rattle.std.proofs.Common.{◌≤◌, ◌≡◌, ◌≢◌, ◌+◌, ◌-◌, ℕ, Bool, true, false, cond, List, [], ◌∷◌, ◌++◌, length, take, drop, refl, sym, ◌∙◌, ap, subst, arith, All, append_assoc}
-use Rattle.std.proofs.lemmas.List.{drop-drop, length-drop, nil_from_length, take_rest}
+use Rattle.std.proofs.Common.{◌≡◌, ◌≢◌, ℕ, List, [], ◌∷◌, ◌++◌, take, drop, refl, sym, ◌∙◌, ap, subst, arith, All, append_assoc, Result, Ok, Err, OnOk, OnErr}
+use Rattle.std.proofs.lemmas.List.{nil_from_length}
 use Rattle.std.proofs.lemmas.List.Concat.{flat_map-append}
 use Rattle.std.proofs.lemmas.List.Elements.{All-append, All-head, All-nil, All-tail, All-weaker, filter_map-append}
-use Rattle.ami_text.specs.declared.feed_fault.FeedFault.{FeedFault}
 use Rattle.ami_text.specs.declared.progress.Progress.{Progress}
 use Rattle.ami_text.specs.MessageFields.{NameAndValue, field_of, fields_of}
 use Rattle.ami_text.specs.Found.{EndsMessage, EndsInRest}
 use Rattle.ami_text.specs.Lines.{HasNoLf, content, IsEmptyLine, IsFullLine, lines_text}
 use Rattle.ami_text.specs.Progress.{IsProgress}
-use Rattle.ami_text.specs.Stream.{Begins, FirstMessage, Gives, HasFault, IsRest}
+use Rattle.ami_text.specs.Stream.{FirstMessage, Gives}
 use Rattle.ami_text.proofs.Outcome.{Whole, Partial, first_of, outcome_found, outcome_rest}
 
 -- nothing was looked at
@@ -44,9 +43,10 @@ reached_more held piece progress r = record {
 }
 
 -- the same, where memory may have been refused
-pub reached_fed : (held piece : List ℕ) (progress : Progress) (ok : Bool) → IsProgress held progress → IsProgress (cond ok (held ++ piece) held) progress
-reached_fed held piece progress true r = reached_more held piece progress r
-reached_fed held piece progress false r = r
+pub reached_fed : {T E : Type 0} (r : Result T E) (held piece new : List ℕ) (progress : Progress) → OnOk r (new ≡ held ++ piece) → OnErr r (new ≡ held)
+    → IsProgress held progress → IsProgress new progress
+reached_fed (Ok x) held piece new progress is same r = subst (λ ys. IsProgress ys progress) (sym is) (reached_more held piece progress r)
+reached_fed (Err e) held piece new progress is same r = subst (λ ys. IsProgress ys progress) (sym same) r
 
 -- empty lines are no fields
 pub fields_of_empties : (empties : List (List ℕ)) → All IsEmptyLine empties → fields_of empties ≡ []
@@ -56,27 +56,18 @@ fields_of_empties (line ∷ lines) each =
     rw (nil, fields_of_empties lines (All-tail IsEmptyLine line lines each)) refl
 
 -- the message that was found, made of its lines
-pub message_given : (bytes view : List ℕ) (head end next : ℕ) (message : List NameAndValue)
-    → drop head bytes ≡ view
-    → EndsMessage (take (length bytes - head) (drop head bytes)) end next
-    → ((lines : List (List ℕ)) → All HasNoLf lines → take (head + end - head) (drop head bytes) ≡ lines_text lines → message ≡ fields_of lines)
-    → FirstMessage view message (drop (head + next) bytes)
-message_given bytes view head end next message is found parsed =
-    let P : List ℕ → Type 0 = λ ys. EndsMessage ys end next in
-    let m : P view = subst P (take_rest bytes head ∙ is) found in
-    let rest : drop next view ≡ drop (head + next) bytes = ap (drop next) (sym is) ∙ drop-drop next head bytes in
-    let Q : List ℕ → Type 0 = λ ys. Begins view m.lines (m.last ++ 10 ∷ ys) in
-    let count : head + end - head ≡ end = omega arith in
-    let lines : take (head + end - head) (drop head bytes) ≡ lines_text (m.begins.empties ++ m.lines) =
-    ap (λ n. take n (drop head bytes)) count ∙ ap (take end) is ∙ m.front
-    ∙ sym (flat_map-append (λ l. l ++ 10 ∷ []) m.begins.empties m.lines) in
+pub message_given : (held : List ℕ) (end next : ℕ) (message : List NameAndValue) → EndsMessage held end next
+    → ((lines : List (List ℕ)) → All HasNoLf lines → take end held ≡ lines_text lines → message ≡ fields_of lines)
+    → FirstMessage held message (drop next held)
+message_given held end next message m parsed =
+    let lines : take end held ≡ lines_text (m.begins.empties ++ m.lines) = m.front ∙ sym (flat_map-append (λ l. l ++ 10 ∷ []) m.begins.empties m.lines) in
     let no_lf = All-append HasNoLf m.begins.empties m.lines
     (All-weaker IsEmptyLine HasNoLf (λ l e. e.no_lf) m.begins.empties m.begins.each_empty)
     (All-weaker IsFullLine HasNoLf (λ l e. e.no_lf) m.lines m.begins.each_full) in
     record {
       lines = m.lines;
       last = m.last;
-      begins = subst Q rest m.begins;
+      begins = m.begins;
       some = m.some;
       is_empty = m.is_empty;
       fields = parsed (m.begins.empties ++ m.lines) no_lf lines
@@ -85,41 +76,14 @@ message_given bytes view head end next message is found parsed =
     }
 
 -- the rest that was found
-pub rest_given : (bytes view : List ℕ) (head empty : ℕ) (progress : Progress)
-    → drop head bytes ≡ view
-    → EndsInRest (take (length bytes - head) (drop head bytes)) empty progress
-    → Gives view [] (drop (head + empty) bytes) × IsRest (drop (head + empty) bytes) × IsProgress (drop (head + empty) bytes) progress
-rest_given bytes view head empty progress is found =
-    let P : List ℕ → Type 0 = λ ys. EndsInRest ys empty progress in
-    let r : P view = subst P (take_rest bytes head ∙ is) found in
-    let rest : drop empty view ≡ drop (head + empty) bytes = ap (drop empty) (sym is) ∙ drop-drop empty head bytes in
-    let R : List ℕ → Type 0 = λ ys. IsProgress ys progress in
-    ((r.empties, r.each_empty, r.whole ∙ ap (λ ys. lines_text r.empties ++ ys) rest), subst IsRest rest r.is_rest, subst R rest r.reached)
+pub rest_given : (held : List ℕ) (empty : ℕ) (progress : Progress) → EndsInRest held empty progress → Gives held [] (drop empty held)
+rest_given held empty progress r = (r.empties, r.each_empty, r.whole)
 
 -- what stands first, where a message was found
-pub outcome_of_message : (bytes view : List ℕ) (head end next : ℕ) → drop head bytes ≡ view
-    → EndsMessage (take (length bytes - head) (drop head bytes)) end next
-    → (message : List NameAndValue) × (rest : List ℕ) × (first_of view ≡ Whole message rest)
-outcome_of_message bytes view head end next is found =
-    let P : List ℕ → Type 0 = λ ys. EndsMessage ys end next in
-    let m : P view = subst P (take_rest bytes head ∙ is) found in
-    (fields_of m.lines, drop next view, outcome_found view end next m)
+pub outcome_of_message : (held : List ℕ) (end next : ℕ) → EndsMessage held end next
+    → (message : List NameAndValue) × (rest : List ℕ) × (first_of held ≡ Whole message rest)
+outcome_of_message held end next m = (fields_of m.lines, drop next held, outcome_found held end next m)
 
 -- a rest
-pub outcome_of_rest : (bytes view : List ℕ) (head empty : ℕ) (progress : Progress) → drop head bytes ≡ view
-    → EndsInRest (take (length bytes - head) (drop head bytes)) empty progress
-    → first_of view ≡ Partial (drop (head + empty) bytes)
-outcome_of_rest bytes view head empty progress is found =
-    let r = rest_given bytes view head empty progress is found in
-    outcome_rest view r.0.0 (drop (head + empty) bytes) r.0.1 r.0.2 r.1
-
--- a fault
-pub fault_given : (bytes view : List ℕ) (head : ℕ) (fault : FeedFault) → drop head bytes ≡ view
-    → HasFault fault (take (length bytes - head) (drop head bytes)) → HasFault fault view
-fault_given bytes view head fault is found = let P : List ℕ → Type 0 = λ ys. HasFault fault ys in subst P (take_rest bytes head ∙ is) found
-
--- the place behind the empty lines
-pub rest_within : (bytes : List ℕ) (head empty : ℕ) (progress : Progress) → head ≤ length bytes
-    → EndsInRest (take (length bytes - head) (drop head bytes)) empty progress → head + empty ≤ length bytes
-rest_within bytes head empty progress within found =
-    omega (arith, found.empty_within, ap length (take_rest bytes head), length-drop head bytes)
+pub outcome_of_rest : (held : List ℕ) (empty : ℕ) (progress : Progress) → EndsInRest held empty progress → first_of held ≡ Partial (drop empty held)
+outcome_of_rest held empty progress r = outcome_rest held r.empties (drop empty held) r.each_empty r.whole r.is_rest

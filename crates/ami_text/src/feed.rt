@@ -1,6 +1,6 @@
-ghost use Rattle.std.specs.Prelude.{◌≡◌, ◌≢◌, ℕ, List, ◌<◌, ◌≤◌, ◌⊎◌, ◌↔◌, ◌++◌, [], ◌∷◌, None};
-ghost use Rattle.std.specs.Prelude.{Some, Ok, Err, drop, length, vec_len, is_ok, if◌then◌else◌};
-ghost use Rattle.std.specs.Prelude.{IsOk, IsErrOf, OnErr, OnOk, IfErr, IfOk, IfSome};
+ghost use Rattle.std.specs.Prelude.{◌≡◌, ◌≢◌, ℕ, List, ◌<◌, ◌≤◌, ◌⊎◌, ◌++◌, [], ◌∷◌, None, Some};
+ghost use Rattle.std.specs.Prelude.{Ok, Err, length, IsOk, IsErrOf, OnErr, OnOk, IfErr, IfOk};
+ghost use Rattle.std.specs.Prelude.{IfSome};
 ghost use Rattle.ami_text.specs.declared.feed_fault.FeedFault.{FeedFault};
 ghost use Rattle.ami_text.specs.MessageFields.{NameAndValue};
 ghost use Rattle.ami_text.specs.FeedStates.{IsStreamFault};
@@ -10,6 +10,7 @@ use crate::found::Found;
 use crate::progress::Progress;
 use crate::scan::scan;
 use crate::{FeedFault, Memory, Message};
+use held_bytes::HeldBytes;
 use std::alloc::Global;
 use std::marker::Model;
 
@@ -26,24 +27,20 @@ use std::marker::Model;
 #[derive(Drop)]
 pub struct Feed {
     alloc: Global,
-    bytes: Vec<u8>,
-    head: usize,
+    held: HeldBytes,
     progress: Progress,
     fault: Option<FeedFault>,
 }
 
 impl Model for Feed {
-    ghost use Rattle.std.specs.Prelude.{◌≤◌, drop, vec_len};
     ghost use Rattle.ami_text.specs.FeedStates.{FeedState, IsStreamFault};
     ghost use Rattle.ami_text.specs.Progress.{IsProgress};
 
     ghost Value = { FeedState };
 
-    ghost view = { λ f. record { held = drop f.head f.bytes.items; fault = f.fault } };
+    ghost view = { λ f. record { held = f.held; fault = f.fault } };
 
-    ghost invariant = { λ f. (f.head ≤ vec_len f.bytes)
-        × IsProgress (drop f.head f.bytes.items) f.progress
-        × IsStreamFault f.fault };
+    ghost invariant = { λ f. IsProgress f.held f.progress × IsStreamFault f.fault };
 }
 
 impl Feed {
@@ -53,8 +50,7 @@ impl Feed {
     {
         Feed {
             alloc,
-            bytes: Vec::new(alloc),
-            head: 0,
+            held: HeldBytes::new(alloc),
             progress: Progress::START,
             fault: None,
         }
@@ -74,7 +70,7 @@ impl Feed {
         if self.fault.is_some() {
             return Ok(());
         }
-        append(&mut self.bytes, &mut self.head, piece)
+        self.held.append(piece)
     }
 
     /// The next message of the stream; `None` where what is held is no whole message and shows no
@@ -114,51 +110,24 @@ impl Feed {
         if let Some(fault) = self.fault {
             return Err(fault);
         }
-        match scan(&self.bytes[self.head..], self.progress) {
+        match scan(self.held.as_slice(), self.progress) {
             Found::Message { end, next } => {
-                let lines = &self.bytes[self.head..self.head + end];
-                let message = Message::parse(self.alloc, lines)?;
-                self.head += next;
+                let message = Message::parse(self.alloc, &self.held.as_slice()[..end])?;
+                self.held.take_front(next);
                 self.progress = Progress::START;
                 Ok(Some(message))
             }
             Found::Rest { empty, progress } => {
-                self.head += empty;
+                self.held.take_front(empty);
                 self.progress = progress;
                 Ok(None)
             }
             Found::Fault { fault } => {
-                self.bytes.clear();
-                self.head = 0;
+                self.held.clear();
                 self.progress = Progress::START;
                 self.fault = Some(fault);
                 Err(fault)
             }
         }
     }
-}
-
-// Adds the piece to the bytes from `head` on. Where at least half of the bytes lie before `head`,
-// they are dropped first, so that each byte is moved a bounded number of times.
-fn append(bytes: &mut Vec<u8>, head: &mut usize, piece: &[u8]) -> Result<(), Memory>
-    requires { head.old ≤ vec_len bytes.old }
-    ensures held { let held = drop head.old bytes.old.items in
-        drop head.new bytes.new.items ≡ (if is_ok result then held ++ piece.now else held) }
-    ensures head { head.new ≤ vec_len bytes.new }
-{
-    if *head >= bytes.len() - *head {
-        drop_front(bytes, *head);
-        *head = 0;
-    }
-    bytes.extend_from_slice(piece)
-}
-
-// Drops the first bytes.
-fn drop_front(bytes: &mut Vec<u8>, count: usize)
-    requires { count ≤ vec_len bytes.old }
-    ensures { bytes.new.items ≡ drop count bytes.old.items }
-{
-    let kept = bytes.len() - count;
-    bytes.copy_within(count.., 0);
-    bytes.truncate(kept);
 }
