@@ -1,4 +1,5 @@
--- The faults of a client's stream, as those of its session.
+-- The faults of a session: those of its client's stream, and what its devices are after a fault.
+use Rattle.std.specs.Prelude.{◌≡◌, Bool, true, false, Result, Err, OnOk}
 use Rattle.ami_text.specs.declared.feed_fault.FeedFault.{FeedFault}
 use Rattle.ami_text.specs.declared.feed_fault.FeedFault.TheVariants as feed
 use Rattle.serve.specs.declared.serve_fault.ServeFault.{ServeFault}
@@ -9,3 +10,8 @@ abbrev pub session_fault : FeedFault → ServeFault
 session_fault feed.LineTooLong = LineTooLong
 session_fault feed.TooManyFields = TooManyFields
 session_fault feed.Memory = Memory
+
+-- a device of a call that may fail with this fault: it works where the call succeeded, and has failed where this is the call's fault
+pub record FailsWith {T : Type 0} (fault : ServeFault) (result : Result T ServeFault) (failed : Bool) : Type 0 where
+  pub works : OnOk result (failed ≡ false)
+  pub fails : result ≡ Err fault → failed ≡ true

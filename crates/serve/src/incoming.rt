@@ -2,6 +2,7 @@
 ghost use Rattle.std.specs.Prelude.{◌≡◌, ◌≤◌, ◌<◌, ◌+◌, [], None, Ok, true, false, IfOk, IfSome};
 ghost use Rattle.std.specs.Prelude.{OnOk, IsErrOf};
 ghost use Rattle.ami_text.specs.Devices.{HasEnded};
+ghost use Rattle.serve.specs.Faults.{FailsWith};
 ghost use Rattle.serve.specs.Steps.{HasCome, IsHeld, StandsFirst, bytes_ahead};
 
 use crate::ServeFault;
@@ -35,6 +36,46 @@ impl Incoming {
     }
 }
 
+// Reads once, and holds what came. It tells whether anything did. Faults: `Turns` where no read is
+// left, `Read`, `Memory`.
+fn read_piece<S: Source>(reader: &mut S, incoming: &mut Incoming) -> Result<bool, ServeFault>
+    requires reader { S.failed reader.old ≡ false }
+    requires feed { incoming.old.feed.fault ≡ None }
+    requires goes_on { incoming.old.reads < 1000000 → S.ended reader.old ≡ false }
+    ensures come { HasCome (S.left reader.old) (S.left reader.new) incoming.old.feed.held
+        incoming.old.reads incoming.new.reads
+        (IsHeld result incoming.old.feed.held incoming.new.feed.held) }
+    ensures more { result ≡ Ok true → (incoming.new.reads + 1 ≡ incoming.old.reads)
+        × (bytes_ahead incoming.new.reads incoming.new.feed.held
+        ≤ bytes_ahead incoming.old.reads incoming.old.feed.held) }
+    ensures counted { result ≡ Ok true → S.reads_left reader.old + incoming.new.reads
+        ≤ S.reads_left reader.new + incoming.old.reads }
+    ensures reads { S.reads_left reader.old ≤ S.reads_left reader.new + incoming.old.reads }
+    ensures goes_on { result ≡ Ok true → S.ended reader.new ≡ false }
+    ensures ended { result ≡ Ok false → HasEnded (S.ended reader.new) (S.left reader.new) }
+    ensures reader { FailsWith ServeFault.Read result (S.failed reader.new) }
+    ensures feed { OnOk result (incoming.new.feed.fault ≡ None) }
+    ensures turns { IsErrOf result ServeFault.Turns
+        → (incoming.new.reads ≡ 0) × (S.ended reader.new ≡ false) }
+{
+    if incoming.reads == 0 {
+        return Err(ServeFault::Turns);
+    }
+    let mut piece = [0u8; PIECE];
+    let count = match reader.read(&mut piece) {
+        Ok(count) => count,
+        Err(_) => return Err(ServeFault::Read),
+    };
+    if count == 0 {
+        return Ok(false);
+    }
+    incoming.reads -= 1;
+    match incoming.feed.feed(&piece[..count]) {
+        Ok(()) => Ok(true),
+        Err(_) => Err(ServeFault::Memory),
+    }
+}
+
 /// The client's next message, read as far as needed; `None` at the end of what it sends.
 ///
 /// Faults: `LineTooLong` and `TooManyFields` where the stream has them next; `Turns` where no read
@@ -56,67 +97,21 @@ pub fn next_message<S: Source>(
     ensures goes_on { IfOk result (λ next. IfSome next (λ _.
         incoming.new.reads < 1000000 → S.ended reader.new ≡ false)) }
     ensures ended { result ≡ Ok None → HasEnded (S.ended reader.new) (S.left reader.new) }
-    ensures works { OnOk result (S.failed reader.new ≡ false) }
+    ensures reader { FailsWith ServeFault.Read result (S.failed reader.new) }
     ensures feed { OnOk result (incoming.new.feed.fault ≡ None) }
     ensures shorter { IfOk result (λ next. IfSome next (λ _.
         bytes_ahead incoming.new.reads incoming.new.feed.held
         < bytes_ahead incoming.old.reads incoming.old.feed.held)) }
-    ensures read { IsErrOf result ServeFault.Read → S.failed reader.new ≡ true }
     ensures turns { IsErrOf result ServeFault.Turns
         → (incoming.new.reads ≡ 0) × (S.ended reader.new ≡ false) }
 {
     messages_so_far();
     'pieces: loop {
-        match incoming.feed.next_message() {
-            Ok(Some(message)) => return Ok(Some(message)),
-            Ok(None) => {}
-            Err(fault) => return Err(ServeFault::from(fault)),
+        if let Some(message) = incoming.feed.next_message()? {
+            return Ok(Some(message));
         }
-        match read_piece(reader, incoming) {
-            Ok(true) => {}
-            Ok(false) => return Ok(None),
-            Err(fault) => return Err(fault),
+        if !read_piece(reader, incoming)? {
+            return Ok(None);
         }
-    }
-}
-
-// Reads once, and holds what came. It tells whether anything did. Faults: `Turns` where no read is
-// left, `Read`, `Memory`.
-fn read_piece<S: Source>(reader: &mut S, incoming: &mut Incoming) -> Result<bool, ServeFault>
-    requires reader { S.failed reader.old ≡ false }
-    requires feed { incoming.old.feed.fault ≡ None }
-    requires goes_on { incoming.old.reads < 1000000 → S.ended reader.old ≡ false }
-    ensures come { HasCome (S.left reader.old) (S.left reader.new) incoming.old.feed.held
-        incoming.old.reads incoming.new.reads
-        (IsHeld result incoming.old.feed.held incoming.new.feed.held) }
-    ensures more { result ≡ Ok true → (incoming.new.reads + 1 ≡ incoming.old.reads)
-        × (bytes_ahead incoming.new.reads incoming.new.feed.held
-        ≤ bytes_ahead incoming.old.reads incoming.old.feed.held) }
-    ensures counted { result ≡ Ok true → S.reads_left reader.old + incoming.new.reads
-        ≤ S.reads_left reader.new + incoming.old.reads }
-    ensures reads { S.reads_left reader.old ≤ S.reads_left reader.new + incoming.old.reads }
-    ensures goes_on { result ≡ Ok true → S.ended reader.new ≡ false }
-    ensures ended { result ≡ Ok false → HasEnded (S.ended reader.new) (S.left reader.new) }
-    ensures works { OnOk result (S.failed reader.new ≡ false) }
-    ensures feed { OnOk result (incoming.new.feed.fault ≡ None) }
-    ensures read { IsErrOf result ServeFault.Read → S.failed reader.new ≡ true }
-    ensures turns { IsErrOf result ServeFault.Turns
-        → (incoming.new.reads ≡ 0) × (S.ended reader.new ≡ false) }
-{
-    if incoming.reads == 0 {
-        return Err(ServeFault::Turns);
-    }
-    let mut piece = [0u8; PIECE];
-    let count = match reader.read(&mut piece) {
-        Ok(count) => count,
-        Err(_) => return Err(ServeFault::Read),
-    };
-    if count == 0 {
-        return Ok(false);
-    }
-    incoming.reads -= 1;
-    match incoming.feed.feed(&piece[..count]) {
-        Ok(()) => Ok(true),
-        Err(_) => Err(ServeFault::Memory),
     }
 }

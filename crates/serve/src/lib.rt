@@ -79,21 +79,14 @@ pub fn serve<R, S: Source, W: Sink, D: Desk<R>>(
     messages_so_far();
     stream_of_two_pieces();
     let mut session = session;
-    match greet(writer, &session) {
-        Ok(()) => {}
-        Err(fault) => return Err(fault),
-    }
+    greet(writer, &session).map_err(|_| ServeFault::Write)?;
     let mut incoming = Incoming::new(alloc);
     'messages: loop {
-        let message = match next_message(reader, &mut incoming) {
-            Ok(Some(message)) => message,
-            Ok(None) => return Ok(()),
-            Err(fault) => return Err(fault),
+        let Some(message) = next_message(reader, &mut incoming)? else {
+            return Ok(());
         };
-        match answer_message(rt, alloc, &mut session, writer, desk, &message) {
-            Ok(true) => return Ok(()),
-            Ok(false) => {}
-            Err(fault) => return Err(fault),
+        if answer_message(rt, alloc, &mut session, writer, desk, &message)? {
+            return Ok(());
         }
     }
 }

@@ -1,31 +1,104 @@
 //! What is done upon a message: the desk is asked, and the reply is written.
-ghost use Rattle.std.specs.Prelude.{◌≡◌, true, false, IfOk, IfErr, OnOk, OnErr, IsErrOf};
+ghost use Rattle.std.specs.Prelude.{◌≡◌, true, false, IfOk, IfErr, OnOk, OnErr};
 ghost use Rattle.std.specs.Io.KnownBytes.{Appends};
 ghost use Rattle.ami_text.specs.Devices.{HasTaken};
 ghost use Rattle.ami_session.specs.Checks.{Asks, after, reaction};
 ghost use Rattle.ami_session.specs.Text.{greeting, is_end};
 ghost use Rattle.ami_session.specs.Views.{reaction_of};
+ghost use Rattle.serve.specs.Faults.{FailsWith};
 ghost use Rattle.serve.specs.Steps.{BreaksOff, HasSaid};
 
 use crate::{Desk, ServeFault};
 use ami_session::{Act, Pending, Session};
-use ami_text::{Message, Sink, write_all};
+use ami_text::{Failed, Message, Sink, write_all};
 use status_report::Ask;
 use std::alloc::Global;
 
-/// Writes the session's greeting. Fault: `Write`; a front of it was written.
-pub fn greet<W: Sink>(writer: &mut W, session: &Session) -> Result<(), ServeFault>
+// Writes all the bytes. Fault: `Write`; a front of them was written.
+fn write<W: Sink>(writer: &mut W, bytes: &[u8]) -> Result<(), ServeFault>
+    requires { W.failed writer.old ≡ false }
+    ensures written { OnOk result (Appends (W.taken writer.old) (W.taken writer.new) bytes.now) }
+    ensures writer { FailsWith ServeFault.Write result (W.failed writer.new) }
+    ensures fault { IfErr result (λ fault. fault ≡ ServeFault.Write) }
+    ensures begun { OnErr result (HasTaken (W.taken writer.old) (W.taken writer.new) bytes.now) }
+{
+    write_all(writer, bytes).map_err(|_| ServeFault::Write)
+}
+
+/// Writes the session's greeting.
+///
+/// `Failed`: the sink failed, and has taken a front of it.
+pub fn greet<W: Sink>(writer: &mut W, session: &Session) -> Result<(), Failed>
     requires { W.failed writer.old ≡ false }
     ensures written { OnOk result
         (Appends (W.taken writer.old) (W.taken writer.new) (greeting session.now)) }
     ensures works { OnOk result (W.failed writer.new ≡ false) }
-    ensures fault { IfErr result (λ fault. fault ≡ ServeFault.Write) }
     ensures fails { OnErr result (W.failed writer.new ≡ true) }
     ensures begun { OnErr result
         (HasTaken (W.taken writer.old) (W.taken writer.new) (greeting session.now)) }
 {
-    write(writer, session.greeting())?;
-    write(writer, b"\r\n")
+    write_all(writer, session.greeting())?;
+    write_all(writer, b"\r\n")
+}
+
+// Asks the desk, and writes the reply that follows from its answer. Faults: `Write`, `DeskDown`,
+// `Memory`.
+fn answer_ask<R, W: Sink, D: Desk<R>>(
+    rt: &R,
+    alloc: Global,
+    writer: &mut W,
+    desk: &mut D,
+    ask: Ask,
+    pending: Pending,
+) -> Result<(), ServeFault>
+    requires { W.failed writer.old ≡ false }
+    ensures said { OnOk result (HasSaid D.answers (Asks ask pending)
+        desk.old desk.new (W.taken writer.old) (W.taken writer.new)) }
+    ensures writer { FailsWith ServeFault.Write result (W.failed writer.new) }
+    ensures fault { IfErr result (λ fault. BreaksOff D.answers D.refuses (Asks ask pending)
+        desk.old desk.new (W.taken writer.old) (W.taken writer.new) fault) }
+{
+    let answer = match desk.ask(rt, ask) {
+        Ok(answer) => answer,
+        Err(_) => return Err(ServeFault::DeskDown),
+    };
+    match pending.answer(alloc, answer) {
+        Ok(reply) => write(writer, &reply),
+        Err(_) => Err(ServeFault::Memory),
+    }
+}
+
+// Does what a session does upon a message. It tells whether the session ends with it. Faults:
+// `Write`, `DeskDown`, `Memory`.
+fn perform<R, W: Sink, D: Desk<R>>(
+    rt: &R,
+    alloc: Global,
+    writer: &mut W,
+    desk: &mut D,
+    act: Act,
+) -> Result<bool, ServeFault>
+    requires { W.failed writer.old ≡ false }
+    ensures said { OnOk result (HasSaid D.answers (reaction_of act)
+        desk.old desk.new (W.taken writer.old) (W.taken writer.new)) }
+    ensures ends { IfOk result (λ ends. ends ≡ is_end (reaction_of act)) }
+    ensures writer { FailsWith ServeFault.Write result (W.failed writer.new) }
+    ensures fault { IfErr result (λ fault. BreaksOff D.answers D.refuses (reaction_of act)
+        desk.old desk.new (W.taken writer.old) (W.taken writer.new) fault) }
+{
+    match act {
+        Act::Reply(bytes) => {
+            write(writer, &bytes)?;
+            Ok(false)
+        }
+        Act::End(bytes) => {
+            write(writer, &bytes)?;
+            Ok(true)
+        }
+        Act::Ask(ask, pending) => {
+            answer_ask(rt, alloc, writer, desk, ask, pending)?;
+            Ok(false)
+        }
+    }
 }
 
 /// Answers a message. It tells whether the session ends with it.
@@ -44,88 +117,13 @@ pub fn answer_message<R, W: Sink, D: Desk<R>>(
         desk.old desk.new (W.taken writer.old) (W.taken writer.new)) }
     ensures ends { IfOk result (λ ends. ends ≡ is_end (reaction session.old message.now)) }
     ensures session { OnOk result (session.new ≡ after session.old message.now) }
-    ensures works { OnOk result (W.failed writer.new ≡ false) }
+    ensures writer { FailsWith ServeFault.Write result (W.failed writer.new) }
     ensures fault { IfErr result (λ fault.
         BreaksOff D.answers D.refuses (reaction session.old message.now)
         desk.old desk.new (W.taken writer.old) (W.taken writer.new) fault) }
-    ensures write { IsErrOf result ServeFault.Write → W.failed writer.new ≡ true }
 {
     match session.handle(alloc, message) {
         Ok(act) => perform(rt, alloc, writer, desk, act),
         Err(_) => Err(ServeFault::Memory),
     }
-}
-
-// Does what a session does upon a message. It tells whether the session ends with it. Faults:
-// `Write`, `DeskDown`, `Memory`.
-fn perform<R, W: Sink, D: Desk<R>>(
-    rt: &R,
-    alloc: Global,
-    writer: &mut W,
-    desk: &mut D,
-    act: Act,
-) -> Result<bool, ServeFault>
-    requires { W.failed writer.old ≡ false }
-    ensures said { OnOk result (HasSaid D.answers (reaction_of act)
-        desk.old desk.new (W.taken writer.old) (W.taken writer.new)) }
-    ensures ends { IfOk result (λ ends. ends ≡ is_end (reaction_of act)) }
-    ensures works { OnOk result (W.failed writer.new ≡ false) }
-    ensures fault { IfErr result (λ fault. BreaksOff D.answers D.refuses (reaction_of act)
-        desk.old desk.new (W.taken writer.old) (W.taken writer.new) fault) }
-    ensures write { IsErrOf result ServeFault.Write → W.failed writer.new ≡ true }
-{
-    match act {
-        Act::Reply(bytes) => match write(writer, &bytes) {
-            Ok(()) => Ok(false),
-            Err(fault) => Err(fault),
-        },
-        Act::End(bytes) => match write(writer, &bytes) {
-            Ok(()) => Ok(true),
-            Err(fault) => Err(fault),
-        },
-        Act::Ask(ask, pending) => match answer_ask(rt, alloc, writer, desk, ask, pending) {
-            Ok(()) => Ok(false),
-            Err(fault) => Err(fault),
-        },
-    }
-}
-
-// Asks the desk, and writes the reply that follows from its answer. Faults: `Write`, `DeskDown`,
-// `Memory`.
-fn answer_ask<R, W: Sink, D: Desk<R>>(
-    rt: &R,
-    alloc: Global,
-    writer: &mut W,
-    desk: &mut D,
-    ask: Ask,
-    pending: Pending,
-) -> Result<(), ServeFault>
-    requires { W.failed writer.old ≡ false }
-    ensures said { OnOk result (HasSaid D.answers (Asks ask pending)
-        desk.old desk.new (W.taken writer.old) (W.taken writer.new)) }
-    ensures works { OnOk result (W.failed writer.new ≡ false) }
-    ensures fault { IfErr result (λ fault. BreaksOff D.answers D.refuses (Asks ask pending)
-        desk.old desk.new (W.taken writer.old) (W.taken writer.new) fault) }
-    ensures write { IsErrOf result ServeFault.Write → W.failed writer.new ≡ true }
-{
-    let answer = match desk.ask(rt, ask) {
-        Ok(answer) => answer,
-        Err(_) => return Err(ServeFault::DeskDown),
-    };
-    match pending.answer(alloc, answer) {
-        Ok(reply) => write(writer, &reply),
-        Err(_) => Err(ServeFault::Memory),
-    }
-}
-
-// Writes all the bytes. Fault: `Write`; a front of them was written.
-fn write<W: Sink>(writer: &mut W, bytes: &[u8]) -> Result<(), ServeFault>
-    requires { W.failed writer.old ≡ false }
-    ensures written { OnOk result (Appends (W.taken writer.old) (W.taken writer.new) bytes.now) }
-    ensures works { OnOk result (W.failed writer.new ≡ false) }
-    ensures fault { IfErr result (λ fault. fault ≡ ServeFault.Write) }
-    ensures fails { OnErr result (W.failed writer.new ≡ true) }
-    ensures begun { OnErr result (HasTaken (W.taken writer.old) (W.taken writer.new) bytes.now) }
-{
-    write_all(writer, bytes).map_err(|_| ServeFault::Write)
 }

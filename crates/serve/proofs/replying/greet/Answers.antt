@@ -14,9 +14,9 @@ end_begun : {T E : Type 0} (r : Result T E) (before now after : Option (List ℕ
 end_begun (Ok x) before now after line greeting is taken begun = tt
 end_begun (Err e) before now after line greeting is taken begun = begun_then before now after greeting (codes "\r\n") (subst (Appends before now) is taken) begun
 
-pub returns-in_err-write-clause-begun : goal.returns-in_err-write-clause-begun
-returns-in_err-write-clause-begun g c = line_begun c.from_residual.result _ _ c.greeting.result.now c.args.session.now.greeting c.greeting.ensures c.in_err-write.ensures.begun
+pub returns-in_err-write_all-clause-begun : goal.returns-in_err-write_all-clause-begun
+returns-in_err-write_all-clause-begun g c = line_begun c.from_residual.result _ _ c.greeting.result.now c.args.session.now.greeting c.greeting.ensures c.in_err-write_all.ensures.begun
 
 pub returns-clause-begun : goal.returns-clause-begun
 returns-clause-begun g c =
-    end_begun c.write-2.result _ _ _ c.greeting.result.now c.args.session.now.greeting c.greeting.ensures c.in_ok-write.ensures.written c.write-2.ensures.begun
+    end_begun c.write_all-2.result _ _ _ c.greeting.result.now c.args.session.now.greeting c.greeting.ensures c.in_ok-write_all.ensures.written c.write_all-2.ensures.begun
