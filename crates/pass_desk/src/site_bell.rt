@@ -1,5 +1,5 @@
 //! The bell of a site: each answer rings it, and the pump that sends hears it.
-ghost use Rattle.std.specs.Prelude.{◌≡◌, false};
+ghost use Rattle.std.specs.Prelude.{◌≡◌, ◌↔◌, IsTrue, false, true};
 
 use dots::MOST_COUNT;
 use site_journal::Bell;
@@ -11,6 +11,39 @@ use std::sync::{Condvar, Mutex, Wait};
 struct Rung {
     rung: bool,
     ended: bool,
+}
+
+impl Rung {
+    // It rings.
+    fn ring(&mut self)
+        ensures { self.new ≡ record self.old { rung = true } }
+    {
+        self.rung = true;
+    }
+
+    // It ends, and a ring stays.
+    fn end(&mut self)
+        ensures { self.new ≡ record self.old { ended = true } }
+    {
+        self.ended = true;
+    }
+
+    // Whether who hears it waits.
+    fn waits(&self) -> bool
+        ensures { IsTrue result ↔ ((self.now.rung ≡ false) × (self.now.ended ≡ false)) }
+    {
+        !self.rung && !self.ended
+    }
+
+    // Hears the ring, if there is one, and tells whether there was.
+    fn hear(&mut self) -> bool
+        ensures heard { result ≡ self.old.rung }
+        ensures rung { self.new ≡ record self.old { rung = false } }
+    {
+        let heard = self.rung;
+        self.rung = false;
+        heard
+    }
 }
 
 /// A bell that many threads ring and one hears. Rings that nobody has heard yet are one ring, since one cut sends what all of them tell
@@ -35,29 +68,21 @@ impl SiteBell {
 
     /// Rings.
     pub fn ring<R: Wait>(&self, rt: &R) {
-        let mut rung = self.rung.lock(rt);
-        rung.rung = true;
-        drop(rung);
+        self.rung.lock(rt).ring();
         self.changed.notify_all();
     }
 
     /// Ends the bell, once a ring that nobody has heard yet is heard.
     pub fn end<R: Wait>(&self, rt: &R) {
-        let mut rung = self.rung.lock(rt);
-        rung.ended = true;
-        drop(rung);
+        self.rung.lock(rt).end();
         self.changed.notify_all();
     }
 
     // Waits until it has rung or ended, and tells whether it has rung.
     fn heard<R: Wait>(&self, rt: &R) -> bool {
         let rung = self.rung.lock(rt);
-        let mut rung = self
-            .changed
-            .wait_while(rt, rung, |rung| !rung.rung && !rung.ended);
-        let heard = rung.rung;
-        rung.rung = false;
-        heard
+        let mut rung = self.changed.wait_while(rt, rung, |rung| rung.waits());
+        rung.hear()
     }
 }
 
