@@ -1,4 +1,5 @@
 pub mod Actions
+pub mod AskedValues
 pub mod Checks
 pub mod FieldValues
 pub mod Logins

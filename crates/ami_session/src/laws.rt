@@ -1,8 +1,10 @@
 //! What the definition of a session's text promises. The functions have no body but other laws: their contracts are
 //! the laws.
-ghost use Rattle.std.specs.Prelude.{ℕ, List};
+ghost use Rattle.std.specs.Prelude.{◌≡◌, ℕ, List};
 ghost use Rattle.status_report.specs.declared.asks.Answer.{Answer};
-ghost use Rattle.ami_session.specs.Checks.{SessionState};
+ghost use Rattle.status_report.specs.declared.asks.Ask.{Ask};
+ghost use Rattle.ami_session.specs.AskedValues.{IsAskWithinLimits};
+ghost use Rattle.ami_session.specs.Checks.{Asks, SessionState, Waiting, reaction};
 ghost use Rattle.ami_session.specs.FieldValues.{Fields};
 ghost use Rattle.ami_session.specs.Text.{AreOf, IsFrontOfLonger, IsFrontOfMore, NothingFollows};
 ghost use Rattle.ami_session.specs.Text.{SameText};
@@ -37,3 +39,9 @@ pub fn a_stream_has_one_text()
     stream_has_one_outcome();
     stream_of_two_pieces();
 }
+
+/// What a message asks of the site has values within their limits, since its fields were read (this project's own).
+pub fn what_a_message_asks_is_within_limits()
+    ensures { (s : SessionState) (message : Fields) (ask : Ask) (waiting : Waiting)
+        → reaction s message ≡ Asks ask waiting → IsAskWithinLimits ask }
+{}

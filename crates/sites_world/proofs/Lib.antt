@@ -20,3 +20,4 @@ mod Growing
 mod WithinLimits
 mod GrowingStates
 mod OperationsByConditions
+mod FittingWorlds

@@ -1,4 +1,5 @@
 pub mod Worlds
+pub mod Fitting
 pub mod Histories
 pub mod WithinLimits
 pub mod WorldStates

@@ -5,6 +5,7 @@ ghost use Rattle.replica.specs.Queues.{AreQueues};
 ghost use Rattle.sites_world.specs.declared.event.Event.{Event};
 ghost use Rattle.sites_world.specs.declared.outcome.Outcome.{Outcome};
 ghost use Rattle.sites_world.specs.Conditions.{EventsLead, EventLeads};
+ghost use Rattle.sites_world.specs.Fitting.{EventsKeepWhatFits, WorldFits, WorldsFit};
 ghost use Rattle.sites_world.specs.Holding.{EventsGrow, HeldAgree, HoldFewCells, HoldOneDotASite};
 ghost use Rattle.sites_world.specs.Holding.{HoldWithinLimits};
 ghost use Rattle.sites_world.specs.Holding.{LeadAllGrows, LeadsGrow, MayJoinFrames, MayTakeEntries};
@@ -19,11 +20,13 @@ ghost use Rattle.sites_world.specs.Promises.{HaveSameStatus, LeadsOn, ReportsAre
 ghost use Rattle.sites_world.specs.Promises.{AreOfTheirEvents, RefusalsChangeNothing, RunsInParts};
 ghost use Rattle.sites_world.specs.Promises.{TellNoEntry, TellNoSite};
 ghost use Rattle.sites_world.specs.WithinLimits.{HasValuesWithinLimits};
-ghost use Rattle.sites_world.specs.Worlds.{IsReached, World};
+ghost use Rattle.sites_world.specs.Worlds.{IsReached, World, new_world};
 ghost use Rattle.sites_world.specs.WorldStates.{HasHappened, HaveHappened, IsUnchanged, IsWorld};
 ghost use Rattle.sites_world.specs.WorldStates.{StandsForWorld, WorldState};
 
-use replica::laws::{deeds_stand_for_steps, refusals_stand_for_steps};
+use replica::laws::{
+    a_step_keeps_what_fits_in_a_frame, deeds_stand_for_steps, refusals_stand_for_steps,
+};
 use status_report::laws::a_report_is_the_status_text_of_what_its_site_stands_for;
 
 /// Each world that events lead to has a history: one list of all operations that any site knows. Each site knows a part of it, with every
@@ -189,3 +192,13 @@ pub fn events_are_run_in_parts()
         → RunsInParts names w first rest }
     ensures leads { LeadsOn }
 {}
+
+/// Each entry of a world fits in a frame, under its maker's and its own number, and so does what each site knows and has in its buffer, where the queues are, there
+/// are at most 64 sites, and the values of each command were within their limits. So each entry has a frame, and this a spelling (this project's own).
+pub fn entries_of_a_world_fit_in_frames()
+    ensures new { (sites : ℕ) → WorldFits (new_world sites) }
+    ensures event { EventsKeepWhatFits }
+    ensures events { WorldsFit }
+{
+    a_step_keeps_what_fits_in_a_frame();
+}
