@@ -1,3 +1,4 @@
+pub mod EachText
 pub mod Happening
 pub mod OneText
 pub mod Replying

@@ -175,3 +175,9 @@ pub record HaveOneText (place : ScriptSites) (w : World) (number : ℕ) (lines :
   pub text : (text other : List ℕ) (unknown others : ℕ) → LinesGive place w number lines text unknown → LinesGive place w number lines other others → other ≡ text
   pub unknown : (text other : List ℕ) (unknown others : ℕ) → LinesGive place w number lines text unknown → LinesGive place w number lines other others → others ≡ unknown
   pub begun : (text front : List ℕ) (unknown : ℕ) → LinesGive place w number lines text unknown → AreBegun place w number lines front → IsFront front text
+
+-- lines have a text, and a number of lines that aren't understood
+pub record HaveText (place : ScriptSites) (w : World) (number : ℕ) (lines : List (List ℕ)) : Type 0 where
+  pub text : List ℕ
+  pub unknown : ℕ
+  pub is : LinesGive place w number lines text unknown

@@ -1,11 +1,20 @@
-//! What the definition of a script's text promises. The function has no body but another law: its contract is the law.
-ghost use Rattle.std.specs.Prelude.{ℕ, List};
-ghost use Rattle.sites_world.specs.Worlds.{World};
-ghost use Rattle.scripts.specs.Script.{HaveOneText, ScriptSites};
+//! What the definition of a script's text promises. The functions have no body but other laws: their contracts are the laws.
+ghost use Rattle.std.specs.Prelude.{◌≤◌, ℕ, List, length};
+ghost use Rattle.dots.specs.declared.limits.TheConstants.{SITES};
+ghost use Rattle.replica.specs.Queues.{AreQueues};
+ghost use Rattle.sites_world.specs.Fitting.{WorldFits};
+ghost use Rattle.sites_world.specs.Worlds.{World, new_world};
+ghost use Rattle.script_lines.specs.ScriptLines.{lines_of};
+ghost use Rattle.scripts.specs.Script.{HaveOneText, HaveText, ScriptSites};
 
+use ami_session::laws::what_a_message_asks_is_within_limits;
 use ami_text::laws::stream_has_one_outcome;
 use delta::laws::a_knowledge_has_one_delta;
-use delta_codec::laws::each_frame_has_one_spelling;
+use delta_codec::laws::{
+    a_frame_that_fits_the_format_has_a_spelling, each_frame_has_one_spelling,
+    the_frame_of_a_knowledge_that_fits_has_a_spelling,
+};
+use sites_world::laws::{a_world_only_grows, entries_of_a_world_fit_in_frames};
 
 /// The lines of a script have at most one text, over each world of operations, and what was begun of them is a front of it (this
 /// project's own).
@@ -16,4 +25,21 @@ pub fn script_has_one_text()
     stream_has_one_outcome();
     a_knowledge_has_one_delta();
     each_frame_has_one_spelling();
+}
+
+/// Each script has a text, over at most 64 sites that know nothing yet, and so have lines over each world of no more sites whose entries fit in frames (this
+/// project's own).
+pub fn each_script_has_a_text()
+    ensures script { (place : ScriptSites) (script : List ℕ) → AreQueues place.names
+        → place.sites ≤ SITES → HaveText place (new_world place.sites) 1 (lines_of script) }
+    ensures lines { (place : ScriptSites) (w : World) (number : ℕ) (lines : List (List ℕ))
+        → AreQueues place.names → length w.sites ≤ SITES → WorldFits w
+        → HaveText place w number lines }
+{
+    stream_has_one_outcome();
+    the_frame_of_a_knowledge_that_fits_has_a_spelling();
+    a_frame_that_fits_the_format_has_a_spelling();
+    what_a_message_asks_is_within_limits();
+    entries_of_a_world_fit_in_frames();
+    a_world_only_grows();
 }

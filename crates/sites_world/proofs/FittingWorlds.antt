@@ -1,12 +1,22 @@
 -- Each entry of a world that events of values within their limits lead to fits in a frame.
-use Rattle.std.proofs.Common.{◌≡◌, ◌<◌, ◌≤◌, ◌⊎◌, inl, inr, ℕ, List, [], ◌∷◌, ◌++◌, Contains, length, slice_get, slice_set, Option, Some, None, refl, sym, ap, subst, ◌∙◌, arith}
+use Rattle.std.proofs.Common.{◌≡◌, ◌<◌, ◌≤◌, ◌⊎◌, inl, inr, ℕ, Bool, true, false, if◌then◌else◌, List, [], ◌∷◌, ◌++◌, Contains, length, slice_get, slice_set, Option, Some, None, refl, sym, ap, subst, ◌∙◌, arith}
+use Rattle.std.specs.FinMap as map
 use Rattle.std.specs.List.{AllByRecursion}
+use Rattle.std.specs.Option.{option_map}
 use Rattle.std.proofs.lemmas.List.Elements.{Contains-append_cases, recursion_from_All}
 use Rattle.std.proofs.lemmas.List.{length-replicate}
 use Rattle.std.proofs.lemmas.Option.{slice_get_within}
 use Rattle.general_lemmas.proofs.Membership.{nothing_in, only_in}
-use Rattle.dots.specs.declared.limits.TheConstants.{SITES}
-use Rattle.dots.specs.Values.{IsSite}
+use Rattle.dots.specs.declared.limits.TheConstants.{QUEUES, SITES}
+use Rattle.dots.specs.declared.member.Member.{Member}
+use Rattle.dots.specs.Values.{Dot, IsSite}
+use Rattle.operations.specs.Conditions.{fields_in}
+use Rattle.operations.specs.Knowledge.{Knowledge, is_named, member_of}
+use Rattle.operations.proofs.WithinLimitsLaws.{member_of_is}
+use Rattle.member_orset.specs.Members.{Holding}
+use Rattle.delta.specs.DeltaStates.{DeltaState}
+use Rattle.delta.specs.Standing.{IsDeltaOf}
+use Rattle.delta.proofs.ShownDeltas.{live_is}
 use Rattle.replica.specs.FrameSteps.{FitsInFrames, IsFrameThatFits, KeepsWhatFits, StepsKeepWhatFits}
 use Rattle.replica.specs.Changes.{change_of}
 use Rattle.replica.specs.Queues.{AreQueues}
@@ -15,7 +25,7 @@ use Rattle.replica.specs.Steps.{SiteKnowledge, Cut, Do, Framed, Take, Whole, new
 use Rattle.status_report.specs.declared.asks.Ask.TheVariants.{Command as asked_command, Status}
 use Rattle.sites_world.specs.declared.event.Event.{Event}
 use Rattle.sites_world.specs.declared.event.Event.TheVariants as event
-use Rattle.sites_world.specs.Fitting.{EventsKeepWhatFits, IsEntryThatFits, WorldFits, WorldsFit}
+use Rattle.sites_world.specs.Fitting.{EntriesHaveFrames, EventsKeepWhatFits, IsEntryThatFits, WorldFits, WorldsFit}
 use Rattle.sites_world.specs.WithinLimits.{HasValuesWithinLimits}
 use Rattle.sites_world.specs.Worlds.{Entry, Happening, World, entries_of, framed, happens, happens_at, happens_where, new_world, run, site_of, taken}
 use Rattle.sites_world.proofs.Growing.{event_grows}
@@ -105,3 +115,30 @@ module _ (keep : StepsKeepWhatFits) where
     worlds_fit names sites events queues few values =
         run_fits names (new_world sites) events queues (subst (λ n. n ≤ SITES) (sym (length-replicate sites new_site)) few)
         (recursion_from_All HasValuesWithinLimits events values) (new_fits sites)
+
+-- ---- frames of entries
+
+-- an entry that fits has a frame, where each knowledge has a delta
+pub has_frame : ((k : Knowledge) → (x : DeltaState) × IsDeltaOf x k) → EntriesHaveFrames
+has_frame delta place entry fits =
+    let x = delta entry.carried in (
+      record { maker = entry.maker; number = entry.number; delta = x.0 },
+      record {
+        maker = refl;
+        number = refl;
+        delta = x.1;
+        ranges = record { number = fits.number; queues = λ dot held h. queue x.0 x.1 dot held h };
+      },
+    )
+  where
+    one : (x y : Holding) → Some x ≡ Some y → x ≡ y
+    one x y e = cc
+
+    queue : (x : DeltaState) → IsDeltaOf x entry.carried → (dot : Dot) (held : Holding) → map.get x.members.live dot ≡ Some held → held.0.queue < QUEUES
+    queue x is dot held h = by (is_named entry.carried dot) (member_of entry.carried dot) refl (sym (live_is x entry.carried is dot) ∙ h)
+      where
+        by : (n : Bool) (m : Option Member) → member_of entry.carried dot ≡ m → (if n then None else option_map (λ m. (m, fields_in entry.carried dot)) m) ≡ Some held → held.0.queue < QUEUES
+        by true m e l = absurd (cc)
+        by false None e l = absurd (cc)
+        by false (Some m) e l =
+            subst (λ n. n < QUEUES) (ap (λ (held : Holding). held.0.queue) (one (m, fields_in entry.carried dot) held l)) (member_of_is entry.carried fits.carried.within dot m e).1.queue

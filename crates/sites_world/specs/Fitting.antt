@@ -4,11 +4,13 @@ use Rattle.std.specs.List.{All}
 use Rattle.dots.specs.declared.limits.TheConstants.{SITES}
 use Rattle.dots.specs.Values.{IsCount, IsSite}
 use Rattle.operations.specs.FrameLimits.{FitsInFrame}
+use Rattle.delta.specs.declared.frame.Frame.{Frame}
 use Rattle.replica.specs.FrameSteps.{FitsInFrames}
 use Rattle.replica.specs.Queues.{AreQueues}
 use Rattle.replica.specs.Steps.{SiteKnowledge}
 use Rattle.sites_world.specs.declared.event.Event.{Event}
 use Rattle.sites_world.specs.WithinLimits.{HasValuesWithinLimits}
+use Rattle.sites_world.specs.WorldStates.{IsFrameOf}
 use Rattle.sites_world.specs.Worlds.{Entry, World, happens, new_world, run}
 
 -- an entry fits: what it carries fits in a frame, its maker is a site, and its number is one of a frame
@@ -31,3 +33,7 @@ EventsKeepWhatFits = (names : List (List ℕ)) (w : World) (e : Event) → AreQu
 abbrev pub WorldsFit : Type 0
 WorldsFit = (names : List (List ℕ)) (sites : ℕ) (events : List Event) → AreQueues names → sites ≤ SITES → All HasValuesWithinLimits events
     → WorldFits (run names (new_world sites) events).0
+
+-- an entry that fits has a frame
+abbrev pub EntriesHaveFrames : Type 0
+EntriesHaveFrames = (place : ℕ) (entry : Entry) → IsEntryThatFits entry → (frame : Frame) × IsFrameOf place frame entry

@@ -5,7 +5,8 @@ ghost use Rattle.replica.specs.Queues.{AreQueues};
 ghost use Rattle.sites_world.specs.declared.event.Event.{Event};
 ghost use Rattle.sites_world.specs.declared.outcome.Outcome.{Outcome};
 ghost use Rattle.sites_world.specs.Conditions.{EventsLead, EventLeads};
-ghost use Rattle.sites_world.specs.Fitting.{EventsKeepWhatFits, WorldFits, WorldsFit};
+ghost use Rattle.sites_world.specs.Fitting.{EntriesHaveFrames, EventsKeepWhatFits};
+ghost use Rattle.sites_world.specs.Fitting.{WorldFits, WorldsFit};
 ghost use Rattle.sites_world.specs.Holding.{EventsGrow, HeldAgree, HoldFewCells, HoldOneDotASite};
 ghost use Rattle.sites_world.specs.Holding.{HoldWithinLimits};
 ghost use Rattle.sites_world.specs.Holding.{LeadAllGrows, LeadsGrow, MayJoinFrames, MayTakeEntries};
@@ -24,6 +25,7 @@ ghost use Rattle.sites_world.specs.Worlds.{IsReached, World, new_world};
 ghost use Rattle.sites_world.specs.WorldStates.{HasHappened, HaveHappened, IsUnchanged, IsWorld};
 ghost use Rattle.sites_world.specs.WorldStates.{StandsForWorld, WorldState};
 
+use delta::laws::a_knowledge_has_one_delta;
 use replica::laws::{
     a_step_keeps_what_fits_in_a_frame, deeds_stand_for_steps, refusals_stand_for_steps,
 };
@@ -194,11 +196,13 @@ pub fn events_are_run_in_parts()
 {}
 
 /// Each entry of a world fits in a frame, under its maker's and its own number, and so does what each site knows and has in its buffer, where the queues are, there
-/// are at most 64 sites, and the values of each command were within their limits. So each entry has a frame, and this a spelling (this project's own).
+/// are at most 64 sites, and the values of each command were within their limits. So each entry has a frame within the ranges of the format (this project's own).
 pub fn entries_of_a_world_fit_in_frames()
     ensures new { (sites : ℕ) → WorldFits (new_world sites) }
     ensures event { EventsKeepWhatFits }
     ensures events { WorldsFit }
+    ensures frames { EntriesHaveFrames }
 {
     a_step_keeps_what_fits_in_a_frame();
+    a_knowledge_has_one_delta();
 }
