@@ -1,3 +1,5 @@
+pub mod ListeningLemmas
 pub mod PlaceLemmas
 pub mod PortRuns
 pub mod Sites
+pub mod ServedClients

@@ -2,7 +2,8 @@
 use Rattle.std.proofs.Common.{◌≡◌, ◌<◌, ℕ, List, length, slice_index_or, subst, arith}
 use Rattle.std.proofs.lemmas.List.{get_or_default}
 use Rattle.site_desk.specs.Passes.{AreAll, PassState}
-use Rattle.site_journal.specs.Journals.{IsOfSite, JournalState}
+use Rattle.site_journal.specs.Journals.{JournalState}
+use Rattle.server.specs.ServedJournals.{IsServedJournal}
 use Rattle.server.specs.Promises.{IsPromised}
 use Rattle.server.specs.Workers.{AreInOrder}
 use Rattle.server.specs.declared.serving.JournalOf.{JournalOf}
@@ -17,5 +18,5 @@ order_all n passes long order = record {
 }
 
 -- what was promised has come
-pub journal_kept : (names : List (List ℕ)) (site : ℕ) (promise : JournalOf) (journal : JournalState) → IsPromised names site promise → IsOfSite promise.site promise.list.value journal → IsOfSite site names journal
-journal_kept names site promise journal is has = subst (λ n. IsOfSite n names journal) is.site_is (subst (λ l. IsOfSite promise.site l journal) is.names_are has)
+pub journal_kept : (names : List (List ℕ)) (site : ℕ) (promise : JournalOf) (journal : JournalState) → IsPromised names site promise → IsServedJournal promise.site promise.list.value journal → IsServedJournal site names journal
+journal_kept names site promise journal is has = subst (λ n. IsServedJournal n names journal) is.site_is (subst (λ l. IsServedJournal promise.site l journal) is.names_are has)

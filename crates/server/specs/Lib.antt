@@ -2,3 +2,8 @@ pub mod Places
 pub mod Workers
 pub mod Promises
 pub mod Listening
+pub mod CountedPorts
+pub mod ServedJournals
+pub mod SiteFaults
+pub mod ServedClients
+pub mod Tasks

@@ -1,10 +1,10 @@
 //! A port that ends the work of a pump, so that its receipts don't grow without end.
-ghost use Rattle.std.specs.Prelude.{◌≡◌, ◌⊎◌, None};
+ghost use Rattle.std.specs.Prelude.{◌≡◌, None};
 
 use site_journal::{DeskFault, Port, Receipt};
 
 // How many calls a port answers.
-const CALLS: u32 = 1_000;
+pub(crate) const CALLS: u32 = 1_000;
 
 // A port that answers 1,000 calls as another port does, and then that the journal is full, without a call of the other. What a pump holds
 // of them is given up with it, and the pump is called again over a new one.
@@ -19,6 +19,7 @@ impl<P> CountedPort<P> {
     // The port of this one, with all its calls.
     pub fn new(port: P) -> CountedPort<P>
         ensures port { result.port ≡ port }
+        ensures left { result.left ≡ CALLS }
         ensures fault { result.fault ≡ None }
     {
         CountedPort {
@@ -30,13 +31,11 @@ impl<P> CountedPort<P> {
 }
 
 impl<R, P: Port<R>> Port<R> for CountedPort<P> {
-    ghost use Rattle.std.specs.Prelude.{◌≡◌, ◌⊎◌};
-    ghost use Rattle.site_journal.specs.declared.desk_fault.DeskFault.TheVariants.{JournalFull};
+    ghost use Rattle.server.specs.CountedPorts.{MakesCounted, RefusesCounted};
 
-    ghost makes = { λ old receipt new. P.makes old.port receipt new.port };
+    ghost makes = { λ old receipt new. MakesCounted P.makes old receipt new };
 
-    ghost refuses = { λ old cause new. P.refuses old.port cause new.port
-        ⊎ ((cause ≡ JournalFull) × (new.port ≡ old.port)) };
+    ghost refuses = { λ old cause new. RefusesCounted P.refuses old cause new };
 
     ghost ordinal = { λ counted. P.ordinal counted.port };
 

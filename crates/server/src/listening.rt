@@ -1,7 +1,8 @@
 //! The listeners of all sites, and what is told of them.
-ghost use Rattle.std.specs.Prelude.{◌≡◌, ◌⊎◌, ◌+◌, ◌<◌, ◌≤◌, ℕ, IfErr, IfOk, IsErrOf, OnOk};
+ghost use Rattle.std.specs.Prelude.{◌≡◌, ◌⊎◌, ◌+◌, ◌<◌, ◌≤◌, ℕ, IfErr, IfOk, IsErrOf, OnErr, OnOk};
 ghost use Rattle.std.specs.Prelude.{false, string_bytes, true, vec_len};
 ghost use Rattle.std.specs.Io.KnownBytes.{Appends};
+ghost use Rattle.ami_text.specs.Devices.{HasTaken};
 ghost use Rattle.server.specs.Listening.{listening_line, listening_lines};
 
 use crate::ServeSitesFault;
@@ -22,7 +23,8 @@ pub(crate) fn listen<R: Net<Listener = TcpListener, Stream = TcpStream>>(
     ensures number { IfOk result (λ listeners. vec_len listeners ≡ sites) }
     ensures port { (own : ℕ) → IsErrOf result (ServeSitesFault.CannotListen own)
         → (port ≤ own) × (own < port + sites) }
-    ensures no_write { IsErrOf result ServeSitesFault.Write → ⊥ }
+    ensures fault { IfErr result (λ fault. (fault ≡ ServeSitesFault.Memory)
+        ⊎ ((own : ℕ) × (fault ≡ ServeSitesFault.CannotListen own))) }
 {
     let mut listeners = Vec::with_capacity(alloc, usize::from(sites))?;
     for site in 0..sites {
@@ -54,7 +56,10 @@ pub(crate) fn tell_listening<W: Sink>(
     requires log { W.failed log.old ≡ false }
     ensures told { OnOk result (Appends (W.taken log.old) (W.taken log.new)
         (listening_lines address port sites)) }
+    ensures begun { OnErr result (HasTaken (W.taken log.old) (W.taken log.new)
+        (listening_lines address port sites)) }
     ensures write { IsErrOf result ServeSitesFault.Write → W.failed log.new ≡ true }
+    ensures works { OnOk result (W.failed log.new ≡ false) }
     ensures fault { IfErr result (λ fault.
         (fault ≡ ServeSitesFault.Write) ⊎ (fault ≡ ServeSitesFault.Memory)) }
 {

@@ -1,5 +1,6 @@
 ghost use Rattle.std.specs.Prelude.{◌≡◌};
 
+use crate::site_fault::SiteFault;
 use dots::Memory;
 use thiserror::Error;
 
@@ -28,5 +29,18 @@ impl From<Memory> for ServeSitesFault {
 
     fn from(_fault: Memory) -> Self {
         ServeSitesFault::Memory
+    }
+}
+
+impl From<SiteFault> for ServeSitesFault {
+    ghost use Rattle.server.specs.SiteFaults.{served_fault};
+
+    ghost from_gives = { λ fault same. same ≡ served_fault fault };
+
+    fn from(fault: SiteFault) -> Self {
+        match fault {
+            SiteFault::NoThread => ServeSitesFault::NoThread,
+            SiteFault::Memory => ServeSitesFault::Memory,
+        }
     }
 }

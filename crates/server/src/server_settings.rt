@@ -1,5 +1,6 @@
-ghost use Rattle.std.specs.Prelude.{◌≡◌, Some, None, false, unwrap_or};
-ghost use Rattle.ami_session.specs.Text.{own_greeting};
+ghost use Rattle.std.specs.Prelude.{◌≡◌, IsSomeAnd, None};
+ghost use Rattle.std.specs.Duration.{as_nanos};
+ghost use Rattle.server.specs.ServedClients.{session_of};
 
 use ami_session::Session;
 use dots::Text80;
@@ -26,10 +27,21 @@ pub struct SessionSettings {
     pub greeting: Option<Text80>,
     /// How long a client may take, from when it is served, until it has sent a whole message, if only of lines that are ignored.
     pub first_message: Duration,
-    /// How long a client may be silent while the server waits for it, longer than 0. `None`: without end.
+    /// How long a client may be silent while the server waits for it. `None`: without end; 0: each client is given up behind its greeting.
     pub idle: Option<Duration>,
-    /// How long the system may take no byte of what is written to a client, since that reads nothing; at least 1 millisecond.
+    /// How long the system may take no byte of what is written to a client, since that reads nothing. What is shorter than 100 microseconds
+    /// counts as that.
     pub write: Duration,
+}
+
+// The same text once more, if there is one.
+fn copy_of(text: &Option<Text80>) -> Option<Text80>
+    ensures { result ≡ text.now }
+{
+    match text {
+        None => None,
+        Some(text) => Some(text.copy()),
+    }
 }
 
 impl SessionSettings {
@@ -39,6 +51,9 @@ impl SessionSettings {
         ensures user { result.user ≡ user }
         ensures secret { result.secret ≡ secret }
         ensures greeting { result.greeting ≡ None }
+        ensures first_message { as_nanos result.first_message ≡ 30_000_000_000 }
+        ensures idle { IsSomeAnd result.idle (λ time. as_nanos time ≡ 3_600_000_000_000) }
+        ensures write { as_nanos result.write ≡ 30_000_000_000 }
     {
         SessionSettings {
             user,
@@ -54,14 +69,10 @@ impl SessionSettings {
     pub fn copy(&self) -> SessionSettings
         ensures { result ≡ self.now }
     {
-        let greeting = match &self.greeting {
-            None => None,
-            Some(greeting) => Some(greeting.copy()),
-        };
         SessionSettings {
             user: self.user.copy(),
             secret: self.secret.copy(),
-            greeting,
+            greeting: copy_of(&self.greeting),
             first_message: self.first_message,
             idle: self.idle,
             write: self.write,
@@ -70,11 +81,7 @@ impl SessionSettings {
 
     // The session of a client.
     pub(crate) fn session(&self) -> Session
-        ensures { result ≡ record {
-          greeting = unwrap_or self.now.greeting own_greeting;
-          login = Some (record { user = self.now.user; secret = self.now.secret });
-          logged_in = false;
-        } }
+        ensures { result ≡ session_of self.now }
     {
         let session = Session::new(self.user.copy(), self.secret.copy());
         match &self.greeting {

@@ -1,12 +1,13 @@
 //! All sites, each in a thread of its own.
 ghost use Rattle.std.specs.List.{All};
-ghost use Rattle.std.specs.Prelude.{◌≡◌, ◌+◌, ◌<◌, ◌≤◌, ℕ, IfOk, IsErrOf, List, OnOk, false};
+ghost use Rattle.std.specs.Prelude.{◌≡◌, ◌⊎◌, ◌+◌, ◌<◌, ◌≤◌, ℕ, IfOk, IsErrOf, List, OnErr, OnOk, false};
 ghost use Rattle.std.specs.Prelude.{true, vec_capacity, vec_len};
 ghost use Rattle.std.specs.Io.KnownBytes.{Appends};
-ghost use Rattle.site_journal.specs.Journals.{IsOfSite};
+ghost use Rattle.ami_text.specs.Devices.{HasTaken};
 ghost use Rattle.server.specs.Listening.{listening_lines};
 ghost use Rattle.server.specs.Places.{AtEach};
 ghost use Rattle.server.specs.Promises.{IsPromisedAt};
+ghost use Rattle.server.specs.ServedJournals.{IsServedJournal};
 
 use crate::listening::{listen, tell_listening};
 use crate::site::{SiteParts, run_or_fail};
@@ -41,10 +42,10 @@ pub(crate) struct JournalOf {
 
 impl Promise<Result<Journaled, SiteFault>> for JournalOf {
     ghost use Rattle.std.specs.Prelude.{IfOk};
-    ghost use Rattle.site_journal.specs.Journals.{IsOfSite};
+    ghost use Rattle.server.specs.ServedJournals.{IsServedJournal};
 
     ghost kept_by = { λ promise ended.
-        IfOk ended (λ journal. IsOfSite promise.site promise.list.value journal) };
+        IfOk ended (λ journal. IsServedJournal promise.site promise.list.value journal) };
 }
 
 // The thread of a site.
@@ -91,7 +92,7 @@ fn start_site<'s, 'e: 's, R: Threads + Wait + Clock + Eprint + Sync>(
     };
     let run = move || -> Result<Journaled, SiteFault>
         requires { vec_len links.from ≤ 7 }
-        ensures { IfOk result (λ journal. IsOfSite parts.number queues journal) }
+        ensures { IfOk result (λ journal. IsServedJournal parts.number queues journal) }
     { run_or_fail(rt, alloc, queues, parts, links, start) };
     match scope.spawn_with(promise, run) {
         Ok(handle) => Ok(handle),
@@ -135,13 +136,28 @@ fn start_sites<'s, 'e: 's, R: Threads + Wait + Clock + Eprint + Sync>(
     Ok(())
 }
 
+// The first in order of a fault and that of a site that has ended, if it has one.
+fn first_fault(fault: SiteFault, ended: Result<Journaled, SiteFault>) -> SiteFault
+    ensures other { IsErrOf ended SiteFault.NoThread → result ≡ SiteFault.NoThread }
+    ensures either { (result ≡ fault) ⊎ (result ≡ SiteFault.NoThread) }
+{
+    match ended {
+        Ok(journal) => {
+            drop(journal);
+            fault
+        }
+        Err(SiteFault::NoThread) => SiteFault::NoThread,
+        Err(SiteFault::Memory) => fault,
+    }
+}
+
 // Lets sites end that run in vain. The first fault in order, of this one and theirs.
-fn end_sites<R: Threads>(rt: &R, sites: SiteThreads, fault: SiteFault) -> SiteFault {
+fn end_sites<R: Threads>(rt: &R, sites: SiteThreads, fault: SiteFault) -> SiteFault
+    ensures { (result ≡ fault) ⊎ (result ≡ SiteFault.NoThread) }
+{
     let mut first = fault;
     for site in sites {
-        if let Err(SiteFault::NoThread) = site.join(rt) {
-            first = SiteFault::NoThread;
-        }
+        first = first_fault(first, site.join(rt));
     }
     first
 }
@@ -157,7 +173,7 @@ fn join_sites<R: Threads>(
     ensures number { IfOk result (λ journals. vec_len journals ≡ vec_len sites) }
     ensures each { IfOk result (λ journals. (names : List (List ℕ))
         → AtEach (λ k site. IsPromisedAt names (vec_len sites) k site.promise) sites.items
-        → AtEach (λ site journal. IsOfSite site names journal) journals.items) }
+        → AtEach (λ site journal. IsServedJournal site names journal) journals.items) }
 {
     let mut sites = sites;
     let mut journals = journals;
@@ -185,7 +201,7 @@ fn run_sites<'s, 'e: 's, R: Threads + Wait + Clock + Eprint + Sync>(
     requires others { All (λ from. vec_len from + 1 ≡ vec_len listeners) links.from.items }
     ensures number { IfOk result (λ journals. vec_len journals ≡ vec_len listeners) }
     ensures each { IfOk result (λ journals.
-        AtEach (λ site journal. IsOfSite site common.now.list.now journal) journals.items) }
+        AtEach (λ site journal. IsServedJournal site common.now.list.now journal) journals.items) }
 {
     let journals = Vec::with_capacity(alloc, listeners.len())?;
     let mut sites = Vec::with_capacity(alloc, listeners.len())?;
@@ -209,7 +225,7 @@ fn serve_listeners<'x, R: Threads + Wait + Clock + Eprint + Sync>(
     requires { vec_len listeners ≤ MOST_SERVED_SITES }
     ensures number { IfOk result (λ journals. vec_len journals ≡ vec_len listeners) }
     ensures each { IfOk result (λ journals.
-        AtEach (λ site journal. IsOfSite site list.now journal) journals.items) }
+        AtEach (λ site journal. IsServedJournal site list.now journal) journals.items) }
 {
     let Ok(start) = Arc::new(alloc, Start::new(listeners.len() as u32)) else {
         return Err(SiteFault::Memory);
@@ -226,7 +242,7 @@ fn serve_listeners<'x, R: Threads + Wait + Clock + Eprint + Sync>(
             requires others { All (λ from. vec_len from + 1 ≡ vec_len listeners) links.from.items }
             ensures number { IfOk result (λ journals. vec_len journals ≡ vec_len listeners) }
             ensures each { IfOk result (λ journals.
-                AtEach (λ site journal. IsOfSite site list.entry.now journal) journals.items) }
+                AtEach (λ site journal. IsServedJournal site list.entry.now journal) journals.items) }
         {
             let common = Common {
                 list,
@@ -244,11 +260,12 @@ fn serve_listeners<'x, R: Threads + Wait + Clock + Eprint + Sync>(
 /// has 1,000 steps at most, and 64 MiB beside them but for what one more step keeps: then its steps are dropped. With a number of
 /// sessions each site takes so many connections, answers them, and gives its journal; without one it runs until the program is stopped.
 ///
-/// Once all sites listen the log has a line of each in their order, as `listening 127.0.0.1:5038`. A connection or session that fails for
-/// want of something is told on standard error, by the handle.
+/// Once all sites listen the log has a line of each in their order, as `listening 127.0.0.1:5038`, and nothing more. A connection or
+/// session that fails for want of something is told on standard error, by the handle.
 ///
-/// Faults, in order: 1 `CannotListen`, with the first port that isn't to be had; 2 `Write`, where the log failed, or took no bytes;
-/// 3 `NoThread`, where a thread can't be started; those that were started end first, and no client is answered; 4 `Memory`, likewise.
+/// Faults, in order: 1 `CannotListen`, with the first port that isn't to be had, and the log as it was; 2 `Write`, where the log failed, or
+/// took no bytes; 3 `NoThread`, where a thread can't be started; those that were started end first, and no client is answered; the log has
+/// all lines; 4 `Memory`, likewise, where the log has a front of the lines.
 /// (Sessions are Asterisk's Manager Interface; how sites are served is this project's own.)
 pub fn serve_sites<
     R: Net<Listener = TcpListener, Stream = TcpStream> + Threads + Wait + Clock + Eprint + Sync,
@@ -270,12 +287,20 @@ pub fn serve_sites<
 
     // The journals stand in the order of their sites.
     ensures each { IfOk result (λ journals.
-        AtEach (λ site journal. IsOfSite site list.now journal) journals.items) }
+        AtEach (λ site journal. IsServedJournal site list.now journal) journals.items) }
     ensures told { OnOk result (Appends (W.taken log.old) (W.taken log.new)
         (listening_lines settings.now.address settings.now.port settings.now.sites)) }
     ensures port { (port : ℕ) → IsErrOf result (ServeSitesFault.CannotListen port)
         → (settings.now.port ≤ port) × (port < settings.now.port + settings.now.sites) }
+    ensures untold { (port : ℕ) → IsErrOf result (ServeSitesFault.CannotListen port)
+        → log.new ≡ log.old }
+    ensures no_thread { IsErrOf result ServeSitesFault.NoThread
+        → Appends (W.taken log.old) (W.taken log.new)
+        (listening_lines settings.now.address settings.now.port settings.now.sites) }
+    ensures begun { OnErr result (HasTaken (W.taken log.old) (W.taken log.new)
+        (listening_lines settings.now.address settings.now.port settings.now.sites)) }
     ensures write { IsErrOf result ServeSitesFault.Write → W.failed log.new ≡ true }
+    ensures works { OnOk result (W.failed log.new ≡ false) }
 {
     let ServerSettings {
         sites,
@@ -285,9 +310,6 @@ pub fn serve_sites<
     } = settings;
     let listeners = listen(rt, alloc, *address, *port, *sites)?;
     tell_listening(alloc, log, *address, *port, *sites)?;
-    match serve_listeners(rt, alloc, list, session, sessions, listeners) {
-        Ok(journals) => Ok(journals),
-        Err(SiteFault::NoThread) => Err(ServeSitesFault::NoThread),
-        Err(SiteFault::Memory) => Err(ServeSitesFault::Memory),
-    }
+    let journals = serve_listeners(rt, alloc, list, session, sessions, listeners)?;
+    Ok(journals)
 }

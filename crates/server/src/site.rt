@@ -2,6 +2,7 @@
 ghost use Rattle.std.specs.Prelude.{◌≡◌, ◌+◌, ◌≤◌, IfOk, vec_len};
 ghost use Rattle.site_desk.specs.Passes.{AreFresh};
 ghost use Rattle.site_journal.specs.Journals.{IsOfSite};
+ghost use Rattle.server.specs.ServedJournals.{IsServedJournal};
 ghost use Rattle.server.specs.Workers.{AreInOrder};
 
 use crate::SessionSettings;
@@ -24,8 +25,8 @@ use std::thread;
 use std::thread::{Scope, Threads};
 use std::time::Clock;
 
-// How many steps stand in a site's journal at most.
-const JOURNAL_STEPS: u32 = 1_000;
+/// How many steps stand in the journal of a served site at most.
+pub const JOURNAL_STEPS: u32 = 1_000;
 
 // What a site takes into its thread, beside its links.
 #[derive(Drop)]
@@ -108,7 +109,8 @@ fn run_scoped<L: SiteLedger + Send + Sync, R: Threads + Wait + Clock + Eprint + 
 fn closed<L: SiteLedger>(desk: SiteDesk<L>, passes: Vec<Pass<L>>) -> Journaled
     requires number { vec_len passes ≡ desk.passes }
     requires order { AreInOrder passes.items }
-    ensures { IsOfSite L.site L.names result }
+    ensures site { IsOfSite L.site L.names result }
+    ensures limit { result.limit ≡ L.limit }
 {
     match close(desk, passes) {
         Ok(journal) => journal,
@@ -133,7 +135,8 @@ fn run_site<L: SiteLedger + Send + Sync, R: Threads + Wait + Clock + Eprint + Sy
     requires site { IsOfSite L.site L.names journal }
     requires limit { journal.limit ≡ L.limit }
     requires base { journal.base ≡ L.base }
-    ensures { IfOk result (λ journal. IsOfSite L.site L.names journal) }
+    ensures site { IfOk result (λ journal. IsOfSite L.site L.names journal) }
+    ensures limit { IfOk result (λ journal. journal.limit ≡ L.limit) }
 {
     let number = links.from.len() as u32 + 5;
     let Ok((desk, passes)) = SiteDesk::<L>::new(alloc, blank, journal, number) else {
@@ -162,7 +165,7 @@ fn run_new_site<R: Threads + Wait + Clock + Eprint + Sync>(
     links: LinkEnds,
 ) -> Result<Journaled, SiteFault>
     requires { vec_len links.from ≤ 7 }
-    ensures { IfOk result (λ journal. IsOfSite parts.number list journal) }
+    ensures { IfOk result (λ journal. IsServedJournal parts.number list journal) }
 {
     let replica = Replica::new(alloc, parts.number, list);
     let Ok(journal) = Journaled::new(alloc, replica, JOURNAL_STEPS) else {
@@ -182,7 +185,7 @@ pub(crate) fn run_or_fail<R: Threads + Wait + Clock + Eprint + Sync>(
     start: Arc<Start, Global>,
 ) -> Result<Journaled, SiteFault>
     requires { vec_len links.from ≤ 7 }
-    ensures { IfOk result (λ journal. IsOfSite parts.number list journal) }
+    ensures { IfOk result (λ journal. IsServedJournal parts.number list journal) }
 {
     let run = run_new_site(rt, alloc, list, parts, links);
     if run.is_err() {

@@ -1,30 +1,43 @@
+ghost use Rattle.std.specs.Prelude.{◌≡◌, ◌+◌, ℕ, false, true};
+
 use std::sync::{Mutex, Wait};
 
-// How many clients a site still takes; without end where there is no number. A thread takes a ticket before it waits for a client, so
-// that none waits for one that isn't to be taken.
+// How many clients a site still takes. A thread takes a ticket before it waits for a client, so that none waits for one that isn't to be
+// taken.
 #[derive(Drop)]
 pub(crate) struct Tickets {
-    left: Mutex<Option<u32>>,
+    // Whether there are tickets without end, so that none is counted.
+    is_endless: bool,
+    left: Mutex<u32>,
+}
+
+// Takes one of so many, if there is one, and tells whether there was.
+fn take_one(left: &mut u32) -> bool
+    ensures none { left.old ≡ 0 → (result ≡ false) × (left.new ≡ 0) }
+    ensures one { (n : ℕ) → left.old ≡ n + 1 → (result ≡ true) × (left.new ≡ n) }
+{
+    if *left == 0 {
+        return false;
+    }
+    *left -= 1;
+    true
 }
 
 impl Tickets {
-    // So many.
+    // So many; without end where there is no number.
     pub fn new(clients: Option<u32>) -> Tickets {
         Tickets {
-            left: Mutex::new(clients),
+            is_endless: clients.is_none(),
+            left: Mutex::new(clients.unwrap_or(0)),
         }
     }
 
     // Takes one, if there is one, and tells whether there was.
     pub fn take<R: Wait>(&self, rt: &R) -> bool {
-        let mut left = self.left.lock(rt);
-        match *left {
-            None => true,
-            Some(0) => false,
-            Some(number) => {
-                *left = Some(number - 1);
-                true
-            }
+        if self.is_endless {
+            return true;
         }
+        let mut left = self.left.lock(rt);
+        take_one(&mut left)
     }
 }

@@ -2,6 +2,7 @@
 ghost use Rattle.std.specs.Prelude.{◌≡◌, ◌+◌, ◌≤◌, IfOk, OnOk, vec_capacity, vec_len};
 ghost use Rattle.site_desk.specs.Passes.{AreFresh};
 ghost use Rattle.server.specs.Places.{AtEach};
+ghost use Rattle.server.specs.Tasks.{tasks_for};
 ghost use Rattle.server.specs.Workers.{AreInOrder};
 
 use crate::accepting::accept;
@@ -34,7 +35,8 @@ pub(crate) enum Task {
 
 // The tasks of a site: four threads answer, one sends, and one takes for each link that receives.
 pub(crate) fn tasks_of(alloc: Global, links: LinkEnds) -> Result<Vec<Task>, Memory>
-    ensures { IfOk result (λ tasks. vec_len tasks ≡ vec_len links.from + 5) }
+    ensures number { IfOk result (λ tasks. vec_len tasks ≡ vec_len links.from + 5) }
+    ensures tasks { IfOk result (λ tasks. tasks.items ≡ tasks_for links) }
 {
     let LinkEnds { to, from } = links;
     let mut from = from;

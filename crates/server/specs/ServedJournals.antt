@@ -1,0 +1,9 @@
+-- What a served site gives in the end (this project's own).
+use Rattle.std.specs.Prelude.{ℕ, ◌≡◌, List}
+use Rattle.site_journal.specs.Journals.{IsOfSite, JournalState}
+use Rattle.server.specs.declared.site.TheConstants.{JOURNAL_STEPS}
+
+-- a journal is of this site and of these queues, and no more steps may stand in it than in each journal of a server
+pub record IsServedJournal (site : ℕ) (names : List (List ℕ)) (journal : JournalState) : Type 0 where
+  pub of_site : IsOfSite site names journal
+  pub limit : journal.limit ≡ JOURNAL_STEPS
