@@ -13,8 +13,7 @@ use Rattle.dots.specs.Orders.{dot_cmp}
 use Rattle.dots.specs.DotSets.{Run, in_run, in_runs, is_apart, AreApart, next_dot, run_count, set_of}
 use Rattle.dots.proofs.DotOrder.{dots_total, dots_exact, same_dot}
 use Rattle.dots.proofs.OneMoreDot.{dot_before, insert_known, run_count_insert}
-use Rattle.dots.proofs.Runs.{contains_set_of, runs_of_set}
-use Rattle.dots.proofs.RunCounts.{run_count_runs}
+use Rattle.dots.proofs.Runs.{contains_set_of}
 use Rattle.general_lemmas.proofs.TruthTables.{or_swap}
 
 abbrev Dots : Type 0
@@ -138,17 +137,16 @@ pub union_whole : (s : Dots) (xs : List Run) (i : ℕ) → length xs ≤ i → s
 union_whole s xs i l = ap (λ ys. sets.union s (set_of ys)) (take_all i xs l)
 
 -- how many runs the union has with one more run of a list
-pub count_with_more : (rs xs : List Run) (i : ℕ) (x : Run) → AreApart rs → AreApart xs → i < length xs → x ≡ get_or xs i x → 1 ≤ x.first → x.first ≤ x.last
-    → run_count (sets.union (set_of rs) (set_of (take (i + 1) xs))) + length rs
+pub count_with_more : (rs xs : List Run) (i : ℕ) (x : Run) → AreApart xs → i < length xs → x ≡ get_or xs i x → 1 ≤ x.first → x.first ≤ x.last
+    → run_count (sets.union (set_of rs) (set_of (take (i + 1) xs))) + run_count (set_of rs)
     ≡ run_count (sets.union (set_of rs) (set_of (x ∷ []))) + run_count (sets.union (set_of rs) (set_of (take i xs)))
-count_with_more rs xs i x a b l e counted whole =
-    let own = run_count_runs rs (set_of rs) (runs_of_set rs a) in
+count_with_more rs xs i x b l e counted whole =
     let grows = ap run_count (union_with (set_of rs) xs i x l e) in
     let alike = one_run_alike (sets.union (set_of rs) (set_of (take i xs))) (set_of rs) x counted whole (λ n h.
     sets.contains-union dots_total (set_of rs) (set_of (take i xs)) (record { site = x.site; count = n })
     ∙ ap (λ p. sets.contains (set_of rs) (record { site = x.site; count = n }) || p) (contains_set_of (take i xs) (record { site = x.site; count = n }) ∙ missed n h)
     ∙ or-false (sets.contains (set_of rs) (record { site = x.site; count = n }))) in
-    omega (arith, own, grows, alike)
+    omega (arith, grows, alike)
   where
     missed : (n : ℕ) → x.first ≤ suc n → in_runs (take i xs) (record { site = x.site; count = n }) ≡ false
     missed n h =

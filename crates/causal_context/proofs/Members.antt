@@ -1,6 +1,7 @@
 -- What a run that is in a list says of the dots that the list has.
-use Rattle.std.proofs.Common.{◌≡◌, ℕ, suc, zero, ◌≤◌, ◌<◌, Bool, true, false, not, ◌&&◌, ◌||◌, List, [], ◌∷◌, length, get_or, refl, sym, ap, ◌∙◌, inl, inr, arith}
+use Rattle.std.proofs.Common.{◌≡◌, ℕ, suc, zero, ◌≤◌, ◌<◌, Bool, true, false, not, ◌&&◌, ◌||◌, List, [], ◌∷◌, length, get_or, refl, sym, ap, subst, ◌∙◌, inl, inr, arith}
 use Rattle.std.specs.List.{All, Contains, list_any}
+use Rattle.std.specs.List.Sorted.{IsPartitionPoint}
 use Rattle.std.specs.FinSet as sets
 use Rattle.std.proofs.lemmas.Bool.{cases_Bool}
 use Rattle.std.proofs.lemmas.Bool.Decides.{nat_tests}
@@ -10,7 +11,8 @@ use Rattle.dots.specs.Values.{Dot}
 use Rattle.dots.specs.Orders.{dot_cmp}
 use Rattle.dots.specs.DotSets.{Run, in_run, in_runs, AreApart, IsRunsOf, first_dot, last_dot, next_dot}
 use Rattle.dots.proofs.Apart.{is_end, ends_of_apart, rest_misses_before, rest_misses_next}
-use Rattle.causal_context.proofs.Places.{apart_whole}
+use Rattle.causal_context.specs.RunLists.{is_below}
+use Rattle.causal_context.proofs.Places.{apart_whole, at_no_place, at_place}
 
 any_of_one : (p : Run → Bool) (rs : List Run) (r : Run) → Contains rs r → p r ≡ true → list_any p rs ≡ true
 any_of_one p rs r m h = list_any_at p rs m.0 r m.1 (ap p m.2 ∙ h)
@@ -40,6 +42,16 @@ before_run (x ∷ rs) (suc k) e d a l h m =
       | inl y ↦ absurd (let p = rest_misses_next d x rs a.1 y in let q = list_any_at (in_run (next_dot d)) rs k e (omega arith) h in cc)
       | inr n ↦ ap (λ b. b || in_runs rs d) n ∙ before_run rs k e d a.2 (omega arith) h m
     ]
+
+-- whether a list has a dot is settled at the dot's place
+pub at_the_place : (d : Dot) (runs items : List Run) (i : ℕ) (e : Run) → runs ≡ items → AreApart runs → IsPartitionPoint (λ r. is_below d r ≡ true) (λ r. is_below d r ≡ false) items i → i < length runs → e ≡ get_or runs i e
+    → in_runs items d ≡ in_run d e
+at_the_place d runs items i e same a point l is =
+    let here = subst (λ xs. IsPartitionPoint (λ r. is_below d r ≡ true) (λ r. is_below d r ≡ false) xs i) (sym same) point in
+    sym (ap (λ xs. in_runs xs d) same) ∙ at_place d runs i e a l here.0 (here.1 i e (omega arith) l) ∙ ap (in_run d) (sym is)
+
+pub at_the_end : (d : Dot) (runs items : List Run) (i : ℕ) → runs ≡ items → IsPartitionPoint (λ r. is_below d r ≡ true) (λ r. is_below d r ≡ false) items i → i ≡ length runs → in_runs items d ≡ false
+at_the_end d runs items i same point e = at_no_place d items (λ k x low h. point.0 k x low (omega (arith, h, e, ap length same)))
 
 -- the runs of a set are its longest runs: the dots beside them are not in the set
 pub nothing_past : (rs : List Run) (dots : sets.FinSet dot_cmp) → IsRunsOf rs dots → All (λ r. sets.contains dots (next_dot (last_dot r)) ≡ false) rs

@@ -1,25 +1,23 @@
 -- The runs of two sets, taken in order, make the runs of their union.
-use Rattle.std.proofs.Common.{◌≡◌, ℕ, ◌+◌, ◌≤◌, ◌<◌, min, max, Bool, true, false, ◌||◌, List, [], ◌∷◌, ◌++◌, length, get_or, set, take, drop, refl, sym, ap, subst, ◌∙◌, inl, inr, arith}
+use Rattle.std.proofs.Common.{◌≡◌, ℕ, ◌+◌, ◌-◌, ◌≤◌, ◌<◌, min, max, Bool, true, false, ◌||◌, List, [], ◌∷◌, ◌++◌, length, get_or, set, take, drop, refl, sym, ap, subst, ◌∙◌, inl, inr, arith}
 use Rattle.std.specs.Prelude.{IsTrue}
 use Rattle.std.specs.List.{All}
 use Rattle.std.specs.FinSet as sets
-use Rattle.std.proofs.lemmas.Bool.{cases_lt}
 use Rattle.std.proofs.lemmas.Bool.Decides.{nat_tests}
-use Rattle.std.proofs.lemmas.List.{drop-set-lt, length-append, length-drop, take_more_set}
+use Rattle.std.proofs.lemmas.List.{drop-set-lt, get_or-drop, length-append, length-drop, take_more_set}
 use Rattle.std.proofs.lemmas.List.Folds.{list_any-append}
 use Rattle.std.proofs.lemmas.List.Elements.{All-nil, All-head, All-tail, All-cons, All-weaker, All-push}
-use Rattle.dots.specs.declared.limits.TheConstants.{MOST_RUNS}
 use Rattle.std.proofs.Math.Bool.{or-false, or_assoc}
 use Rattle.dots.specs.Values.{Dot}
-use Rattle.dots.specs.Orders.{dot_cmp}
 use Rattle.dots.specs.DotSets.{Run, in_run, in_runs, is_apart, AreApart, IsRunsOf, run_count, set_of}
 use Rattle.dots.proofs.DotOrder.{dots_total, dots_exact}
 use Rattle.dots.proofs.Apart.{apart_trans}
 use Rattle.dots.proofs.RunCounts.{run_count_runs}
 use Rattle.dots.proofs.Runs.{contains_set_of}
-use Rattle.causal_context.specs.Contexts.{IsContext, IsRunWithinLimits}
+use Rattle.causal_context.specs.Contexts.{IsRunWithinLimits}
 use Rattle.general_lemmas.proofs.TruthTables.{or_swap}
 use Rattle.general_lemmas.proofs.Fronts.{open_at}
+use Rattle.causal_context.specs.ListedRuns.{IsFirstOf}
 use Rattle.causal_context.specs.RunLists.{IsFirstRun, begins_by, is_first_ours, run_over}
 
 -- all that follow a run begin after it
@@ -146,6 +144,9 @@ joined_first r x b h = grind (arith, nat_tests)
 joined_begins : (r x y : Run) → begins_by r x ≡ true → is_apart r x ≡ false → begins_by x y ≡ true → begins_by (run_over r x) y ≡ true
 joined_begins r x y b h k = grind (arith, nat_tests)
 
+pub joined_site : (r x : Run) → begins_by r x ≡ true → is_apart r x ≡ false → r.site ≡ x.site
+joined_site r x b h = grind (arith, nat_tests)
+
 joined_whole : (r x : Run) → r.first ≤ r.last → min r.first x.first ≤ max r.last x.last
 joined_whole r x w = omega arith
 
@@ -203,17 +204,6 @@ next_if_others r [] others a b h = next_of_others r [] others a b (All-nil (λ x
 next_if_others r (x ∷ ours) others a b h = next_of_others r (x ∷ ours) others a b (begins_rest r x ours (begins_back x r h) a)
 
 -- the same, by the places that are reached
-pub first_left : (rs xs : List Run) (i j : ℕ) → i < length rs → length xs ≤ j → is_first_ours (drop i rs) (drop j xs) ≡ true
-first_left rs xs i j l p = alone (drop i rs) (drop j xs) (omega (arith, length-drop i rs)) (omega (arith, length-drop j xs))
-  where
-    alone : (rs xs : List Run) → 0 < length rs → length xs ≡ 0 → is_first_ours rs xs ≡ true
-    alone [] xs l e = absurd (omega (arith, l))
-    alone (r ∷ rs) [] l e = refl
-    alone (r ∷ rs) (x ∷ xs) l e = absurd (omega (arith, e))
-
-pub others_left : (rs xs : List Run) (i j : ℕ) → j ≤ length xs → i + j < length rs + length xs → is_first_ours (drop i rs) (drop j xs) ≡ false → j < length xs
-others_left rs xs i j w l f = elim (cases_lt j (length xs)) [ inl y ↦ y | inr p ↦ absurd (let h = first_left rs xs i j (omega arith) p in cc) ]
-
 pub next_own_at : (rs xs : List Run) (i j : ℕ) (x : Run) → i < length rs → x ≡ get_or rs i x → AreApart (drop i rs) → AreApart (drop j xs) → is_first_ours (drop i rs) (drop j xs) ≡ true
     → IsFirstRun x (drop i rs) (drop j xs) (drop (i + 1) rs) (drop j xs)
 next_own_at rs xs i j x l e a b h =
@@ -227,6 +217,52 @@ next_other_at rs xs i j x l e a b h =
     let o = open_at xs j x l e in
     subst (λ ys. IsFirstRun x (drop i rs) ys (drop i rs) (drop (j + 1) xs)) (sym o)
     (next_if_others x (drop i rs) (drop (j + 1) xs) a (subst AreApart o b) (ap (is_first_ours (drop i rs)) (sym o) ∙ h))
+
+-- what a step of a walk takes is the first run of what is left
+pub next_first : (ours others : List Run) (own own' theirs theirs' : ℕ) (run : Run) → AreApart (drop own ours) → AreApart (drop theirs others) → IsFirstOf ours own own' others theirs theirs' run
+    → IsFirstRun run (drop own ours) (drop theirs others) (drop own' ours) (drop theirs' others)
+next_first ours others own own' theirs theirs' run a b (inl (first, here, stays)) =
+    subst (λ k. IsFirstRun run (drop own ours) (drop theirs others) (drop own' ours) (drop k others)) (sym stays)
+    (subst (λ k. IsFirstRun run (drop own ours) (drop theirs others) (drop k ours) (drop theirs others)) (sym here.passed)
+    (next_own_at ours others own theirs run here.reached here.is a b first))
+next_first ours others own own' theirs theirs' run a b (inr (first, here, stays)) =
+    subst (λ k. IsFirstRun run (drop own ours) (drop theirs others) (drop k ours) (drop theirs' others)) (sym stays)
+    (subst (λ k. IsFirstRun run (drop own ours) (drop theirs others) (drop own ours) (drop k others)) (sym here.passed)
+    (next_other_at ours others own theirs run here.reached here.is a b first))
+
+-- it is within the limits
+pub next_limits : (ours others : List Run) (own own' theirs theirs' : ℕ) (run : Run) → All IsRunWithinLimits (drop own ours) → All IsRunWithinLimits others → IsFirstOf ours own own' others theirs theirs' run → IsRunWithinLimits run
+next_limits ours others own own' theirs theirs' run p q (inl (first, here, stays)) =
+    All-head IsRunWithinLimits run (drop (own + 1) ours) (subst (All IsRunWithinLimits) (open_at ours own run here.reached here.is) p)
+next_limits ours others own own' theirs theirs' run p q (inr (first, here, stays)) = subst IsRunWithinLimits (sym here.is) (q theirs run here.reached)
+
+-- and one place further on in one of the lists
+pub record IsOneFurther (ours : List Run) (own own' : ℕ) (others : List Run) (theirs theirs' : ℕ) : Type 0 where
+  pub one : own' + theirs' ≡ own + theirs + 1
+  pub behind : own ≤ own'
+  pub own_within : own ≤ length ours → own' ≤ length ours
+  pub theirs_within : theirs ≤ length others → theirs' ≤ length others
+
+pub one_further : (ours others : List Run) (own own' theirs theirs' : ℕ) (run : Run) → IsFirstOf ours own own' others theirs theirs' run → IsOneFurther ours own own' others theirs theirs'
+one_further ours others own own' theirs theirs' run (inl (first, here, stays)) = record {
+  one = omega (arith, here.passed, stays);
+  behind = omega (arith, here.passed);
+  own_within = λ h. omega (arith, here.passed, here.reached);
+  theirs_within = λ h. omega (arith, stays, h);
+}
+one_further ours others own own' theirs theirs' run (inr (first, here, stays)) = record {
+  one = omega (arith, here.passed, stays);
+  behind = omega (arith, stays);
+  own_within = λ h. omega (arith, stays, h);
+  theirs_within = λ h. omega (arith, here.passed, here.reached);
+}
+
+-- what is left then is within the limits
+pub limits_left : (runs : List Run) (i j : ℕ) → i ≤ j → All IsRunWithinLimits (drop i runs) → All IsRunWithinLimits (drop j runs)
+limits_left runs i j m p k e l =
+    let shift : i + ((j + k) - i) ≡ j + k = omega (arith, m) in
+    subst IsRunWithinLimits (get_or-drop i runs ((j + k) - i) e ∙ ap (λ n. get_or runs n e) shift ∙ sym (get_or-drop j runs k e))
+    (p ((j + k) - i) e (omega (arith, m, l, length-drop i runs, length-drop j runs)))
 
 -- the same, where the run that grows is given by its value
 pub grown_merging : (written : List Run) (current next grown : Run) (ours others ours' others' runs xs : List Run)
@@ -254,13 +290,6 @@ pub record IsCounting (count : ℕ) (current : Run) (ours others runs xs : List 
   pub written : List Run
   pub merging : IsMerging written current ours others runs xs
   pub counted : count ≡ length written + 1
-
-pub ours_left : (rs xs : List Run) (i j : ℕ) → is_first_ours (drop i rs) (drop j xs) ≡ true → i < length rs
-ours_left rs xs i j h = elim (cases_lt i (length rs)) [ inl l ↦ l | inr p ↦ absurd (let e = none_first (drop i rs) (drop j xs) (omega (arith, length-drop i rs)) in cc) ]
-  where
-    none_first : (ys zs : List Run) → length ys ≡ 0 → is_first_ours ys zs ≡ false
-    none_first [] zs e = refl
-    none_first (y ∷ ys) zs e = absurd (omega (arith, e))
 
 -- the steps of the count
 pub counting_starts : (next : Run) (runs xs ours others : List Run) → IsFirstRun next runs xs ours others → IsRunWithinLimits next → IsCounting 1 next ours others runs xs
@@ -301,9 +330,12 @@ pub last_merging : (ys : List Run) (k : ℕ) (current : Run) (ours others runs x
 last_merging ys k current ours others runs xs l m a b =
     subst (λ zs. IsRunsOf zs (sets.union (set_of runs) (set_of xs))) (sym (take_more_set ys k current l)) (ended_merging (take k ys) current ours others runs xs m a b)
 
--- a list of runs within the limits is a context's
-pub context_of : (rs : List Run) (dots : sets.FinSet dot_cmp) → IsRunsOf rs dots → All IsRunWithinLimits rs → run_count dots ≤ MOST_RUNS → IsContext rs
-context_of rs dots is limits few = record { apart = is.apart; limits = limits; few = omega (arith, run_count_runs rs dots is, few) }
+-- with nothing on either side no run is made
+pub merging_none : (ys runs xs : List Run) → length runs ≡ 0 → length xs ≡ 0 → IsRunsOf (take 0 ys) (sets.union (set_of runs) (set_of xs))
+merging_none [] [] [] a b = record { apart = tt; same = λ d. sets.contains-union dots_total (set_of []) (set_of []) d ∙ (λ i. contains_set_of [] d i || contains_set_of [] d i) }
+merging_none (y ∷ ys) [] [] a b = record { apart = tt; same = λ d. sets.contains-union dots_total (set_of []) (set_of []) d ∙ (λ i. contains_set_of [] d i || contains_set_of [] d i) }
+merging_none ys (r ∷ rs) xs a b = absurd (omega (arith, a))
+merging_none ys [] (x ∷ xs) a b = absurd (omega (arith, b))
 
 -- no others are no change
 pub union_none : (rs xs : List Run) → length xs ≡ 0 → set_of rs ≡ sets.union (set_of rs) (set_of xs)

@@ -1,19 +1,23 @@
 -- A run put among others takes the place of those that it touches.
 use Rattle.std.proofs.Common.{◌≡◌, ℕ, suc, zero, ◌+◌, ◌-◌, ◌≤◌, ◌<◌, min, max, Bool, true, false, ◌||◌, List, [], ◌∷◌, ◌++◌, length, get_or, take, drop, refl, sym, ap, subst, ◌∙◌, arith}
 use Rattle.std.specs.Prelude.{IsTrue}
-use Rattle.std.specs.List.{All, AllWithin, list_any}
+use Rattle.std.specs.List.{All, list_any}
+use Rattle.std.specs.List.Sorted.{IsPartitionPoint}
 use Rattle.std.specs.FinSet as sets
 use Rattle.std.proofs.lemmas.Bool.Decides.{nat_tests}
 use Rattle.std.proofs.lemmas.List.{length-append, length-take, length-drop, get_or-take, get_or-drop, take-append-drop}
 use Rattle.std.proofs.lemmas.List.Folds.{list_any-append}
-use Rattle.std.proofs.lemmas.List.Elements.{All-nil, All-head, All-tail, All-cons, All-weaker, All-append, All-take}
+use Rattle.std.proofs.lemmas.List.Elements.{All-nil, All-head, All-tail, All-cons, All-weaker, All-append, All-drop, All-take}
 use Rattle.std.proofs.Math.Bool.{or-false}
 use Rattle.dots.specs.Values.{Dot}
+use Rattle.dots.specs.Orders.{dot_cmp}
 use Rattle.dots.specs.DotSets.{Run, in_run, in_runs, is_apart, AreApart, IsRunsOf, set_of}
 use Rattle.dots.proofs.DotOrder.{dots_total}
 use Rattle.dots.proofs.Apart.{apart_trans}
 use Rattle.dots.proofs.Runs.{contains_set_of, set_of_runs}
 use Rattle.general_lemmas.proofs.Fronts.{open_at}
+use Rattle.causal_context.specs.Contexts.{IsRunWithinLimits}
+use Rattle.causal_context.specs.ListedRuns.{AreRuns, TakesPlace, replaced}
 use Rattle.causal_context.specs.RunLists.{run_over}
 use Rattle.causal_context.proofs.Places.{apart_drop}
 
@@ -39,17 +43,17 @@ apart_places (r ∷ rs) (suc i) zero d e a l h = absurd (omega (arith, l))
 apart_places (r ∷ rs) (suc i) (suc j) d e a l h = apart_places rs i j d e a.2 (omega arith) (omega arith)
 
 pub uniting_starts : (runs : List Run) (start : ℕ) (run : Run) → AreApart runs → start ≤ length runs → run.first ≤ run.last
-    → AllWithin (λ r. is_apart r run ≡ true) runs 0 start → AllWithin (λ r. is_apart r run ≡ false) runs start (length runs)
+    → IsPartitionPoint (λ r. is_apart r run ≡ true) (λ r. is_apart r run ≡ false) runs start
     → IsUniting (take start runs) run (drop start runs) run runs
-uniting_starts runs start run a l w before after = record {
+uniting_starts runs start run a l w point = record {
   whole = w;
   apart_before = apart_take start runs a;
   all_before = λ k d h.
       let m : k < start = omega (arith, length-take start runs, h) in
-      subst (λ r. is_apart r run ≡ true) (sym (get_or-take start runs k d m)) (before k d (omega arith) m);
+      subst (λ r. is_apart r run ≡ true) (sym (get_or-take start runs k d m)) (point.0 k d (omega arith) m);
   apart_rest = apart_drop start runs a;
   none_before = λ k d h.
-      subst (λ r. is_apart r run ≡ false) (sym (get_or-drop start runs k d)) (after (start + k) d (omega arith) (omega (arith, length-drop start runs, h)));
+      subst (λ r. is_apart r run ≡ false) (sym (get_or-drop start runs k d)) (point.1 (start + k) d (omega arith) (omega (arith, length-drop start runs, h)));
   same = λ d.
       swap (in_runs (take start runs) d) (in_run d run) (in_runs (drop start runs) d)
       ∙ ap (λ b. b || in_run d run) (sym (list_any-append (in_run d) (take start runs) (drop start runs)) ∙ ap (list_any (in_run d)) (take-append-drop start runs));
@@ -155,12 +159,24 @@ pub uniting_ends_at : (runs : List Run) (start at : ℕ) (united x run : Run) �
 uniting_ends_at runs start at united x run u l e h = uniting_ends_apart (take start runs) united x (drop (at + 1) runs) (drop at runs) run runs u (open_at runs at x l e) h
 
 -- how many runs there are then
-pub length_replaced : (runs : List Run) (start end : ℕ) (run : Run) → start ≤ end → end ≤ length runs → length (take start runs ++ run ∷ drop end runs) ≡ start + suc (length runs - end)
+pub length_replaced : (runs : List Run) (start end : ℕ) (run : Run) → start ≤ end → end ≤ length runs → length (replaced runs start run end) ≡ start + suc (length runs - end)
 length_replaced runs start end run a b = omega (arith, length-append (take start runs) (run ∷ drop end runs), length-take start runs, length-drop end runs)
 
 -- the set of the list that is made
-pub set_replaced : (seen old new : List Run) (start end : ℕ) (united run : Run) → seen ≡ old
-    → IsRunsOf (take start seen ++ united ∷ drop end seen) (sets.union (set_of seen) (set_of (run ∷ [])))
-    → new ≡ take start old ++ united ∷ drop end old → set_of new ≡ sets.union (set_of old) (set_of (run ∷ []))
-set_replaced seen old new start end united run e is n =
-    ap set_of n ∙ set_of_runs _ _ (subst (λ xs. IsRunsOf (take start xs ++ united ∷ drop end xs) (sets.union (set_of xs) (set_of (run ∷ [])))) e is)
+pub set_replaced : (old new : List Run) (start end : ℕ) (united run : Run)
+    → IsRunsOf (replaced old start united end) (sets.union (set_of old) (set_of (run ∷ [])))
+    → new ≡ replaced old start united end → set_of new ≡ sets.union (set_of old) (set_of (run ∷ []))
+set_replaced old new start end united run is n = ap set_of n ∙ set_of_runs _ _ is
+
+-- the run that is made may take the place of those that it took in
+pub placed : (runs : List Run) (start end : ℕ) (united : Run) (dots : sets.FinSet dot_cmp) → AreRuns runs → start ≤ end → end ≤ length runs → IsRunWithinLimits united → IsRunsOf (replaced runs start united end) dots
+    → TakesPlace runs start united end
+placed runs start end united dots are order within limit is = record {
+  order = order;
+  within = within;
+  valid = record {
+    apart = is.apart;
+    limits = All-append IsRunWithinLimits (take start runs) (united ∷ drop end runs) (All-take IsRunWithinLimits start runs are.limits)
+        (All-cons IsRunWithinLimits united (drop end runs) limit (All-drop IsRunWithinLimits end runs are.limits));
+  };
+}

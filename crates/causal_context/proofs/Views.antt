@@ -7,26 +7,26 @@ use Rattle.std.specs.FinSet as sets
 use Rattle.std.proofs.lemmas.Bool.Decides.{nat_tests}
 use Rattle.dots.specs.Values.{Dot}
 use Rattle.dots.specs.Orders.{dot_cmp}
-use Rattle.dots.specs.DotSets.{Run, in_run, in_runs, AreApart, IsRunsOf, IsPrefix, run_count, set_of, next_dot}
+use Rattle.dots.specs.DotSets.{Run, in_run, in_runs, AreApart, IsRunsOf, IsPrefix, run_count, set_of, last_dot, next_dot}
 use Rattle.dots.proofs.DotOrder.{dots_total, dots_exact, same_dot}
 use Rattle.dots.proofs.OneMoreDot.{dot_before, run_count_insert}
 use Rattle.dots.proofs.RunCounts.{run_count_runs}
 use Rattle.dots.proofs.Runs.{runs_of_set, contains_set_of}
-use Rattle.causal_context.proofs.Members.{has_of_run, misses_past_run}
+use Rattle.causal_context.proofs.Members.{has_of_run}
 
 pub is_runs : (rs : List Run) (dots : sets.FinSet dot_cmp) → set_of rs ≡ dots → AreApart rs → IsRunsOf rs dots
 is_runs rs dots e a = subst (IsRunsOf rs) e (runs_of_set rs a)
 
 -- a run with the dot was found where the list has it
-pub found : (o : Option Run) (rs : List Run) (d : Dot) → MatchOption o (in_runs rs d ≡ false) (λ r. Contains rs r × (in_run d r ≡ true)) → is_some o ≡ in_runs rs d
-found None rs d m = sym m
-found (Some r) rs d m = sym (has_of_run rs r d m.0 m.1)
+pub found : (o : Option Run) (rs : List Run) (d : Dot) → MatchOption o (in_runs rs d ≡ false) (λ r. Contains rs r × (in_run d r ≡ true) × (in_runs rs (next_dot (last_dot r)) ≡ false)) → is_some o ≡ sets.contains (set_of rs) d
+found None rs d m = sym (contains_set_of rs d ∙ m)
+found (Some r) rs d m = sym (contains_set_of rs d ∙ has_of_run rs r d m.0 m.1)
 
 -- the run with the first count says how far the counts go
-pub prefix_of_run : (rs : List Run) (dots : sets.FinSet dot_cmp) (site : ℕ) (r : Run) → IsRunsOf rs dots → Contains rs r → in_run (record { site = site; count = 1 }) r ≡ true → IsPrefix dots site r.last
-prefix_of_run rs dots site r is m h = record {
-  has = λ count lo hi. is.same (record { site = site; count = count }) ∙ has_of_run rs r (record { site = site; count = count }) m (between site count r lo hi h);
-  ends = is.same (record { site = site; count = suc r.last }) ∙ ap (λ s. in_runs rs (record { site = s; count = suc r.last })) (sym (same_site site r h)) ∙ misses_past_run rs r is.apart m;
+pub prefix_of_run : (rs : List Run) (site : ℕ) (r : Run) → Contains rs r → in_run (record { site = site; count = 1 }) r ≡ true → in_runs rs (next_dot (last_dot r)) ≡ false → IsPrefix (set_of rs) site r.last
+prefix_of_run rs site r m h past = record {
+  has = λ count lo hi. contains_set_of rs (record { site = site; count = count }) ∙ has_of_run rs r (record { site = site; count = count }) m (between site count r lo hi h);
+  ends = contains_set_of rs (record { site = site; count = suc r.last }) ∙ ap (λ s. in_runs rs (record { site = s; count = suc r.last })) (sym (same_site site r h)) ∙ past;
 }
   where
     between : (site count : ℕ) (r : Run) → 1 ≤ count → count ≤ r.last → in_run (record { site = site; count = 1 }) r ≡ true → in_run (record { site = site; count = count }) r ≡ true
@@ -36,16 +36,16 @@ prefix_of_run rs dots site r is m h = record {
     same_site site r h = grind (arith, nat_tests)
 
 -- with no such run there are none
-pub prefix_of_none : (rs : List Run) (dots : sets.FinSet dot_cmp) (site : ℕ) → IsRunsOf rs dots → in_runs rs (record { site = site; count = 1 }) ≡ false → IsPrefix dots site 0
-prefix_of_none rs dots site is h = record {
+pub prefix_of_none : (rs : List Run) (site : ℕ) → in_runs rs (record { site = site; count = 1 }) ≡ false → IsPrefix (set_of rs) site 0
+prefix_of_none rs site h = record {
   has = λ count lo hi. absurd (omega (arith, lo, hi));
-  ends = is.same (record { site = site; count = 1 }) ∙ h;
+  ends = contains_set_of rs (record { site = site; count = 1 }) ∙ h;
 }
 
 -- one dot is the run of its count alone
-pub union_one : (seen dots : sets.FinSet dot_cmp) (d : Dot) (r : Run) → seen ≡ dots → r.site ≡ d.site → r.first ≡ d.count → r.last ≡ d.count → sets.union seen (set_of (r ∷ [])) ≡ sets.insert dots d
-union_one seen dots d r e s f l = sets.same_set dots_total dots_exact _ _ (λ q.
-    sets.contains-union dots_total seen (set_of (r ∷ [])) q ∙ (λ i. sets.contains (e i) q || contains_set_of (r ∷ []) q i)
+pub union_one : (dots : sets.FinSet dot_cmp) (d : Dot) (r : Run) → r.site ≡ d.site → r.first ≡ d.count → r.last ≡ d.count → sets.union dots (set_of (r ∷ [])) ≡ sets.insert dots d
+union_one dots d r s f l = sets.same_set dots_total dots_exact _ _ (λ q.
+    sets.contains-union dots_total dots (set_of (r ∷ [])) q ∙ ap (λ b. sets.contains dots q || b) (contains_set_of (r ∷ []) q)
     ∙ swap (sets.contains dots q) (in_run q r)
     ∙ ap (λ b. b || sets.contains dots q) (numbers q r d s f l ∙ sym (same_dot q d))
     ∙ sym (sets.contains-insert dots_total dots d q))
@@ -59,13 +59,13 @@ union_one seen dots d r e s f l = sets.same_set dots_total dots_exact _ _ (λ q.
     numbers : (q : Dot) (r : Run) (d : Dot) → r.site ≡ d.site → r.first ≡ d.count → r.last ≡ d.count → in_run q r ≡ (nat_eq d.site q.site && nat_eq d.count q.count)
     numbers q r d s f l = grind (arith, nat_tests)
 
--- how many runs a context has
-pub count_of : (rs : List Run) (dots : sets.FinSet dot_cmp) → set_of rs ≡ dots → AreApart rs → run_count dots ≡ length rs
-count_of rs dots e a = run_count_runs rs dots (is_runs rs dots e a)
+-- runs that are apart are all the runs of their dots
+pub counted : (rs : List Run) → AreApart rs → run_count (set_of rs) ≡ length rs
+counted rs a = run_count_runs rs (set_of rs) (runs_of_set rs a)
 
 -- how many the union of two has, as it was counted
-pub count_united : (n : ℕ) (seen seen' rs xs : List Run) (s t : sets.FinSet dot_cmp) → n ≡ run_count (sets.union (set_of seen) (set_of seen')) → seen ≡ rs → seen' ≡ xs → set_of rs ≡ s → set_of xs ≡ t → n ≡ run_count (sets.union s t)
-count_united n seen seen' rs xs s t e a b c d = e ∙ (λ i. run_count (sets.union (set_of (a i)) (set_of (b i)))) ∙ (λ i. run_count (sets.union (c i) (d i)))
+pub count_united : (n : ℕ) (rs xs : List Run) (s t : sets.FinSet dot_cmp) → n ≡ run_count (sets.union (set_of rs) (set_of xs)) → set_of rs ≡ s → set_of xs ≡ t → n ≡ run_count (sets.union s t)
+count_united n rs xs s t e c d = e ∙ (λ i. run_count (sets.union (c i) (d i)))
 
 -- the union of two has a dot that the first has, or where it hasn't, that the second has
 pub has_first : (p : Bool) (s t : sets.FinSet dot_cmp) (d : Dot) → p ≡ sets.contains s d → p ≡ true → p ≡ sets.contains (sets.union s t) d

@@ -1,12 +1,11 @@
 -- What contracts see of a context and of its runs.
-use Rattle.std.specs.Prelude.{ℕ, ◌≤◌, ◌+◌, List, length, refl}
-use Rattle.std.specs.List.{All}
+use Rattle.std.specs.Prelude.{ℕ, ◌≤◌, ◌+◌, refl}
 use Rattle.std.specs.FinSet as set
 use Rattle.std.specs.Coded.{Coded, code_by, coded×, coded_ℕ}
 use Rattle.dots.specs.declared.limits.TheConstants.{MOST_COUNT, MOST_RUNS}
 use Rattle.dots.specs.Values.{IsSite}
 use Rattle.dots.specs.Orders.{dot_cmp}
-use Rattle.dots.specs.DotSets.{Run, AreApart, dot_code, run_count}
+use Rattle.dots.specs.DotSets.{Run, dot_code, run_count}
 
 -- a run is within the limits of dots
 pub record IsRunWithinLimits (r : Run) : Type 0 where
@@ -30,9 +29,3 @@ known_code =
 pub record IsPrepared (context : Known) (other : set.FinSet dot_cmp) : Type 0 where
   pub few : run_count (set.union context.dots other) ≤ MOST_RUNS
   pub room : run_count context.dots + run_count other ≤ context.room
-
--- what a context keeps of its list of runs
-pub record IsContext (runs : List Run) : Type 0 where
-  pub apart : AreApart runs
-  pub limits : All IsRunWithinLimits runs
-  pub few : length runs ≤ MOST_RUNS

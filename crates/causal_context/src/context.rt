@@ -1,16 +1,13 @@
-ghost use Rattle.std.specs.Prelude.{◌≡◌, ◌≢◌, ◌+◌, ◌≤◌, ◌<◌, ◌↔◌, true, IfErr, IfOk, IsOk, IsTrue};
+ghost use Rattle.std.specs.Prelude.{◌≡◌, ◌≢◌, ◌+◌, ◌≤◌, ◌<◌, ◌↔◌, [], ◌∷◌, true, IfErr, IfOk, IsOk, IsTrue};
 ghost use Rattle.std.specs.Prelude.{OnErr, OnOk, length};
 ghost use Rattle.std.specs.FinSet as set;
 ghost use Rattle.std.specs.List.{All};
 ghost use Rattle.std.specs.Slice.Iter.{iter_rest};
-ghost use Rattle.dots.specs.DotSets.{IsRunsOf, IsPrefix, dots_between, run_count};
+ghost use Rattle.dots.specs.DotSets.{IsRunsOf, IsPrefix, dots_between, run_count, set_of};
 ghost use Rattle.dots.specs.WithinLimits.{AreDots};
 ghost use Rattle.causal_context.specs.Contexts.{IsPrepared, IsRunWithinLimits};
 
-use crate::cover::covers_runs;
-use crate::merge::{absorb_runs, united_count};
-use crate::search::run_with;
-use crate::splice::unite_run;
+use crate::run_list::RunList;
 use crate::{ContextFault, Run};
 use dots::{Dot, MOST_COUNT, MOST_RUNS, SiteId};
 use std::alloc::Global;
@@ -22,21 +19,22 @@ use std::slice::Iter;
 /// equal runs.
 #[derive(Drop)]
 pub struct Context {
-    runs: Vec<Run>,
+    runs: RunList,
 }
 
 impl Model for Context {
-    ghost use Rattle.std.specs.Vec.{vec_capacity};
-    ghost use Rattle.dots.specs.DotSets.{set_of};
-    ghost use Rattle.causal_context.specs.Contexts.{Known, known_code, IsContext};
+    ghost use Rattle.std.specs.Prelude.{◌≤◌};
+    ghost use Rattle.dots.specs.declared.limits.TheConstants.{MOST_RUNS};
+    ghost use Rattle.dots.specs.DotSets.{run_count, set_of};
+    ghost use Rattle.causal_context.specs.Contexts.{Known, known_code};
 
     ghost Value = { Known };
 
     ghost coded = { known_code };
 
-    ghost view = { λ c. record { dots = set_of c.runs.items; room = vec_capacity c.runs } };
+    ghost view = { λ c. record { dots = set_of c.runs.items; room = c.runs.room } };
 
-    ghost invariant = { λ c. IsContext c.runs.items };
+    ghost invariant = { λ c. run_count (set_of c.runs.items) ≤ MOST_RUNS };
 }
 
 impl Context {
@@ -45,7 +43,7 @@ impl Context {
         ensures { result.dots ≡ set.empty }
     {
         Context {
-            runs: Vec::new(alloc),
+            runs: RunList::new(alloc),
         }
     }
 
@@ -53,14 +51,14 @@ impl Context {
     pub fn contains(&self, dot: Dot) -> bool
         ensures { result ≡ set.contains self.now.dots dot }
     {
-        run_with(&self.runs, dot.site(), dot.count()).is_some()
+        self.runs.run_with(dot.site(), dot.count()).is_some()
     }
 
     /// Whether all dots of the other context are in.
     pub fn covers(&self, other: &Context) -> bool
         ensures { result ≡ set.is_subset other.now.dots self.now.dots }
     {
-        covers_runs(&self.runs, &other.runs)
+        self.runs.covers(&other.runs)
     }
 
     /// The greatest n such that the counts 1 to n of the site are all in: 0 where the first isn't.
@@ -68,7 +66,7 @@ impl Context {
         ensures value { IsPrefix self.now.dots site result }
         ensures limit { result ≤ MOST_COUNT }
     {
-        match run_with(&self.runs, site, 1) {
+        match self.runs.run_with(site, 1) {
             Some(run) => run.last,
             None => 0,
         }
@@ -80,7 +78,7 @@ impl Context {
         ensures limit { result ≤ MOST_RUNS }
         ensures dots { AreDots self.now.dots }
     {
-        self.runs.len()
+        self.as_slice().len()
     }
 
     /// The runs, each as long as it can be, in order by site, then first.
@@ -117,7 +115,7 @@ impl Context {
             first: dot.count(),
             last: dot.count(),
         };
-        unite_run(&mut self.runs, run)
+        self.unite(run)
     }
 
     /// Adds the dots of a site from a first count to a last; 1 ≤ first ≤ last ≤ 2^40. No fault changes the dots. 1 `RunsFull`,
@@ -137,9 +135,7 @@ impl Context {
             → result ≢ Err ContextFault.Memory }
         ensures err { OnErr result (self.new.dots ≡ self.old.dots) }
     {
-        let _ = site.number();
-        let run = Run { site, first, last };
-        unite_run(&mut self.runs, run)
+        self.unite(Run { site, first, last })
     }
 
     /// Makes room for the dots of another context, which `absorb` then adds. It leaves the dots as they are.
@@ -152,7 +148,7 @@ impl Context {
         ensures kept { self.new.dots ≡ self.old.dots }
         ensures room { self.old.room ≤ self.new.room }
     {
-        if united_count(&self.runs, &other.runs) > MOST_RUNS {
+        if self.runs.united_count(&other.runs) > MOST_RUNS {
             return Err(ContextFault::RunsFull);
         }
         if self.runs.reserve(other.runs.len()).is_err() {
@@ -165,8 +161,8 @@ impl Context {
     pub fn prepared(&self, other: &Context) -> bool
         ensures { IsTrue result ↔ IsPrepared self.now other.now.dots }
     {
-        united_count(&self.runs, &other.runs) <= MOST_RUNS
-            && self.runs() + other.runs() <= self.runs.capacity()
+        self.runs.united_count(&other.runs) <= MOST_RUNS
+            && self.runs() + other.runs() <= self.runs.room()
     }
 
     /// Adds the dots of another context that was prepared. It takes no memory and can't fail.
@@ -175,7 +171,7 @@ impl Context {
         ensures dots { self.new.dots ≡ set.union self.old.dots other.now.dots }
         ensures room { self.old.room ≤ self.new.room }
     {
-        absorb_runs(&mut self.runs, &other.runs);
+        self.runs.absorb(&other.runs);
     }
 
     /// Adds the dots of another context. No fault changes the dots. 1 `RunsFull`, exactly where the union has more
@@ -197,7 +193,7 @@ impl Context {
         ensures ok { IfOk result (λ copy. copy.dots ≡ self.now.dots) }
         ensures err { IfErr result (λ fault. fault ≡ ContextFault.Memory) }
     {
-        match Vec::from_slice(*self.runs.allocator(), &self.runs) {
+        match self.runs.copy() {
             Ok(runs) => Ok(Context { runs }),
             Err(_) => Err(ContextFault::Memory),
         }
@@ -212,7 +208,7 @@ impl Context {
             ≡ run_count (set.insert (set.union self.now.dots other.now.dots)
             (record { site = site; count = count })) }
     {
-        let runs = united_count(&self.runs, &other.runs) as u64;
+        let runs = self.runs.united_count(&other.runs) as u64;
         if self.has(other, site, count) {
             return runs;
         }
@@ -221,11 +217,34 @@ impl Context {
         runs + 1 - u64::from(next) - u64::from(before)
     }
 
+    // Adds the dots of a run. No fault changes the dots.
+    fn unite(&mut self, run: Run) -> Result<(), ContextFault>
+        ensures ok { OnOk result
+            (self.new.dots ≡ set.union self.old.dots (set_of (run ∷ []))) }
+        ensures full { (result ≡ Err ContextFault.RunsFull)
+            ↔ (MOST_RUNS < run_count (set.union self.old.dots (set_of (run ∷ [])))) }
+        ensures no_more { run_count (set.union self.old.dots (set_of (run ∷ [])))
+            ≤ run_count self.old.dots → IsOk result }
+        ensures with_room { run_count self.old.dots < self.old.room
+            → result ≢ Err ContextFault.Memory }
+        ensures err { OnErr result (self.new.dots ≡ self.old.dots) }
+    {
+        let united = self.runs.unite(run);
+        let len = self.runs.len();
+        if united.start == united.end && len >= MOST_RUNS {
+            return Err(ContextFault::RunsFull);
+        }
+        if self.runs.replace(united).is_err() {
+            return Err(ContextFault::Memory);
+        }
+        Ok(())
+    }
+
     // Whether one of two contexts has a dot.
     fn has(&self, other: &Context, site: SiteId, count: u64) -> bool
         ensures { result ≡ set.contains (set.union self.now.dots other.now.dots)
             (record { site = site; count = count }) }
     {
-        run_with(&self.runs, site, count).is_some() || run_with(&other.runs, site, count).is_some()
+        self.runs.run_with(site, count).is_some() || other.runs.run_with(site, count).is_some()
     }
 }

@@ -1,30 +1,32 @@
 ghost use Rattle.std.specs.Prelude.{◌≡◌};
-ghost use Rattle.dots.specs.DotSets.{AreApart};
-ghost use Rattle.causal_context.specs.RunLists.{all_within};
+ghost use Rattle.std.specs.FinSet as set;
+ghost use Rattle.dots.specs.DotSets.{set_of};
 
-use crate::Run;
+use crate::run_list::RunList;
 
-// Whether each of the other runs is whole within one of these. Walks both lists once.
-pub(crate) fn covers_runs(runs: &[Run], other: &[Run]) -> bool
-    requires ours { AreApart runs.now }
-    requires others { AreApart other.now }
-    ensures { result ≡ all_within runs.now other.now }
-{
-    let mut index = 0;
-    let mut found = 0;
-    while found < other.len() {
-        if index == runs.len() {
-            return false;
+impl RunList {
+    // Whether all dots of the other runs are of these: each of them is whole within one of these. Walks both lists once.
+    pub(crate) fn covers(&self, other: &RunList) -> bool
+        ensures { result ≡ set.is_subset (set_of other.now.items) (set_of self.now.items) }
+    {
+        let runs = self.as_slice();
+        let wanted = other.as_slice();
+        let mut index = 0;
+        let mut found = 0;
+        while found < wanted.len() {
+            if index == runs.len() {
+                return false;
+            }
+            let own = runs[index];
+            let run = wanted[found];
+            if own.precedes(run) {
+                index += 1;
+            } else if own.holds(run) {
+                found += 1;
+            } else {
+                return false;
+            }
         }
-        let run = runs[index];
-        let wanted = other[found];
-        if run.precedes(wanted) {
-            index += 1;
-        } else if run.holds(wanted) {
-            found += 1;
-        } else {
-            return false;
-        }
+        true
     }
-    true
 }

@@ -12,6 +12,7 @@ mod few;
 pub mod laws;
 mod merge;
 mod run;
+mod run_list;
 mod search;
 mod splice;
 

@@ -2,6 +2,7 @@ ghost use Rattle.std.specs.Prelude.{◌≡◌};
 ghost use Rattle.dots.specs.DotSets.{in_run, is_apart};
 ghost use Rattle.causal_context.specs.Contexts.{IsRunWithinLimits};
 ghost use Rattle.causal_context.specs.RunLists.{begins_by, holds, is_below, run_over};
+ghost use Rattle.causal_context.specs.ListedRuns.{ends_apart};
 
 use dots::SiteId;
 use std::marker::Model;
@@ -68,11 +69,19 @@ impl Run {
         self.site < other.site || self.site == other.site && self.first <= other.first
     }
 
+    // Whether it lies before a run that begins at a dot of a site and a count: of a later site, or with a missing count between
+    // them.
+    pub(crate) fn ends_apart(self, site: SiteId, first: u64) -> bool
+        ensures { result ≡ ends_apart (record { site = site; count = first }) self }
+    {
+        self.site < site || self.site == site && self.last + 1 < first
+    }
+
     // Whether it lies before another, of a later site or with a missing count between them.
     pub(crate) fn is_before(self, other: Run) -> bool
         ensures { result ≡ is_apart self other }
     {
-        self.site < other.site || self.site == other.site && self.last + 1 < other.first
+        self.ends_apart(other.site, other.first)
     }
 
     // This run with another of its site, and what lies between them.

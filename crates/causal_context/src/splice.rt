@@ -1,131 +1,95 @@
-ghost use Rattle.std.specs.Prelude.{◌≡◌, ◌≢◌, ◌+◌, ◌-◌, ◌<◌, ◌≤◌, ◌↔◌, IsOk, OnErr, OnOk, [], ◌∷◌};
-ghost use Rattle.std.specs.Prelude.{◌++◌, length, take, drop, vec_len};
+ghost use Rattle.std.specs.Prelude.{◌≡◌, ◌+◌, ◌<◌, ◌≤◌, IsOk, OnErr, OnOk, [], ◌∷◌, length};
 ghost use Rattle.std.specs.FinSet as set;
-ghost use Rattle.std.specs.List.{All};
-ghost use Rattle.std.specs.Vec.{vec_capacity};
-ghost use Rattle.dots.specs.DotSets.{AreApart, IsRunsOf, run_count, set_of};
-ghost use Rattle.causal_context.specs.Contexts.{IsContext, IsRunWithinLimits};
+ghost use Rattle.dots.specs.DotSets.{IsRunsOf, run_count, set_of};
+ghost use Rattle.causal_context.specs.ListedRuns.{TakesPlace, replaced};
 
-use crate::search::runs_before;
-use crate::{ContextFault, Run};
-use dots::{MOST_RUNS, Memory};
+use crate::Run;
+use crate::run_list::RunList;
+use dots::Memory;
 
 // A run with all that it touches, and the places of these: from the first to before the last.
 #[derive(Clone, Copy)]
-struct United {
-    run: Run,
-    start: usize,
-    end: usize,
+pub(crate) struct United {
+    pub(crate) run: Run,
+    pub(crate) start: usize,
+    pub(crate) end: usize,
 }
 
-// What a run makes with all those that it touches.
-fn unite(runs: &[Run], run: Run) -> United
-    requires { AreApart runs.now }
-    ensures limit { IsRunWithinLimits result.run }
-    ensures order { result.start ≤ result.end }
-    ensures within { result.end ≤ length runs.now }
-    ensures united { IsRunsOf
-        (take result.start runs.now ++ result.run ∷ drop result.end runs.now)
-        (set.union (set_of runs.now) (set_of (run ∷ []))) }
-{
-    let start = runs_before(runs, run);
-    let mut united = run;
-    let _ = &united.first; // so that its limits are known
-    let mut end = start;
-    while end < runs.len() {
-        let next = runs[end];
-        if united.is_before(next) {
-            return United {
-                run: united,
-                start,
-                end,
-            };
+impl RunList {
+    // What a run makes with all those that it touches.
+    pub(crate) fn unite(&self, run: Run) -> United
+        ensures place { TakesPlace self.now.items result.start result.run result.end }
+        ensures united { IsRunsOf (replaced self.now.items result.start result.run result.end)
+            (set.union (set_of self.now.items) (set_of (run ∷ []))) }
+        ensures few { length (replaced self.now.items result.start result.run result.end)
+            ≤ run_count (set_of self.now.items) + 1 }
+    {
+        let start = self.runs_before(run);
+        let runs = self.as_slice();
+        let mut united = run;
+        let mut end = start;
+        while end < runs.len() {
+            let next = runs[end];
+            if united.is_before(next) {
+                return United {
+                    run: united,
+                    start,
+                    end,
+                };
+            }
+            united = united.joined(next);
+            end += 1;
         }
-        united = united.joined(next);
-        end += 1;
+        United {
+            run: united,
+            start,
+            end,
+        }
     }
-    United {
-        run: united,
-        start,
-        end,
-    }
-}
 
-// How many runs there are with one more, which makes one with all those that it touches.
-pub(crate) fn count_with(runs: &[Run], run: Run) -> usize
-    requires apart { AreApart runs.now }
-    requires few { length runs.now ≤ MOST_RUNS }
-    ensures value { result ≡ run_count (set.union (set_of runs.now) (set_of (run ∷ []))) }
-    ensures few { result ≤ length runs.now + 1 }
-{
-    let United { run: _, start, end } = unite(runs, run);
-    start + 1 + (runs.len() - end)
-}
-
-// Puts a run in place of those from a start to an end. The one fault is want of memory.
-fn replace(runs: &mut Vec<Run>, united: United) -> Result<(), Memory>
-    requires order { united.start ≤ united.end }
-    requires within { united.end ≤ length runs.old.items }
-    ensures ok { OnOk result (runs.new.items
-        ≡ take united.start runs.old.items
-        ++ united.run ∷ drop united.end runs.old.items) }
-    ensures no_more { united.start < united.end → IsOk result }
-    ensures with_room { vec_len runs.old < vec_capacity runs.old → IsOk result }
-    ensures err { OnErr result (runs.new.items ≡ runs.old.items) }
-    ensures capacity { vec_capacity runs.old ≤ vec_capacity runs.new }
-{
-    let United { run, start, end } = united;
-    if start == end {
-        return match runs.insert(start, run) {
-            Ok(()) => Ok(()),
-            Err(_) => Err(Memory),
-        };
+    // How many runs there are with one more, which makes one with all those that it touches.
+    pub(crate) fn count_with(&self, run: Run) -> usize
+        ensures value { result
+            ≡ run_count (set.union (set_of self.now.items) (set_of (run ∷ []))) }
+        ensures few { result ≤ run_count (set_of self.now.items) + 1 }
+    {
+        let United { run: _, start, end } = self.unite(run);
+        let behind = self.len() - end;
+        start + 1 + behind
     }
-    runs[start] = run;
-    runs.drain(start + 1..end);
-    Ok(())
-}
 
-// Unites runs with one more. No fault changes them. Full exactly where it touches none and there are 65,536.
-pub(crate) fn unite_run(runs: &mut Vec<Run>, run: Run) -> Result<(), ContextFault>
-    requires { IsContext runs.old.items }
-    ensures valid { IsContext runs.new.items }
-    ensures ok { OnOk result
-        (set_of runs.new.items ≡ set.union (set_of runs.old.items) (set_of (run ∷ []))) }
-    ensures full { (result ≡ Err ContextFault.RunsFull)
-        ↔ (MOST_RUNS
-        < run_count (set.union (set_of runs.old.items) (set_of (run ∷ [])))) }
-    ensures no_more { run_count (set.union (set_of runs.old.items) (set_of (run ∷ [])))
-        ≤ length runs.old.items
-        → IsOk result }
-    ensures with_room { vec_len runs.old < vec_capacity runs.old
-        → result ≢ Err ContextFault.Memory }
-    ensures err { OnErr result (runs.new.items ≡ runs.old.items) }
-    ensures capacity { vec_capacity runs.old ≤ vec_capacity runs.new }
-{
-    let united = unite(runs, run);
-    let len = runs.len();
-    if united.start == united.end && len >= MOST_RUNS {
-        return Err(ContextFault::RunsFull);
+    // Puts a run in the place of those that it touches. The one fault is want of memory.
+    pub(crate) fn replace(&mut self, united: United) -> Result<(), Memory>
+        requires { TakesPlace self.old.items united.start united.run united.end }
+        ensures ok { OnOk result (self.new.items
+            ≡ replaced self.old.items united.start united.run united.end) }
+        ensures no_more { united.start < united.end → IsOk result }
+        ensures with_room { run_count (set_of self.old.items) < self.old.room → IsOk result }
+        ensures err { OnErr result (self.new.items ≡ self.old.items) }
+        ensures room { self.old.room ≤ self.new.room }
+    {
+        let United { run, start, end } = united;
+        if start < end {
+            self.runs[start] = run;
+            self.runs.drain(start + 1..end);
+            return Ok(());
+        }
+        if self.runs.insert(start, run).is_err() {
+            return Err(Memory);
+        }
+        Ok(())
     }
-    match replace(runs, united) {
-        Ok(()) => Ok(()),
-        Err(_) => Err(ContextFault::Memory),
-    }
-}
 
-// Unites runs with one more, in room that is there. It takes no memory.
-pub(crate) fn put_run(runs: &mut Vec<Run>, run: Run)
-    requires apart { AreApart runs.old.items }
-    requires limits { All IsRunWithinLimits runs.old.items }
-    requires room { vec_len runs.old < vec_capacity runs.old }
-    ensures apart { AreApart runs.new.items }
-    ensures limits { All IsRunWithinLimits runs.new.items }
-    ensures united { set_of runs.new.items
-        ≡ set.union (set_of runs.old.items) (set_of (run ∷ [])) }
-    ensures len { vec_len runs.new ≤ vec_len runs.old + 1 }
-    ensures capacity { vec_capacity runs.old ≤ vec_capacity runs.new }
-{
-    let united = unite(runs, run);
-    let _ = replace(runs, united); // there is room, so it can't fail
+    // Unites them with one more in room that is there. It takes no memory.
+    pub(crate) fn put(&mut self, run: Run)
+        requires { run_count (set_of self.old.items) < self.old.room }
+        ensures united { set_of self.new.items
+            ≡ set.union (set_of self.old.items) (set_of (run ∷ [])) }
+        ensures few { run_count (set_of self.new.items)
+            ≤ run_count (set_of self.old.items) + 1 }
+        ensures room { self.old.room ≤ self.new.room }
+    {
+        let united = self.unite(run);
+        let _ = self.replace(united); // there is room, so it can't fail
+    }
 }

@@ -1,17 +1,15 @@
-use Rattle.std.proofs.Common.{◌≡◌, ◌≤◌, true, length, List, vec_len, rules, ap, sym, subst, ◌∙◌, arith}
+use Rattle.std.proofs.Common.{◌≡◌, ◌≤◌, true, List, sym, subst, ◌∙◌, arith}
 use Rattle.std.specs.FinSet as sets
 use Rattle.std.specs.List.{All}
 use Rattle.std.proofs.lemmas.Bool.Decides.{nat_tests}
 use Rattle.std.proofs.lemmas.List.Elements.{All-contains}
-use Rattle.dots.specs.DotSets.{Run, in_run, set_of}
+use Rattle.dots.specs.DotSets.{Run, IsRunsOf, in_run}
 use Rattle.dots.specs.Orders.{dot_cmp}
 use Rattle.dots.specs.Values.{Dot, IsSite}
 use Rattle.dots.specs.WithinLimits.{AreDots, IsDot}
 use Rattle.general_lemmas.proofs.Membership.{in_any}
 use Rattle.dots.proofs.RunCounts.{run_count_runs}
-use Rattle.dots.proofs.Runs.{contains_set_of}
 use Rattle.causal_context.specs.Contexts.{IsRunWithinLimits}
-use Rattle.causal_context.proofs.Views.{is_runs}
 use Rattle.causal_context.proofs.context.Context.runs.Goals as goal
 
 -- a dot of a run that is within the limits is
@@ -31,17 +29,11 @@ of_run q r limits h = record {
     most q r h = grind (arith, nat_tests)
 
 -- and so is each dot of such runs
-are_dots : (rs : List Run) (dots : sets.FinSet dot_cmp) → set_of rs ≡ dots → All IsRunWithinLimits rs → AreDots dots
-are_dots rs dots is limits q h =
-    let found = in_any (in_run q) rs (sym (contains_set_of rs q) ∙ ap (λ s. sets.contains s q) is ∙ h) in of_run q found.0 (All-contains IsRunWithinLimits rs found.0 limits found.1) found.2
+are_dots : (rs : List Run) (dots : sets.FinSet dot_cmp) → IsRunsOf rs dots → All IsRunWithinLimits rs → AreDots dots
+are_dots rs dots is limits q h = let found = in_any (in_run q) rs (sym (is.same q) ∙ h) in of_run q found.0 (All-contains IsRunWithinLimits rs found.0 limits found.1) found.2
 
 pub returns-clause-value : goal.returns-clause-value
-returns-clause-value c =
-    let dots = c.args.self.now.dots in
-    let rs = c.self.inside.runs.items in
-    let e = sym (run_count_runs rs dots (is_runs rs dots (ap (λ k. k.dots) c.self.view_is) c.self.invariant.apart)) in
-    let len : vec_len c.self.inside.runs ≡ length rs = search rules in
-    c.len.ensures ∙ len ∙ e
+returns-clause-value c = sym (run_count_runs c.as_slice.result.now c.args.self.now.dots c.as_slice.ensures.value)
 
 pub returns-clause-dots : goal.returns-clause-dots
-returns-clause-dots c = are_dots c.self.inside.runs.items c.args.self.now.dots (ap (λ k. k.dots) c.self.view_is) c.self.invariant.limits
+returns-clause-dots c = are_dots c.as_slice.result.now c.args.self.now.dots c.as_slice.ensures.value c.as_slice.ensures.limits

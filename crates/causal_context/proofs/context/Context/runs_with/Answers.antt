@@ -10,19 +10,19 @@ pub returns-then-has : goal.returns-then-has
 returns-then-has c =
     let d : Dot = record { site = c.args.site; count = c.args.count } in
     let dots = sets.union c.args.self.now.dots c.args.other.now.dots in
-    let united = count_united _ _ _ _ _ c.args.self.now.dots c.args.other.now.dots c.united_count-runs.ensures.value c.deref.ensures.value c.deref-2.ensures.value (ap (λ k. k.dots) c.self.view_is) (ap (λ k. k.dots) c.other.view_is) in
+    let united = count_united _ _ _ c.args.self.now.dots c.args.other.now.dots c.united_count-runs.ensures.value (ap (λ k. k.dots) c.self.view_is) (ap (λ k. k.dots) c.other.view_is) in
     united ∙ ap run_count (sym (insert_known dots d (sym c.has.ensures ∙ c.if-has.true)))
 
 pub overflow_sub-result-2 : goal.overflow_sub-result-2
 overflow_sub-result-2 c =
     let dots = sets.union c.args.self.now.dots c.args.other.now.dots in
-    let united = count_united _ _ _ _ _ c.args.self.now.dots c.args.other.now.dots c.united_count-runs.ensures.value c.deref.ensures.value c.deref-2.ensures.value (ap (λ k. k.dots) c.self.view_is) (ap (λ k. k.dots) c.other.view_is) in
+    let united = count_united _ _ _ c.args.self.now.dots c.args.other.now.dots c.united_count-runs.ensures.value (ap (λ k. k.dots) c.self.view_is) (ap (λ k. k.dots) c.other.view_is) in
     (with_new c.united_count-runs.result c.from.result c.from-2.result dots c.args.site c.args.count c.has-next.result c.has-before.result united c.requires.least (sym c.has.ensures ∙ c.if-has.false)
     c.has-next.ensures c.has-before.ensures c.from.ensures c.from-2.ensures).0
 
 pub returns : goal.returns
 returns c =
     let dots = sets.union c.args.self.now.dots c.args.other.now.dots in
-    let united = count_united _ _ _ _ _ c.args.self.now.dots c.args.other.now.dots c.united_count-runs.ensures.value c.deref.ensures.value c.deref-2.ensures.value (ap (λ k. k.dots) c.self.view_is) (ap (λ k. k.dots) c.other.view_is) in
+    let united = count_united _ _ _ c.args.self.now.dots c.args.other.now.dots c.united_count-runs.ensures.value (ap (λ k. k.dots) c.self.view_is) (ap (λ k. k.dots) c.other.view_is) in
     (with_new c.united_count-runs.result c.from.result c.from-2.result dots c.args.site c.args.count c.has-next.result c.has-before.result united c.requires.least (sym c.has.ensures ∙ c.if-has.false)
     c.has-next.ensures c.has-before.ensures c.from.ensures c.from-2.ensures).1
