@@ -1,11 +1,11 @@
--- Sets of members that have the same conditions say the same.
-use Rattle.std.proofs.Common.{◌≡◌, Bool, true, false, Option, Some, None, refl, sym, ap, ◌∙◌}
+-- Sets of members that have the same conditions say the same, and one that says the same is within the same limits.
+use Rattle.std.proofs.Common.{◌≡◌, Bool, true, false, Option, Some, None, refl, sym, ap, subst, ◌∙◌}
 use Rattle.std.specs.FinMap as map
 use Rattle.std.specs.FinSet as set
 use Rattle.dots.specs.Values.{Dot}
 use Rattle.operations.specs.Conditions.{Condition, Live, Dead}
 use Rattle.dots.proofs.DotOrder.{dots_exact, dots_total}
-use Rattle.member_orset.specs.Members.{Members, Holding, SaysTheSame, condition_at, condition_of}
+use Rattle.member_orset.specs.Members.{Members, Holding, IsUnchanged, IsWithinLimits, SaysTheSame, condition_at, condition_of}
 
 -- what is live by a condition
 abbrev holding_in : Option Condition → Option Holding
@@ -29,3 +29,36 @@ says_the_same s t conditions known = record {
 -- and the other way
 pub same_conditions : (s t : Members) → SaysTheSame s t → (q : Dot) → condition_of s q ≡ condition_of t q
 same_conditions s t same q = λ i. condition_at (map.get (sym same.live i) q) (set.contains (sym same.known i) q)
+
+-- what says the same as before, with the same ids, is within the limits as before
+pub unchanged_limits : (old new : Members) → IsUnchanged old new → IsWithinLimits old → IsWithinLimits new
+unchanged_limits old new same limits = subst IsWithinLimits (λ i. record {
+  known = sym same.known i;
+  live = sym same.live i;
+  ids = sym same.ids i;
+  spent = sym same.spent i;
+  retired = sym same.retired i;
+  cell_room = new.cell_room;
+  run_room = new.run_room;
+}) roomed
+  where
+    -- whatever its rooms are
+    roomed : IsWithinLimits (record {
+      known = old.known;
+      live = old.live;
+      ids = old.ids;
+      spent = old.spent;
+      retired = old.retired;
+      cell_room = new.cell_room;
+      run_room = new.run_room;
+    })
+    roomed = record {
+      cells = limits.cells;
+      rested = limits.rested;
+      runs = limits.runs;
+      known = limits.known;
+      held = λ dot h live. let was = limits.held dot h live in record { known = was.known; set = was.set };
+      named = limits.named;
+      apart = limits.apart;
+      worn = limits.worn;
+    }

@@ -1,7 +1,7 @@
 ghost use Rattle.std.specs.Prelude.{◌≡◌, ◌↔◌, Err, IfErr, IfOk, IsFalse, IsOk, IsTrue, OnErr, OnOk};
 ghost use Rattle.std.specs.FinMap as map;
 ghost use Rattle.std.specs.FinSet as set;
-ghost use Rattle.member_orset.specs.Members.{KeepsIds};
+ghost use Rattle.member_orset.specs.Members.{IsWithinLimits, KeepsIds};
 ghost use Rattle.delta.specs.DeltaStates.{IsEmpty, IsSame, IsUnchanged, KeepsRoom};
 ghost use Rattle.delta.specs.Joining.{AreInAgreement, Disagree, IsJoinOf, IsPrepared, IsRefusedFor};
 ghost use Rattle.delta.specs.Joining.{IsRefusedJoin};
@@ -32,7 +32,11 @@ impl Model for Delta {
 
     ghost coded = { delta_code };
 
+    ghost use Rattle.member_orset.specs.Members.{IsWithinLimits};
+
     ghost view = { λ d. record { members = d.members; totals = d.totals } };
+
+    ghost invariant = { λ d. IsWithinLimits d.members };
 }
 
 impl Delta {
@@ -41,18 +45,18 @@ impl Delta {
         ensures empty { IsEmpty result }
         ensures spent { result.members.spent ≡ set.empty }
         ensures retired { result.members.retired ≡ 0 }
+        ensures limits { IsWithinLimits result.members }
     {
-        Delta {
-            members: MemberSet::new(alloc),
-            totals: Totals::new(alloc),
-        }
+        Delta::of(MemberSet::new(alloc), Totals::new(alloc))
     }
 
     /// The delta of a set of members and totals. It takes no memory.
     pub fn of(members: MemberSet, totals: Totals) -> Delta
         ensures members { result.members ≡ members }
         ensures totals { result.totals ≡ totals }
+        ensures limits { IsWithinLimits result.members }
     {
+        let _ = members.cells(); // so that its limits are known
         Delta { members, totals }
     }
 
@@ -109,6 +113,7 @@ impl Delta {
         ensures again { IsPrepared self.old other.now → IsOk result }
         ensures kept { IsUnchanged self.old self.new }
         ensures room { KeepsRoom self.old self.new }
+        ensures limits { IsWithinLimits self.new.members × IsWithinLimits other.now.members }
     {
         prepare_members(&mut self.members, &other.members)?;
         match prepare_totals(&mut self.totals, &other.totals) {
@@ -131,8 +136,9 @@ impl Delta {
         requires { IsPrepared self.old other }
         ensures joined { IsJoinOf self.old other self.new }
         ensures ids { KeepsIds self.old.members self.new.members }
+        ensures limits { IsWithinLimits self.new.members }
     {
-        let (members, totals) = other.into_parts();
+        let Delta { members, totals } = other;
         absorb_members(&mut self.members, members);
         absorb_totals(&mut self.totals, &totals);
     }
@@ -160,9 +166,10 @@ impl Delta {
         ensures same { IfOk result (λ copy. IsSame self.now copy) }
         ensures spent { IfOk result (λ copy. copy.members.spent ≡ set.empty) }
         ensures retired { IfOk result (λ copy. copy.members.retired ≡ 0) }
+        ensures limits { IfOk result (λ copy. IsWithinLimits copy.members) }
     {
         let members = self.members.copy()?;
         let totals = self.totals.copy()?;
-        Ok(Delta { members, totals })
+        Ok(Delta::of(members, totals))
     }
 }

@@ -22,15 +22,15 @@ fn has_no_runs(context: &Context) -> bool
 
 // Whether a set knows no dot.
 pub(crate) fn knows_nothing(members: &MemberSet) -> bool
-    ensures value { IsTrue result ↔ (members.now.known ≡ set.empty) }
-    ensures limits { IsWithinLimits members.now }
+    ensures { IsTrue result ↔ (members.now.known ≡ set.empty) }
 {
-    let _ = members.cells(); // so that its limits are known
     has_no_runs(members.context())
 }
 
 // Makes room for what another set says, if it says anything.
 pub(crate) fn prepare_members(members: &mut MemberSet, other: &MemberSet) -> Result<(), JoinFault>
+    requires limits { IsWithinLimits members.old }
+    requires others { IsWithinLimits other.now }
     ensures ready { OnOk result (other.now.known ≢ set.empty → IsPrepared members.new other.now) }
     ensures refusals { IsRefusedJoin members.old other.now (λ fault. result ≡ Err fault) }
     ensures again { (other.now.known ≢ set.empty → IsPrepared members.old other.now) → IsOk result }
@@ -38,7 +38,6 @@ pub(crate) fn prepare_members(members: &mut MemberSet, other: &MemberSet) -> Res
     ensures cell_room { members.old.cell_room ≤ members.new.cell_room }
     ensures run_room { members.old.run_room ≤ members.new.run_room }
 {
-    let _ = members.cells(); // so that its limits are known
     if knows_nothing(other) {
         return Ok(());
     }
@@ -54,14 +53,18 @@ pub(crate) fn has_prepared_members(members: &MemberSet, other: &MemberSet) -> bo
 
 // Joins what another set says that was prepared, or says nothing.
 pub(crate) fn absorb_members(members: &mut MemberSet, other: MemberSet)
-    requires { other.known ≢ set.empty → IsPrepared members.old other }
+    requires prepared { other.known ≢ set.empty → IsPrepared members.old other }
+    requires limits { IsWithinLimits members.old }
+    requires others { IsWithinLimits other }
     ensures joined { IsJoinOf members.old other members.new }
     ensures ids { KeepsIds members.old members.new }
+    ensures limits { IsWithinLimits members.new }
 {
-    let _ = members.cells(); // so that its limits are known
-    if !knows_nothing(&other) {
-        members.absorb(other);
+    if knows_nothing(&other) {
+        return;
     }
+    members.absorb(other);
+    let _ = members.cells(); // so that its limits are known
 }
 
 // Makes room for other totals, if there are any.

@@ -1,8 +1,10 @@
 use Rattle.std.proofs.Common.{◌≡◌, Result, Err, IsOk, refl, rules, sym, subst}
 use Rattle.member_orset.specs.declared.join_fault.JoinFault.{JoinFault}
+use Rattle.member_orset.specs.Members.{IsWithinLimits}
 use Rattle.site_totals.specs.Tally.{HasRoomFor}
 use Rattle.delta.specs.DeltaStates.{DeltaState}
 use Rattle.delta.specs.Joining.{IsPrepared, IsRefusedJoin}
+use Rattle.delta.proofs.Sameness.{unchanged_limits}
 use Rattle.delta.proofs.delta.Delta.prepare.Goals.{in-Ok, in-Err}
 use Rattle.delta.proofs.delta.Delta.prepare.Goals as goal
 
@@ -28,3 +30,9 @@ returns-clause-again c = λ (p : IsPrepared c.args.self.now c.args.other.now).
       | in-Ok w ↦ subst IsOk (sym w.result-is) refl
       | in-Err w ↦ absurd (let not_done = subst IsOk w.in-Err.is done in cc)
     ]
+
+pub invariant_of-self : goal.invariant_of-self
+invariant_of-self c = unchanged_limits _ _ c.prepare_members.ensures.kept c.self.invariant
+
+pub returns-in_err-prepare_members-clause-limits : goal.returns-in_err-prepare_members-clause-limits
+returns-in_err-prepare_members-clause-limits c = (unchanged_limits _ _ c.prepare_members.ensures.kept c.self.invariant, subst (λ d. IsWithinLimits d.members) c.other.view_is c.other.invariant)
