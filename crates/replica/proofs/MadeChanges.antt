@@ -35,6 +35,7 @@ use Rattle.site_totals.specs.Raising.{alone}
 use Rattle.delta.specs.DeltaStates.{DeltaState}
 use Rattle.delta.specs.Standing.{IsDeltaOf}
 use Rattle.replica.specs.SetFields.{fields_added, fields_written}
+use Rattle.replica.specs.Writing.{one_held}
 
 -- dots with their members
 abbrev Pairs : Type 0
@@ -186,13 +187,13 @@ held_one dot member fields q = map.get-insert dots_total map.empty dot (member, 
 pub add_delta : (x : DeltaState) (dot : Dot) (member : Member) (stamp : Stamp) (penalty : ℕ) (pause : PauseState) (label : Label) (older : Dots)
     → set.contains older dot ≡ false
     → x.members.known ≡ set.union (set.from_list (dot ∷ [])) older
-    → x.members.live ≡ map.insert map.empty dot (member, fields_added stamp penalty pause label)
+    → ((q : Dot) → map.get x.members.live q ≡ one_held dot (member, fields_added stamp penalty pause label) q)
     → x.totals.entries ≡ map.empty
     → IsDeltaOf x (Add dot member stamp penalty pause label older ∷ [])
 add_delta x dot member stamp penalty pause label older new known live empty =
     asserting (Add dot member stamp penalty pause label older) x ((dot, member) ∷ []) older (fields_added stamp penalty pause label) refl refl refl refl refl (λ site queue calls. refl)
     (λ p h. ap (λ (d : Dot × Member). set.contains older d.0) (sym (only_in (dot, member) p h)) ∙ new) known
-    (λ q. ap (λ m. map.get m q) live ∙ held_one dot member (fields_added stamp penalty pause label) q) empty
+    (λ q. live q ∙ held_one dot member (fields_added stamp penalty pause label) q) empty
 
 -- live dots of one field, with older ones that are dead, stand for a write
 pub write_delta : (x : DeltaState) (ps : Pairs) (setting : Setting) (stamp : Stamp) (older : Dots)
@@ -202,10 +203,6 @@ pub write_delta : (x : DeltaState) (ps : Pairs) (setting : Setting) (stamp : Sta
     → x.totals.entries ≡ map.empty
     → IsDeltaOf x (Write ps setting stamp older ∷ [])
 write_delta x ps setting stamp older = asserting (Write ps setting stamp older) x ps older (fields_written stamp setting) refl refl refl refl refl (λ site queue calls. refl)
-
--- of no dot is anything held where nothing is live
-pub nothing_held : (live : map.FinMap dot_cmp Holding) → live ≡ map.empty → (q : Dot) → map.get live q ≡ None
-nothing_held live empty q = ap (λ m. map.get m q) empty ∙ map.get-empty dot_cmp q
 
 -- dead dots stand for a remove
 pub remove_delta : (x : DeltaState) (dots : Dots) → x.members.known ≡ dots → ((q : Dot) → map.get x.members.live q ≡ None) → x.totals.entries ≡ map.empty

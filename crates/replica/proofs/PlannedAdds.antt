@@ -37,6 +37,7 @@ use Rattle.replica.specs.Site.{SiteState, meaning_at, view_of}
 use Rattle.replica.specs.SiteViews.{dots_seen, older_dots}
 use Rattle.replica.proofs.Doing.{full_means, limits_want}
 use Rattle.replica.proofs.Fullness.{older_new, seen_older, visible_live}
+use Rattle.replica.specs.Writing.{HasParts, one_held}
 use Rattle.replica.proofs.MadeChanges.{add_delta, known_by}
 use Rattle.replica.proofs.SiteChanges.{add_change}
 use Rattle.replica.proofs.WrittenChanges.{in_pairs, seen_holding}
@@ -153,21 +154,20 @@ module _ (s : SiteState) (kept : IsKept s) (limits : IsWithinLimits s.state.memb
     -- and the plan is that of the add
     pub add_plan : (planned : Planned) → number < length s.names → IsCount (suc s.last_count) → IsCount (suc s.last_time)
         → planned.count ≡ suc s.last_count → planned.time ≡ suc s.last_time
-        → planned.change.members.known ≡ dots_seen_below s.state.members (next ∷ [])
-        → planned.change.members.live ≡ map.insert map.empty next (member, fields_added stamp penalty (record { paused = paused; reason = [] }) label)
-        → planned.change.totals.entries ≡ map.empty → IsWithinLimits planned.change.members → IsPlan s meant planned
-    add_plan planned within count_is time_is count time known live totals there = record {
+        → HasParts planned.change (dots_seen_below s.state.members (next ∷ [])) (one_held next (member, fields_added stamp penalty (record { paused = paused; reason = [] }) label)) map.empty
+        → IsPlan s meant planned
+    add_plan planned within count_is time_is count time parts = record {
       operation = adding;
       means = means_next;
       stands = add_delta planned.change next member stamp penalty (record { paused = paused; reason = [] }) label (older_dots (view_of s s.state) (next ∷ []))
-          (older_new s s.state next) (known ∙ seen_older s s.state (next ∷ [])) live totals;
+          (older_new s s.state next) (parts.known ∙ seen_older s s.state (next ∷ [])) parts.live parts.totals;
       not_exhausted = λ i. not_used_up (suc s.last_count) count_is i || not_used_up (suc s.last_time) time_is i;
       not_past_total = refl;
       counted = count ∙ own s.site (suc s.last_count) s.last_count (omega arith);
       timed = time ∙ own s.site (suc s.last_time) s.last_time (omega arith);
       change = subst (λ n. IsChangeOf s n planned.time planned.change) (sym count) (subst (λ t. IsChangeOf s (suc s.last_count) t planned.change) (sym time)
-          (add_change s kept limits planned.change member penalty (record { paused = paused; reason = [] }) label within count_is.1 time_is.1 known live totals));
-      limits = there;
+          (add_change s kept limits planned.change member penalty (record { paused = paused; reason = [] }) label within count_is.1 time_is.1 parts.known parts.live parts.totals));
+      limits = parts.limits;
     }
       where
         own : (site n last : ℕ) → last ≤ n → n ≡ max (if nat_eq site site then n else 0) last

@@ -26,7 +26,8 @@ use Rattle.replica.specs.Site.{SiteState, IsUnchanged, meaning_at, view_of}
 use Rattle.replica.proofs.Below.{below_agrees, new_agrees}
 use Rattle.replica.proofs.Doing.{limits_want, made_done, memory_done, refused_done, total_means}
 use Rattle.replica.proofs.Fullness.{full_count, too_long_count}
-use Rattle.replica.proofs.MadeChanges.{count_delta, nothing_held}
+use Rattle.replica.specs.Writing.{HasParts, none_held}
+use Rattle.replica.proofs.MadeChanges.{count_delta}
 
 module _ (s : SiteState) (kept : IsKept s) (limits : IsWithinLimits s.state.members) (limits_pending : IsWithinLimits s.pending.members) where
   -- ---- counts
@@ -61,27 +62,26 @@ module _ (s : SiteState) (kept : IsKept s) (limits : IsWithinLimits s.state.memb
     -- and it is raised
     pub count_plan : (planned : Planned) (total : ℕ) → so_far < MOST_CALLS → total ≡ so_far + 1 → number < length s.names
         → planned.count ≡ s.last_count → planned.time ≡ s.last_time
-        → planned.change.members.known ≡ set.empty → planned.change.members.live ≡ map.empty
-        → planned.change.totals.entries ≡ join_of map.empty (single (record { site = s.site; queue = number }) (alone calls total))
-        → IsWithinLimits planned.change.members → IsPlan s (meaning_at s (CountCall queue calls)) planned
-    count_plan planned total less is within count time known live entries there = record {
+        → HasParts planned.change set.empty none_held (join_of map.empty (single (record { site = s.site; queue = number }) (alone calls total)))
+        → IsPlan s (meaning_at s (CountCall queue calls)) planned
+    count_plan planned total less is within count time parts = record {
       operation = counting;
       means = count_means;
-      stands = count_delta planned.change s.site number calls (suc so_far) (omega arith) known (nothing_held planned.change.members.live live) totals;
+      stands = count_delta planned.change s.site number calls (suc so_far) (omega arith) parts.known parts.live totals;
       not_exhausted = refl;
       not_past_total = below_most so_far less;
       counted = count ∙ omega arith;
       timed = time ∙ omega arith;
       change = subst (λ n. IsChangeOf s n planned.time planned.change) (sym count) (subst (λ t. IsChangeOf s s.last_count t planned.change) (sym time)
-          (count_change s kept planned.change number calls (suc so_far) (omega arith) within known live totals));
-      limits = there;
+          (count_change s kept planned.change number calls (suc so_far) (omega arith) within parts.known parts.live totals));
+      limits = parts.limits;
     }
       where
         one : (n : ℕ) → n + 1 ≡ suc n
         one n = omega arith
 
         totals : planned.change.totals.entries ≡ join_of map.empty (single (record { site = s.site; queue = number }) (alone calls (suc so_far)))
-        totals = entries ∙ ap (λ n. join_of map.empty (single (record { site = s.site; queue = number }) (alone calls n))) (is ∙ one so_far)
+        totals = parts.totals ∙ ap (λ n. join_of map.empty (single (record { site = s.site; queue = number }) (alone calls n))) (is ∙ one so_far)
 
 -- what comes of a planned change is what was meant
 pub plan_done : (old new : SiteState) (meant : Meaning) (planned : Planned) (result : Result (Unit {0}) Refusal) → IsKept old → IsWithinLimits old.state.members → IsWithinLimits old.pending.members

@@ -23,10 +23,10 @@ use Rattle.replica.specs.Queues.{number_of}
 use Rattle.replica.specs.SetFields.{fields_written}
 use Rattle.replica.specs.Site.{SiteState, meaning_at, view_of}
 use Rattle.replica.specs.SiteViews.{dots_seen, greatest, older_dots}
-use Rattle.replica.specs.Writing.{written_to}
+use Rattle.replica.specs.Writing.{HasParts, none_held, written_to}
 use Rattle.replica.proofs.Doing.{full_means, limits_want}
 use Rattle.replica.proofs.Fullness.{older_live, seen_older}
-use Rattle.replica.proofs.MadeChanges.{held_by, known_by, nothing_held, remove_delta, write_delta}
+use Rattle.replica.proofs.MadeChanges.{held_by, known_by, remove_delta, write_delta}
 use Rattle.replica.proofs.PlannedAdds.{not_used_up, used_up}
 use Rattle.replica.proofs.SeenLists.{held_seen, seen_all_live, seen_rise}
 use Rattle.replica.proofs.SeenOnce.{seen_live}
@@ -80,19 +80,18 @@ module _ (s : SiteState) (kept : IsKept s) (limits : IsWithinLimits s.state.memb
 
   pub remove_plan : (meant : Meaning) (planned : Planned) → meant ≡ where_present seen (within_limits (view_of s s.state) (view_of s s.pending) (remove_of seen)) → seen ≢ []
       → planned.count ≡ s.last_count → planned.time ≡ s.last_time
-      → planned.change.members.known ≡ set.from_list its_dots → planned.change.members.live ≡ map.empty → planned.change.totals.entries ≡ map.empty
-      → IsWithinLimits planned.change.members → IsPlan s meant planned
-  remove_plan meant planned means some count time known live totals there = record {
+      → HasParts planned.change (set.from_list its_dots) none_held map.empty → IsPlan s meant planned
+  remove_plan meant planned means some count time parts = record {
     operation = remove_of seen;
     means = means ∙ where_some seen _ some;
-    stands = remove_delta planned.change (set.from_list its_dots) known (nothing_held planned.change.members.live live) totals;
+    stands = remove_delta planned.change (set.from_list its_dots) parts.known parts.live parts.totals;
     not_exhausted = refl;
     not_past_total = refl;
     counted = count ∙ omega arith;
     timed = time ∙ omega arith;
     change = subst (λ n. IsChangeOf s n planned.time planned.change) (sym count) (subst (λ t. IsChangeOf s s.last_count t planned.change) (sym time)
-        (remove_change s kept planned.change its_dots seen_known_here known live totals));
-    limits = there;
+        (remove_change s kept planned.change its_dots seen_known_here parts.known parts.live parts.totals));
+    limits = parts.limits;
   }
 
   -- ---- a write on them
@@ -137,23 +136,22 @@ module _ (s : SiteState) (kept : IsKept s) (limits : IsWithinLimits s.state.memb
 
       -- and the plan is that of the write
       pub write_plan : (planned : Planned) → IsCount next_time → planned.count ≡ s.last_count → planned.time ≡ next_time
-          → planned.change.members.known ≡ dots_seen_below s.state.members its_dots
-          → ((q : Dot) → map.get planned.change.members.live q ≡ written_to s.state.members its_dots (fields_written stamp setting) q)
-          → planned.change.totals.entries ≡ map.empty → IsWithinLimits planned.change.members → IsPlan s meant planned
-      write_plan planned time_is count time known live totals there =
-          let held : (q : Dot) → map.get planned.change.members.live q ≡ held_by seen (fields_written stamp setting) q = λ q. live q ∙ held_seen s.state.members queue interface (fields_written stamp setting) q in
+          → HasParts planned.change (dots_seen_below s.state.members its_dots) (written_to s.state.members its_dots (fields_written stamp setting)) map.empty
+          → IsPlan s meant planned
+      write_plan planned time_is count time parts =
+          let held : (q : Dot) → map.get planned.change.members.live q ≡ held_by seen (fields_written stamp setting) q = λ q. parts.live q ∙ held_seen s.state.members queue interface (fields_written stamp setting) q in
           record {
             operation = writing;
             means = write_means;
             stands = write_delta planned.change seen setting stamp (older_dots (view_of s s.state) its_dots)
-                (λ p h. older_live s s.state its_dots p.0 (seen_live s s.state queue interface p h)) (known ∙ seen_older s s.state its_dots) held totals;
+                (λ p h. older_live s s.state its_dots p.0 (seen_live s s.state queue interface p h)) (parts.known ∙ seen_older s s.state its_dots) held parts.totals;
             not_exhausted = not_used_up next_time time_is;
             not_past_total = refl;
             counted = count ∙ omega arith;
             timed = time ∙ own s.site next_time s.last_time (later s.last_time (greatest (λ d. time_replaced (view_of s s.state).dots setting d.0) seen));
             change = subst (λ n. IsChangeOf s n planned.time planned.change) (sym count) (subst (λ t. IsChangeOf s s.last_count t planned.change) (sym time)
-                (write_change s kept limits planned.change queue interface setting time_is.1 known held totals));
-            limits = there;
+                (write_change s kept limits planned.change queue interface setting time_is.1 parts.known held parts.totals));
+            limits = parts.limits;
           }
         where
           later : (m n : ℕ) → m ≤ suc (max m n)

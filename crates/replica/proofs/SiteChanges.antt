@@ -32,7 +32,8 @@ use Rattle.replica.specs.Site.{SiteState, view_of}
 use Rattle.replica.specs.SiteViews.{older_dots, own_time}
 use Rattle.replica.proofs.Fullness.{contains_older, seen_older}
 use Rattle.replica.proofs.KeptJoins.{condition_live}
-use Rattle.replica.proofs.MadeChanges.{get_counted, nothing_held, same_key}
+use Rattle.replica.specs.Writing.{one_held}
+use Rattle.replica.proofs.MadeChanges.{get_counted, same_key}
 use Rattle.replica.proofs.NoNumbers.{own_counts, own_unknown}
 
 -- ---- changes in which no dot is live
@@ -55,11 +56,10 @@ none_totalled x empty key totals here = absurd (let no = sym (ap (λ e. map.get 
 
 -- a count is a change of its site
 pub count_change : (s : SiteState) → IsKept s → (x : DeltaState) (queue : ℕ) (calls : Calls) (n : ℕ) → 1 ≤ n → queue < length s.names
-    → x.members.known ≡ set.empty → x.members.live ≡ map.empty
+    → x.members.known ≡ set.empty → ((q : Dot) → map.get x.members.live q ≡ None)
     → x.totals.entries ≡ join_of map.empty (single (record { site = s.site; queue = queue }) (alone calls n))
     → IsChangeOf s s.last_count s.last_time x
-count_change s kept x queue calls n some within known live entries =
-    let none = nothing_held x.members.live live in
+count_change s kept x queue calls n some within known none entries =
     record {
       is_new = none_new x none s.state;
       queues = record {
@@ -80,10 +80,9 @@ count_change s kept x queue calls n some within known live entries =
 
 -- a remove is one
 pub remove_change : (s : SiteState) → IsKept s → (x : DeltaState) (dots : List Dot) → ((q : Dot) → Contains dots q → set.contains s.state.members.known q ≡ true)
-    → x.members.known ≡ set.from_list dots → x.members.live ≡ map.empty → x.totals.entries ≡ map.empty
+    → x.members.known ≡ set.from_list dots → ((q : Dot) → map.get x.members.live q ≡ None) → x.totals.entries ≡ map.empty
     → IsChangeOf s s.last_count s.last_time x
-remove_change s kept x dots seen known live entries =
-    let none = nothing_held x.members.live live in
+remove_change s kept x dots seen known none entries =
     record {
       is_new = none_new x none s.state;
       queues = record {
@@ -144,7 +143,7 @@ unknown_none d limits q unknown = by (map.get d.members.live q) refl
 pub add_change : (s : SiteState) → IsKept s → IsWithinLimits s.state.members → (x : DeltaState) (member : Member) (penalty : ℕ) (pause : PauseState) (label : Label)
     → let next : Dot = record { site = s.site; count = suc s.last_count } in let stamp : Stamp = record { time = suc s.last_time; site = s.site } in
     member.queue < length s.names → suc s.last_count ≤ MOST_COUNT → suc s.last_time ≤ MOST_COUNT
-    → x.members.known ≡ dots_seen_below s.state.members (next ∷ []) → x.members.live ≡ map.insert map.empty next (member, fields_added stamp penalty pause label) → x.totals.entries ≡ map.empty
+    → x.members.known ≡ dots_seen_below s.state.members (next ∷ []) → ((q : Dot) → map.get x.members.live q ≡ one_held next (member, fields_added stamp penalty pause label) q) → x.totals.entries ≡ map.empty
     → IsChangeOf s (suc s.last_count) (suc s.last_time) x
 add_change s kept limits x member penalty pause label within count_within time_within known live entries = record {
   is_new = record { room = λ dot m f e. inl (ap (condition_of s.state.members) (holding_is dot (m, f) (condition_live x dot m f e)).0 ∙ unknown_none s.state limits next (own_unknown s kept)) };
@@ -172,7 +171,7 @@ add_change s kept limits x member penalty pause label within count_within time_w
     written = record { penalty = written_under s.site stamp (Some penalty); pause = written_under s.site stamp (Some pause); label = written_under s.site stamp (Some label) }
 
     holding_is : (dot : Dot) (h : Holding) → map.get x.members.live dot ≡ Some h → (dot ≡ next) × (held ≡ h)
-    holding_is dot h e = by (is_dot dot next) refl (sym (ap (λ m. map.get m dot) live ∙ map.get-insert dots_total map.empty next held dot ∙ ap (cond (is_dot dot next) (Some held)) (map.get-empty dot_cmp dot)) ∙ e)
+    holding_is dot h e = by (is_dot dot next) refl (sym (live dot ∙ map.get-insert dots_total map.empty next held dot ∙ ap (cond (is_dot dot next) (Some held)) (map.get-empty dot_cmp dot)) ∙ e)
       where
         by : (b : Bool) → is_dot dot next ≡ b → cond b (Some held) None ≡ Some h → (dot ≡ next) × (held ≡ h)
         by true is f = (one_dot dot next is, (cc))

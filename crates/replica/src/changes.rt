@@ -8,11 +8,11 @@ ghost use Rattle.dots.specs.Values.{Dot};
 ghost use Rattle.dots.specs.DotSets.{run_count};
 ghost use Rattle.operations.specs.Knowledge.{is_dot};
 ghost use Rattle.operations.specs.Totals.{join_of, single};
-ghost use Rattle.member_orset.specs.Members.{HasField, IsWithinLimits};
+ghost use Rattle.member_orset.specs.Members.{HasField};
 ghost use Rattle.member_orset.specs.Reads.{dots_seen_below};
 ghost use Rattle.site_totals.specs.Raising.{alone};
 ghost use Rattle.replica.specs.DotLists.{DotsRise};
-ghost use Rattle.replica.specs.Writing.{written_to};
+ghost use Rattle.replica.specs.Writing.{HasParts, none_held, one_held, written_to};
 
 use causal_context::{Context, ContextFault};
 use delta::Delta;
@@ -26,10 +26,7 @@ use std::alloc::Global;
 
 // A change that counts no calls.
 fn of_members(alloc: Global, builder: SetBuilder) -> Delta
-    ensures known { result.members.known ≡ builder.known }
-    ensures live { result.members.live ≡ builder.live }
-    ensures totals { result.totals.entries ≡ map.empty }
-    ensures limits { IsWithinLimits result.members }
+    ensures { HasParts result builder.known (map.get builder.live) map.empty }
 {
     let members = builder.finish();
     let _ = members.cells(); // so that its limits are known
@@ -46,12 +43,9 @@ pub(crate) fn added(
     fields: &Fields,
 ) -> Result<Delta, ContextFault>
     requires { HasField fields.now }
-    ensures known { IfOk result (λ change. change.members.known
-        ≡ dots_seen_below members.now (dot ∷ [])) }
-    ensures live { IfOk result (λ change. change.members.live
-        ≡ map.insert map.empty dot (member.now, fields.now)) }
-    ensures totals { IfOk result (λ change. change.totals.entries ≡ map.empty) }
-    ensures limits { IfOk result (λ change. IsWithinLimits change.members) }
+    ensures parts { IfOk result (λ change. HasParts change
+        (dots_seen_below members.now (dot ∷ []))
+        (one_held dot (member.now, fields.now)) map.empty) }
     ensures full { (result ≡ Err ContextFault.RunsFull)
         ↔ (MOST_RUNS < run_count (dots_seen_below members.now (dot ∷ []))) }
 {
@@ -102,12 +96,9 @@ pub(crate) fn written(
     requires field { HasField fields.now }
     requires rise { DotsRise dots.now }
     requires live { All (λ dot. map.contains_key members.now.live dot ≡ true) dots.now }
-    ensures known { IfOk result (λ change. change.members.known
-        ≡ dots_seen_below members.now dots.now) }
-    ensures live { IfOk result (λ change. (q : Dot)
-        → map.get change.members.live q ≡ written_to members.now dots.now fields.now q) }
-    ensures totals { IfOk result (λ change. change.totals.entries ≡ map.empty) }
-    ensures limits { IfOk result (λ change. IsWithinLimits change.members) }
+    ensures parts { IfOk result (λ change. HasParts change
+        (dots_seen_below members.now dots.now)
+        (written_to members.now dots.now fields.now) map.empty) }
     ensures full { (result ≡ Err ContextFault.RunsFull)
         ↔ (MOST_RUNS < run_count (dots_seen_below members.now dots.now)) }
 {
@@ -141,10 +132,8 @@ fn context_of(alloc: Global, dots: &[Dot]) -> Result<Context, ContextFault>
 // The change of a remove: these dots are dead. The one fault is want of memory.
 pub(crate) fn removed(alloc: Global, dots: &[Dot]) -> Result<Delta, ContextFault>
     requires { length dots.now ≤ MOST_LIVE }
-    ensures known { IfOk result (λ change. change.members.known ≡ set.from_list dots.now) }
-    ensures live { IfOk result (λ change. change.members.live ≡ map.empty) }
-    ensures totals { IfOk result (λ change. change.totals.entries ≡ map.empty) }
-    ensures limits { IfOk result (λ change. IsWithinLimits change.members) }
+    ensures parts { IfOk result (λ change. HasParts change (set.from_list dots.now)
+        none_held map.empty) }
     ensures full { result ≢ Err ContextFault.RunsFull }
 {
     let context = match context_of(alloc, dots) {
@@ -181,11 +170,8 @@ pub(crate) fn counted(
     requires queue { queue < QUEUES }
     requires some { 1 ≤ total }
     requires few { total ≤ MOST_CALLS }
-    ensures known { IfOk result (λ change. change.members.known ≡ set.empty) }
-    ensures live { IfOk result (λ change. change.members.live ≡ map.empty) }
-    ensures totals { IfOk result (λ change. change.totals.entries
-        ≡ join_of map.empty (single (record { site = site; queue = queue }) (alone calls total))) }
-    ensures limits { IfOk result (λ change. IsWithinLimits change.members) }
+    ensures { IfOk result (λ change. HasParts change set.empty none_held
+        (join_of map.empty (single (record { site = site; queue = queue }) (alone calls total)))) }
 {
     let mut totals = Totals::new(alloc);
     totals.reach(site, queue, calls_alone(calls, total))?;

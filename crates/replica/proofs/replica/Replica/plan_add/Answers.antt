@@ -1,7 +1,6 @@
 use Rattle.std.proofs.Common.{◌≡◌, ◌<◌, ◌+◌, ◌||◌, ℕ, suc, [], ◌∷◌, Err, arith, refl, sym, ap, subst, inl, inr, ◌∙◌, true≢false}
 use Rattle.std.proofs.Math.Bool.{or-true}
 use Rattle.std.proofs.lemmas.Option.{slice_get_within}
-use Rattle.std.specs.FinMap as map
 use Rattle.causal_context.specs.declared.context_fault.ContextFault.{ContextFault}
 use Rattle.causal_context.specs.declared.context_fault.ContextFault.TheVariants.{RunsFull, Memory as NoMemory}
 use Rattle.dots.specs.declared.limits.TheConstants.{MOST_RUNS}
@@ -14,6 +13,7 @@ use Rattle.replica.specs.Changes.{AddMember, Refused, is_used_up}
 use Rattle.replica.specs.Commands.{IsToldOfAdds, MayWantMemory}
 use Rattle.replica.specs.Planning.{IsPlan, IsUnplanned}
 use Rattle.replica.specs.SetFields.{fields_added}
+use Rattle.replica.specs.Writing.{one_held}
 use Rattle.replica.specs.Site.{meaning_at}
 use Rattle.replica.proofs.PlannedAdds.{add_long, add_plan, add_there, add_told, add_wants, used_up}
 use Rattle.replica.proofs.replica.Replica.plan_add.Goals as goal
@@ -58,9 +58,13 @@ returns-in-Ok c =
     (record { change = c.in-Ok.change; count = c.self.inside.count + 1; time = c.self.inside.time + 1 }) (slice_get_within c.self.inside.list c.in-Some.number _ c.in-Some.ensures.value)
     (subst IsCount (one c.self.inside.count) (c.in-Some-new.ensures.within.0 refl)) (subst IsCount (one c.self.inside.time) (c.in-Some-new-2.ensures.within.0 refl))
     (one c.self.inside.count) (one c.self.inside.time)
-    (c.in-Ok.ensures.known ∙ (λ i. dots_seen_below (c.members-2.ensures i) (dot_is i ∷ [])))
-    (c.in-Ok.ensures.live ∙ (λ i. map.insert map.empty (dot_is i) (record { queue = c.in-Some.number; interface = c.args.interface }, (c.fields_added-fields.ensures ∙ ap (λ s. fields_added s c.args.penalty pause c.args.label) stamp_is) i)))
-    c.in-Ok.ensures.totals c.in-Ok.ensures.limits)
+    (record {
+      known = c.in-Ok.ensures.parts.known ∙ (λ i. dots_seen_below (c.members-2.ensures i) (dot_is i ∷ []));
+      live = λ q. c.in-Ok.ensures.parts.live q
+          ∙ (λ i. one_held (dot_is i) (record { queue = c.in-Some.number; interface = c.args.interface }, (c.fields_added-fields.ensures ∙ ap (λ s. fields_added s c.args.penalty pause c.args.label) stamp_is) i) q);
+      totals = c.in-Ok.ensures.parts.totals;
+      limits = c.in-Ok.ensures.parts.limits;
+    }))
 
 pub returns-in-Err : goal.returns-in-Err
 returns-in-Err c = by c.in-Err.fault refl

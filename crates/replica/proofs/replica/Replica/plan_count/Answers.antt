@@ -37,4 +37,4 @@ returns-in-Ok c =
     (count_plan _ c.self.invariant c.see_limits.ensures c.see_limits-2.ensures c.args.queue.now c.args.calls c.in-Some.number (sym c.position.ensures.number ∙ c.in-Some.is)
     (record { change = c.in-Ok.change; count = c.self.inside.count; time = c.self.inside.time }) (c.number_of-total.result + 1)
     (subst (λ n. n < MOST_CALLS) total c.if-total-ge-MOST_CALLS.false) (ap (λ n. n + 1) total) (slice_get_within c.self.inside.list c.in-Some.number _ c.in-Some.ensures.value)
-    refl refl c.in-Ok.ensures.known c.in-Ok.ensures.live c.in-Ok.ensures.totals c.in-Ok.ensures.limits)
+    refl refl c.in-Ok.ensures)

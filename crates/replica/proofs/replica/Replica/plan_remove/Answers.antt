@@ -46,4 +46,10 @@ returns-in-Ok-removed c =
     (remove_plan _ c.self.invariant c.see_limits.ensures (Some c.in-Some.number) c.args.interface.now _ (record { change = c.in-Ok-removed.change; count = c.self.inside.count; time = c.self.inside.time })
     (remove_means _ c.self.invariant c.args.queue.now c.args.interface.now c.in-Some.number (sym c.position.ensures.number ∙ c.in-Some.is))
     (some_seen _ c.deref.result.now _ c.is_empty.result are c.deref.ensures.len c.is_empty.ensures c.if-is_empty.false)
-    refl refl (c.in-Ok-removed.ensures.known ∙ ap set.from_list are) c.in-Ok-removed.ensures.live c.in-Ok-removed.ensures.totals c.in-Ok-removed.ensures.limits)
+    refl refl
+    (record {
+      known = c.in-Ok-removed.ensures.parts.known ∙ ap set.from_list are;
+      live = c.in-Ok-removed.ensures.parts.live;
+      totals = c.in-Ok-removed.ensures.parts.totals;
+      limits = c.in-Ok-removed.ensures.parts.limits;
+    }))

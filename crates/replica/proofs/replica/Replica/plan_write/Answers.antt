@@ -75,10 +75,13 @@ returns-in-Ok-written c =
     subst (λ s. IsPlan s (meaning_of_setting s.site (view_of s s.state) (view_of s s.pending) (setting_of c.args.setting) (dots_seen (view_of s s.state).dots c.args.queue c.args.interface.now)) (record { change = c.in-Ok-written.change; count = c.self.inside.count; time = c.later-time.result + 1 })) c.self.view_is
     (write_plan _ c.self.invariant c.see_limits.ensures c.args.queue c.args.interface.now (setting_of c.args.setting) some
     (record { change = c.in-Ok-written.change; count = c.self.inside.count; time = c.later-time.result + 1 }) (subst IsCount time (c.in-Some.ensures.within.0 refl)) refl time
-    (c.in-Ok-written.ensures.known ∙ (λ i. dots_seen_below (c.members-members.ensures i) (are i)))
-    (λ q. c.in-Ok-written.ensures.live q ∙ (λ i. written_to (c.members-members.ensures i) (are i) ((c.fields.ensures
-    ∙ (λ j. fields_written (record { time = (c.in-Some.ensures.value.0 ∙ time) j; site = c.in-Some.ensures.value.1 j }) (setting_of c.args.setting))) i) q))
-    c.in-Ok-written.ensures.totals c.in-Ok-written.ensures.limits)
+    (record {
+      known = c.in-Ok-written.ensures.parts.known ∙ (λ i. dots_seen_below (c.members-members.ensures i) (are i));
+      live = λ q. c.in-Ok-written.ensures.parts.live q ∙ (λ i. written_to (c.members-members.ensures i) (are i) ((c.fields.ensures
+          ∙ (λ j. fields_written (record { time = (c.in-Some.ensures.value.0 ∙ time) j; site = c.in-Some.ensures.value.1 j }) (setting_of c.args.setting))) i) q);
+      totals = c.in-Ok-written.ensures.parts.totals;
+      limits = c.in-Ok-written.ensures.parts.limits;
+    }))
 
 pub returns : goal.returns
 returns c = by c.in-Err.fault refl
