@@ -20,3 +20,4 @@ pub mod Standing
 pub mod Steps
 pub mod Taking
 pub mod Writing
+pub mod Replicas

@@ -28,9 +28,7 @@ use std::alloc::Global;
 fn of_members(alloc: Global, builder: SetBuilder) -> Delta
     ensures { HasParts result builder.known (map.get builder.live) map.empty }
 {
-    let members = builder.finish();
-    let _ = members.cells(); // so that its limits are known
-    Delta::of(members, Totals::new(alloc))
+    Delta::of(builder.finish(), Totals::new(alloc))
 }
 
 // The change of an add: the dot is live with this member and these fields, and the older dots that are dead are known with
@@ -70,7 +68,7 @@ fn write_all(
     requires field { HasField fields.now }
     requires fresh { builder.old.live ≡ map.empty }
     requires rise { DotsRise dots.now }
-    requires few { length dots.now ≤ MOST_LIVE }
+    requires live { All (λ dot. map.contains_key members.now.live dot ≡ true) dots.now }
     requires known { (q : Dot) → list_any (is_dot q) dots.now ≡ true
         → set.contains builder.old.known q ≡ true }
     ensures known { builder.new.known ≡ builder.old.known }
@@ -102,7 +100,6 @@ pub(crate) fn written(
     ensures full { (result ≡ Err ContextFault.RunsFull)
         ↔ (MOST_RUNS < run_count (dots_seen_below members.now dots.now)) }
 {
-    let _ = members.cells(); // so that it is known how many are live
     let seen = match members.seen_below(dots) {
         Ok(seen) => seen,
         Err(fault) => return Err(fault),
@@ -175,7 +172,5 @@ pub(crate) fn counted(
 {
     let mut totals = Totals::new(alloc);
     totals.reach(site, queue, calls_alone(calls, total))?;
-    let members = MemberSet::new(alloc);
-    let _ = members.cells(); // so that its limits are known
-    Ok(Delta::of(members, totals))
+    Ok(Delta::of(MemberSet::new(alloc), totals))
 }

@@ -14,7 +14,6 @@ ghost use Rattle.replica.specs.Steps.{Do, SiteKnowledge, step};
 
 use crate::changes::{added, counted, removed, written};
 use crate::exhausted::refusal_of_runs;
-use crate::full::see_limits;
 use crate::planned::Planned;
 use crate::seen_dots::seen_dots;
 use crate::setting::{Setting, latest_replaced};
@@ -84,8 +83,6 @@ impl Replica {
             → IsMeant self.old self.new result
             (step self.old.site self.old.names s (Do (change_of command))) }
     {
-        see_limits(&self.state);
-        see_limits(&self.pending);
         match self.plan(command) {
             Ok(planned) => self.make(planned.change, planned.count, planned.time),
             Err(refusal) => Err(refusal),
@@ -124,12 +121,9 @@ impl Replica {
     fn plan_count(&self, queue: &QueueName, calls: Calls) -> Result<Planned, Refusal>
         ensures { IsPlanned self.now (meaning_at self.now (CountCall queue.now calls)) result }
     {
-        see_limits(&self.state);
-        see_limits(&self.pending);
         let Some(number) = self.list.position(queue) else {
             return Err(Refusal::NoSuchQueue);
         };
-        let _ = self.list.len(); // so that the limit of queues is known
         let total = number_of(calls, self.state.totals().of(self.site, number));
         if total >= MOST_CALLS {
             return Err(Refusal::TotalFull);
@@ -156,8 +150,6 @@ impl Replica {
         ensures { IsPlanned self.now
             (meaning_at self.now (AddMember queue.now interface penalty paused label)) result }
     {
-        see_limits(&self.state);
-        see_limits(&self.pending);
         let Some(number) = self.list.position(queue) else {
             return Err(Refusal::NoSuchQueue);
         };
@@ -190,8 +182,6 @@ impl Replica {
         ensures { IsPlanned self.now
             (meaning_at self.now (RemoveMember queue.now interface.now)) result }
     {
-        see_limits(&self.state);
-        see_limits(&self.pending);
         let Some(number) = self.list.position(queue) else {
             return Err(Refusal::NoSuchQueue);
         };
@@ -249,8 +239,6 @@ impl Replica {
             (setting_of setting)
             (dots_seen (view_of self.now self.now.state).dots queue interface.now)) result }
     {
-        see_limits(&self.state);
-        see_limits(&self.pending);
         let members = self.state.members();
         let Ok(dots) = seen_dots(self.alloc, members, self.list.len(), queue, interface) else {
             return Err(Refusal::Memory);

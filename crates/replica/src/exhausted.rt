@@ -2,7 +2,7 @@
 ghost use Rattle.std.specs.Prelude.{◌≡◌, ◌<◌, ◌≤◌, length};
 ghost use Rattle.replica.specs.Commands.{IsToldOfAdds, IsToldOfWrites};
 
-use crate::full::{is_full_with, see_limits};
+use crate::full::is_full_with;
 use crate::{Refusal, Replica};
 use causal_context::ContextFault;
 use dots::{Dot, MOST_LIVE, MOST_RUNS};
@@ -23,8 +23,6 @@ impl Replica {
     pub(crate) fn refuse_add(&self) -> Refusal
         ensures { IsToldOfAdds self.now result }
     {
-        see_limits(&self.state);
-        see_limits(&self.pending);
         let next = self.count + 1;
         let dead = match self.state.members().dead_of(self.site) {
             Ok(dead) => dead,

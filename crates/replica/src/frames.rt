@@ -49,7 +49,6 @@ impl Replica {
         ensures meaning { (s : SiteKnowledge) → StandsFor self.old s
             → IsMeantCut self.new result (step self.old.site self.old.names s Cut) }
     {
-        let _ = self.list.len(); // so that its limits are known
         if self.pending.is_empty() {
             return Ok(None);
         }
@@ -76,7 +75,6 @@ impl Replica {
         ensures meaning { (s : SiteKnowledge) → StandsFor self.old s
             → IsMeantFrame self.new result (step self.old.site self.old.names s Whole) }
     {
-        let _ = self.list.len(); // so that its limits are known
         if self.frames == MOST_COUNT {
             return Err(CutFault::Exhausted);
         }
@@ -112,7 +110,6 @@ impl Replica {
             → IsDeltaOf frame.delta k → HasNoneLater self.old k
             → IsMeantTake self.new result (step self.old.site self.old.names s (Take k)) }
     {
-        let _ = frame.delta.members().cells(); // so that its limits are known
         if let Err(fault) = hear(self, &frame.delta) {
             return Err((fault, frame));
         }

@@ -1,6 +1,5 @@
 //! Whether a delta would be too full with one operation more, where its dot or its stamp has no number left.
 ghost use Rattle.std.specs.Prelude.{◌≡◌, ◌≤◌, ◌+◌};
-ghost use Rattle.member_orset.specs.Members.{IsWithinLimits};
 ghost use Rattle.replica.specs.Fitting.{is_past_with};
 
 use causal_context::Context;
@@ -25,11 +24,4 @@ pub(crate) fn is_full_with(
     let members = delta.members();
     members.live_without(dead) > MOST_LIVE - more
         || members.context().runs_with(dead, site, count) > MOST_RUNS as u64
-}
-
-// Makes known what holds of every delta.
-pub(crate) fn see_limits(delta: &Delta)
-    ensures { IsWithinLimits delta.now.members }
-{
-    let _ = delta.members().cells();
 }

@@ -46,7 +46,9 @@ pub(crate) fn join_both(
 ) -> Result<(), Refusal>
     requires state { AreInAgreement state.old change }
     requires pending { AreInAgreement pending.old change }
-    ensures { BothTakeIn state.old pending.old change state.new pending.new result }
+    ensures both { BothTakeIn state.old pending.old change state.new pending.new result }
+    ensures limits { OnOk result
+        (IsWithinLimits state.new.members × IsWithinLimits pending.new.members) }
 {
     let Ok(copy) = change.copy() else {
         return Err(Refusal::Memory);

@@ -9,6 +9,7 @@ ghost use Rattle.replica.specs.Changing.{IsChangeOf};
 ghost use Rattle.replica.specs.Keeping.{IsKept};
 ghost use Rattle.replica.specs.Making.{IsMade};
 ghost use Rattle.replica.specs.Queues.{AreQueues};
+ghost use Rattle.replica.specs.Replicas.{IsReplica};
 ghost use Rattle.replica.specs.Site.{IsSameSite, rows_of, sums_of};
 ghost use Rattle.replica.specs.Standing.{StandsFor};
 ghost use Rattle.replica.specs.Steps.{SiteKnowledge, new_site};
@@ -43,7 +44,7 @@ impl Model for Replica {
 
     ghost coded = { site_code };
 
-    ghost use Rattle.replica.specs.Keeping.{IsKept};
+    ghost use Rattle.replica.specs.Replicas.{IsReplica};
 
     ghost view = { λ r. record {
       site = r.site;
@@ -55,7 +56,7 @@ impl Model for Replica {
       frames = r.frames;
     } };
 
-    ghost invariant = { λ r. IsKept (record {
+    ghost invariant = { λ r. IsReplica (record {
       site = r.site;
       names = r.list;
       state = r.state;
@@ -79,6 +80,7 @@ impl Replica {
         ensures fresh { (result.state.members.retired ≡ 0) × (result.pending.members.retired ≡ 0) }
         ensures meaning { StandsFor result new_site }
     {
+        let _ = list.len(); // so that it is known what holds of them
         Replica {
             site,
             list,
@@ -103,7 +105,6 @@ impl Replica {
         ensures value { result.now ≡ self.now.names }
         ensures queues { AreQueues self.now.names }
     {
-        let _ = self.list.len(); // so that it is known what holds of them
         &self.list
     }
 
@@ -194,7 +195,8 @@ impl Replica {
     // it was.
     pub(crate) fn make(&mut self, change: Delta, count: u64, time: u64) -> Result<(), Refusal>
         requires { IsChangeOf self.old count time change }
-        ensures { IsMade self.old change count time self.new result }
+        ensures made { IsMade self.old change count time self.new result }
+        ensures before { IsReplica self.old }
     {
         match join_both(&mut self.state, &mut self.pending, change) {
             Ok(()) => {

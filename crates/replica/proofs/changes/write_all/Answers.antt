@@ -3,7 +3,7 @@ use Rattle.std.specs.FinMap as map
 use Rattle.dots.specs.Orders.{dot_cmp}
 use Rattle.member_orset.specs.Members.{Holding}
 use Rattle.member_orset.specs.Reads.{cell_read}
-use Rattle.replica.proofs.WrittenDots.{len_more, live_written, none_written, written_before}
+use Rattle.replica.proofs.WrittenDots.{len_more, live_written, none_written, rising_few, written_before}
 use Rattle.replica.proofs.changes.write_all.Goals as goal
 use Rattle.replica.proofs.changes.write_all.Goals.{in-Some+in_ok-cell, in_default}
 
@@ -17,6 +17,12 @@ loop-dot-init c = record {
 pub cell-requires-clause-greater : goal.cell-requires-clause-greater
 cell-requires-clause-greater c =
     written_before c.args.members.now c.args.fields.now c.args.dots.now c.loop-dot.dot-index c.dot-item.result c.loop-dot.builder.live c.requires.rise c.loop-dot-test.true c.dot-item.is c.loop-dot.invariant.live
+
+pub cell-requires-clause-room : goal.cell-requires-clause-room
+cell-requires-clause-room c =
+    let few = rising_few c.args.members.now c.args.dots.now c.requires.rise c.requires.live in
+    let most = c.live.ensures.limits.cells in
+    omega (arith, few, most, c.loop-dot.invariant.few)
 
 pub loop-dot-preserved : goal.loop-dot-preserved
 loop-dot-preserved c = elim c.match-live.branch [

@@ -1,14 +1,7 @@
-use Rattle.std.proofs.Common.{ap, ◌∙◌, arith}
+use Rattle.std.proofs.Common.{ap, ◌∙◌}
 use Rattle.std.specs.FinSet as set
 use Rattle.replica.proofs.SeenDots.{given_seen}
-use Rattle.replica.proofs.WrittenDots.{rising_few}
 use Rattle.replica.proofs.changes.written.Goals as goal
-
-pub write_all-requires-clause-few : goal.write_all-requires-clause-few
-write_all-requires-clause-few c =
-    let few = rising_few c.args.members.now c.args.dots.now c.requires.rise c.requires.live in
-    let most = c.cells.ensures.limits.cells in
-    omega (arith, few, most)
 
 pub write_all-requires-clause-known : goal.write_all-requires-clause-known
 write_all-requires-clause-known c q h =

@@ -24,13 +24,13 @@ one n = omega arith
 pub returns-then-contains : goal.returns-then-contains
 returns-then-contains c = inr
     (subst (λ s. meaning_at s (AddMember c.args.queue.now c.args.interface c.args.penalty c.args.paused c.args.label) ≡ Refused AlreadyThere) c.self.view_is
-    (add_there _ c.self.invariant c.see_limits.ensures c.args.queue.now c.args.interface c.args.penalty c.args.paused c.args.label c.in-Some.number (sym c.position.ensures.number ∙ c.in-Some.is)
+    (add_there _ c.self.invariant.kept c.self.invariant.state_limits c.args.queue.now c.args.interface c.args.penalty c.args.paused c.args.label c.in-Some.number (sym c.position.ensures.number ∙ c.in-Some.is)
     (subst (λ m. IsPresent m (record { queue = c.in-Some.number; interface = c.args.interface })) c.members.ensures (c.contains.ensures.0 c.if-contains.true))))
 
 pub returns-in_default-new : goal.returns-in_default-new
 returns-in_default-new c =
     subst (λ s. IsUnplanned (meaning_at s (AddMember c.args.queue.now c.args.interface c.args.penalty c.args.paused c.args.label)) c.refuse_add.result) c.self.view_is
-    (add_told _ c.self.invariant c.see_limits.ensures c.args.queue.now c.args.interface c.args.penalty c.args.paused c.args.label c.in-Some.number (sym c.position.ensures.number ∙ c.in-Some.is)
+    (add_told _ c.self.invariant.kept c.self.invariant.state_limits c.args.queue.now c.args.interface c.args.penalty c.args.paused c.args.label c.in-Some.number (sym c.position.ensures.number ∙ c.in-Some.is)
     (λ present. absurd (true≢false (sym (c.contains.ensures.1 (subst (λ m. IsPresent m (record { queue = c.in-Some.number; interface = c.args.interface })) (sym c.members.ensures) present)) ∙ c.if-contains.false)))
     c.refuse_add.result (subst (λ s. IsToldOfAdds s c.refuse_add.result) (sym c.self.view_is) c.refuse_add.ensures)
     (ap (λ b. b || is_used_up (suc c.self.inside.time)) (used_up c.self.inside.count (λ is. absurd (let some = c.in_default-new.ensures.within.1 (subst IsCount (sym (one c.self.inside.count)) is) in cc)))))
@@ -38,7 +38,7 @@ returns-in_default-new c =
 pub returns-in_default-new-2 : goal.returns-in_default-new-2
 returns-in_default-new-2 c =
     subst (λ s. IsUnplanned (meaning_at s (AddMember c.args.queue.now c.args.interface c.args.penalty c.args.paused c.args.label)) c.refuse_add-in_default-new-2.result) c.self.view_is
-    (add_told _ c.self.invariant c.see_limits.ensures c.args.queue.now c.args.interface c.args.penalty c.args.paused c.args.label c.in-Some.number (sym c.position.ensures.number ∙ c.in-Some.is)
+    (add_told _ c.self.invariant.kept c.self.invariant.state_limits c.args.queue.now c.args.interface c.args.penalty c.args.paused c.args.label c.in-Some.number (sym c.position.ensures.number ∙ c.in-Some.is)
     (λ present. absurd (true≢false (sym (c.contains.ensures.1 (subst (λ m. IsPresent m (record { queue = c.in-Some.number; interface = c.args.interface })) (sym c.members.ensures) present)) ∙ c.if-contains.false)))
     c.refuse_add-in_default-new-2.result (subst (λ s. IsToldOfAdds s c.refuse_add-in_default-new-2.result) (sym c.self.view_is) c.refuse_add-in_default-new-2.ensures)
     (ap (λ b. is_used_up (suc c.self.inside.count) || b) (used_up c.self.inside.time (λ is. absurd (let some = c.in_default-new-2.ensures.within.1 (subst IsCount (sym (one c.self.inside.time)) is) in cc)))
@@ -53,7 +53,7 @@ returns-in-Ok c =
     let pause : PauseState = record { paused = c.args.paused; reason = [] } in
     subst (λ s. IsPlan s (meaning_at s (AddMember c.args.queue.now c.args.interface c.args.penalty c.args.paused c.args.label))
     (record { change = c.in-Ok.change; count = c.self.inside.count + 1; time = c.self.inside.time + 1 })) c.self.view_is
-    (add_plan _ c.self.invariant c.see_limits.ensures c.args.queue.now c.args.interface c.args.penalty c.args.paused c.args.label c.in-Some.number (sym c.position.ensures.number ∙ c.in-Some.is)
+    (add_plan _ c.self.invariant.kept c.self.invariant.state_limits c.args.queue.now c.args.interface c.args.penalty c.args.paused c.args.label c.in-Some.number (sym c.position.ensures.number ∙ c.in-Some.is)
     (λ present. absurd (true≢false (sym (c.contains.ensures.1 (subst (λ m. IsPresent m (record { queue = c.in-Some.number; interface = c.args.interface })) (sym c.members.ensures) present)) ∙ c.if-contains.false)))
     (record { change = c.in-Ok.change; count = c.self.inside.count + 1; time = c.self.inside.time + 1 }) (slice_get_within c.self.inside.list c.in-Some.number _ c.in-Some.ensures.value)
     (subst IsCount (one c.self.inside.count) (c.in-Some-new.ensures.within.0 refl)) (subst IsCount (one c.self.inside.time) (c.in-Some-new-2.ensures.within.0 refl))
@@ -79,12 +79,12 @@ returns-in-Err c = by c.in-Err.fault refl
     by NoMemory is = inl (
       c.refusal_of_runs.ensures.memory is,
       subst (λ s. MayWantMemory (meaning_at s (AddMember c.args.queue.now c.args.interface c.args.penalty c.args.paused c.args.label))) c.self.view_is
-          (add_wants _ c.self.invariant c.see_limits.ensures c.args.queue.now c.args.interface c.args.penalty c.args.paused c.args.label c.in-Some.number (sym c.position.ensures.number ∙ c.in-Some.is)
+          (add_wants _ c.self.invariant.kept c.self.invariant.state_limits c.args.queue.now c.args.interface c.args.penalty c.args.paused c.args.label c.in-Some.number (sym c.position.ensures.number ∙ c.in-Some.is)
           (λ present. absurd (true≢false (sym (c.contains.ensures.1 (subst (λ m. IsPresent m (record { queue = c.in-Some.number; interface = c.args.interface })) (sym c.members.ensures) present)) ∙ c.if-contains.false)))),
     )
     by RunsFull is = inr
         (subst (λ s. meaning_at s (AddMember c.args.queue.now c.args.interface c.args.penalty c.args.paused c.args.label) ≡ Refused MembersFull) c.self.view_is
-        (add_long _ c.self.invariant c.see_limits.ensures c.args.queue.now c.args.interface c.args.penalty c.args.paused c.args.label c.in-Some.number (sym c.position.ensures.number ∙ c.in-Some.is)
+        (add_long _ c.self.invariant.kept c.self.invariant.state_limits c.args.queue.now c.args.interface c.args.penalty c.args.paused c.args.label c.in-Some.number (sym c.position.ensures.number ∙ c.in-Some.is)
         (λ present. absurd (true≢false (sym (c.contains.ensures.1 (subst (λ m. IsPresent m (record { queue = c.in-Some.number; interface = c.args.interface })) (sym c.members.ensures) present)) ∙ c.if-contains.false)))
         (many is))
         ∙ ap Refused (sym (c.refusal_of_runs.ensures.full is)))

@@ -32,13 +32,13 @@ returns-in_default c =
     inl (
       refl,
       subst (λ s. MayWantMemory (meaning_of_setting s.site (view_of s s.state) (view_of s s.pending) (setting_of c.args.setting) (dots_seen (view_of s s.state).dots c.args.queue c.args.interface.now))) c.self.view_is
-          (write_wants _ c.self.invariant c.see_limits.ensures c.args.queue c.args.interface.now (setting_of c.args.setting) some),
+          (write_wants _ c.self.invariant.kept c.self.invariant.state_limits c.args.queue c.args.interface.now (setting_of c.args.setting) some),
     )
 
 pub refuse_write-requires-clause-few : goal.refuse_write-requires-clause-few
 refuse_write-requires-clause-few c =
     let are = c.deref-in_default-new.ensures.value ∙ c.in-Ok.ensures.list ∙ ap (λ m. each (λ p. p.0) (dots_seen (dot_view_of m) c.args.queue c.args.interface.now)) c.members-members.ensures in
-    subst (λ (dots : List Dot). length dots ≤ MOST_LIVE) (sym are) (seen_few _ c.self.invariant c.see_limits.ensures c.args.queue c.args.interface.now)
+    subst (λ (dots : List Dot). length dots ≤ MOST_LIVE) (sym are) (seen_few _ c.self.invariant.kept c.self.invariant.state_limits c.args.queue c.args.interface.now)
 
 pub returns-in_default-new : goal.returns-in_default-new
 returns-in_default-new c =
@@ -49,7 +49,7 @@ returns-in_default-new c =
     ∙ sym (greatest_firsts (time_replaced (dot_view_of c.self.inside.state.members) (setting_of c.args.setting)) (dots_seen (dot_view_of c.self.inside.state.members) c.args.queue c.args.interface.now))) i))) ∙ one _ in
     let some = some_seen (dots_seen (dot_view_of c.self.inside.state.members) c.args.queue c.args.interface.now) c.deref.result.now _ c.is_empty.result first c.deref.ensures.len c.is_empty.ensures c.if-is_empty.false in
     subst (λ s. IsUnplanned (meaning_of_setting s.site (view_of s s.state) (view_of s s.pending) (setting_of c.args.setting) (dots_seen (view_of s s.state).dots c.args.queue c.args.interface.now)) c.refuse_write.result) c.self.view_is
-    (write_told _ c.self.invariant c.see_limits.ensures c.args.queue c.args.interface.now (setting_of c.args.setting) some c.deref-in_default-new.result.now c.refuse_write.result
+    (write_told _ c.self.invariant.kept c.self.invariant.state_limits c.args.queue c.args.interface.now (setting_of c.args.setting) some c.deref-in_default-new.result.now c.refuse_write.result
     (c.deref-in_default-new.ensures.value ∙ c.in-Ok.ensures.list ∙ seen_are) (subst (λ s. IsToldOfWrites s c.deref-in_default-new.result.now c.refuse_write.result) (sym c.self.view_is) c.refuse_write.ensures)
     (λ is. absurd (let none = c.in_default-new.ensures.within.1 (subst IsCount (sym time) is) in cc)))
 
@@ -73,7 +73,7 @@ returns-in-Ok-written c =
     let some = some_seen (dots_seen (dot_view_of c.self.inside.state.members) c.args.queue c.args.interface.now) c.deref.result.now _ c.is_empty.result first c.deref.ensures.len c.is_empty.ensures c.if-is_empty.false in
     let are = c.deref-2.ensures.value ∙ c.in-Ok.ensures.list ∙ seen_are in
     subst (λ s. IsPlan s (meaning_of_setting s.site (view_of s s.state) (view_of s s.pending) (setting_of c.args.setting) (dots_seen (view_of s s.state).dots c.args.queue c.args.interface.now)) (record { change = c.in-Ok-written.change; count = c.self.inside.count; time = c.later-time.result + 1 })) c.self.view_is
-    (write_plan _ c.self.invariant c.see_limits.ensures c.args.queue c.args.interface.now (setting_of c.args.setting) some
+    (write_plan _ c.self.invariant.kept c.self.invariant.state_limits c.args.queue c.args.interface.now (setting_of c.args.setting) some
     (record { change = c.in-Ok-written.change; count = c.self.inside.count; time = c.later-time.result + 1 }) (subst IsCount time (c.in-Some.ensures.within.0 refl)) refl time
     (record {
       known = c.in-Ok-written.ensures.parts.known ∙ (λ i. dots_seen_below (c.members-members.ensures i) (are i));
@@ -102,9 +102,9 @@ returns c = by c.in-Err.fault refl
     by NoMemory is = inl (
       c.refusal_of_runs.ensures.memory is,
       subst (λ s. MayWantMemory (meaning_of_setting s.site (view_of s s.state) (view_of s s.pending) (setting_of c.args.setting) (dots_seen (view_of s s.state).dots c.args.queue c.args.interface.now))) c.self.view_is
-          (write_wants _ c.self.invariant c.see_limits.ensures c.args.queue c.args.interface.now (setting_of c.args.setting) some),
+          (write_wants _ c.self.invariant.kept c.self.invariant.state_limits c.args.queue c.args.interface.now (setting_of c.args.setting) some),
     )
     by RunsFull is = inr
         (subst (λ s. meaning_of_setting s.site (view_of s s.state) (view_of s s.pending) (setting_of c.args.setting) (dots_seen (view_of s s.state).dots c.args.queue c.args.interface.now) ≡ Refused MembersFull) c.self.view_is
-        (write_long _ c.self.invariant c.see_limits.ensures c.args.queue c.args.interface.now (setting_of c.args.setting) some (many is))
+        (write_long _ c.self.invariant.kept c.self.invariant.state_limits c.args.queue c.args.interface.now (setting_of c.args.setting) some (many is))
         ∙ ap Refused (sym (c.refusal_of_runs.ensures.full is)))

@@ -19,31 +19,31 @@ returns-in-Err c = by c.in-Err.fault refl
     by : (fault : ContextFault) → c.in-Err.fault ≡ fault → IsToldOfAdds c.args.self.now c.refusal_of_runs.result
     by NoMemory is = subst (IsToldOfAdds c.args.self.now) (sym (c.refusal_of_runs.ensures.memory is)) (adds_memory c.args.self.now)
     by RunsFull is = subst (IsToldOfAdds c.args.self.now) (sym (c.refusal_of_runs.ensures.full is))
-        (subst (λ s. IsToldOfAdds s MembersFull) c.self.view_is (adds_long _ c.self.invariant c.see_limits.ensures c.see_limits-2.ensures (many is)))
+        (subst (λ s. IsToldOfAdds s MembersFull) c.self.view_is (adds_long _ c.self.invariant.kept c.self.invariant.state_limits c.self.invariant.pending_limits (many is)))
 
 -- src/exhausted.rt:32:13
 pub returns-then-is_full_with : goal.returns-then-is_full_with
 returns-then-is_full_with c = subst (λ s. IsToldOfAdds s MembersFull) c.self.view_is
-    (adds_full _ c.self.invariant c.see_limits.ensures c.see_limits-2.ensures c.in-Ok.dead.dots _ (c.in-Ok.ensures.ok ∙ ap (λ m. dead_dots_of m c.self.inside.site) c.members.ensures) refl
+    (adds_full _ c.self.invariant.kept c.self.invariant.state_limits c.self.invariant.pending_limits c.in-Ok.dead.dots _ (c.in-Ok.ensures.ok ∙ ap (λ m. dead_dots_of m c.self.inside.site) c.members.ensures) refl
     (sym c.is_full_with.ensures ∙ c.if-is_full_with.true))
 
 -- src/exhausted.rt:35:13
 pub returns-then-is_full_with-2 : goal.returns-then-is_full_with-2
 returns-then-is_full_with-2 c = subst (λ s. IsToldOfAdds s MembersFull) c.self.view_is
-    (adds_full_pending _ c.self.invariant c.see_limits.ensures c.see_limits-2.ensures c.in-Ok.dead.dots _
+    (adds_full_pending _ c.self.invariant.kept c.self.invariant.state_limits c.self.invariant.pending_limits c.in-Ok.dead.dots _
     (c.in-Ok.ensures.ok ∙ ap (λ m. dead_dots_of m c.self.inside.site) c.members.ensures) refl
     (sym c.is_full_with-2.ensures ∙ c.if-is_full_with-2.true))
 
 -- src/exhausted.rt:38:13
 pub returns-then-runs_with : goal.returns-then-runs_with
 returns-then-runs_with c = subst (λ s. IsToldOfAdds s MembersFull) c.self.view_is
-    (adds_too_long _ c.self.invariant c.see_limits.ensures c.see_limits-2.ensures c.in-Ok.dead.dots _
+    (adds_too_long _ c.self.invariant.kept c.self.invariant.state_limits c.self.invariant.pending_limits c.in-Ok.dead.dots _
     (c.in-Ok.ensures.ok ∙ ap (λ m. dead_dots_of m c.self.inside.site) c.members.ensures) refl
     (subst (λ n. MOST_RUNS < n) c.runs_with.ensures c.if-runs_with.true))
 
 -- src/exhausted.rt:23:5
 pub returns : goal.returns
 returns c = subst (λ s. IsToldOfAdds s Exhausted) c.self.view_is
-    (adds_exhausted _ c.self.invariant c.see_limits.ensures c.see_limits-2.ensures c.in-Ok.dead.dots _
+    (adds_exhausted _ c.self.invariant.kept c.self.invariant.state_limits c.self.invariant.pending_limits c.in-Ok.dead.dots _
     (c.in-Ok.ensures.ok ∙ ap (λ m. dead_dots_of m c.self.inside.site) c.members.ensures) refl
     (sym c.is_full_with.ensures ∙ c.if-is_full_with.false) (sym c.is_full_with-2.ensures ∙ c.if-is_full_with-2.false) (subst (λ n. MOST_RUNS < n → ⊥) c.runs_with.ensures (λ many. let few = c.if-runs_with.false in absurd (omega (arith, many, few)))))

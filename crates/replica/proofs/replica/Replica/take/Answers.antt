@@ -1,6 +1,6 @@
 use Rattle.std.proofs.Common.{◌≡◌, Err, IsOk, ap, inl, inr, subst, sym, true≢false}
 use Rattle.delta.specs.Joining.{AreInAgreement, IsJoinOf, IsPrepared, IsRefusedJoin}
-use Rattle.member_orset.specs.Members.{IsWithinLimits, KeepsIds}
+use Rattle.member_orset.specs.Members.{KeepsIds}
 use Rattle.replica.specs.declared.take_fault.TakeFault.{TakeFault}
 use Rattle.replica.specs.Site.{SiteState}
 use Rattle.replica.specs.Steps.{take}
@@ -22,7 +22,12 @@ returns-in-Err-clause-prepared c = λ hears ready. absurd (elim c.in-Err.ensures
 ])
 
 pub invariant_of-self : goal.invariant_of-self
-invariant_of-self c = unchanged_kept _ c.prepare.new.self c.self.inside.pending c.self.invariant c.prepare.ensures.kept (unchanged_self c.self.inside.pending)
+invariant_of-self c = record {
+  kept = unchanged_kept _ c.prepare.new.self c.self.inside.pending c.self.invariant.kept c.prepare.ensures.kept (unchanged_self c.self.inside.pending);
+  state_limits = c.prepare.ensures.limits.0;
+  pending_limits = c.self.invariant.pending_limits;
+  queues = c.self.invariant.queues;
+}
 
 pub returns-in-Err-prepare-clause-refusals : goal.returns-in-Err-prepare-clause-refusals
 returns-in-Err-prepare-clause-refusals c =
@@ -49,11 +54,16 @@ returns-in-Err-prepare-clause-meaning c = λ s k stands says later.
 pub invariant_of-self-2 : goal.invariant_of-self-2
 invariant_of-self-2 c =
     let d = c.args.frame.delta in
-    let others = subst IsWithinLimits c.members.ensures c.cells.ensures.limits in
+    let others = c.prepare.ensures.limits.1 in
     let kept = c.in_default-prepare.ensures.kept in
     let agree = agrees_before c.self.inside.state c.prepare.new.self d kept (prepared_agrees c.prepare.new.self d others c.in_default-prepare.ensures.ready) in
-    taken_kept _ d c.absorb.new.self c.self.invariant (subst (λ (r : SiteState). MayHear r d) (sym c.self.view_is) c.in_default.ensures.heard) agree
-    (unchanged_joined c.self.inside.state c.prepare.new.self d c.absorb.new.self kept c.absorb.ensures.joined)
+    record {
+      kept = taken_kept _ d c.absorb.new.self c.self.invariant.kept (subst (λ (r : SiteState). MayHear r d) (sym c.self.view_is) c.in_default.ensures.heard) agree
+          (unchanged_joined c.self.inside.state c.prepare.new.self d c.absorb.new.self kept c.absorb.ensures.joined);
+      state_limits = c.absorb.ensures.limits;
+      pending_limits = c.self.invariant.pending_limits;
+      queues = c.self.invariant.queues;
+    }
 
 pub returns-clause-refusals : goal.returns-clause-refusals
 returns-clause-refusals c =
@@ -66,7 +76,7 @@ pub returns-clause-may : goal.returns-clause-may
 returns-clause-may c =
     let s = c.args.self.now in
     let d = c.args.frame.delta in
-    let others = subst IsWithinLimits c.members.ensures c.cells.ensures.limits in
+    let others = c.prepare.ensures.limits.1 in
     let kept = c.in_default-prepare.ensures.kept in
     let refused = subst (λ (r : SiteState). IsRefusedJoin r.state d (λ f. c.prepare.result ≡ Err f)) c.self.view_is c.prepare.ensures.refusals in
     let agree = agrees_before c.self.inside.state c.prepare.new.self d kept (prepared_agrees c.prepare.new.self d others c.in_default-prepare.ensures.ready) in
@@ -76,7 +86,7 @@ pub returns-clause-meaning : goal.returns-clause-meaning
 returns-clause-meaning c = λ s k stands says later.
     let old = c.args.self.now in
     let d = c.args.frame.delta in
-    let others = subst IsWithinLimits c.members.ensures c.cells.ensures.limits in
+    let others = c.prepare.ensures.limits.1 in
     let kept = c.in_default-prepare.ensures.kept in
     let refused = subst (λ (r : SiteState). IsRefusedJoin r.state d (λ f. c.prepare.result ≡ Err f)) c.self.view_is c.prepare.ensures.refusals in
     let agree = agrees_before c.self.inside.state c.prepare.new.self d kept (prepared_agrees c.prepare.new.self d others c.in_default-prepare.ensures.ready) in

@@ -4,7 +4,7 @@ use Rattle.replica.proofs.replica.Replica.whole.Goals as goal
 
 pub returns-clause-meaning : goal.returns-clause-meaning
 returns-clause-meaning c = λ s stands.
-    whole_means _ c.args.self.now _ _ s c.self.view_is stands (below_most c.self.inside.frames c.self.invariant.frames c.if-self-eq-MOST_COUNT.false)
+    whole_means _ c.args.self.now _ _ s c.self.view_is stands (below_most c.self.inside.frames c.self.invariant.kept.frames c.if-self-eq-MOST_COUNT.false)
     (record {
       heading = record { maker = refl; number = omega arith };
       delta = c.in-Ok.ensures.same;
