@@ -14,7 +14,7 @@ use Rattle.std.proofs.lemmas.List.Elements.{All-head, All-tail}
 use Rattle.std.proofs.lemmas.List.Sorted.{All-permutation, IsPermutation-map, list_any-IsPermutation, ranks_by}
 use Rattle.std.proofs.lemmas.Map.Keys.{IsDistinct-IsPermutation, apart_from_distinct}
 use Rattle.dots.specs.Values.{Dot}
-use Rattle.dots.specs.Orders.{dot_cmp, member_cmp}
+use Rattle.dots.specs.Orders.{member_cmp}
 use Rattle.dots.specs.declared.member.Member.{Member}
 use Rattle.op_arena.specs.Ids.{Id, id_of}
 use Rattle.member_orset.specs.declared.live_dot.LiveDot.{LiveDot}
@@ -59,7 +59,7 @@ listed_each held (id ∷ ids) a =
     head (Some c) t r = ap (λ ls. listing c ∷ ls) r
 
 -- ids in another order have their entries in another order
-listed_moved : (held : CellMap) (ids members : List Id) → AreHeld held ids → AreHeld held members → IsPermutation ids members → IsPermutation (listed_at held ids) (listed_at held members)
+pub listed_moved : (held : CellMap) (ids members : List Id) → AreHeld held ids → AreHeld held members → IsPermutation ids members → IsPermutation (listed_at held ids) (listed_at held members)
 listed_moved held ids members a b h =
     subst (λ ls. IsPermutation ls (listed_at held members)) (sym (listed_each held ids a))
     (subst (IsPermutation (each (entry_of held) ids)) (sym (listed_each held members b)) (IsPermutation-map (entry_of held) ids members h))

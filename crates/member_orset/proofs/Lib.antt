@@ -1,4 +1,5 @@
 pub mod Rising
+pub mod Merging
 pub mod DotTests
 pub mod CellLists
 pub mod Views
@@ -27,6 +28,8 @@ pub mod MapSteps
 pub mod RisingMaps
 pub mod PlacedDots
 pub mod PlacedChanges
+pub mod CellMoves
+pub mod MovedCells
 pub mod LiveMaps
 pub mod SeenDots
 pub mod Pieces
@@ -38,7 +41,9 @@ pub mod Indexes
 pub mod IndexPlaces
 pub mod Relisted
 pub mod ListedIds
+pub mod MovedIndex
 pub mod IndexLists
+pub mod MovedSets
 pub mod LiveChanges
 pub mod ShownCells
 pub mod MemberDots

@@ -1,26 +1,32 @@
 -- Cells of the other side that are taken in, one by one.
-use Rattle.std.proofs.Common.{◌≡◌, ◌≤◌, Bool, true, false, cond, List, [], ◌∷◌, ◌++◌, Some, None, refl, sym, ap, subst, ◌∙◌, ◌⊎◌, inl, inr, arith}
+use Rattle.std.proofs.Common.{◌≡◌, ◌≤◌, Bool, true, false, true≢false, cond, List, [], ◌∷◌, ◌++◌, Option, Some, None, is_some, refl, sym, ap, subst, ◌∙◌, ◌⊎◌, inl, inr, arith}
 use Rattle.std.specs.Prelude.{if◌then◌else◌}
 use Rattle.std.specs.Ordering.{eq_by_cmp}
 use Rattle.std.specs.FinMap as map
 use Rattle.std.specs.FinMap.Entries.{find, is_sorted}
+use Rattle.std.specs.List.{All}
+use Rattle.std.specs.Option.{option_or}
 use Rattle.std.proofs.lemmas.Bool.{cases_Bool}
 use Rattle.dots.specs.Values.{Dot}
 use Rattle.dots.specs.Orders.{dot_cmp}
 use Rattle.operations.specs.Conditions.{fields_joined}
 use Rattle.dots.proofs.DotOrder.{dots_total}
+use Rattle.general_lemmas.proofs.Membership.{in_any}
 use Rattle.general_lemmas.proofs.SortedEntries.{find_below, rising_head, rising_tail}
 use Rattle.op_arena.specs.Ids.{Id}
 use Rattle.member_orset.specs.declared.live_dot.LiveDot.{LiveDot}
+use Rattle.member_orset.specs.declared.placed.Placed.{Placed}
 use Rattle.member_orset.specs.CellIds.{IsNew}
-use Rattle.member_orset.specs.Joining.{IsTakenIn, holding_with}
+use Rattle.member_orset.specs.Joining.{HaveGrown, IsJoinedWith, IsTakenIn, holding_with}
 use Rattle.member_orset.specs.LiveLists.{holding}
 use Rattle.member_orset.specs.LiveStates.{HasTakenDot, LiveState}
 use Rattle.member_orset.specs.Members.{Holding}
+use Rattle.member_orset.specs.PlacedLists.{id_entries}
 use Rattle.member_orset.proofs.Asserting.{len_again, len_one_more}
 use Rattle.member_orset.proofs.DotTests.{one_dot}
-use Rattle.member_orset.proofs.IdSteps.{grown_same}
+use Rattle.member_orset.proofs.IdSteps.{grown_same, look}
 use Rattle.member_orset.proofs.LiveIds.{unnamed}
+use Rattle.member_orset.proofs.PlacedOrder.{placed_live}
 
 -- where its dot is live here too
 pub taken_joined : (known : Dot → Bool) (s t : LiveState) (c : LiveDot) → HasTakenDot s.live c.dot c.fields t.live → t.ids ≡ s.ids → t.spent ≡ s.spent → s.room ≤ t.room → IsTakenIn known s c t
@@ -75,3 +81,22 @@ taken_new known s t c id named none new live ids fresh spent room = record {
 pub none_behind : (xs : List (Dot × Holding)) (e : Dot × Holding) (ys : List (Dot × Holding)) → is_sorted dot_cmp (xs ++ e ∷ ys) ≡ true → find dot_cmp e.0 ys ≡ None
 none_behind [] e ys h = find_below dot_cmp dots_total e.0 ys (rising_head dot_cmp dots_total e ys h)
 none_behind (x ∷ xs) e ys h = none_behind xs e ys (rising_tail dot_cmp dots_total x (xs ++ e ∷ ys) h)
+
+-- what is live there isn't live here, where none of its dots is known here and all that is live here is
+pub unknown_apart : (known : Dot → Bool) (here : map.FinMap dot_cmp Holding) (there : LiveState) (ps : List Placed) → id_entries ps ≡ map.entries there.ids → ((q : Dot) → map.contains_key there.ids q ≡ map.contains_key there.live q)
+    → All (λ p. known p.dot ≡ false) ps → ((q : Dot) → is_some (map.get here q) ≡ true → known q ≡ true) → (q : Dot) → is_some (map.get there.live q) ≡ true → (map.get here q ≡ None) × (known q ≡ false)
+unknown_apart known here there ps are named all heard q live =
+    let found = in_any (λ p. eq_by_cmp dot_cmp q p.dot) ps (ap (λ f. f q) (placed_live ps there are named) ∙ live) in
+    let unknown : known q ≡ false = ap known (one_dot q found.0.dot found.2 ∙ sym (ap (λ p. p.dot) found.1.2)) ∙ all found.1.0 found.0 found.1.1 in
+    (elim (look (map.get here q)) [ inl none ↦ none | inr h ↦ absurd (true≢false (sym (heard q (ap is_some h.1)) ∙ unknown)) ], unknown)
+
+-- so it is taken in by being live here too
+pub joined_apart : (known : Dot → Bool) (s t : LiveState) (there : map.FinMap dot_cmp Holding) → ((q : Dot) → is_some (map.get there q) ≡ true → (map.get s.live q ≡ None) × (known q ≡ false))
+    → ((q : Dot) → map.get t.live q ≡ option_or (map.get s.live q) (map.get there q)) → HaveGrown s t → IsJoinedWith known s there t
+joined_apart known s t there apart live ids = record { live = λ q. live q ∙ at q (map.get s.live q) (map.get there q) (apart q); ids = ids }
+  where
+    at : (q : Dot) (o p : Option Holding) → (is_some p ≡ true → (o ≡ None) × (known q ≡ false)) → option_or o p ≡ holding_with o (known q) p
+    at q None None f = refl
+    at q (Some h) None f = refl
+    at q None (Some g) f = ap (λ k. holding_with None k (Some g)) (sym (f refl).1)
+    at q (Some h) (Some g) f = absurd (let n = (f refl).0 in cc n)

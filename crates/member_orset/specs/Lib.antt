@@ -8,6 +8,7 @@ pub mod CellIds
 pub mod Members
 pub mod LiveStates
 pub mod PlacedLists
+pub mod Merges
 pub mod LiveRuns
 pub mod Reads
 pub mod Refusals
@@ -15,6 +16,7 @@ pub mod LiveDots
 pub mod LiveLists
 pub mod Index
 pub mod PlacedStates
+pub mod Moves
 pub mod Joining
 pub mod ShownRows
 pub mod RowWalks

@@ -1,8 +1,10 @@
 //! The join of what is live in two sets: what is live here and dead there goes, and what is live there comes.
-ghost use Rattle.std.specs.Prelude.{◌≡◌, ◌≢◌, ◌↔◌, ◌+◌, ◌<◌, ◌≤◌, Err, IsOk, OnOk, length, not};
-ghost use Rattle.std.specs.List.{count_by};
+ghost use Rattle.std.specs.Prelude.{◌≡◌, ◌≢◌, ◌↔◌, ◌+◌, ◌<◌, ◌≤◌, Err, IsOk, IsSome, OnOk, length, not};
+ghost use Rattle.std.specs.Prelude.{true, false};
+ghost use Rattle.std.specs.List.{All, count_by};
 ghost use Rattle.std.specs.FinMap as map;
 ghost use Rattle.std.specs.FinSet as set;
+ghost use Rattle.dots.specs.Values.{Dot};
 ghost use Rattle.dots.specs.DotSets.{AreApart, run_count};
 ghost use Rattle.causal_context.specs.Contexts.{IsPrepared};
 ghost use Rattle.member_orset.specs.CellIds.{retired_of};
@@ -20,6 +22,9 @@ use crate::placed_lists::{dots_in, next_in};
 use crate::places::LAST_GENERATION;
 use causal_context::{Context, ContextFault, Run};
 use dots::{Dot, MOST_RUNS};
+
+// Up to so many cells come one by one, since to search a place for each and to move what stands behind it takes less then.
+const FEW: usize = 8;
 
 // How many live dots aren't known.
 pub(crate) fn count_unknown(known: &Context, dots: &[Placed]) -> usize
@@ -133,8 +138,8 @@ fn take_in(known: &Context, cells: &mut LiveCells<LAST_GENERATION>, cell: LiveDo
     }
 }
 
-// Takes in all cells of the other side, in room that is there. It moves them, and takes no memory.
-pub(crate) fn take_all(
+// Takes in all cells of the other side one by one, in room that is there. It moves them, and takes no memory.
+fn take_each(
     known: &Context,
     cells: &mut LiveCells<LAST_GENERATION>,
     others: LiveCells<LAST_GENERATION>,
@@ -146,6 +151,39 @@ pub(crate) fn take_all(
     let mut left = others.into_cells();
     while let Some(cell) = left.take_first() {
         take_in(known, cells, cell);
+    }
+}
+
+// Whether none of the dots is known.
+fn are_unknown(known: &Context, dots: &[Placed]) -> bool
+    ensures { result ≡ true → All (λ p. set.contains known.now.dots p.dot ≡ false) dots.now }
+{
+    for placed in dots {
+        if known.contains(placed.dot) {
+            return false;
+        }
+    }
+    true
+}
+
+// Takes in all cells of the other side, in room that is there. It moves them, and takes no memory. Where they are more than a
+// few, all of them new, the lists of ids are merged once; else ids are moved for each of them.
+pub(crate) fn take_all(
+    known: &Context,
+    cells: &mut LiveCells<LAST_GENERATION>,
+    others: LiveCells<LAST_GENERATION>,
+)
+    requires agree { AgreeWith cells.old.live (map.entries others.live) }
+    requires room { map.len cells.old.live + map.len others.live ≤ cells.old.room }
+    requires heard { (q : Dot) → IsSome (map.get cells.old.live q)
+        → set.contains known.now.dots q ≡ true }
+    ensures { IsJoinedWith (set.contains known.now.dots) cells.old others.live cells.new }
+{
+    let _ = others.len(); // so that it is known what holds of them
+    if others.len() > FEW && are_unknown(known, others.placed()) {
+        cells.append(others);
+    } else {
+        take_each(known, cells, others);
     }
 }
 

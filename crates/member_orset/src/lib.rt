@@ -21,6 +21,7 @@ mod member_groups;
 mod member_ids;
 mod member_rows;
 mod member_set;
+mod moving;
 mod piece;
 mod placed;
 mod placed_cells;

@@ -1,7 +1,7 @@
 ghost use Rattle.std.specs.Prelude.{◌≡◌, ◌+◌, ◌<◌, ◌≤◌, ◌↔◌, ◌≢◌, [], IsOk, IsTrue, length};
-ghost use Rattle.std.specs.Prelude.{IfOk, IfSome, OnOk, Err, None};
+ghost use Rattle.std.specs.Prelude.{IfOk, IfSome, IsSome, OnOk, Err, None};
 ghost use Rattle.std.specs.Prelude.{map as each};
-ghost use Rattle.std.specs.Option.{option_map};
+ghost use Rattle.std.specs.Option.{option_map, option_or};
 ghost use Rattle.std.specs.FinMap as map;
 ghost use Rattle.std.specs.FinSet as set;
 ghost use Rattle.std.specs.Vec.{vec_capacity};
@@ -9,6 +9,7 @@ ghost use Rattle.dots.specs.Values.{Dot};
 ghost use Rattle.operations.specs.Rows.{dots_of, row_of, rows_of};
 ghost use Rattle.operations.specs.Views.{row_view};
 ghost use Rattle.member_orset.specs.CellIds.{IsNew, retired_of};
+ghost use Rattle.member_orset.specs.Joining.{HaveGrown};
 ghost use Rattle.member_orset.specs.Members.{IsPresentIn, most_places, view_of};
 ghost use Rattle.member_orset.specs.Reads.{cell_read};
 ghost use Rattle.member_orset.specs.LiveLists.{live_of};
@@ -21,7 +22,7 @@ use crate::dots_lent::Dots;
 use crate::insertion::put_in;
 use crate::live_dot::LiveDot;
 use crate::member_groups::{group_of, has_member};
-use crate::member_ids::{copy_members, list_members, place_in};
+use crate::member_ids::{copy_members, list_members, merge_members, place_in};
 use crate::member_rows::row_in;
 use crate::placed::Placed;
 use crate::placed_cells::PlacedCells;
@@ -213,6 +214,23 @@ impl<const LAST: u32> LiveCells<LAST> {
         let listed = place_in(&self.placed, &self.members, self.placed.id_at(place));
         self.members.remove(listed);
         self.placed.remove(place);
+    }
+
+    // Lets live what is live there, of which nothing is live here, in room that is there. The cells are moved, the lists of
+    // ids are merged once, and it takes no memory.
+    pub(crate) fn append(&mut self, others: Self)
+        requires apart { (q : Dot) → IsSome (map.get others.live q) → map.get self.old.live q ≡ None }
+        requires room { map.len self.old.live + map.len others.live ≤ self.old.room }
+        ensures live { (q : Dot) → map.get self.new.live q
+            ≡ option_or (map.get self.old.live q) (map.get others.entry.live q) }
+        ensures ids { HaveGrown self.old self.new }
+    {
+        let LiveCells {
+            placed,
+            mut members,
+        } = others;
+        self.placed.append(placed, &mut members);
+        merge_members(&self.placed, &mut self.members, &members);
     }
 
     // Joins the fields of a live dot with others that agree with them.

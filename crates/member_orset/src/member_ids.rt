@@ -1,12 +1,14 @@
 //! The index of members: the ids of the live dots, in the order of their cells' members and then of their dots.
-ghost use Rattle.std.specs.Prelude.{◌≡◌, ◌≤◌, [], IfOk, IsSomeAnd, Some, false, length};
+ghost use Rattle.std.specs.Prelude.{◌≡◌, ◌≤◌, ◌+◌, ◌++◌, [], IfOk, IsSomeAnd, Some, false, length};
+ghost use Rattle.std.specs.Prelude.{vec_len};
 ghost use Rattle.std.specs.FinMap as map;
-ghost use Rattle.std.specs.List.Sorted.{IsPermutation, IsSorted};
+ghost use Rattle.std.specs.List.Sorted.{IsPermutation, IsSorted, IsStrictlySortedBy};
 ghost use Rattle.std.specs.Option.{option_map_or};
 ghost use Rattle.std.specs.Ordering.{is_le, is_lt};
 ghost use Rattle.std.specs.Vec.{vec_capacity};
 ghost use Rattle.member_orset.specs.declared.live_dot.LiveDot.{LiveDot as live_dot};
 ghost use Rattle.member_orset.specs.Index.{IsPlaceFor, Rises, listed_cmp, listing};
+ghost use Rattle.member_orset.specs.Merges.{AreUntied};
 ghost use Rattle.member_orset.specs.PlacedStates.{AreHeld, AreIndexed, IsPlaced};
 ghost use Rattle.member_orset.specs.PlacedStates.{cells_at, cells_of, id_order, listed_at};
 
@@ -98,6 +100,36 @@ pub(crate) fn list_members<const LAST: u32>(cells: &PlacedCells<LAST>, members: 
         members.push_reserved(placed.id);
     }
     sort_members(cells, members);
+}
+
+// Merges ids that rise by their cells into others that do, in room that is there. It goes from the back, and stops where
+// none of them is left, so that nothing before them is touched.
+pub(crate) fn merge_members<const LAST: u32>(
+    cells: &PlacedCells<LAST>,
+    own: &mut Vec<CellId>,
+    others: &[CellId],
+)
+    requires own { IsStrictlySortedBy (id_order cells.now.held) own.old.items }
+    requires others { IsStrictlySortedBy (id_order cells.now.held) others.now }
+    requires apart { AreUntied (id_order cells.now.held) own.old.items others.now }
+    requires room { vec_len own.old + length others.now ≤ vec_capacity own.old }
+    ensures same { IsPermutation (own.old.items ++ others.now) own.new.items }
+    ensures rises { IsStrictlySortedBy (id_order cells.now.held) own.new.items }
+    ensures capacity { vec_capacity own.old ≤ vec_capacity own.new }
+{
+    let mut kept = own.len();
+    let mut left = others.len();
+    let _ = own.extend_from_slice(others); // there is room, so that it can't fail
+    while left > 0 {
+        let place = kept + left - 1;
+        if kept > 0 && order_of(cells, others[left - 1], own[kept - 1]).is_lt() {
+            own[place] = own[kept - 1];
+            kept -= 1;
+        } else {
+            own[place] = others[left - 1];
+            left -= 1;
+        }
+    }
 }
 
 // The id that the cell of an id has in a copy.

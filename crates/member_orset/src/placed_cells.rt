@@ -1,5 +1,5 @@
 ghost use Rattle.std.specs.Prelude.{ℕ, ◌≡◌, ◌+◌, ◌*◌, ◌<◌, ◌≤◌, ◌↔◌, [], true, false, length};
-ghost use Rattle.std.specs.Prelude.{IfErr, IfOk, IsOk, IsTrue, OnOk, slice_index_or, slice_set};
+ghost use Rattle.std.specs.Prelude.{IfErr, IfOk, IsOk, IsTrue, List, OnOk, slice_index_or, slice_set};
 ghost use Rattle.std.specs.FinMap as map;
 ghost use Rattle.std.specs.FinSet as set;
 ghost use Rattle.std.specs.List.{AllWithin, insert, remove};
@@ -7,18 +7,21 @@ ghost use Rattle.std.specs.Option.{option_copied};
 ghost use Rattle.std.specs.Ordering.{is_lt};
 ghost use Rattle.operations.specs.Conditions.{FieldsAgree};
 ghost use Rattle.dots.specs.Orders.{dot_cmp};
-ghost use Rattle.op_arena.specs.Ids.{id_of};
+ghost use Rattle.op_arena.specs.Ids.{Id, id_of};
 ghost use Rattle.member_orset.specs.declared.live_dot.LiveDot.{LiveDot as live_dot};
 ghost use Rattle.member_orset.specs.declared.placed.Placed.{Placed as placed_dot};
 ghost use Rattle.member_orset.specs.CellIds.{retired_of};
 ghost use Rattle.member_orset.specs.LiveLists.{IsCellAt, IsGap, entries_of};
 ghost use Rattle.member_orset.specs.Members.{most_places};
-ghost use Rattle.member_orset.specs.PlacedStates.{IsPlaced, cells_of, joined_with};
-ghost use Rattle.member_orset.specs.PlacedLists.{id_entries};
+ghost use Rattle.member_orset.specs.Moves.{AreMoved};
+ghost use Rattle.member_orset.specs.PlacedStates.{AreIndexed, IsPlaced, cells_of, joined_with};
+ghost use Rattle.member_orset.specs.PlacedLists.{id_entries, is_placed};
 
 use crate::insertion::put_in;
 use crate::live_dot::LiveDot;
+use crate::moving::move_cells;
 use crate::placed::Placed;
+use crate::placed_lists::merge_dots;
 use crate::taken_cells::TakenCells;
 use dots::{Dot, Memory};
 use lww_registers::Fields;
@@ -268,6 +271,29 @@ impl<const LAST: u32> PlacedCells<LAST> {
             copy.insert(place, self.cell_at(place).copy());
         }
         Ok(copy)
+    }
+
+    // Lets the dots of others be placed, none of which is, in room that is there. Their cells are moved, in the order of the
+    // ids of their index, each of which becomes the one that its cell has here. It takes no memory.
+    pub(crate) fn append(&mut self, others: Self, members: &mut Vec<CellId>)
+        requires index { AreIndexed others members.old.items }
+        requires apart { (id : Id) (cell : live_dot) → map.get others.held id ≡ Some cell
+            → is_placed self.old.dots cell.dot ≡ false }
+        requires room { length self.old.dots + length others.dots ≤ self.old.room }
+        ensures moved { (fresh : List placed_dot)
+            × AreMoved self.old.held self.old.spent others.entry.held members.old.items
+            self.new.held fresh members.new.items }
+        ensures spent { self.new.spent ≡ self.old.spent }
+        ensures room { self.old.room ≤ self.new.room }
+        ensures valid { IsPlaced self.new }
+    {
+        let PlacedCells {
+            mut dots,
+            mut cells,
+        } = others;
+        move_cells(&mut self.cells, &mut cells, members, &mut dots);
+        dots.sort_unstable_by_key(|placed| placed.dot);
+        merge_dots(&mut self.dots, &dots);
     }
 
     // The cells of all that are placed, to be taken one by one from the first on.

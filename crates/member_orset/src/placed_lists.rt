@@ -1,10 +1,13 @@
 //! Lists of live dots that rise, each with the id of its cell.
-ghost use Rattle.std.specs.Prelude.{◌≡◌, ◌≤◌, length, true, false, filter, not};
+ghost use Rattle.std.specs.Prelude.{◌≡◌, ◌≤◌, ◌+◌, ◌++◌, length, true, false, filter, not, vec_len};
 ghost use Rattle.std.specs.List.{AllWithin, count_by};
+ghost use Rattle.std.specs.List.Sorted.{IsPermutation, IsStrictlySortedBy};
 ghost use Rattle.std.specs.Ordering.{is_lt};
+ghost use Rattle.std.specs.Vec.{vec_capacity};
 ghost use Rattle.dots.specs.Orders.{dot_cmp};
 ghost use Rattle.dots.specs.DotSets.{AreApart, first_dot, in_run, in_runs, last_dot, next_dot};
 ghost use Rattle.causal_context.specs.Contexts.{IsRunWithinLimits};
+ghost use Rattle.member_orset.specs.Merges.{AreUntied, placed_cmp};
 ghost use Rattle.member_orset.specs.PlacedLists.{AreRising, IsNextIn};
 
 use crate::placed::Placed;
@@ -81,4 +84,30 @@ pub(crate) fn next_in(dots: &[Placed], site: SiteId, first: u64, last: u64) -> O
         return None;
     }
     Some(dot)
+}
+
+// Merges others that rise into a list that rises, in room that is there. It goes from the back, and stops where none of the
+// others is left, so that nothing before them is touched.
+pub(crate) fn merge_dots(own: &mut Vec<Placed>, others: &[Placed])
+    requires own { IsStrictlySortedBy placed_cmp own.old.items }
+    requires others { IsStrictlySortedBy placed_cmp others.now }
+    requires apart { AreUntied placed_cmp own.old.items others.now }
+    requires room { vec_len own.old + length others.now ≤ vec_capacity own.old }
+    ensures same { IsPermutation (own.old.items ++ others.now) own.new.items }
+    ensures rises { IsStrictlySortedBy placed_cmp own.new.items }
+    ensures capacity { vec_capacity own.old ≤ vec_capacity own.new }
+{
+    let mut kept = own.len();
+    let mut left = others.len();
+    let _ = own.extend_from_slice(others); // there is room, so that it can't fail
+    while left > 0 {
+        let place = kept + left - 1;
+        if kept > 0 && others[left - 1].dot < own[kept - 1].dot {
+            own[place] = own[kept - 1];
+            kept -= 1;
+        } else {
+            own[place] = others[left - 1];
+            left -= 1;
+        }
+    }
 }
