@@ -4,8 +4,8 @@ timed, since a run that does all but the work is taken off. workloads.py memory 
 with what the work is done on, where it is given no bytes.
 
 The workloads of frames are done by `bench` (docs/frames.md has their bytes): frames of live dots, each of a member of its own with a
-penalty, of dead dots, and of totals. Those of commands and of frames at sites are scripts of `queue_sites` (docs/script.md), and one
-is a session of `session_cases`; the checksum of these is how many bytes are written. Two have sites of `site_runs`: what the audit of
+penalty, of dead dots, and of totals. Those of commands and of frames at sites are scripts of `queue_sites` (docs/script.md), and some
+are sessions of `session_cases`; the checksum of these is how many bytes are written. Two have sites of `site_runs`: what the audit of
 their journals takes, and the world in which its events happen; the checksum is how many events there are.
 """
 import sys
@@ -128,9 +128,9 @@ def of_joins(given):
     return Workload(10_000, Run([program, "10", "join"], given), Run([program, "10", "copy"], given), last_word)
 
 
-def of_script(sites, times, start, lines):
+def of_script(sites, times, start, lines, queues=("sales",)):
     """A workload of `queue_sites`: lines of a script behind its start."""
-    command = [f"{folder('queue_sites')}/out/queue_sites", "script", str(sites), "sales"]
+    command = [f"{folder('queue_sites')}/out/queue_sites", "script", str(sites), *queues]
     whole, without = ("".join(f"{it}\n" for it in them).encode() for them in (start + lines, start))
     return Workload(times, Run(command, whole), Run(command, without), len)
 
@@ -138,6 +138,21 @@ def of_script(sites, times, start, lines):
 def added(site, of):
     """The line that adds the interface of a number."""
     return f"{site} ami Action: QueueAdd|Queue: sales|Interface: {of:05}|Penalty: {of % 1000}"
+
+
+def paused(site, of):
+    """The line that pauses it."""
+    return f"{site} ami Action: QueuePause|Interface: {of:05}|Paused: yes"
+
+
+def penalized(site, of):
+    """The line that gives it a penalty."""
+    return f"{site} ami Action: QueuePenalty|Interface: {of:05}|Penalty: 7"
+
+
+def removed(site, of):
+    """The line that removes it."""
+    return f"{site} ami Action: QueueRemove|Queue: sales|Interface: {of:05}"
 
 
 def members(count, makers):
@@ -150,17 +165,18 @@ def takes(sites, entries):
     return [f"{site} take {entry}" for site in sites for entry in entries]
 
 
+def added_and_more(count, start, site, often, lines):
+    """At a site that knows so many members as many others are added as is said, and each of these lines is asked of all of them in turn. What is
+    done by the last of the lines."""
+    them = [member_between(turn, count) for turn in range(often)]
+    *before, last = ([line(site, of) for of in them] for line in (added, *lines))
+    return of_script(11, often, start + sum(before, []), last)
+
+
 def commands(count, start, site):
     """At a site that knows so many members another is added, paused, gets a penalty and is removed, 2,500 times."""
-    lines = []
-    for turn in range(2_500):
-        of = member_between(turn, count)
-        lines += [
-            added(site, of),
-            f"{site} ami Action: QueuePause|Interface: {of:05}|Paused: yes",
-            f"{site} ami Action: QueuePenalty|Interface: {of:05}|Penalty: 7",
-            f"{site} ami Action: QueueRemove|Queue: sales|Interface: {of:05}",
-        ]
+    turns = (member_between(turn, count) for turn in range(2_500))
+    lines = [line(site, of) for of in turns for line in (added, paused, penalized, removed)]
     return of_script(11, 10_000, start, lines)
 
 
@@ -174,12 +190,13 @@ def other_commands(count):
     return commands(count, members(count, 10) + takes([10], range(10)), 10)
 
 
-def taken(count):
-    """Each of twenty sites that have taken so many members from ten others takes 1,000 frames of one live dot each of one more site."""
-    start = members(count, 10) + takes(range(11, 31), range(10))
+def taken(count, takers=20):
+    """Each of so many sites that have taken so many members from ten others takes 1,000 frames of one live dot each of one more site."""
+    sites = range(11, 11 + takers)
+    start = members(count, 10) + takes(sites, range(10))
     for turn in range(1_000):
         start += [added(10, member_between(turn, count)), "10 cut"]
-    return of_script(31, 20_000, start, takes(range(11, 31), range(10, 1_010)))
+    return of_script(11 + takers, 1_000 * takers, start, takes(sites, range(10, 1_010)))
 
 
 def lines_of_64_sites():
@@ -189,6 +206,30 @@ def lines_of_64_sites():
         site = turn % 64
         lines += [added(site, turn), f"{site} completed sales", f"{site} cut", f"{(site + 1) % 64} take {turn}"]
     return of_script(64, 1, [], lines)
+
+
+QUEUES = [f"q{it}" for it in range(256)]
+
+
+def counted_everywhere():
+    """Each of 64 sites counts a call of each of 256 queues, and the first site takes all that the others counted."""
+    lines = [f"{site} completed {queue}" for site in range(64) for queue in QUEUES]
+    return lines + [f"{site} cut" for site in range(1, 64)] + takes([0], range(63))
+
+
+def counted_calls(often):
+    """A site that knows these 16,384 totals counts so many calls more."""
+    return of_script(64, often, counted_everywhere(), [f"0 completed {QUEUES[it % 256]}" for it in range(often)], QUEUES)
+
+
+def reports_of_totals(often):
+    """It is asked for the status of all queues so often, which have no members."""
+    return of_script(64, 256 * often, counted_everywhere(), often * ["0 ami Action: QueueStatus"], QUEUES)
+
+
+def lines_of_statuses(often, count):
+    """A site of so many members is asked for its status so often."""
+    return of_script(1, often, [added(0, it) for it in range(count)], often * ["0 ami Action: QueueStatus"])
 
 
 def statuses(times, count):
@@ -213,6 +254,7 @@ WORKLOADS = {
     "copy_16384_cells_twice": lambda: of_frames("copy", 2 * cells(0, 16_384)),
     "join_16384_cells": lambda: of_frames("join", 2 * cells(0, 16_384)),
     "join_8192_and_8192_cells": lambda: of_frames("join", cells(0, 8_192) + cells(1, 8_192)),
+    "join_8192_before_8192_cells": lambda: of_frames("join", cells(1, 8_192) + cells(0, 8_192)),
     "join_16384_totals": lambda: of_frames("join", totals(0, 16_384) + totals(1, 16_384)),
     "rows_of_16384_members": lambda: of_frames("rows", cells(0, 16_384)),
     "dead_beside_16384_live_dots": lambda: of_frames("dead", dead_between(16_384)),
@@ -232,7 +274,9 @@ WORKLOADS = {
     "frames_at_4096": lambda: taken(4_096),
     "frames_at_15000": lambda: taken(15_000),
     "serve_10000_statuses_of_100": lambda: statuses(10_000, 100),
+    "serve_100_statuses_of_16384": lambda: statuses(100, 16_384),
     "script_of_20000_lines": lines_of_64_sites,
+    "script_of_100000_statuses": lambda: lines_of_statuses(100_000, 10),
     "audit_of_800000_steps": lambda: of_sites("audit", "journals", 8, 100_000),
     "world_of_800000_events": lambda: of_sites("world", "audit", 8, 100_000),
 }
