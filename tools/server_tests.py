@@ -1,9 +1,11 @@
 """Runs the server of queue_sites: its words and texts, the sessions of the cases over loopback, many clients at once, clients that idle, flood,
-lie and break off, and each allocation of a short run refused."""
+lie, linger and break off, what it tells on standard error, and each allocation of a short run refused."""
 import concurrent.futures
 import contextlib
 import os
 import random
+import re
+import resource
 import select
 import signal
 import socket
@@ -27,6 +29,10 @@ SLOT_SECONDS, MORE_SECONDS = 30, 5
 SLOTS = 4
 # How long sites may take until they show the same, in seconds.
 SETTLED = 5
+# How much processor time a server may take while nobody asks, in seconds.
+LITTLE = 0.2
+# What is told on standard error of a client that was refused for want of something.
+TOLD = re.compile(rb"queue_sites: site \d+: (no connection: .+|connection refused: .+|session ended: (out of memory|desk down))")
 
 
 def need(is_so, what):
@@ -34,12 +40,12 @@ def need(is_so, what):
         raise Failed(what)
 
 
-def is_free(port):
+def is_free(port, address="127.0.0.1"):
     """Whether nobody listens on a port."""
     with socket.socket() as it:
         it.setsockopt(socket.SOL_SOCKET, socket.SO_REUSEADDR, 1)
         try:
-            it.bind(("127.0.0.1", port))
+            it.bind((address, port))
         except OSError:
             return False
     return True
@@ -57,8 +63,8 @@ def free_ports(sites):
 class Server:
     """A running server of so many sites. It is ended when it is left."""
 
-    def __init__(self, sites, queues=("sales",), user=USER, secret=SECRET, options=(), more=None, out=None):
-        self.sites, self.port, self.user, self.secret = sites, free_ports(sites), user, secret
+    def __init__(self, sites, queues=("sales",), user=USER, secret=SECRET, options=(), more=None, out=None, address="127.0.0.1"):
+        self.sites, self.port, self.user, self.secret, self.address = sites, free_ports(sites), user, secret, address
         words = [BUILT, "serve", *options, str(sites), str(self.port), user, secret, *queues]
         how = {"stdin": subprocess.DEVNULL, "stdout": out or subprocess.PIPE, "stderr": subprocess.PIPE}
         self.process = subprocess.Popen(words, env={**os.environ, **(more or {})}, **how)
@@ -73,7 +79,7 @@ class Server:
 
     def lines(self):
         """What it prints once all sites listen."""
-        return b"".join(b"listening 127.0.0.1:%d\n" % (self.port + site) for site in range(self.sites))
+        return b"".join(b"listening %b:%d\n" % (self.address.encode(), self.port + site) for site in range(self.sites))
 
     def wait_until_it_listens(self):
         """Waits until it has told that all sites listen. Answers whether it has, which isn't so where it has ended."""
@@ -87,25 +93,43 @@ class Server:
                 self.printed += piece
         return True
 
-    def stop(self):
-        """Ends it by SIGTERM, at once, and tells what it said on standard error."""
-        self.process.terminate()
+    def stop(self, by=signal.SIGTERM):
+        """Ends it by a signal, at once, and tells what it said on standard error."""
+        self.process.send_signal(by)
         try:
             _, told = self.process.communicate(timeout=PATIENCE)
         except subprocess.TimeoutExpired:
             self.process.kill()
             self.process.communicate()
-            raise Failed("SIGTERM doesn't end the server") from None
+            raise Failed("a signal doesn't end the server") from None
         return told
+
+    def stop_silent(self):
+        """Ends it where it has told nothing on standard error."""
+        told = self.stop()
+        need(told == b"", f"the server told {told!r} on standard error")
 
     def memory(self):
         """How many bytes of memory it has."""
         with open(f"/proc/{self.process.pid}/status", encoding="ascii") as file:
             return next(int(line.split()[1]) * 1024 for line in file if line.startswith("VmRSS"))
 
+    def seconds(self):
+        """How much processor time it has taken, in seconds."""
+        with open(f"/proc/{self.process.pid}/stat", encoding="ascii") as file:
+            fields = file.read().rpartition(")")[2].split()
+        return (int(fields[11]) + int(fields[12])) / os.sysconf("SC_CLK_TCK")
+
+    def rests(self):
+        """Needs little processor time while nobody asks."""
+        before = self.seconds()
+        time.sleep(2)
+        taken = self.seconds() - before
+        need(taken < LITTLE, f"the server takes {taken:.1f} seconds of processor time in two in which nobody asks")
+
     def client(self, site=0, patience=PATIENCE):
         """A client of a site that is greeted."""
-        it = Client(self.port + site, patience)
+        it = Client(self.port + site, patience, self.address)
         it.greeting = it.line()
         return it
 
@@ -118,8 +142,8 @@ class Server:
 class Client:
     """A connection of a client, with what came on it and wasn't read yet."""
 
-    def __init__(self, port, patience=PATIENCE):
-        self.socket, self.held, self.greeting = socket.create_connection(("127.0.0.1", port), patience), b"", b""
+    def __init__(self, port, patience=PATIENCE, address="127.0.0.1"):
+        self.socket, self.held, self.greeting = socket.create_connection((address, port), patience), b"", b""
         self.socket.setsockopt(socket.IPPROTO_TCP, socket.TCP_NODELAY, 1)
 
     def __enter__(self):
@@ -196,7 +220,8 @@ def wrong_words():
     """What is told of wrong words, in their order, and of a port that is taken."""
     right = ["1", "24000", USER, SECRET, "sales"]
     changed = lambda at, word: ["serve", *right[:at], word, *right[at + 1:]]
-    check(BUILT, ["serve", "--help"], 0, printed=b"queue_sites serve")
+    for text in (b"queue_sites serve", b"[default: 3600]", b"[default: 127.0.0.1]"):
+        check(BUILT, ["serve", "--help"], 0, printed=text)
     for sites in ("0", "9", "two"):
         check(BUILT, changed(0, sites), 2, told=b"invalid value '%b' for '<SITES>'" % sites.encode())
     for port in ("0", "65529", "http"):
@@ -221,14 +246,38 @@ def wrong_words():
 
 
 def greets_as_it_is_told():
-    """The greeting is the server's own, or that of its command line; another address is listened on where that is asked for."""
-    with Server(1) as server:
-        with server.client() as it:
-            need(it.greeting == f"{GREETING}\r\n".encode(), f"the greeting is {it.greeting!r}")
-    with Server(1, options=["--greeting", "Asterisk Call Manager/5.0.1", "--bind", "127.0.0.1"]) as server:
-        with server.client() as it:
-            need(it.greeting == b"Asterisk Call Manager/5.0.1\r\n", f"the greeting is {it.greeting!r}")
-    return "its greetings"
+    """At each site the greeting is the server's own, or that of its command line; an ask before the login is refused, and so is a login with
+    another secret."""
+    for greeting, options in ((GREETING, []), ("Asterisk Call Manager/5.0.1", ["--greeting", "Asterisk Call Manager/5.0.1"])):
+        with Server(8, options=options) as server:
+            for site in range(8):
+                with server.client(site) as it:
+                    need(it.greeting == f"{greeting}\r\n".encode(), f"the greeting is {it.greeting!r}")
+                    reply = it.ask("QueueAdd", Queue="sales", Interface="SIP/1")
+                    need(reply == b"Response: Error\r\nMessage: Permission denied\r\n\r\n", f"an ask before the login is answered {reply!r}")
+                    reply = it.ask("Login", Username=USER, Secret=f"{SECRET}3")
+                    need(reply == b"Response: Error\r\nMessage: Authentication failed\r\n\r\n", f"another secret is answered {reply!r}")
+            need(b"ListItems: 1\r\n" in shown(server), "a client that isn't logged in has added a member")
+    return "its greetings and logins at each site"
+
+
+def refuses_at(port, address):
+    """Whether nobody answers at an address and port."""
+    try:
+        Client(port, address=address).socket.close()
+    except ConnectionRefusedError:
+        return True
+    return False
+
+
+def listens_where_it_is_told():
+    """A server listens at the address of its command line alone, and else at 127.0.0.1 alone."""
+    for address, other, options in (("127.0.0.1", "127.0.0.2", []), ("127.0.0.2", "127.0.0.1", ["--bind", "127.0.0.2"])):
+        with Server(2, options=options, address=address) as server:
+            for site in range(2):
+                server.client(site).socket.close()
+                need(refuses_at(server.port + site, other), f"a server of {address} answers at {other}")
+    return "the addresses that it listens on"
 
 
 def sessions():
@@ -310,8 +359,30 @@ def clients_at_once(sites=8, asks=1_000):
             need(seconds < SETTLED, f"{seconds:.1f} seconds after the last ask there are {len(reports)} different reports")
             reports = {shown(server, site) for site in range(sites)}
         seconds = time.monotonic() - asked
-        need(server.stop() == b"", "the server told something on standard error")
+        server.rests()
+        server.stop_silent()
     return f"{SLOTS * sites} clients of {sites} sites, with {asks:,} asks each; all sites showed the same {seconds:.1f} seconds after the last"
+
+
+def add_own(server, site, number, members):
+    """A client of a site adds so many members that no other client has."""
+    with server.logged_in(site) as it:
+        for member in range(members):
+            it.succeed("QueueAdd", Queue="sales", Interface=f"SIP/{number}-{member}")
+        it.leave()
+
+
+def members_of_their_own(sites=8, members=100):
+    """Four clients of each of eight sites add members that no other client adds: each site has them all soon after, so that no frame was lost
+    where a site's journal was full."""
+    with Server(sites) as server, concurrent.futures.ThreadPoolExecutor(SLOTS * sites) as threads:
+        jobs = [threads.submit(add_own, server, it % sites, it, members) for it in range(SLOTS * sites)]
+        for it in jobs:
+            it.result()
+        for site in range(sites):
+            until_shown(server, site, b"ListItems: %d\r\n" % (SLOTS * sites * members + 1))
+        server.stop_silent()
+    return f"{SLOTS * sites * members:,} members of {sites} sites, each of which shows all"
 
 
 def fifth_client():
@@ -326,6 +397,7 @@ def fifth_client():
         fifth.leave()
         for it in first:
             it.leave()
+        server.stop_silent()
     return "a fifth client"
 
 
@@ -342,6 +414,36 @@ def replies_before_the_end():
             it.socket.shutdown(socket.SHUT_WR)
             need(it.rest().count(b"Event: QueueStatusComplete\r\n") == 200, "replies are lost where the client ends its half")
     return "replies before the end of a connection"
+
+
+def drip(it, given, every, seconds):
+    """A client sends this again and again, so many seconds apart, until its place is lost or for so long."""
+    ends = time.monotonic() + seconds
+    with contextlib.suppress(OSError):
+        while time.monotonic() < ends:
+            it.send(given)
+            time.sleep(every)
+
+
+def clients_that_linger():
+    """Clients that don't close their connections behind their Logoffs, two of which send on, lose their places soon: a fifth is served."""
+    with Server(1) as server, concurrent.futures.ThreadPoolExecutor(SLOTS) as threads:
+        them = [server.client() for _ in range(SLOTS)]
+        fifth, started = Client(server.port), time.monotonic()
+        for it in them:
+            it.ask("Logoff")
+        jobs = [threads.submit(drip, it, b"a", 0.1, 4) for it in them[:2]]
+        served = [fifth, *(Client(server.port) for _ in range(SLOTS - 1))]
+        for it in served:
+            it.line()
+        waited = time.monotonic() - started
+        need(waited < 3, f"places are held {waited:.1f} seconds behind a Logoff")
+        for it in jobs:
+            it.result()
+        for it in [*them, *served]:
+            it.socket.close()
+        server.stop_silent()
+    return "clients that linger behind their Logoffs"
 
 
 def hostile_clients():
@@ -377,7 +479,31 @@ def hostile_clients():
         need(b"ListItems: " in shown(server), "no client is served behind many")
         need(server.memory() - before < 64 << 20, f"the server had {before:,} bytes of memory and has {server.memory():,}")
         need(server.process.poll() is None, "the server has ended")
+        server.stop_silent()
     return "garbage, resets, and 200 connections"
+
+
+def no_connections():
+    """Where the system has no connection to give that is told once by each thread that wants one, which then waits; and a client is served when
+    there is one again."""
+    with Server(1) as server:
+        files = max(map(int, os.listdir(f"/proc/{server.process.pid}/fd"))) + 1
+        resource.prlimit(server.process.pid, resource.RLIMIT_NOFILE, (files + 2, files + 2))
+        # A thread that waits has a file already.
+        for it in [server.logged_in() for _ in range(SLOTS)]:
+            it.leave()
+        first = [server.logged_in() for _ in range(2)]
+        more = [Client(server.port) for _ in range(2)]
+        server.rests()
+        need(not select.select([it.socket for it in more], [], [], 0)[0], "a client is greeted for which there is no file")
+        for it in first:
+            it.leave()
+        for it in more:
+            it.line()
+            it.leave()
+        told = server.stop()
+        need(re.fullmatch(rb"(queue_sites: site 0: no connection: .+\n){1,9}", told), f"no connections are told as {told!r}")
+    return "a system that has no connections to give"
 
 
 def fill(server, site, members):
@@ -396,15 +522,6 @@ def deaf_client(server, site):
         with contextlib.suppress(BlockingIOError):
             it.socket.send(b"Action: QueueStatus\r\n\r\n")
     return it
-
-
-def send_empty_lines(it):
-    """A client sends an empty line each second, which is no message, until its place is lost."""
-    ends = time.monotonic() + SLOT_SECONDS + MORE_SECONDS
-    with contextlib.suppress(ConnectionError):
-        while time.monotonic() < ends:
-            it.send(b"\r\n")
-            time.sleep(1)
 
 
 def next_clients(server, site, number, started):
@@ -436,93 +553,165 @@ def read_slowly(it):
 
 
 def clients_that_hold_on():
-    """Clients that send nothing, or empty lines alone, and those that never read what they ask for, lose their places after half a minute; others
-    are served then, and no earlier. One that reads slowly keeps its place."""
-    with Server(2) as server, concurrent.futures.ThreadPoolExecutor(SLOTS) as threads:
+    """Clients that send nothing, or empty lines alone, or a message that never ends, and those that never read what they ask for, lose their
+    places after half a minute; others are served then, and no earlier. One that reads slowly keeps its place."""
+    most = SLOT_SECONDS + MORE_SECONDS
+    with Server(2) as server, concurrent.futures.ThreadPoolExecutor(SLOTS + 1) as threads:
         fill(server, 1, 5_000)
         until_shown(server, 0, b"ListItems: 5001\r\n")
         slow, started = server.logged_in(), time.monotonic()
         held = [server.client() for _ in range(SLOTS - 1)]
         deaf = [deaf_client(server, 1) for _ in range(SLOTS)]
         jobs = [threads.submit(next_clients, server, site, len(them), started) for site, them in enumerate((held, deaf))]
-        jobs += [threads.submit(send_empty_lines, held[0]), threads.submit(read_slowly, slow)]
+        jobs += [threads.submit(drip, held[0], b"\r\n", 1, most), threads.submit(drip, held[1], b"A: b\r\n", 1, most)]
+        jobs.append(threads.submit(read_slowly, slow))
         for it in jobs:
             it.result()
         for it in [slow, *held, *deaf]:
             it.socket.close()
-    return "clients that send nothing or empty lines, that never read, and that read slowly"
+        server.stop_silent()
+    return "clients that send nothing, empty lines or no end of a message, that never read, and that read slowly"
 
 
 def idle_clients():
-    """A client that has logged in and is silent for the idle time loses its place; one that asks in time doesn't."""
-    with Server(1, options=["--idle", "1"]) as server:
-        quiet, busy = server.logged_in(), server.logged_in()
+    """A client that has logged in and is silent for the idle time loses its place then, and no earlier; one that asks in time doesn't, nor does one
+    that sends some of a message in time. Where the idle time is 0 a silent client keeps its place."""
+    with Server(1, options=["--idle", "1"]) as server, concurrent.futures.ThreadPoolExecutor(1) as threads:
+        quiet, busy, slow = server.logged_in(), server.logged_in(), server.logged_in()
         started = time.monotonic()
+        job = threads.submit(drip, slow, b"A", 0.4, 2.4)
         while time.monotonic() < started + 2.5:
-            time.sleep(0.4)
+            is_over = select.select([quiet.socket], [], [], 0)[0] != []
+            passed = time.monotonic() - started
+            need(passed > 0.7 or not is_over, "a silent client loses its place too early")
+            need(passed < 2.4 or is_over, "a silent client keeps its place")
             busy.ask("QueueStatus")
+            time.sleep(0.2)
         need(quiet.rest() == b"", "a silent client is told something")
+        job.result()
+        slow.send(b": b\r\n\r\n")
+        need(b"Message: Missing action in request\r\n" in slow.until(b"\r\n\r\n"), "a client that sends slowly isn't answered")
+        slow.leave()
         busy.leave()
-        need(time.monotonic() - started < PATIENCE, "a silent client keeps its place")
+        server.stop_silent()
+    with Server(1, options=["--idle", "0"]) as server, server.logged_in() as it:
+        time.sleep(2)
+        it.leave()
     return "clients that are silent for the idle time"
 
 
+def long_reports():
+    """A site whose reports are long keeps no more of them than its journal may: here 250 are asked for, which have 190 megabytes."""
+    with Server(1) as server:
+        fill(server, 0, 5_000)
+        with server.logged_in() as it:
+            it.ask("QueueStatus")
+            before, bytes_read = server.memory(), 0
+            for _ in range(250):
+                bytes_read += len(it.ask("QueueStatus"))
+            need(bytes_read > 160 << 20, f"250 reports have {bytes_read:,} bytes")
+            grown = server.memory() - before
+            need(grown < 128 << 20, f"{grown:,} bytes of memory are kept of reports of {bytes_read:,}")
+            it.leave()
+    return f"250 reports of {bytes_read >> 20} megabytes in all"
+
+
 def signals():
-    """SIGTERM ends the server, and its ports are free again at once."""
-    with Server(2) as server:
-        it = server.logged_in()
-        server.stop()
-        need(server.process.returncode == -signal.SIGTERM, f"SIGTERM ends the server with status {server.process.returncode}")
-        need(it.rest() == b"", "a connection of a server that has ended isn't closed")
-        need(is_free(server.port), "the port of a server that has ended isn't free")
-    return "SIGTERM"
+    """SIGTERM and SIGINT end the server, and its ports are free again at once."""
+    signal.signal(signal.SIGINT, signal.default_int_handler)
+    for by in (signal.SIGTERM, signal.SIGINT):
+        with Server(2) as server:
+            it = server.logged_in()
+            server.stop(by)
+            need(server.process.returncode == -by, f"{by.name} ends the server with status {server.process.returncode}")
+            need(it.rest() == b"", "a connection of a server that has ended isn't closed")
+            need(is_free(server.port) and is_free(server.port + 1), "the ports of a server that has ended aren't free")
+    return "SIGTERM and SIGINT"
+
+
+def serves_on(server):
+    """A server of two sites, one of whose allocations was refused, serves four clients of each site at once, and what is told the first site comes
+    to the second."""
+    for _ in range(3):
+        for site in range(2):
+            with contextlib.suppress(OSError, Failed):
+                shown(server, site)
+    try:
+        for site in range(2):
+            for it in [server.logged_in(site) for _ in range(SLOTS)]:
+                it.leave()
+        with server.logged_in() as it:
+            it.succeed("QueueAdd", Queue="sales", Interface="SIP/2")
+            it.leave()
+        until_shown(server, 1, b"Location: SIP/2\r\n")
+    except OSError as why:
+        raise Failed(f"a server one of whose allocations was refused serves no client: {why}") from None
+
+
+def comes_through(server):
+    """Whether one session comes to its end."""
+    with contextlib.suppress(OSError, Failed):
+        with server.logged_in() as it:
+            it.ask("QueueAdd", Queue="sales", Interface="SIP/1")
+            it.ask("QueueStatus")
+            it.leave()
+            return True
+    return False
 
 
 def run_refused(more):
-    """A run of a server of two sites with one session, with this environment. Answers its status, none where it served on, and what it told."""
-    with contextlib.suppress(OSError, Failed):
-        server = Server(2, more=more)
+    """A run of a server of two sites with one session, with this environment: until it has come to its end, or the server has. Answers the server,
+    and its status, none where it hasn't ended."""
+    server = Server(2, more=more)
     try:
-        if server.wait_until_it_listens():
-            with contextlib.suppress(OSError, Failed):
-                with server.logged_in() as it:
-                    it.ask("QueueAdd", Queue="sales", Interface="SIP/1")
-                    it.ask("QueueStatus")
-                    it.leave()
-        with contextlib.suppress(subprocess.TimeoutExpired):
-            server.process.wait(0.05)
-        status = server.process.poll()
-    finally:
-        told = server.stop()
-    return status, told, server
+        if not server.wait_until_it_listens():
+            server.process.wait(PATIENCE)
+        ends = time.monotonic() + PATIENCE
+        while server.process.poll() is None and not comes_through(server):
+            need(time.monotonic() < ends, "a server one of whose allocations was refused neither ends nor serves a client")
+            time.sleep(0.02)
+        return server, server.process.poll()
+    except BaseException:
+        server.stop()
+        raise
 
 
 def refused_allocations(room):
-    """Refuses each allocation of a short run of a server in turn."""
+    """With each allocation refused in turn the server ends with status 1 and a text before anybody is served, or serves on, and tells of a session
+    that it has ended."""
     library = compiled_refusal(room)
-    if not library:
+    if library is None:
         return NO_COMPILER
     counted = f"{room}/allocations"
     environment = lambda number: {"LD_PRELOAD": library, "REFUSED_ALLOCATION": str(number), "ALLOCATIONS_FILE": counted}
-    run_refused(environment(0))
+    run_refused(environment(0))[0].stop()
     with open(counted, encoding="ascii") as file:
         allocations = int(file.read())
-    ended = 0
+    ended, lines = 0, []
     for number in range(1, allocations + 1):
-        status, told, server = run_refused(environment(number))
+        server, status = run_refused(environment(number))
+        try:
+            if status is None:
+                serves_on(server)
+        finally:
+            told = server.stop()
         if status is None:
+            lines += told.splitlines()
             continue
         ended += 1
         texts = (b"queue_sites: out of memory\n", b"queue_sites: no thread\n")
         need(status == 1 and told in texts, f"where allocation {number} is refused the status is {status}, and {told!r} is told")
         need(server.lines().startswith(server.printed), f"where allocation {number} is refused {server.printed!r} is printed")
+    for it in lines:
+        need(TOLD.fullmatch(it), f"where an allocation is refused {it!r} is told")
+    need(any(b"session ended" in it for it in lines), "of no session is told that it ended for want of memory")
     return f"each of the {allocations} allocations of a short run refused in turn: {ended} ended it, the others let it serve on"
 
 
 def run_all():
     """Runs all of it. Answers lines that tell what was run."""
-    tests = [wrong_words, greets_as_it_is_told, sessions_of_files, clients_at_once, fifth_client, replies_before_the_end, hostile_clients,
-             idle_clients, clients_that_hold_on, signals]
+    tests = [wrong_words, greets_as_it_is_told, listens_where_it_is_told, sessions_of_files, clients_at_once, members_of_their_own, fifth_client,
+             replies_before_the_end, clients_that_linger, hostile_clients, no_connections, idle_clients, long_reports, clients_that_hold_on, signals]
     with tempfile.TemporaryDirectory() as room:
         return [*(test() for test in tests), refused_allocations(room)]
 

@@ -4,11 +4,11 @@ ghost use Rattle.site_journal.specs.Journals.{IsOfSite};
 
 use crate::clients::list;
 use dots::{Bytes, SiteId};
-use pass_desk::PassDesk;
-use replica::Replica;
-use serve::Desk;
+use pass_desk::{Ear, PassDesk, RingingDesk, SiteBell};
+use replica::{Refusal, Replica};
+use serve::{Desk, DeskDown};
 use site_desk::{Pass, SiteDesk, SiteLedger, close};
-use site_journal::Journaled;
+use site_journal::{Bell, Journaled};
 use status_report::{Answer, Ask, StatusRequest};
 use std::alloc::Global;
 use std::marker::Brand;
@@ -100,10 +100,64 @@ fn assert_answers<L: SiteLedger, R: Abort + Wait>(
 
 #[test]
 fn a_full_journal_is_dropped_and_goes_on(rt: HostRuntime) {
-    let journal = journal(&rt, rt.alloc(), 2);
-    let journal = assert_answers::<Brand, HostRuntime>(&rt, rt.alloc(), Blank::new(1), journal, 5);
-    assert!(&rt; journal.start() == 4 && journal.len() == 5);
-    drop(journal);
+    for (limit, start) in [(2, 4), (3, 3)] {
+        let journal = journal(&rt, rt.alloc(), limit);
+        let journal = assert_answers::<Brand, HostRuntime>(
+            &rt,
+            rt.alloc(),
+            Blank::new(1),
+            journal,
+            5,
+        );
+        assert!(&rt; journal.start() == start && journal.len() == 5);
+        drop(journal);
+    }
+}
+
+// A desk that refuses so many asks in turn, does one more, and then gives no answer.
+#[derive(Drop)]
+struct ShortDesk {
+    refusals: u32,
+    deeds: u32,
+}
+
+impl<R> Desk<R> for ShortDesk {
+    ghost answers = { λ old ask answer new. Unit {0} };
+
+    ghost refuses = { λ old ask new. Unit {0} };
+
+    fn ask(&mut self, _rt: &R, _ask: Ask) -> Result<Answer, DeskDown> {
+        if self.refusals > 0 {
+            self.refusals -= 1;
+            return Ok(Answer::Refused(Refusal::NotThere));
+        }
+        if self.deeds > 0 {
+            self.deeds -= 1;
+            return Ok(Answer::Done);
+        }
+        Err(DeskDown)
+    }
+}
+
+// Asks twice at a desk that rings. Whether that is heard, which it is once at most.
+fn hears(rt: &(impl Abort + Wait), alloc: Global, refusals: u32, deeds: u32) -> bool {
+    let bell = SiteBell::new();
+    let mut desk = RingingDesk::new(ShortDesk { refusals, deeds }, &bell);
+    for _ in 0..2u32 {
+        drop(desk.ask(rt, status(alloc)));
+    }
+    bell.end(rt);
+    let mut ear = Ear::new(&bell);
+    let heard = ear.wait(rt);
+    assert!(rt; !ear.wait(rt) && ear.has_ended());
+    heard
+}
+
+#[test]
+fn a_desk_rings_at_each_answer_alone(rt: HostRuntime) {
+    for (refusals, deeds, heard) in [(0, 0, false), (1, 0, true), (0, 1, true), (1, 1, true)] {
+        assert!(&rt; hears(&rt, rt.alloc(), refusals, deeds) == heard);
+    }
 }
 
 // A status, then the steps are dropped if they keep more than a number of bytes. Whether they were.

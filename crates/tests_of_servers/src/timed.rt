@@ -16,6 +16,11 @@ const SHORT: u64 = 300;
 
 const LONG: u64 = 900;
 
+// How long a client that drips waits between two bytes, in milliseconds, and how many it sends at most.
+const DROP: u64 = 60;
+
+const DROPS: u32 = 40;
+
 // How long a client waits to write, in seconds, and how often it asks at most.
 const PATIENCE: u64 = 20;
 
@@ -81,11 +86,53 @@ where
 }
 
 #[test]
-fn silent_clients_lose_their_slots(rt: HostRuntime) {
+fn silent_clients_lose_their_places(rt: HostRuntime) {
     // No message within the time for the first; nothing within the time for silence; and a message in time, upon which silence is right.
     assert_times(&rt, 24_460, true, &[GREETING, HALF_LOGIN], false);
     assert_times(&rt, 24_480, false, &[GREETING, LOGIN], false);
     assert_times(&rt, 24_500, true, &[GREETING, LOGIN], true);
+}
+
+// Sends a byte of a line again and again, which never ends, until the stream is given up. Whether it is within some time.
+fn drips<R: Net<Listener = TcpListener, Stream = TcpStream> + Clock>(
+    rt: &R,
+    port: u16,
+    over: &AtomicBool,
+) -> bool {
+    let Some(stream) = connected(rt, port, over) else {
+        return false;
+    };
+    if !talks(&stream, &[GREETING]) {
+        return false;
+    }
+    let mut writer = &stream;
+    for _ in 0..DROPS {
+        if writer.write_all(b"a").is_err() {
+            return true;
+        }
+        thread::sleep(rt, Duration::from_millis(DROP));
+    }
+    false
+}
+
+// Its time for the first message goes on, and what it sends behind its session's end is read for a second at most.
+#[test]
+fn a_client_that_drips_is_given_up(rt: HostRuntime) {
+    let alloc = rt.alloc();
+    let port = free_port(&rt, 24_540, 1);
+    let mut settings = settings(&rt, 1, port);
+    settings.session.first_message = Duration::from_millis(SHORT);
+    let list = list(&rt, alloc);
+    let over = AtomicBool::new(false);
+    let (shared, settings, list, over) = (&rt, &settings, &list, &over);
+    let (ended, given_up) = join(
+        shared,
+        || served(shared, alloc, settings, list, 1, over),
+        || drips(shared, port, over),
+    );
+    assert!(&rt; given_up);
+    assert!(&rt; ended.is_ok());
+    drop(ended);
 }
 
 // Asks for a report, which has the ActionID three times.
