@@ -24,7 +24,7 @@ class MemoryTest(NamedTuple):
 TESTS = [
     MemoryTest(
         crate="tests_of_streams",
-        name="streams::memory_of_a_feed",
+        name="feeds::a_feed_gives_the_same_messages_when_memory_comes_later",
         what="a feed",
         whole="at once",
         refused={"again": "only delayed its messages"},

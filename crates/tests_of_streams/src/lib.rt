@@ -2,4 +2,10 @@
 #![tactic(auto)]
 
 #[cfg(test)]
-mod streams;
+mod feeds;
+#[cfg(test)]
+mod memory_devices;
+#[cfg(test)]
+mod shared;
+#[cfg(test)]
+mod std_devices;

@@ -1,0 +1,124 @@
+//! Feeds of messages: faults that stay, how long a feed takes, and want of memory. What the messages of streams say is shown by the cases
+//! of `cases/sessions`.
+use ami_text::{Feed, FeedFault, Message};
+use std::alloc::Global;
+use std::process::Abort;
+
+// Feeds a piece, for which there is memory.
+fn feed_all(rt: &impl Abort, feed: &mut Feed, piece: &[u8]) {
+    assert!(rt; feed.feed(piece).is_ok());
+}
+
+// So many lines, none of them empty.
+fn lines(rt: &impl Abort, alloc: Global, number: usize) -> Vec<u8> {
+    let mut bytes = Vec::new(alloc);
+    for _ in 0..number {
+        bytes.extend_from_slice(b"a: b\r\n").expect(rt, "memory");
+    }
+    bytes
+}
+
+// Asserts that the next answer of a feed is this fault.
+fn assert_fault(rt: &impl Abort, feed: &mut Feed, want: FeedFault) {
+    match feed.next_message() {
+        Ok(_) => rt.panic("no fault"),
+        Err(fault) => assert!(rt; fault == want),
+    }
+}
+
+// Asserts that bytes give a fault, and give it again whatever is fed behind them.
+fn assert_fault_stays(rt: &impl Abort, alloc: Global, bytes: &[u8], want: FeedFault) {
+    let mut feed = Feed::new(alloc);
+    feed_all(rt, &mut feed, bytes);
+    for _ in 0..3 {
+        assert_fault(rt, &mut feed, want);
+        feed_all(rt, &mut feed, b"\n\na: b\n\n");
+    }
+}
+
+#[test]
+fn a_fault_stays_whatever_is_fed(rt: HostRuntime) {
+    let many = lines(&rt, rt.alloc(), 129);
+    assert_fault_stays(&rt, rt.alloc(), &many, FeedFault::TooManyFields);
+    let long = [b'x'; 1025];
+    assert_fault_stays(&rt, rt.alloc(), &long, FeedFault::LineTooLong);
+}
+
+// Whether a feed has no message, and no fault.
+fn has_none(feed: &mut Feed) -> bool {
+    matches!(feed.next_message(), Ok(None))
+}
+
+// Sixteen messages of 128 full lines, one byte at a time: quadratic time would not end in time.
+#[test]
+fn bytes_are_looked_at_once(rt: HostRuntime) {
+    let mut feed = Feed::new(rt.alloc());
+    for _ in 0..16u32 {
+        for _ in 0..128u32 {
+            for _ in 0..1024u32 {
+                feed_all(&rt, &mut feed, b"x");
+                assert!(rt; has_none(&mut feed));
+            }
+            feed_all(&rt, &mut feed, b"\n");
+        }
+        feed_all(&rt, &mut feed, b"\n");
+        assert!(rt; matches!(feed.next_message(), Ok(Some(_))));
+    }
+}
+
+// Feeds a piece, once more where memory is refused, and answers whether it was.
+fn feed_again(rt: &impl Abort, feed: &mut Feed, piece: &[u8]) -> bool {
+    let fed = feed.feed(piece);
+    if fed.is_err() {
+        feed_all(rt, feed, piece);
+    }
+    fed.is_err()
+}
+
+// Asserts what a message has under a name; nothing is wanted where `value` is empty.
+fn assert_value(rt: &impl Abort, message: &Message, name: &[u8], value: &[u8]) {
+    match message.get(name) {
+        Some(got) => assert!(rt; !got.is_empty() && *got == *value),
+        None => assert!(rt; value.is_empty()),
+    }
+}
+
+// Asserts what the next message has under a name; it is asked for once more where memory is refused. Answers whether it was.
+fn asks_again(rt: &impl Abort, feed: &mut Feed, name: &[u8], value: &[u8]) -> bool {
+    let (next, is_refused) = match feed.next_message() {
+        Err(FeedFault::Memory) => (feed.next_message(), true),
+        next => (next, false),
+    };
+    let message = next.expect(rt, "no fault").expect(rt, "a message");
+    assert_value(rt, &message, name, value);
+    is_refused
+}
+
+// A stream of three messages in pieces.
+const PIECES: &[&[u8]] = &[
+    b"\r\nAction: Queue",
+    b"Status\r\nQueue: a\r",
+    b"\n\r",
+    b"\nx\n\ny: z\n\n",
+];
+
+// What each message has under a name; nothing where the value is empty.
+const VALUES: &[(&str, &str)] = &[("action", "QueueStatus"), ("x", ""), ("y", "z")];
+
+// The messages are the same, whether they come at once or memory is refused and they are asked for again. tools/memory_tests.py
+// runs this test with each allocation refused in turn.
+#[test]
+fn a_feed_gives_the_same_messages_when_memory_comes_later(rt: HostRuntime) {
+    assert!(rt; println!(rt; "ready").is_ok());
+    let mut feed = Feed::new(rt.alloc());
+    let mut is_refused = false;
+    for piece in PIECES {
+        is_refused = feed_again(&rt, &mut feed, piece) || is_refused;
+    }
+    for (name, value) in VALUES {
+        is_refused = asks_again(&rt, &mut feed, name.as_bytes(), value.as_bytes()) || is_refused;
+    }
+    assert!(rt; has_none(&mut feed));
+    let end = if is_refused { "again" } else { "at once" };
+    assert!(rt; println!(rt; "{end}").is_ok());
+}

@@ -1,0 +1,152 @@
+//! Sources and sinks over readers and writers of std's.
+use crate::shared::{assert_bytes, assert_same};
+use ami_text::{Failed, Sink, Source, StdSink, StdSource};
+use std::io;
+use std::io::{BufWriter, Error, ErrorKind, Read, Write};
+use std::process::Abort;
+
+#[test]
+fn a_source_gives_what_its_reader_gives(rt: HostRuntime) {
+    let mut piece = *b"abcd";
+    let bytes: &[u8] = b"xyz";
+    let mut source = StdSource::new(bytes);
+    assert_same(&rt, &source.read(&mut piece[..2]), &Ok(2));
+    assert_bytes(&rt, &piece, b"xycd");
+    assert_bytes(&rt, source.into_inner(), b"z");
+}
+
+#[test]
+fn a_sink_hands_what_it_takes_to_its_writer(rt: HostRuntime) {
+    let mut sink = StdSink::new(Vec::new(rt.alloc()));
+    assert_same(&rt, &sink.write(b"abc"), &Ok(3));
+    assert_bytes(&rt, sink.into_inner().as_slice(), b"abc");
+}
+
+#[test]
+fn a_sink_sends_what_its_writer_holds_back(rt: HostRuntime) {
+    let writer = BufWriter::new(rt.alloc(), Vec::new(rt.alloc())).expect(&rt, "memory");
+    let mut sink = StdSink::new(writer);
+    assert_same(&rt, &sink.write(b"abc"), &Ok(3));
+    let writer = sink.into_inner();
+    assert_bytes(&rt, writer.get_ref().as_slice(), b"abc");
+}
+
+// A device that first answers a number of errors of a kind, to reads and writes or to flushes, and else moves a byte.
+#[derive(Drop)]
+struct Faulty {
+    errors: u32,
+    kind: ErrorKind,
+    at_flush: bool,
+}
+
+impl Faulty {
+    fn answer(&mut self, is_flush: bool) -> io::Result<()> {
+        if self.errors > 0 && self.at_flush == is_flush {
+            self.errors -= 1;
+            return Err(Error::from(self.kind));
+        }
+        Ok(())
+    }
+}
+
+impl Read for Faulty {
+    fn read(&mut self, buf: &mut [u8]) -> io::Result<usize> {
+        self.answer(false)?;
+        match buf.first_mut() {
+            Some(first) => {
+                *first = b'x';
+                Ok(1)
+            }
+            None => Ok(0),
+        }
+    }
+}
+
+impl Write for Faulty {
+    fn write(&mut self, buf: &[u8]) -> io::Result<usize> {
+        self.answer(false)?;
+        Ok(buf.len().min(1))
+    }
+
+    fn flush(&mut self) -> io::Result<()> {
+        self.answer(true)
+    }
+}
+
+// The errors of a device, and what a source or a sink over it answers: an interruption is borne a
+// thousand times, and any other error not once.
+const ANSWERS: [(u32, ErrorKind, Result<usize, Failed>); 5] = [
+    (999, ErrorKind::Interrupted, Ok(1)),
+    (1000, ErrorKind::Interrupted, Err(Failed)),
+    (1, ErrorKind::BrokenPipe, Err(Failed)),
+    (1, ErrorKind::WouldBlock, Err(Failed)),
+    (1, ErrorKind::TimedOut, Err(Failed)),
+];
+
+#[test]
+fn a_reader_that_is_interrupted_is_read_again(rt: HostRuntime) {
+    for (errors, kind, want) in ANSWERS {
+        let mut source = StdSource::new(Faulty {
+            errors,
+            kind,
+            at_flush: false,
+        });
+        assert_same(&rt, &source.read(&mut [0u8; 4]), &want);
+        assert_same(&rt, &source.into_inner().errors, &0);
+    }
+}
+
+#[test]
+fn a_writer_that_is_interrupted_is_written_to_again(rt: HostRuntime) {
+    for (errors, kind, want) in ANSWERS {
+        let mut sink = StdSink::new(Faulty {
+            errors,
+            kind,
+            at_flush: false,
+        });
+        assert_same(&rt, &sink.write(b"ab"), &want);
+        assert_same(&rt, &sink.into_inner().errors, &0);
+    }
+}
+
+// How often a sink may wait, how often its writer times out or would block, and what the sink answers. A write that waits once is the
+// sink's without a number.
+const WAITS: [(u32, u32, ErrorKind, Result<usize, Failed>); 6] = [
+    (3, 2, ErrorKind::WouldBlock, Ok(1)),
+    (3, 2, ErrorKind::TimedOut, Ok(1)),
+    (3, 3, ErrorKind::WouldBlock, Err(Failed)),
+    (3, 3, ErrorKind::TimedOut, Err(Failed)),
+    (0, 1, ErrorKind::TimedOut, Err(Failed)),
+    (3, 1, ErrorKind::BrokenPipe, Err(Failed)),
+];
+
+#[test]
+fn a_writer_that_times_out_is_written_to_again(rt: HostRuntime) {
+    for (waits, errors, kind, want) in WAITS {
+        let writer = Faulty {
+            errors,
+            kind,
+            at_flush: false,
+        };
+        let mut sink = StdSink::new(writer).with_waits(waits);
+        assert_same(&rt, &sink.write(b"ab"), &want);
+        assert_same(&rt, &sink.into_inner().errors, &0);
+    }
+}
+
+// The write whose flush fails has given its bytes, so it is the next one that fails.
+#[test]
+fn a_writer_that_is_not_flushed_fails_at_the_next_write(rt: HostRuntime) {
+    for (errors, kind, want) in ANSWERS {
+        let mut sink = StdSink::new(Faulty {
+            errors,
+            kind,
+            at_flush: true,
+        });
+        let Ok(1) = sink.write(b"a") else {
+            rt.panic("the write fails");
+        };
+        assert_same(&rt, &sink.write(b"b"), &want);
+        assert_same(&rt, &sink.into_inner().errors, &0);
+    }
+}
