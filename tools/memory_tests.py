@@ -38,14 +38,14 @@ TESTS = [
     ),
     MemoryTest(
         crate="tests_of_parts",
-        name="joins::memory_of_a_first_join",
+        name="member_sets::a_first_join_without_memory_leaves_both_sets",
         what="a join into an empty set",
         whole="joined",
         refused={"refused": "refused it with Memory, and left both sets as they were"},
     ),
     MemoryTest(
         crate="tests_of_parts",
-        name="joins::memory_of_a_join",
+        name="member_sets::a_join_without_memory_leaves_both_sets",
         what="a join",
         whole="joined",
         refused={"refused": "refused it with Memory, and left both sets as they were"},

@@ -1,9 +1,10 @@
-use crate::values::assert_same;
+//! Arenas: values under ids.
+use crate::shared::assert_same;
 use op_arena::{Arena, ArenaFault, CellId};
 use std::process::Abort;
 use std::sync::atomic::{AtomicU64, Ordering};
 
-// Asks for room.
+// Asks for room, and asserts what that gives.
 fn reserve<const LAST: u32>(
     rt: &impl Abort,
     arena: &mut Arena<u32, LAST>,
@@ -19,7 +20,7 @@ fn place<const LAST: u32>(rt: &impl Abort, arena: &mut Arena<u32, LAST>, value: 
     arena.place(value)
 }
 
-// Checks the value of an id.
+// Asserts the value of an id.
 fn assert_value<const LAST: u32>(
     rt: &impl Abort,
     arena: &Arena<u32, LAST>,
@@ -29,7 +30,7 @@ fn assert_value<const LAST: u32>(
     assert!(rt; arena.get(id).copied() == want);
 }
 
-// Takes the value of an id.
+// Takes the value of an id, and asserts what it is.
 fn take<const LAST: u32>(
     rt: &impl Abort,
     arena: &mut Arena<u32, LAST>,
@@ -47,17 +48,12 @@ fn place_and_take<const LAST: u32>(
     want: CellId,
 ) {
     let id = place(rt, arena, value);
-    assert_id(rt, id, want);
+    assert!(rt; id == want);
     assert_value(rt, arena, id, Some(value));
     take(rt, arena, id, Some(value));
 }
 
-// Checks an id.
-fn assert_id(rt: &impl Abort, id: CellId, want: CellId) {
-    assert!(rt; id.index() == want.index() && id.generation() == want.generation());
-}
-
-// Checks how many values there are, and how many cells are retired.
+// Asserts how many values there are, and how many cells are retired.
 fn assert_cells<const LAST: u32>(
     rt: &impl Abort,
     arena: &Arena<u32, LAST>,
@@ -67,14 +63,14 @@ fn assert_cells<const LAST: u32>(
     assert!(rt; arena.len() == values && arena.retired() == retired);
 }
 
-// Checks for how many more values there is room.
+// Asserts for how many more values there is room.
 fn assert_spare<const LAST: u32>(rt: &impl Abort, arena: &Arena<u32, LAST>, spare: u32) {
     assert_eq!(rt; arena.spare(), spare);
 }
 
 // An arena of one value and of 1,048,575 retired cells is full, and its value stays at its id.
 #[test]
-fn retires_each_cell_after_one_value(rt: HostRuntime) {
+fn a_cell_of_one_generation_is_retired_after_one_value(rt: HostRuntime) {
     let mut arena: Arena<u32, 0> = Arena::new(rt.alloc());
     reserve(&rt, &mut arena, 1_048_576, Ok(()));
     let kept = place(&rt, &mut arena, 42);
@@ -92,7 +88,7 @@ fn retires_each_cell_after_one_value(rt: HostRuntime) {
 }
 
 #[test]
-fn uses_a_cell_in_its_next_generation(rt: HostRuntime) {
+fn a_taken_cell_is_used_in_its_next_generation(rt: HostRuntime) {
     let mut arena: Arena<u32, 1> = Arena::new(rt.alloc());
     reserve(&rt, &mut arena, 1, Ok(()));
     place_and_take(&rt, &mut arena, 7, CellId::new(0, 0));
@@ -163,7 +159,7 @@ fn assert_drops(rt: &impl Abort, drops: &AtomicU64, want: u64) {
 }
 
 #[test]
-fn drops_each_value_once(rt: HostRuntime) {
+fn each_value_is_dropped_once(rt: HostRuntime) {
     let drops = AtomicU64::new(0);
     let mut arena: Arena<Counted<'_>, 3> = Arena::new(rt.alloc());
     assert!(rt; arena.reserve(40).is_ok());
@@ -181,7 +177,7 @@ fn drops_each_value_once(rt: HostRuntime) {
 }
 
 #[test]
-fn fills_up_to_the_last_cell(rt: HostRuntime) {
+fn an_arena_has_1_048_576_cells(rt: HostRuntime) {
     let mut arena: Arena<u32, 9> = Arena::new(rt.alloc());
     reserve(&rt, &mut arena, 1_048_577, Err(ArenaFault::Full));
     assert_spare(&rt, &arena, 0);
@@ -189,7 +185,7 @@ fn fills_up_to_the_last_cell(rt: HostRuntime) {
     assert_spare(&rt, &arena, 1_048_576);
     for value in 0..1_048_576 {
         let id = place(&rt, &mut arena, value);
-        assert_id(&rt, id, CellId::new(value, 0));
+        assert!(rt; id == CellId::new(value, 0));
         assert_value(&rt, &arena, id, Some(value));
     }
     assert_cells(&rt, &arena, 1_048_576, 0);
@@ -201,7 +197,7 @@ fn fills_up_to_the_last_cell(rt: HostRuntime) {
 }
 
 #[test]
-fn uses_the_last_taken_cell_first(rt: HostRuntime) {
+fn the_cell_that_was_taken_last_is_used_first(rt: HostRuntime) {
     let mut arena: Arena<u32, 9> = Arena::new(rt.alloc());
     reserve(&rt, &mut arena, 2, Ok(()));
     let first = place(&rt, &mut arena, 1);
@@ -210,6 +206,6 @@ fn uses_the_last_taken_cell_first(rt: HostRuntime) {
     take(&rt, &mut arena, second, Some(2));
     for id in [second, first] {
         let next = place(&rt, &mut arena, 3);
-        assert_id(&rt, next, CellId::new(id.index(), 1));
+        assert!(rt; next == CellId::new(id.index(), 1));
     }
 }

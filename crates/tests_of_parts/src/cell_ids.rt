@@ -1,10 +1,10 @@
 //! The ids of live dots: one each, kept while the dot is live, and never given again.
-use crate::member_sets::{
-    FIRST, OTHER, SECOND, SIP_1, SIP_2, Told, ToldDot, ToldMember, change_all, dot, member,
-    penalty, set_of,
+use crate::shared::Change::{Assert, Kill};
+use crate::shared::{
+    Change, FIRST, OTHER, SECOND, SIP_1, SIP_2, ToldDot, ToldMember, do_changes, dot, fields,
+    member, set_of, site,
 };
 use causal_context::Context;
-use dots::SiteId;
 use member_orset::{CellId, MemberSet, SetBuilder};
 use std::alloc::Global;
 use std::process::Abort;
@@ -19,18 +19,19 @@ fn id_of(rt: &impl Abort, set: &MemberSet, told: ToldDot, of: ToldMember) -> Cel
 
 // Asserts that an id answers nothing, and that the first dot has none.
 fn assert_dead(rt: &impl Abort, set: &MemberSet, id: CellId) {
-    assert!(rt; set.at(id).is_none() && set.id(dot(rt, FIRST)).is_none());
+    assert!(rt; set.at(id).is_none());
+    assert!(rt; set.id(dot(rt, FIRST)).is_none());
 }
 
-// Joins a set with the first dot and another one into one of the first dot. It then lets the first dot be dead, and one more be live.
+// Joins a set with the first dot and another one into one of the first dot. Then the first dot dies, and one more gets live.
 fn assert_ids(rt: &impl Abort, set: &mut MemberSet, joined: MemberSet) {
     let first = id_of(rt, set, FIRST, SIP_1);
     assert!(rt; set.agrees(&joined) && set.join(joined).is_ok());
     let other = id_of(rt, set, OTHER, SIP_2);
     assert!(rt; id_of(rt, set, FIRST, SIP_1) == first && other != first);
-    change_all(rt, set, &[Told::Kill(FIRST)]);
+    do_changes(rt, set, &[Kill(FIRST)]);
     assert_dead(rt, set, first);
-    change_all(rt, set, &[Told::Put(SECOND, SIP_2, 6, 8)]);
+    do_changes(rt, set, &[Assert(SECOND, SIP_2, 6, 8)]);
     assert_dead(rt, set, first);
     let second = id_of(rt, set, SECOND, SIP_2);
     assert!(rt; second != first && id_of(rt, set, OTHER, SIP_2) == other);
@@ -38,9 +39,9 @@ fn assert_ids(rt: &impl Abort, set: &mut MemberSet, joined: MemberSet) {
 
 #[test]
 fn an_id_answers_while_its_dot_is_live(rt: HostRuntime) {
-    const JOINED: &[Told] = &[Told::Put(FIRST, SIP_1, 6, 8), Told::Put(OTHER, SIP_2, 5, 7)];
+    const JOINED: &[Change] = &[Assert(FIRST, SIP_1, 6, 8), Assert(OTHER, SIP_2, 5, 7)];
     let joined = set_of(&rt, rt.alloc(), JOINED);
-    let mut set = set_of(&rt, rt.alloc(), &[Told::Put(FIRST, SIP_1, 5, 7)]);
+    let mut set = set_of(&rt, rt.alloc(), &[Assert(FIRST, SIP_1, 5, 7)]);
     assert_ids(&rt, &mut set, joined);
     drop(set);
 }
@@ -48,15 +49,20 @@ fn an_id_answers_while_its_dot_is_live(rt: HostRuntime) {
 // A set that was built of one live dot, the second of two dots of site 0 that are known, and the id of that dot.
 fn built(rt: &impl Abort, alloc: Global) -> (MemberSet, CellId) {
     let mut context = Context::new(alloc);
-    let site = SiteId::new(0).expect(rt, "a site");
-    context.insert_run(site, 1, 2).expect(rt, "room");
+    context.insert_run(site(rt, 0), 1, 2).expect(rt, "room");
     let second = dot(rt, SECOND);
     assert!(rt; context.contains(second));
     let mut builder = SetBuilder::new(alloc, context);
     let id = builder
-        .cell(second, &member(rt, SIP_1), &penalty(rt, 5, 7))
+        .cell(second, &member(rt, SIP_1), &fields(rt, 5, 7))
         .expect(rt, "memory");
     (builder.finish(), id)
+}
+
+// Asserts that the second dot alone has this id.
+fn assert_built(rt: &impl Abort, set: &MemberSet, id: CellId) {
+    assert!(rt; id_of(rt, set, SECOND, SIP_1) == id);
+    assert!(rt; set.id(dot(rt, FIRST)).is_none() && set.cells() == 1);
 }
 
 #[test]
@@ -66,19 +72,10 @@ fn a_builder_answers_the_ids_of_the_set(rt: HostRuntime) {
     drop(set);
 }
 
-// Asserts that the second dot alone has this id.
-fn assert_built(rt: &impl Abort, set: &MemberSet, id: CellId) {
-    assert!(rt; id_of(rt, set, SECOND, SIP_1) == id);
-    assert!(rt; set.id(dot(rt, FIRST)).is_none() && set.cells() == 1);
-}
-
 // Lets a dot of a site be live and dead again.
 fn come_and_go(rt: &impl Abort, set: &mut MemberSet, count: u64) {
-    change_all(
-        rt,
-        set,
-        &[Told::Put((0, count), SIP_1, 5, 7), Told::Kill((0, count))],
-    );
+    let dot = (0, count);
+    do_changes(rt, set, &[Assert(dot, SIP_1, 5, 7), Kill(dot)]);
 }
 
 // More dots than there are places at once, each let live and let dead before the next.

@@ -1,68 +1,66 @@
+//! Contexts: sets of dots, as runs.
 ghost use Rattle.std.specs.Prelude.{◌≤◌};
 
-use crate::values::{assert_same, dot, site};
-use causal_context::laws::{
-    contexts_are_joined, covers_by_subset, has_longest_runs, has_one_list_of_runs,
-};
+use crate::shared::{ToldDot, assert_same, dot, site};
 use causal_context::{Context, ContextFault, Run};
 use std::alloc::Global;
 use std::process::Abort;
 
-// Adds a dot.
-fn insert(rt: &impl Abort, context: &mut Context, number: u16, count: u64) {
-    assert_eq!(rt; context.insert(dot(rt, number, count)), Ok(()));
+// Adds a dot, for which there is room.
+fn insert(rt: &impl Abort, context: &mut Context, told: ToldDot) {
+    assert!(rt; context.insert(dot(rt, told)) == Ok(()));
 }
 
 // The context of one dot.
-fn of_dot(rt: &impl Abort, alloc: Global, number: u16, count: u64) -> Context {
+fn of_dot(rt: &impl Abort, alloc: Global, told: ToldDot) -> Context {
     let mut context = Context::new(alloc);
-    insert(rt, &mut context, number, count);
+    insert(rt, &mut context, told);
     context
 }
 
-// Every second count of the first site from a first one on, `runs` of them: as many runs.
+// Every second count of site 0 from a first one on, `runs` of them: as many runs.
 fn every_second(rt: &impl Abort, alloc: Global, first: u64, runs: u64) -> Context
     requires few { runs ≤ 65536 }
     requires start { first ≤ 2 }
 {
     let mut context = Context::new(alloc);
     for k in 0..runs {
-        insert(rt, &mut context, 0, first + 2 * k);
+        insert(rt, &mut context, (0, first + 2 * k));
     }
     context
 }
 
-// Checks how many runs there are, and the prefix of the first site.
+// Asserts how many runs there are, and the prefix of site 0.
 fn assert_runs(rt: &impl Abort, context: &Context, runs: usize, prefix: u64) {
     assert_eq!(rt; context.runs(), runs);
     assert_eq!(rt; context.prefix(site(rt, 0)), prefix);
 }
 
-// Joins another context.
+// Joins another context, and asserts what that gives.
 fn join(rt: &impl Abort, context: &mut Context, other: &Context, want: Result<(), ContextFault>) {
     assert!(rt; context.join(other) == want);
 }
 
-// Checks whether a context covers another.
+// Asserts whether a context covers another.
 fn assert_covers(rt: &impl Abort, context: &Context, other: &Context, want: bool) {
     assert!(rt; context.covers(other) == want);
 }
 
-// Checks that two contexts have the same runs.
+// Asserts that two contexts have the same runs.
 fn assert_same_runs(rt: &impl Abort, context: &Context, other: &Context) {
     assert!(rt; context.as_slice() == other.as_slice());
 }
 
 #[test]
-fn covers_what_was_joined(rt: HostRuntime) {
+fn a_context_covers_what_was_joined(rt: HostRuntime) {
     let mut context = every_second(&rt, rt.alloc(), 1, 1);
-    let other = of_dot(&rt, rt.alloc(), 1, 5);
+    let other = of_dot(&rt, rt.alloc(), (1, 5));
     assert_covers(&rt, &context, &other, false);
     join(&rt, &mut context, &other, Ok(()));
     assert_runs(&rt, &context, 2, 1);
     assert_covers(&rt, &context, &other, true);
     for (count, is_in) in [(4, false), (5, true)] {
-        assert_same(&rt, &context.contains(dot(&rt, 1, count)), &is_in);
+        assert_same(&rt, &context.contains(dot(&rt, (1, count))), &is_in);
     }
 }
 
@@ -75,7 +73,7 @@ fn a_copy_has_the_same_runs(rt: HostRuntime) {
 }
 
 #[test]
-fn joins_many_runs_to_one(rt: HostRuntime) {
+fn runs_that_touch_are_joined_to_one(rt: HostRuntime) {
     let mut context = every_second(&rt, rt.alloc(), 1, 65_536);
     let other = every_second(&rt, rt.alloc(), 2, 65_535);
     join(&rt, &mut context, &other, Ok(()));
@@ -89,47 +87,47 @@ fn joins_many_runs_to_one(rt: HostRuntime) {
 }
 
 #[test]
-fn refuses_one_run_too_many(rt: HostRuntime) {
+fn one_run_too_many_is_refused(rt: HostRuntime) {
     let mut context = every_second(&rt, rt.alloc(), 1, 65_536);
     let before = context.copy().expect(&rt, "memory");
     let full = Err(ContextFault::RunsFull);
-    assert_same(&rt, &context.insert(dot(&rt, 1, 1)), &full);
+    assert_same(&rt, &context.insert(dot(&rt, (1, 1))), &full);
     assert_same(&rt, &context.insert_run(site(&rt, 1), 1, 2), &full);
     assert_same_runs(&rt, &context, &before);
 }
 
 #[test]
-fn refuses_a_join_of_one_run_too_many(rt: HostRuntime) {
+fn a_join_of_one_run_too_many_is_refused(rt: HostRuntime) {
     let mut context = every_second(&rt, rt.alloc(), 1, 65_536);
     let before = context.copy().expect(&rt, "memory");
-    let other = of_dot(&rt, rt.alloc(), 1, 1);
+    let other = of_dot(&rt, rt.alloc(), (1, 1));
     let full = Err(ContextFault::RunsFull);
     join(&rt, &mut context, &other, full);
     assert_same(&rt, &context.prepare(&other), &full);
     assert!(rt; !context.prepared(&other));
     assert_same_runs(&rt, &context, &before);
     // One dot that two runs lack makes room for one run.
-    insert(&rt, &mut context, 0, 2);
+    insert(&rt, &mut context, (0, 2));
     assert_runs(&rt, &context, 65_535, 3);
     join(&rt, &mut context, &other, Ok(()));
     assert_runs(&rt, &context, 65_536, 3);
 }
 
-// A run between others takes in those that it touches: of the 32,768 runs of the odd counts, count 2 makes one of two, the
-// counts 10 to 20 one of seven, and the second site's dot is one more.
+// A run between others takes in those that it touches: of the 32,768 runs of the odd counts, count 2 makes one of two, the counts 10 to
+// 20 one of seven, and the dot of site 1 is one more.
 #[test]
 fn few_runs_are_joined_into_many(rt: HostRuntime) {
     let mut context = every_second(&rt, rt.alloc(), 1, 32_768);
-    let mut other = of_dot(&rt, rt.alloc(), 0, 2);
+    let mut other = of_dot(&rt, rt.alloc(), (0, 2));
     assert_eq!(rt; other.insert_run(site(&rt, 0), 10, 20), Ok(()));
-    insert(&rt, &mut other, 1, 5);
+    insert(&rt, &mut other, (1, 5));
     let mut turned = other.copy().expect(&rt, "memory");
     join(&rt, &mut turned, &context, Ok(()));
     join(&rt, &mut context, &other, Ok(()));
     assert_runs(&rt, &context, 32_762, 3);
     assert_same_runs(&rt, &turned, &context);
     for (count, is_in) in [(4, false), (8, false), (16, true), (22, false)] {
-        assert_same(&rt, &context.contains(dot(&rt, 0, count)), &is_in);
+        assert_same(&rt, &context.contains(dot(&rt, (0, count))), &is_in);
     }
 }
 
@@ -138,33 +136,33 @@ fn few_runs_are_joined_into_many(rt: HostRuntime) {
 fn few_runs_may_pass_the_limit_before_the_last(rt: HostRuntime) {
     let mut context = every_second(&rt, rt.alloc(), 1, 65_534);
     for count in [1, 3] {
-        insert(&rt, &mut context, 1, count);
+        insert(&rt, &mut context, (1, count));
     }
-    let mut other = of_dot(&rt, rt.alloc(), 0, 131_075);
-    insert(&rt, &mut other, 1, 2);
+    let mut other = of_dot(&rt, rt.alloc(), (0, 131_075));
+    insert(&rt, &mut other, (1, 2));
     join(&rt, &mut context, &other, Ok(()));
     assert_runs(&rt, &context, 65_536, 1);
     assert_covers(&rt, &context, &other, true);
-    insert(&rt, &mut other, 2, 1);
+    insert(&rt, &mut other, (2, 1));
     join(&rt, &mut context, &other, Err(ContextFault::RunsFull));
     assert_runs(&rt, &context, 65_536, 1);
 }
 
-// The first site's counts 1 to 3, and counts 5 and 6 with the second site's count 2.
+// The counts 1 to 3 of site 0, and its counts 5 and 6 with count 2 of site 1.
 fn low_and_high(rt: &impl Abort, alloc: Global) -> (Context, Context) {
     let mut low = Context::new(alloc);
-    let mut high = of_dot(rt, alloc, 1, 2);
+    let mut high = of_dot(rt, alloc, (1, 2));
     for count in [1, 2, 3] {
-        insert(rt, &mut low, 0, count);
+        insert(rt, &mut low, (0, count));
     }
     for count in [5, 6] {
-        insert(rt, &mut high, 0, count);
+        insert(rt, &mut high, (0, count));
     }
     (low, high)
 }
 
 #[test]
-fn counts_the_runs_with_one_more_dot(rt: HostRuntime) {
+fn runs_of_both_with_one_more_dot_are_counted(rt: HostRuntime) {
     let (low, high) = low_and_high(&rt, rt.alloc());
     let first = site(&rt, 0);
     for (count, runs) in [(4, 2), (5, 3), (7, 3), (8, 4)] {
@@ -174,7 +172,7 @@ fn counts_the_runs_with_one_more_dot(rt: HostRuntime) {
 }
 
 #[test]
-fn absorbs_what_was_prepared(rt: HostRuntime) {
+fn what_was_prepared_is_absorbed(rt: HostRuntime) {
     let (mut low, high) = low_and_high(&rt, rt.alloc());
     assert_same(&rt, &low.prepare(&high), &Ok(()));
     assert_runs(&rt, &low, 1, 3);
@@ -182,12 +180,4 @@ fn absorbs_what_was_prepared(rt: HostRuntime) {
     low.absorb(&high);
     assert_runs(&rt, &low, 3, 3);
     assert_covers(&rt, &low, &high, true);
-}
-
-#[test]
-fn laws_are_called() {
-    contexts_are_joined();
-    covers_by_subset();
-    has_one_list_of_runs();
-    has_longest_runs();
 }

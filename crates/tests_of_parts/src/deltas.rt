@@ -1,42 +1,30 @@
 //! Deltas: members and totals that are joined at once. What joins say is shown by the cases of `cases/deltas`.
-use crate::member_sets::{FIRST, SIP_1, SIP_2, Told, set_of};
+use crate::shared::Change::{Assert, Kill};
+use crate::shared::{Change, FIRST, SIP_1, SIP_2, set_of, totals_of};
 use delta::{Delta, JoinFault};
-use dots::{CallTotals, SiteId};
-use site_totals::Totals;
 use std::alloc::Global;
 use std::process::Abort;
 
 // What a delta is made of: changes of its members, and how many calls of queue 0 a site has completed.
-type Parts = (&'static [Told], (u16, u16));
+type Parts = (&'static [Change], (u16, u16));
 
 const NOTHING: Parts = (&[], (0, 0));
 
-const LIVE_AND_THREE: Parts = (&[Told::Put(FIRST, SIP_1, 5, 7)], (0, 3));
+const LIVE_AND_THREE: Parts = (&[Assert(FIRST, SIP_1, 5, 7)], (0, 3));
 
-const OF_ANOTHER: Parts = (&[Told::Put(FIRST, SIP_2, 5, 7)], (0, 0));
+const OF_ANOTHER: Parts = (&[Assert(FIRST, SIP_2, 5, 7)], (0, 0));
 
 // Deltas of which no two say the same, the one of nothing first.
 const DELTAS: &[Parts] = &[
     NOTHING,
-    (&[Told::Put(FIRST, SIP_1, 5, 7)], (0, 0)),
-    (&[Told::Kill(FIRST)], (0, 0)),
+    (&[Assert(FIRST, SIP_1, 5, 7)], (0, 0)),
+    (&[Kill(FIRST)], (0, 0)),
     OF_ANOTHER,
     (&[], (0, 3)),
     (&[], (0, 2)),
     (&[], (1, 4)),
     LIVE_AND_THREE,
 ];
-
-fn totals_of(rt: &impl Abort, alloc: Global, number: u16, completed: u16) -> Totals {
-    let mut totals = Totals::new(alloc);
-    let site = SiteId::new(number).expect(rt, "a site");
-    let calls = CallTotals {
-        completed: u64::from(completed),
-        abandoned: 0,
-    };
-    totals.reach(site, 0, calls).expect(rt, "memory");
-    totals
-}
 
 fn delta_of(rt: &impl Abort, alloc: Global, parts: Parts) -> Delta {
     let (changes, (number, completed)) = parts;
@@ -47,20 +35,17 @@ fn delta_of(rt: &impl Abort, alloc: Global, parts: Parts) -> Delta {
 }
 
 fn copy_of(rt: &impl Abort, delta: &Delta) -> Delta {
-    let Ok(copy) = delta.copy() else {
-        rt.panic("no memory");
-    };
-    copy
+    delta.copy().expect(rt, "memory")
 }
 
-fn assert_same(rt: &impl Abort, delta: &Delta, other: &Delta, wanted: bool) {
+fn assert_same_delta(rt: &impl Abort, delta: &Delta, other: &Delta, wanted: bool) {
     assert!(rt; delta.same(other) == wanted);
 }
 
 // Asserts whether a delta is what is made of these parts.
 fn assert_is(rt: &impl Abort, alloc: Global, delta: &Delta, parts: Parts, wanted: bool) {
     let other = delta_of(rt, alloc, parts);
-    assert_same(rt, delta, &other, wanted);
+    assert_same_delta(rt, delta, &other, wanted);
     drop(other);
 }
 
@@ -121,7 +106,7 @@ fn a_delta_is_absorbed_where_it_is_prepared(rt: HostRuntime) {
     assert_agree(&rt, &delta, &three, true);
     assert_prepared(&rt, &delta, &three, false);
     prepare(&rt, &mut delta, &three, Ok(()));
-    assert_same(&rt, &delta, &nothing, true);
+    assert_same_delta(&rt, &delta, &nothing, true);
     absorb(&rt, &mut delta, three);
     assert_prepared(&rt, &delta, &nothing, true);
     assert_parts(&rt, delta, 1, 3);

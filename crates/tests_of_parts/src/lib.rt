@@ -1,4 +1,4 @@
-//! Tests of what a site's state is made of, by their public calls: values, arenas, contexts, totals, sets of members and deltas.
+//! Tests of what a site's state is made of, by their public calls: values, arenas, contexts, registers, totals, sets of members and deltas.
 //! This crate has no code of its own.
 #![tactic(auto)]
 
@@ -11,9 +11,11 @@ mod contexts;
 #[cfg(test)]
 mod deltas;
 #[cfg(test)]
-mod joins;
-#[cfg(test)]
 mod member_sets;
+#[cfg(test)]
+mod registers;
+#[cfg(test)]
+mod shared;
 #[cfg(test)]
 mod totals;
 #[cfg(test)]

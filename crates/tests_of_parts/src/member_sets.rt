@@ -1,104 +1,31 @@
-//! Sets of members: what asserts and kills say, and what is read of a set. What joins say is shown by the
-//! cases of `cases/deltas`, and how sets are built by those of `cases/frames`.
-ghost use Rattle.member_orset.specs.Members.{HasField};
+//! Sets of members: what asserts and kills say, what is read of a set, and joins for which there is memory, or none. What joins say is
+//! shown by the cases of `cases/deltas`, joins at the limits by tools/limit_tests.py, and how sets are built by the cases of
+//! `cases/frames`.
+ghost use Rattle.std.specs.Prelude.{◌≤◌};
 
+use crate::shared::Change::{Assert, Kill};
+use crate::shared::{
+    Change, FIRST, OTHER, SECOND, SIP_1, SIP_2, ToldDot, ToldMember, do_change, do_changes, dot,
+    member, set_of, site,
+};
 use causal_context::Context;
-use dots::{Dot, Interface, Member, Penalty, SiteId, Stamp};
-use lww_registers::{Fields, Register};
+use dots::Dot;
+use member_orset::JoinFault::Conflict;
 use member_orset::{JoinFault, MemberSet};
 use std::alloc::Global;
+use std::io::Print;
 use std::process::Abort;
-
-// A dot, told as its site and its count.
-pub(crate) type ToldDot = (u16, u64);
-
-pub(crate) const FIRST: ToldDot = (0, 1);
-
-pub(crate) const SECOND: ToldDot = (0, 2);
-
-pub(crate) const OTHER: ToldDot = (1, 1);
-
-// The interface of a member of queue 0.
-pub(crate) type ToldMember = &'static str;
-
-pub(crate) const SIP_1: ToldMember = "SIP/1";
-
-pub(crate) const SIP_2: ToldMember = "SIP/2";
-
-// A change of a set, told shortly.
-#[derive(Clone, Copy)]
-pub(crate) enum Told {
-    // A dot of a member is asserted, with a penalty that site 0 has set at a time: first the time.
-    Put(ToldDot, ToldMember, u64, u32),
-    // A dot is killed.
-    Kill(ToldDot),
-}
 
 // What a set knows of a dot: whether it is known, and its penalty where it is live.
 type State = (bool, Option<u32>);
 
 const UNKNOWN: State = (false, None);
 
+const LIVE_7: State = (true, Some(7));
+
+const LIVE_9: State = (true, Some(9));
+
 const DEAD: State = (true, None);
-
-pub(crate) fn dot(rt: &impl Abort, told: ToldDot) -> Dot {
-    let site = SiteId::new(told.0).expect(rt, "a site");
-    Dot::new(site, told.1).expect(rt, "a dot")
-}
-
-pub(crate) fn member(rt: &impl Abort, told: ToldMember) -> Member {
-    Member {
-        queue: 0,
-        interface: Interface::new(told.as_bytes()).expect(rt, "an interface"),
-    }
-}
-
-pub(crate) fn penalty(rt: &impl Abort, time: u64, number: u32) -> Fields
-    ensures { HasField result }
-{
-    let site = SiteId::new(0).expect(rt, "a site");
-    let stamp = Stamp::new(time, site).expect(rt, "a stamp");
-    let mut fields = Fields::none();
-    fields.penalty = Register::of(stamp, Penalty::new(number).expect(rt, "a penalty"));
-    fields
-}
-
-fn put(
-    rt: &impl Abort,
-    set: &mut MemberSet,
-    told: ToldDot,
-    of: ToldMember,
-    fields: &Fields,
-) -> Result<(), JoinFault>
-    requires { HasField fields.now }
-{
-    set.assert(dot(rt, told), &member(rt, of), fields)
-}
-
-fn change(rt: &impl Abort, set: &mut MemberSet, told: Told) -> Result<(), JoinFault> {
-    match told {
-        Told::Put(told, of, time, number) => put(rt, set, told, of, &penalty(rt, time, number)),
-        Told::Kill(told) => set.kill(dot(rt, told)),
-    }
-}
-
-// Does changes, of which none is refused.
-pub(crate) fn change_all(rt: &impl Abort, set: &mut MemberSet, changes: &[Told]) {
-    for told in changes {
-        change(rt, set, *told).expect(rt, "a change");
-    }
-}
-
-// A set after these changes.
-pub(crate) fn set_of(rt: &impl Abort, alloc: Global, changes: &[Told]) -> MemberSet {
-    let mut set = MemberSet::new(alloc);
-    change_all(rt, &mut set, changes);
-    set
-}
-
-pub(crate) fn copy_of(rt: &impl Abort, set: &MemberSet) -> MemberSet {
-    set.copy().expect(rt, "memory")
-}
 
 fn penalty_of(set: &MemberSet, dot: Dot) -> Option<u32> {
     let fields = set.live(dot)?.fields;
@@ -115,44 +42,19 @@ fn assert_state(rt: &impl Abort, set: &MemberSet, told: ToldDot, state: State) {
 }
 
 // A change, what it gives, and what is known of the first and of the second dot then.
-type Change = (Told, Result<(), JoinFault>, State, State);
+type Row = (Change, Result<(), JoinFault>, State, State);
 
 // Changes of one set.
-const CHANGES: &[Change] = &[
-    (
-        Told::Put(FIRST, SIP_1, 5, 7),
-        Ok(()),
-        (true, Some(7)),
-        UNKNOWN,
-    ),
-    (
-        Told::Put(FIRST, SIP_1, 4, 9),
-        Ok(()),
-        (true, Some(7)),
-        UNKNOWN,
-    ),
-    (
-        Told::Put(FIRST, SIP_1, 5, 8),
-        Err(JoinFault::Conflict),
-        (true, Some(7)),
-        UNKNOWN,
-    ),
-    (
-        Told::Put(FIRST, SIP_1, 6, 9),
-        Ok(()),
-        (true, Some(9)),
-        UNKNOWN,
-    ),
-    (
-        Told::Put(FIRST, SIP_2, 7, 1),
-        Err(JoinFault::Conflict),
-        (true, Some(9)),
-        UNKNOWN,
-    ),
-    (Told::Kill(FIRST), Ok(()), DEAD, UNKNOWN),
-    (Told::Kill(FIRST), Ok(()), DEAD, UNKNOWN),
-    (Told::Kill(SECOND), Ok(()), DEAD, DEAD),
-    (Told::Put(SECOND, SIP_1, 6, 8), Ok(()), DEAD, DEAD),
+const CHANGES: &[Row] = &[
+    (Assert(FIRST, SIP_1, 5, 7), Ok(()), LIVE_7, UNKNOWN),
+    (Assert(FIRST, SIP_1, 4, 9), Ok(()), LIVE_7, UNKNOWN),
+    (Assert(FIRST, SIP_1, 5, 8), Err(Conflict), LIVE_7, UNKNOWN),
+    (Assert(FIRST, SIP_1, 6, 9), Ok(()), LIVE_9, UNKNOWN),
+    (Assert(FIRST, SIP_2, 7, 1), Err(Conflict), LIVE_9, UNKNOWN),
+    (Kill(FIRST), Ok(()), DEAD, UNKNOWN),
+    (Kill(FIRST), Ok(()), DEAD, UNKNOWN),
+    (Kill(SECOND), Ok(()), DEAD, DEAD),
+    (Assert(SECOND, SIP_1, 6, 8), Ok(()), DEAD, DEAD),
 ];
 
 fn assert_there(rt: &impl Abort, set: &MemberSet, of: ToldMember, wanted: bool) {
@@ -160,9 +62,9 @@ fn assert_there(rt: &impl Abort, set: &MemberSet, of: ToldMember, wanted: bool) 
 }
 
 // Does a change, and asserts what it gives and what is known then. The first dot is of SIP/1, and no dot lives of SIP/2.
-fn assert_change(rt: &impl Abort, set: &mut MemberSet, row: &Change) {
+fn assert_change(rt: &impl Abort, set: &mut MemberSet, row: &Row) {
     let (told, given, first, second) = row;
-    assert!(rt; change(rt, set, *told) == *given);
+    assert!(rt; do_change(rt, set, *told) == *given);
     assert_state(rt, set, FIRST, *first);
     assert_state(rt, set, SECOND, *second);
     assert_there(rt, set, SIP_1, first.1.is_some());
@@ -171,7 +73,7 @@ fn assert_change(rt: &impl Abort, set: &mut MemberSet, row: &Change) {
 }
 
 #[test]
-fn asserts_and_kills_are_told(rt: HostRuntime) {
+fn asserts_and_kills_join_or_are_refused(rt: HostRuntime) {
     let mut set = MemberSet::new(rt.alloc());
     for row in CHANGES {
         assert_change(&rt, &mut set, row);
@@ -265,8 +167,8 @@ fn assert_member(rt: &impl Abort, set: &MemberSet) {
 }
 
 // Asserts the dead dots of site 0, and how many dots are live but for its first three.
-fn assert_dead(rt: &impl Abort, alloc: Global, set: &MemberSet) {
-    let site = SiteId::new(0).expect(rt, "a site");
+fn assert_dead_and_live(rt: &impl Abort, alloc: Global, set: &MemberSet) {
+    let site = site(rt, 0);
     let dead = set.dead_of(site).expect(rt, "memory");
     assert!(rt; dead.contains(dot(rt, SECOND)) && dead.runs() == 1);
     let mut three = Context::new(alloc);
@@ -275,21 +177,99 @@ fn assert_dead(rt: &impl Abort, alloc: Global, set: &MemberSet) {
 }
 
 #[test]
-fn what_is_read_of_a_set(rt: HostRuntime) {
-    const LIVE: &[Told] = &[
-        Told::Put(OTHER, SIP_2, 5, 3),
-        Told::Put(FIRST, SIP_2, 5, 7),
-        Told::Put((0, 3), SIP_1, 9, 9),
-        Told::Kill(SECOND),
+fn dots_rows_and_runs_are_read_of_a_set(rt: HostRuntime) {
+    const LIVE: &[Change] = &[
+        Assert(OTHER, SIP_2, 5, 3),
+        Assert(FIRST, SIP_2, 5, 7),
+        Assert((0, 3), SIP_1, 9, 9),
+        Kill(SECOND),
     ];
     let mut set = set_of(&rt, rt.alloc(), LIVE);
     for half in 1..65_535 {
-        change_all(&rt, &mut set, &[Told::Kill((2, 2 * half))]);
+        do_changes(&rt, &mut set, &[Kill((2, 2 * half))]);
     }
     for row in SEEN {
         assert_seen(&rt, &set, *row);
     }
     assert_member(&rt, &set);
-    assert_dead(&rt, rt.alloc(), &set);
+    assert_dead_and_live(&rt, rt.alloc(), &set);
     drop(set);
+}
+
+// Lets every second dot of a site be dead from the first count on, `dots` in all.
+fn kill_dots(rt: &impl Abort, set: &mut MemberSet, site: u16, dots: u64)
+    requires { dots ≤ 65536 }
+{
+    for index in 0..dots {
+        do_changes(rt, set, &[Kill((site, 2 * index + 1))]);
+    }
+}
+
+// Lets the first `dots` dots of a site be live.
+fn put_dots(rt: &impl Abort, set: &mut MemberSet, site: u16, dots: u64)
+    requires { dots ≤ 65536 }
+{
+    for index in 0..dots {
+        do_changes(rt, set, &[Assert((site, index + 1), SIP_2, 5, 7)]);
+    }
+}
+
+// Joins a set, and answers whether there was memory for that. Where there was none, both say what they said.
+fn is_joined(
+    rt: &impl Abort,
+    set: &mut MemberSet,
+    other: MemberSet,
+    before: (&MemberSet, &MemberSet),
+) -> bool {
+    let Err((fault, back)) = set.join(other) else {
+        return true;
+    };
+    assert!(rt; fault == JoinFault::Memory);
+    assert!(rt; set.same(before.0) && back.same(before.1));
+    drop(back);
+    false
+}
+
+// Joins a set, whatever memory there is, and prints how that ended.
+fn join_if_it_can(rt: &(impl Abort + Print), set: &mut MemberSet, other: MemberSet) {
+    let before = set.copy().expect(rt, "memory");
+    let other_before = other.copy().expect(rt, "memory");
+    assert!(rt; println!(rt; "ready").is_ok());
+    let end = if is_joined(rt, set, other, (&before, &other_before)) {
+        "joined"
+    } else {
+        "refused"
+    };
+    assert!(rt; println!(rt; "{end}").is_ok());
+    drop(before);
+    drop(other_before);
+}
+
+// A set of live dots of one site, and dead dots of another: each is told by the site and by how many there are.
+fn live_and_dead(rt: &impl Abort, alloc: Global, live: (u16, u64), dead: (u16, u64)) -> MemberSet
+    requires live { live.1 ≤ 65536 }
+    requires dead { dead.1 ≤ 65536 }
+{
+    let mut set = MemberSet::new(alloc);
+    put_dots(rt, &mut set, live.0, live.1);
+    kill_dots(rt, &mut set, dead.0, dead.1);
+    set
+}
+
+// Joins 40 live dots into an empty set. tools/memory_tests.py runs this test with each allocation refused in turn, and the next one.
+#[test]
+fn a_first_join_without_memory_leaves_both_sets(rt: HostRuntime) {
+    let mut empty = MemberSet::new(rt.alloc());
+    let forty = live_and_dead(&rt, rt.alloc(), (1, 40), (2, 20));
+    join_if_it_can(&rt, &mut empty, forty);
+    drop(empty);
+}
+
+// Joins 100 live dots into a set of 10, of which 5 are dead then.
+#[test]
+fn a_join_without_memory_leaves_both_sets(rt: HostRuntime) {
+    let mut ten = live_and_dead(&rt, rt.alloc(), (0, 10), (2, 10));
+    let hundred = live_and_dead(&rt, rt.alloc(), (1, 100), (0, 5));
+    join_if_it_can(&rt, &mut ten, hundred);
+    drop(ten);
 }

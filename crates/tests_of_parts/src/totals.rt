@@ -1,25 +1,15 @@
-use crate::values::site;
+//! Totals: how many calls each site has counted in each queue.
+use crate::shared::{reach, site, totals_of};
 use site_totals::{CallTotals, Calls, Iter, TotalFault, TotalKey, Totals};
-use std::alloc::Global;
 use std::process::Abort;
 
-// Joins in one entry of small numbers.
-fn reach(rt: &impl Abort, totals: &mut Totals, number: u16, queue: u8, counted: (u16, u16)) {
-    let counted = CallTotals {
-        completed: u64::from(counted.0),
-        abandoned: u64::from(counted.1),
-    };
-    let answer = totals.reach(site(rt, number), u16::from(queue), counted);
-    assert!(rt; answer.is_ok());
-}
-
-// Checks the totals of a site in a queue.
+// Asserts how many calls a site has completed and abandoned in a queue.
 fn assert_of(rt: &impl Abort, totals: &Totals, number: u16, queue: u16, want: (u64, u64)) {
     let counted = totals.of(site(rt, number), queue);
     assert!(rt; counted.completed == want.0 && counted.abandoned == want.1);
 }
 
-// Checks the sum of the totals of a queue.
+// Asserts how many calls all sites have completed in a queue, of which none was abandoned.
 fn assert_sum(rt: &impl Abort, totals: &Totals, queue: u16, completed: u64) {
     let sum = totals.sum(queue);
     assert!(rt; sum.completed == completed && sum.abandoned == 0);
@@ -30,13 +20,6 @@ fn join(rt: &impl Abort, totals: &mut Totals, other: &Totals) {
     assert!(rt; totals.join(other).is_ok());
 }
 
-// The totals of one entry in the first queue.
-fn of_entry(rt: &impl Abort, alloc: Global, number: u16, completed: u16) -> Totals {
-    let mut totals = Totals::new(alloc);
-    reach(rt, &mut totals, number, 0, (completed, 0));
-    totals
-}
-
 #[test]
 fn the_greater_total_is_kept(rt: HostRuntime) {
     let mut totals = Totals::new(rt.alloc());
@@ -45,14 +28,14 @@ fn the_greater_total_is_kept(rt: HostRuntime) {
         reach(&rt, &mut totals, 0, 0, (completed, 0));
         assert_of(&rt, &totals, 0, 0, (3, 0));
     }
-    join(&rt, &mut totals, &of_entry(&rt, rt.alloc(), 0, 2));
+    join(&rt, &mut totals, &totals_of(&rt, rt.alloc(), 0, 2));
     assert_of(&rt, &totals, 0, 0, (3, 0));
 }
 
 #[test]
 fn a_queue_has_the_sum_of_its_sites_totals(rt: HostRuntime) {
-    let mut totals = of_entry(&rt, rt.alloc(), 0, 3);
-    let other = of_entry(&rt, rt.alloc(), 1, 4);
+    let mut totals = totals_of(&rt, rt.alloc(), 0, 3);
+    let other = totals_of(&rt, rt.alloc(), 1, 4);
     join(&rt, &mut totals, &other);
     let copy = totals.copy().expect(&rt, "memory");
     assert!(rt; copy.same(&totals) && !copy.same(&other));
@@ -64,7 +47,7 @@ fn a_queue_has_the_sum_of_its_sites_totals(rt: HostRuntime) {
     }
 }
 
-// Counts one more call of the first site in a queue.
+// Counts one more call of site 0 in queue 2.
 fn raise(rt: &impl Abort, totals: &mut Totals, calls: Calls, want: Result<u64, TotalFault>) {
     assert!(rt; totals.raise(site(rt, 0), 2, calls) == want);
 }
@@ -91,7 +74,7 @@ fn a_total_is_raised_up_to_its_limit(rt: HostRuntime) {
     raise(&rt, &mut totals, Calls::Abandoned, Ok(2));
 }
 
-// Checks the next entry.
+// Asserts what the next entry is.
 fn assert_next(rt: &impl Abort, entries: &mut Iter<'_>, number: u16, queue: u16, want: (u64, u64)) {
     let (key, counted) = entries.next().expect(rt, "an entry");
     assert!(rt; key == TotalKey::new(site(rt, number), queue));
@@ -116,7 +99,7 @@ fn entries_come_by_site_and_queue_without_zeros(rt: HostRuntime) {
     assert!(rt; entries.next().is_none());
 }
 
-// Checks whether there is room for other totals.
+// Asserts whether there is room for other totals.
 fn assert_prepared(rt: &impl Abort, totals: &Totals, other: &Totals, want: bool) {
     assert!(rt; totals.prepared(other) == want);
 }

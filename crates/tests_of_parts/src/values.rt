@@ -1,38 +1,12 @@
 //! Values at their limits, with what each must be.
+use crate::shared::{assert_same, site};
 use dots::{Dot, Interface, Pause, Penalty, QueueName, SiteId, Stamp, Text80, TextFault};
-use std::fmt::Debug;
 use std::process::Abort;
 
 const GREATEST: u64 = 1_099_511_627_776;
 
-pub(crate) fn site(rt: &impl Abort, number: u16) -> SiteId {
-    SiteId::new(number).expect(rt, "a site")
-}
-
-pub(crate) fn dot(rt: &impl Abort, number: u16, count: u64) -> Dot {
-    Dot::new(site(rt, number), count).expect(rt, "a dot")
-}
-
-pub(crate) fn stamp(rt: &impl Abort, time: u64, number: u16) -> Stamp {
-    Stamp::new(time, site(rt, number)).expect(rt, "a stamp")
-}
-
-fn text(rt: &impl Abort, bytes: &[u8]) -> Text80 {
-    Text80::new(bytes).expect(rt, "a text")
-}
-
-// Checks that a value is the wanted one.
-pub(crate) fn assert_same<T: PartialEq + Debug>(rt: &impl Abort, value: &T, want: &T) {
-    assert_eq!(rt; value, want);
-}
-
-// Checks bytes.
-pub(crate) fn assert_bytes(rt: &impl Abort, bytes: &[u8], want: &[u8]) {
-    assert!(rt; *bytes == *want);
-}
-
 #[test]
-fn sites_and_penalties_at_their_limits(rt: HostRuntime) {
+fn sites_and_penalties_have_limits(rt: HostRuntime) {
     for (number, is_site) in [(0, true), (63, true), (64, false), (65535, false)] {
         assert_same(&rt, &SiteId::new(number).is_some(), &is_site);
     }
@@ -42,7 +16,7 @@ fn sites_and_penalties_at_their_limits(rt: HostRuntime) {
 }
 
 #[test]
-fn counts_and_times_at_their_limits(rt: HostRuntime) {
+fn counts_and_times_have_limits(rt: HostRuntime) {
     let site = site(&rt, 63);
     for (count, is_count) in [
         (0, false),
@@ -55,7 +29,7 @@ fn counts_and_times_at_their_limits(rt: HostRuntime) {
     }
 }
 
-// Checks the fault of bytes as a text, and as a name.
+// Asserts the fault of bytes as a text, and as a name.
 fn assert_faults(
     rt: &impl Abort,
     bytes: &[u8],
@@ -68,7 +42,7 @@ fn assert_faults(
 }
 
 #[test]
-fn texts_and_their_faults(rt: HostRuntime) {
+fn texts_and_names_have_a_first_fault_or_none(rt: HostRuntime) {
     assert_faults(&rt, b"", None, Some(TextFault::Empty));
     assert_faults(&rt, b"sales", None, None);
     assert_faults(&rt, &[b'a'; 80], None, None);
@@ -81,10 +55,14 @@ fn texts_and_their_faults(rt: HostRuntime) {
     assert_faults(&rt, b"a\0b", bad, bad);
 }
 
+fn lunch(rt: &impl Abort) -> Text80 {
+    Text80::new(b"lunch").expect(rt, "a text")
+}
+
 #[test]
 fn only_a_pause_has_a_reason(rt: HostRuntime) {
-    let paused = Pause::new(true, text(&rt, b"lunch"));
-    assert_bytes(&rt, paused.copy().reason().as_bytes(), b"lunch");
-    let unpaused = Pause::new(false, text(&rt, b"lunch"));
-    assert!(rt; paused.paused() && !unpaused.paused() && unpaused.reason().is_empty());
+    let paused = Pause::new(true, lunch(&rt)).copy();
+    assert!(rt; paused.paused() && paused.reason().as_bytes() == b"lunch".as_slice());
+    let unpaused = Pause::new(false, lunch(&rt)).copy();
+    assert!(rt; !unpaused.paused() && unpaused.reason().is_empty());
 }

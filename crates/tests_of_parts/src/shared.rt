@@ -1,0 +1,131 @@
+//! What these tests make and assert alike: values, which are told as numbers and texts, and sets and totals that are made of them.
+ghost use Rattle.std.specs.Prelude.{◌≢◌, None};
+ghost use Rattle.member_orset.specs.Members.{HasField};
+
+use Change::{Assert, Kill};
+use dots::{CallTotals, Dot, Interface, Member, Penalty, SiteId, Stamp};
+use lww_registers::{Fields, Register};
+use member_orset::{JoinFault, MemberSet};
+use site_totals::Totals;
+use std::alloc::Global;
+use std::fmt::Debug;
+use std::process::Abort;
+
+// A dot, told as its site and its count.
+pub(crate) type ToldDot = (u16, u64);
+
+pub(crate) const FIRST: ToldDot = (0, 1);
+
+pub(crate) const SECOND: ToldDot = (0, 2);
+
+pub(crate) const OTHER: ToldDot = (1, 1);
+
+// A stamp, told as its time and its site.
+pub(crate) type ToldStamp = (u64, u16);
+
+// A member of queue 0, told as its interface.
+pub(crate) type ToldMember = &'static str;
+
+pub(crate) const SIP_1: ToldMember = "SIP/1";
+
+pub(crate) const SIP_2: ToldMember = "SIP/2";
+
+// A change of a set.
+#[derive(Clone, Copy)]
+pub(crate) enum Change {
+    // A dot of a member is asserted, with a penalty that site 0 has set: at which time, and the penalty.
+    Assert(ToldDot, ToldMember, u64, u32),
+    // A dot is killed.
+    Kill(ToldDot),
+}
+
+// Asserts that a value is the wanted one.
+pub(crate) fn assert_same<T: PartialEq + Debug>(rt: &impl Abort, value: &T, want: &T) {
+    assert_eq!(rt; value, want);
+}
+
+pub(crate) fn site(rt: &impl Abort, number: u16) -> SiteId {
+    SiteId::new(number).expect(rt, "a site")
+}
+
+pub(crate) fn dot(rt: &impl Abort, told: ToldDot) -> Dot {
+    Dot::new(site(rt, told.0), told.1).expect(rt, "a dot")
+}
+
+pub(crate) fn stamp(rt: &impl Abort, told: ToldStamp) -> Stamp {
+    Stamp::new(told.0, site(rt, told.1)).expect(rt, "a stamp")
+}
+
+pub(crate) fn member(rt: &impl Abort, told: ToldMember) -> Member {
+    Member {
+        queue: 0,
+        interface: Interface::new(told.as_bytes()).expect(rt, "an interface"),
+    }
+}
+
+// A penalty that was set at a stamp.
+pub(crate) fn penalty(rt: &impl Abort, told: ToldStamp, number: u32) -> Register<Penalty>
+    ensures { result ≢ None }
+{
+    let penalty = Penalty::new(number).expect(rt, "a penalty");
+    Register::of(stamp(rt, told), penalty)
+}
+
+// The fields of a penalty that site 0 has set at a time.
+pub(crate) fn fields(rt: &impl Abort, time: u64, number: u32) -> Fields
+    ensures { HasField result }
+{
+    let mut fields = Fields::none();
+    fields.penalty = penalty(rt, (time, 0), number);
+    fields
+}
+
+pub(crate) fn do_change(
+    rt: &impl Abort,
+    set: &mut MemberSet,
+    told: Change,
+) -> Result<(), JoinFault> {
+    match told {
+        Assert(of, by, time, number) => {
+            set.assert(dot(rt, of), &member(rt, by), &fields(rt, time, number))
+        }
+        Kill(of) => set.kill(dot(rt, of)),
+    }
+}
+
+// Does changes, of which none is refused.
+pub(crate) fn do_changes(rt: &impl Abort, set: &mut MemberSet, changes: &[Change]) {
+    for told in changes {
+        do_change(rt, set, *told).expect(rt, "a change");
+    }
+}
+
+// A set after these changes.
+pub(crate) fn set_of(rt: &impl Abort, alloc: Global, changes: &[Change]) -> MemberSet {
+    let mut set = MemberSet::new(alloc);
+    do_changes(rt, &mut set, changes);
+    set
+}
+
+// Joins the calls that a site has completed and abandoned in a queue into totals.
+pub(crate) fn reach(
+    rt: &impl Abort,
+    totals: &mut Totals,
+    number: u16,
+    queue: u8,
+    calls: (u16, u16),
+) {
+    let calls = CallTotals {
+        completed: u64::from(calls.0),
+        abandoned: u64::from(calls.1),
+    };
+    let reached = totals.reach(site(rt, number), u16::from(queue), calls);
+    reached.expect(rt, "memory");
+}
+
+// The totals of the calls that one site has completed in queue 0.
+pub(crate) fn totals_of(rt: &impl Abort, alloc: Global, number: u16, completed: u16) -> Totals {
+    let mut totals = Totals::new(alloc);
+    reach(rt, &mut totals, number, 0, (completed, 0));
+    totals
+}
