@@ -11,7 +11,7 @@ import sys
 import tempfile
 import time
 
-from crates import TOP, all_crates, below, folder, stored_words
+from crates import TOP, all_crates, below, folder, is_program, stored_words
 
 MEMORY_OF_A_JOB = 3_000_000_000
 NICENESS = 6  # for each run that goes before
@@ -44,6 +44,11 @@ def ways(crates, names):
     for crate in reversed(names):
         longest[crate] = size(crate) + max((longest[it] for it in longest if crate in crates[it]), default=0)
     return longest
+
+
+def proving(verb, crate, jobs, *words):
+    """The words of a command of `rt` for a crate, with so many jobs."""
+    return [sys.executable, "-B", f"{TOP}/tools/prove.py", verb, crate, str(jobs), *words]
 
 
 def clock(seconds):
@@ -127,7 +132,7 @@ class Build:
             is_first = crate == self.left[0] and all(it.behind for it in self.running)
             jobs = min(self.jobs if is_first else max(self.jobs // 2, 1), self.most_jobs[crate])
             behind = 0 if is_first else max(sum(self.longest[it.crate] > self.longest[crate] for it in self.running), 1)
-            self.begin(Run(crate, jobs, [sys.executable, "-B", f"{TOP}/tools/prove.py", crate, str(jobs)], behind))
+            self.begin(Run(crate, jobs, proving("check" if is_program(crate) else "lib", crate, jobs), behind))
             self.left.remove(crate)
 
     def begin(self, run):
@@ -162,8 +167,9 @@ class Build:
     def make(self, name):
         """Makes a program of which all below is proved, and answers whether that went well."""
         try:
-            self.begin(Run(name, self.jobs, ["rt", "run", "--jobs", str(self.jobs), "--", *stored_words(name)]))
-            return self.wait()
+            with locked([*self.below, name]):
+                self.begin(Run(name, self.jobs, proving("run", name, self.jobs, "--", *stored_words(name))))
+                return self.wait()
         finally:
             self.stop()
 

@@ -1,7 +1,8 @@
-"""Proves one crate of the repository with so many jobs: prove.py CRATE JOBS
+"""Runs a command of `rt` for one crate of the repository with so many jobs: prove.py lib|check|run CRATE JOBS [WORD..]
 
-It does what `rt lib` does for a library and `rt check` for a program, but without the lock that `rt` holds on a crate and all below
-it: tools/build.py holds it for all that it starts.
+It does what `rt` does, but without the lock that `rt` holds on a crate and all below it: tools/build.py holds it for all that it starts.
+And where `rt` sums up the files of a crate and of all below it, to see whether something has changed, each crate is summed up once, and not
+once for each of the thousands of ways that lead down to it.
 """
 import importlib.machinery
 import importlib.util
@@ -9,7 +10,7 @@ import os
 import shutil
 import sys
 
-from crates import folder, is_program
+from crates import folder
 
 
 def loaded():
@@ -20,12 +21,30 @@ def loaded():
     return rt
 
 
+def made_once(stamp):
+    """What sums up a crate as `stamp` does, and each below it once."""
+    made = {}
+
+    def stamp_of(crate):
+        is_first = not made
+        if crate.name not in made:
+            made[crate.name] = ""
+            made[crate.name] = stamp(crate)
+        found = made[crate.name]
+        if is_first:
+            made.clear()
+        return found
+
+    return stamp_of
+
+
 def main():
-    crate, jobs = sys.argv[1:]
+    verb, crate, jobs, *words = sys.argv[1:]
     rt = loaded()
     rt.rtlib.lock = lambda crates: []
+    rt.rtlib.Crate.stamp = made_once(rt.rtlib.Crate.stamp)
     os.chdir(folder(crate))
-    return rt.main(["check" if is_program(crate) else "lib", "--jobs", jobs])
+    return rt.main([verb, "--jobs", jobs, *words])
 
 
 if __name__ == "__main__":
