@@ -31,7 +31,7 @@ TESTS = [
     ),
     MemoryTest(
         crate="tests_of_replicas",
-        name="frame_memory::memory_of_a_frame",
+        name="frames::a_frame_is_read_and_spelled_again_or_memory_is_wanted",
         what="a frame that is read and spelled",
         whole="spelled",
         refused={"refused": "refused one of the two with Memory"},

@@ -1,7 +1,6 @@
 //! What operations show in the orders in which sites take them, and in others, with the report
 //! written out by hand.
 use crate::model_lines::{Names, assert_lines};
-use dots::Penalty;
 use reference_model::Total;
 
 // A report of a number of items: what stands between its first message and its last, with a bar between
@@ -338,8 +337,7 @@ fn operations_show_what_the_definitions_say(rt: HostRuntime) {
 }
 
 #[test]
-fn a_penalty_and_a_total_have_limits(rt: HostRuntime) {
-    assert!(rt; Penalty::new(2_147_483_648).is_none());
+fn a_total_has_a_limit(rt: HostRuntime) {
     let greatest = Total::new(1_000_000_000).expect(&rt, "a total");
     assert!(rt; greatest.get() == 1_000_000_000 && Total::new(1_000_000_001).is_none());
 }

@@ -1,9 +1,9 @@
 //! What the lines of a story give at two sites of the reference model.
-use crate::made_operations::{calls, operations, setting};
 use crate::told::{
-    Words, interface, label, list, member, name, number, penalty, queue, queue_number, row_text,
-    site, text, utf8, word,
+    Words, assert_given, assert_stories, interface, label, list, member, name, number, penalty,
+    place, queue, queue_number, row_text, site, tells, text, told_and_wanted, utf8, word,
 };
+use crate::told_operations::{calls, operations, setting};
 use dots::{Bytes, Member, Text80};
 use reference_model::{
     Change, Operation, Outcome, SiteKnowledge, Step, after_step, dots_of_member, row, rows, status,
@@ -25,11 +25,11 @@ pub(crate) struct Names {
 #[derive(Drop)]
 struct World {
     list: QueueList,
-    first: SiteKnowledge,
-    second: SiteKnowledge,
+    sites: Vec<SiteKnowledge>,
     frames: Vec<Vec<Operation>>,
 }
 
+// A site that knows nothing.
 fn new_site(alloc: Global) -> SiteKnowledge {
     SiteKnowledge {
         known: Vec::new(alloc),
@@ -39,12 +39,22 @@ fn new_site(alloc: Global) -> SiteKnowledge {
 }
 
 fn new_world(rt: &impl Abort, alloc: Global, queues: &mut Words<'_>) -> World {
+    let mut sites = Vec::new(alloc);
+    sites.push(new_site(alloc)).expect(rt, "memory");
+    sites.push(new_site(alloc)).expect(rt, "memory");
     World {
         list: list(rt, alloc, queues),
-        first: new_site(alloc),
-        second: new_site(alloc),
+        sites,
         frames: Vec::new(alloc),
     }
+}
+
+fn site_at<'a>(rt: &impl Abort, world: &'a World, at: &str) -> &'a SiteKnowledge {
+    world.sites.get(place(rt, at)).expect(rt, at)
+}
+
+fn site_at_mut<'a>(rt: &impl Abort, world: &'a mut World, at: &str) -> &'a mut SiteKnowledge {
+    world.sites.get_mut(place(rt, at)).expect(rt, at)
 }
 
 // The change of this kind: of a queue, and but for a call of an interface.
@@ -94,8 +104,7 @@ fn step(
         "cut" => Step::Cut,
         "whole" => Step::Whole,
         "take" => {
-            let place = usize::from(word(rt, words).parse::<u16>().expect(rt, "a place"));
-            let frame = frames.get(place).expect(rt, "a frame");
+            let frame = frames.get(place(rt, word(rt, words))).expect(rt, "a frame");
             Step::Take(copies(rt, alloc, frame))
         }
         _ => Step::Do(change(rt, kind, words)),
@@ -121,21 +130,14 @@ fn outcome_text(rt: &impl Abort, alloc: Global, outcome: &Outcome) -> String {
 }
 
 // Lets a site do a step, and gives what comes of it.
-fn do_step(
-    rt: &impl Abort,
-    alloc: Global,
-    list: &QueueList,
-    at: &str,
-    known: &mut SiteKnowledge,
-    frames: &mut Vec<Vec<Operation>>,
-    step: &Step,
-) -> String {
-    let after = after_step(alloc, site(rt, at), list, known, step);
-    let (new, outcome) = after.expect(rt, "memory");
+fn do_step(rt: &impl Abort, alloc: Global, world: &mut World, at: &str, step: &Step) -> String {
+    let site = site(rt, at);
+    let after = after_step(alloc, site, &world.list, site_at(rt, world, at), step);
+    let (known, outcome) = after.expect(rt, "memory");
     let given = outcome_text(rt, alloc, &outcome);
-    *known = new;
+    *site_at_mut(rt, world, at) = known;
     if let Outcome::Framed { frame, .. } = outcome {
-        frames.push(frame).expect(rt, "memory");
+        world.frames.push(frame).expect(rt, "memory");
     }
     given
 }
@@ -232,52 +234,33 @@ fn report_text(
     String::from_str(alloc, text).expect(rt, "memory")
 }
 
-// What is seen of operations.
-fn seen(
+// What a line gives at a site: what is seen of what it knows, or what comes of a step.
+fn given_at(
     rt: &impl Abort,
     alloc: Global,
-    list: &QueueList,
-    known: &[Operation],
+    world: &mut World,
     names: &Names,
-    kind: &str,
+    at: &str,
     words: &mut Words<'_>,
 ) -> String {
+    let known = &site_at(rt, world, at).known;
+    let kind = word(rt, words);
     match kind {
         "row" => row_of(rt, alloc, known, &member(rt, word(rt, words))),
         "rows" => rows_text(rt, alloc, known, queue_number(rt, word(rt, words))),
         "dots" => dots_text(rt, alloc, known, &member(rt, word(rt, words))),
         "totals" => totals_text(rt, alloc, known, queue_number(rt, word(rt, words))),
         "stamp" => stamp_text(rt, alloc, known),
-        _ => report_text(rt, alloc, list, known, names.reports, words),
-    }
-}
-
-// What a line gives at a site: what comes of a step, or what is seen.
-fn given_at(
-    rt: &impl Abort,
-    alloc: Global,
-    list: &QueueList,
-    at: &mut SiteKnowledge,
-    frames: &mut Vec<Vec<Operation>>,
-    names: &Names,
-    number: &str,
-    words: &mut Words<'_>,
-) -> String {
-    let kind = word(rt, words);
-    match kind {
-        "row" | "rows" | "dots" | "totals" | "stamp" | "report" => {
-            seen(rt, alloc, list, &at.known, names, kind, words)
-        }
+        "report" => report_text(rt, alloc, &world.list, known, names.reports, words),
         _ => {
-            let step = step(rt, alloc, frames, kind, words);
-            do_step(rt, alloc, list, number, at, frames, &step)
+            let step = step(rt, alloc, &world.frames, kind, words);
+            do_step(rt, alloc, world, at, &step)
         }
     }
 }
 
-// What a line gives. `knows`, `buffer` and `number` tell what the first knows, what of that it has
-// put in no frame yet and how many frames it has made; `frame` tells a frame. Other lines are of a
-// site.
+// What a line gives. `knows`, `buffer` and `number` tell what site 0 knows, what of that it has put in no frame yet and how many frames it
+// has made; `frame` tells a frame. Other lines are of a site.
 fn given(
     rt: &impl Abort,
     alloc: Global,
@@ -286,62 +269,27 @@ fn given(
     words: &mut Words<'_>,
 ) -> String {
     let first = word(rt, words);
+    let told = names.operations;
     match first {
-        "knows" => world.first.known = operations(rt, alloc, names.operations, words),
-        "buffer" => world.first.buffer = operations(rt, alloc, names.operations, words),
-        "number" => world.first.frames = number(rt, word(rt, words)),
+        "knows" => site_at_mut(rt, world, "0").known = operations(rt, alloc, told, words),
+        "buffer" => site_at_mut(rt, world, "0").buffer = operations(rt, alloc, told, words),
+        "number" => site_at_mut(rt, world, "0").frames = number(rt, word(rt, words)),
         "frame" => {
-            let frame = operations(rt, alloc, names.operations, words);
+            let frame = operations(rt, alloc, told, words);
             world.frames.push(frame).expect(rt, "memory");
         }
-        "0" => {
-            return given_at(
-                rt,
-                alloc,
-                &world.list,
-                &mut world.first,
-                &mut world.frames,
-                names,
-                first,
-                words,
-            );
-        }
-        _ => {
-            return given_at(
-                rt,
-                alloc,
-                &world.list,
-                &mut world.second,
-                &mut world.frames,
-                names,
-                first,
-                words,
-            );
-        }
+        _ => return given_at(rt, alloc, world, names, first, words),
     }
     String::new(alloc)
 }
 
-// Asserts what a line gives.
-fn assert_given(
-    rt: &impl Abort,
-    alloc: Global,
-    world: &mut World,
-    names: &Names,
-    told: &str,
-    wanted: &str,
-) {
-    let given = given(rt, alloc, world, names, &mut told.split_whitespace());
-    assert!(rt; given.as_str() == wanted, "{told} gives {given}");
-}
-
-// Asserts that each of these lines gives what stands behind it. An empty one, or one that begins
-// with `#`, says nothing.
+// Asserts that each of these lines gives what it must.
 fn assert_each(rt: &impl Abort, alloc: Global, world: &mut World, names: &Names, lines: &str) {
     for line in lines.split('\n') {
-        if !line.is_empty() && !line.starts_with('#') {
-            let (told, wanted) = line.split_once(": ").unwrap_or((line, ""));
-            assert_given(rt, alloc, world, names, told, wanted);
+        if tells(line) {
+            let (told, wanted) = told_and_wanted(line);
+            let given = given(rt, alloc, world, names, &mut told.split_whitespace());
+            assert_given(rt, told, &given, wanted);
         }
     }
 }
@@ -354,9 +302,9 @@ fn assert_story(rt: &impl Abort, alloc: Global, names: &Names, story: &str) {
     drop(world);
 }
 
-// Asserts stories. Each begins at a line `queues`, with two new sites of the queues that stand
-// behind it.
+// Asserts stories. Each begins at a line `queues`, with two new sites of the queues that stand behind it.
 pub(crate) fn assert_lines(rt: &impl Abort, alloc: Global, names: &Names, lines: &str) {
+    assert_stories(rt, lines, "\nqueues ");
     for story in lines.split("\nqueues ").skip(1) {
         assert_story(rt, alloc, names, story);
     }

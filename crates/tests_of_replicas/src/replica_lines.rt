@@ -1,37 +1,14 @@
 //! What lines give at a site: what comes of commands and of frames from elsewhere, and what is seen then.
 use crate::told::{
-    Words, interface, label, list, member, name, parts, penalty, queue, queue_number, row_text,
-    site, text, utf8, word,
+    Words, assert_given, assert_stories, interface, label, list, member, name, parts, penalty,
+    queue, queue_number, row_text, site, tells, text, told_and_wanted, utf8, word,
 };
-use delta_codec::{Frame, decode};
+use crate::told_frames::frame;
+use delta_codec::Frame;
 use dots::Pause;
 use replica::{Command, Refusal, Replica, TakeFault};
 use std::alloc::Global;
 use std::process::Abort;
-
-// Frames that come from elsewhere, in hexadecimal.
-const FRAMES: &[(&str, &str)] = &[
-    // The first frame of site 0, after it added SIP/1 to queue 0 with defaults.
-    (
-        "ADDED",
-        "0000005e514401000000000000000001000000010000000000000000010000000000000001000000\
-         010000000000000000010000055349502f3107000000000000000100000000000000000000000001\
-         000000000000000000000100000000000000",
-    ),
-    // A frame of site 1 that adds SIP/1 to queue 0 with the greatest count and time, and penalty 7.
-    (
-        "GREATEST",
-        "0000005e514401010000000000000001000000010100000100000000000000010000000000000000\
-         010100000100000000000000055349502f3107000001000000000001000000070000010000000000\
-         010000000001000000000001000000000000",
-    ),
-    // A frame of no dots, and of one completed call of site 0 in queue 0.
-    (
-        "COUNTED",
-        "0000002b514401000000000000000001000000000000000000000001000000000000000000000100\
-         00000000000000",
-    ),
-];
 
 // The command of this kind: of a queue, and but for a call of an interface.
 fn command(rt: &impl Abort, kind: &str, words: &mut Words<'_>) -> Command {
@@ -74,39 +51,6 @@ fn answer(rt: &impl Abort, alloc: Global, replica: &mut Replica, command: Comman
         Ok(()) => String::from_str(alloc, "done").expect(rt, "memory"),
         Err(refusal) => format!(in alloc; "refused {refusal:?}").expect(rt, "memory"),
     }
-}
-
-// The frame that bytes spell.
-fn decoded(rt: &impl Abort, alloc: Global, bytes: &[u8]) -> Frame {
-    match decode(alloc, bytes) {
-        Ok((frame, len)) if len == bytes.len() => frame,
-        _ => rt.panic("no frame"),
-    }
-}
-
-// Puts other bytes in these places, each told as `51=1`.
-fn put_each(rt: &impl Abort, bytes: &mut [u8], words: &mut Words<'_>) {
-    for told in words {
-        let (place, byte) = parts(rt, told, '=');
-        let place = usize::from(queue_number(rt, place));
-        *bytes.get_mut(place).expect(rt, "a place") = byte.parse::<u8>().expect(rt, "a byte");
-    }
-}
-
-fn bytes_of(rt: &impl Abort, alloc: Global, name: &str) -> Vec<u8> {
-    for (other, digits) in FRAMES {
-        if *other == name {
-            return hex::decode(alloc, *digits).expect(rt, "bytes");
-        }
-    }
-    rt.panic("no such frame")
-}
-
-// The frame of a name, in which some bytes are others.
-fn spelled(rt: &impl Abort, alloc: Global, words: &mut Words<'_>) -> Frame {
-    let mut bytes = bytes_of(rt, alloc, word(rt, words));
-    put_each(rt, &mut bytes, words);
-    decoded(rt, alloc, &bytes)
 }
 
 fn copy_of(rt: &impl Abort, frame: &Frame) -> Frame {
@@ -156,7 +100,7 @@ fn last_text(rt: &impl Abort, alloc: Global, replica: &Replica) -> String {
 fn given(rt: &impl Abort, alloc: Global, replica: &mut Replica, words: &mut Words<'_>) -> String {
     let kind = word(rt, words);
     match kind {
-        "comes" => take(rt, alloc, replica, spelled(rt, alloc, words)),
+        "comes" => take(rt, alloc, replica, frame(rt, alloc, words)),
         "row" => row_text(rt, alloc, replica.row(&member(rt, word(rt, words)))),
         "rows" => rows_text(rt, alloc, replica, queue_number(rt, word(rt, words))),
         "last" => last_text(rt, alloc, replica),
@@ -164,20 +108,13 @@ fn given(rt: &impl Abort, alloc: Global, replica: &mut Replica, words: &mut Word
     }
 }
 
-fn assert_text(rt: &impl Abort, given: &str, wanted: &str) {
-    assert!(rt;
-        wanted.strip_prefix(' ') == Some(given),
-        "{given} is given, not{wanted}"
-    );
-}
-
-// Asserts that each of these lines gives what stands behind it. An empty one, or one that begins with `#`, says nothing.
+// Asserts that each of these lines gives what it must.
 fn assert_each(rt: &impl Abort, alloc: Global, replica: &mut Replica, lines: &str) {
     for line in lines.split('\n') {
-        if !line.is_empty() && !line.starts_with('#') {
-            let (told, wanted) = parts(rt, line, ':');
+        if tells(line) {
+            let (told, wanted) = told_and_wanted(line);
             let given = given(rt, alloc, replica, &mut told.split_whitespace());
-            assert_text(rt, given.as_str(), wanted);
+            assert_given(rt, told, &given, wanted);
         }
     }
 }
@@ -194,6 +131,7 @@ fn assert_story(rt: &impl Abort, alloc: Global, story: &str) {
 
 // Asserts stories. Each begins at a line `site`, with a new site of the number and of the queues that stand behind it.
 pub(crate) fn assert_lines(rt: &impl Abort, alloc: Global, lines: &str) {
+    assert_stories(rt, lines, "\nsite ");
     for story in lines.split("\nsite ").skip(1) {
         assert_story(rt, alloc, story);
     }

@@ -291,7 +291,7 @@ fn steps_do_and_show_what_the_definitions_say(rt: HostRuntime) {
 // What stands at the limits is a test a story, since each takes seconds.
 
 #[test]
-fn runs_that_are_taken_up_to_their_limit(rt: HostRuntime) {
+fn a_site_takes_as_many_runs_as_it_may_have(rt: HostRuntime) {
     const STORY: &str = "\
 # A site takes no more runs than it may have.
 queues sales
@@ -369,7 +369,7 @@ buffer ADD_1_2 ADD_1_131074 ADD_1_131075 ODD_1_65537
 }
 
 #[test]
-fn dots_that_are_taken_up_to_their_limit(rt: HostRuntime) {
+fn a_site_takes_as_many_dots_as_it_may_see(rt: HostRuntime) {
     const STORY: &str = "\
 # A site takes no more dots than it may see.
 queues sales
@@ -384,7 +384,7 @@ frame MANY_16384
 }
 
 #[test]
-fn dots_that_are_seen_up_to_their_limit(rt: HostRuntime) {
+fn dots_are_seen_up_to_their_limit(rt: HostRuntime) {
     const STORY: &str = "\
 # A buffer that sees as many dots as it may is cut before an add.
 queues sales

@@ -1,4 +1,4 @@
-//! Values, told as words.
+//! Values, told as words; and lines, which tell what happens and what that must give.
 use dots::{Dot, Interface, Label, Member, Penalty, QueueName, SiteId, Text80};
 use operations::Row;
 use replica::QueueList;
@@ -7,6 +7,16 @@ use std::process::Abort;
 use std::str::{SplitWhitespace, from_utf8};
 
 pub(crate) type Words<'a> = SplitWhitespace<'a>;
+
+// What is told by this name.
+pub(crate) fn told_as<'a>(rt: &impl Abort, told: &[(&str, &'a str)], name: &str) -> &'a str {
+    for (other, what) in told {
+        if *other == name {
+            return what;
+        }
+    }
+    rt.panic("no such name")
+}
 
 pub(crate) fn word<'a>(rt: &impl Abort, words: &mut Words<'a>) -> &'a str {
     words.next().expect(rt, "a word")
@@ -27,6 +37,11 @@ pub(crate) fn small(rt: &impl Abort, word: &str) -> u32 {
 
 pub(crate) fn queue_number(rt: &impl Abort, word: &str) -> u16 {
     word.parse::<u16>().expect(rt, word)
+}
+
+// A place in a list, from 0.
+pub(crate) fn place(rt: &impl Abort, word: &str) -> usize {
+    usize::from(queue_number(rt, word))
 }
 
 pub(crate) fn site(rt: &impl Abort, word: &str) -> SiteId {
@@ -107,5 +122,28 @@ pub(crate) fn row_text(rt: &impl Abort, alloc: Global, row: Option<Row<'_>>) -> 
             )
         }
         None => String::from_str(alloc, "none").expect(rt, "memory"),
+    }
+}
+
+// Whether a line tells something: it isn't empty, and doesn't begin with `#`.
+pub(crate) fn tells(line: &str) -> bool {
+    !line.is_empty() && !line.starts_with('#')
+}
+
+// What a line tells, and what that must give, which stands behind a colon and a blank; nothing where there is none.
+pub(crate) fn told_and_wanted(line: &str) -> (&str, &str) {
+    line.split_once(": ").unwrap_or((line, ""))
+}
+
+// Asserts what was given upon what a line tells.
+pub(crate) fn assert_given(rt: &impl Abort, told: &str, given: &str, wanted: &str) {
+    assert!(rt; given == wanted, "{told} gives {given}");
+}
+
+// Asserts that there is a story, which begins at a line of this first word, and that the lines before the first tell nothing.
+pub(crate) fn assert_stories(rt: &impl Abort, lines: &str, first_word: &str) {
+    let (before, _) = lines.split_once(first_word).expect(rt, "a story");
+    for line in before.split('\n') {
+        assert!(rt; !tells(line));
     }
 }

@@ -1,5 +1,7 @@
 //! Operations, told as words.
-use crate::told::{Words, dot, label, member, number, parts, penalty, site, small, text, word};
+use crate::told::{
+    Words, dot, label, member, number, parts, penalty, site, small, text, told_as, word,
+};
 use dots::{Dot, Member, Pause, SiteId, Stamp};
 use reference_model::{Calls, Operation, Setting, Total};
 use std::alloc::Global;
@@ -28,7 +30,7 @@ pub(crate) fn setting(rt: &impl Abort, kind: &str, words: &mut Words<'_>) -> Set
 }
 
 // A stamp: its time and its site, as `1.0`.
-pub(crate) fn stamp(rt: &impl Abort, word: &str) -> Stamp {
+fn stamp(rt: &impl Abort, word: &str) -> Stamp {
     let (time, of) = parts(rt, word, '.');
     Stamp::new(number(rt, time), site(rt, of)).expect(rt, word)
 }
@@ -137,12 +139,6 @@ fn operation(rt: &impl Abort, alloc: Global, told: &str) -> Operation {
     } else {
         removed(rt, alloc, kind == "remove_odd", &mut words)
     }
-}
-
-// What is told under this name.
-fn told_as<'a>(rt: &impl Abort, told: &[(&str, &'a str)], name: &str) -> &'a str {
-    let found = told.iter().find(|row| row.0 == name);
-    found.expect(rt, name).1
 }
 
 // The operations of these names among those that are told.
