@@ -1,5 +1,5 @@
 -- A command means the same where what is read is alike.
-use Rattle.std.proofs.Common.{◌≡◌, ℕ, suc, max, Bool, true, false, not, ◌&&◌, ◌||◌, if◌then◌else◌, inl, inr, List, [], ◌∷◌, Contains, Option, Some, None, map as each, refl, ap, subst, ◌∙◌, arith}
+use Rattle.std.proofs.Common.{◌≡◌, ℕ, suc, max, Bool, true, not, ◌&&◌, ◌||◌, if◌then◌else◌, List, [], ◌∷◌, Contains, Option, Some, None, map as each, refl, ap, ◌∙◌}
 use Rattle.std.specs.Prelude.{bytes_eq}
 use Rattle.std.specs.List.{filter_map}
 use Rattle.std.specs.Option.{option_and_then}
@@ -10,14 +10,15 @@ use Rattle.dots.specs.declared.member.Member.{Member}
 use Rattle.dots.specs.Values.{Dot}
 use Rattle.operations.specs.Operations.{Operation, Setting, SetPenalty, SetPause, SetLabel, Add, Write, Count}
 use Rattle.operations.specs.Knowledge.{asserted_dots, known_dots, names}
-use Rattle.operations.specs.Rows.{DotView, ShowAlike, dots_of}
+use Rattle.operations.specs.Rows.{DotView, ShowAlike}
 use Rattle.general_lemmas.specs.SetItems.{in_order}
-use Rattle.operations.proofs.AlikeViews.{filter_map_same, listed_in, own_visible, same_dots}
-use Rattle.general_lemmas.proofs.Membership.{first_in, later_in, cases_in, in_some}
+use Rattle.operations.proofs.AlikeViews.{filter_map_same, listed_in, same_dots}
+use Rattle.general_lemmas.proofs.Membership.{first_in, later_in}
 use Rattle.replica.specs.declared.refusal.Refusal.TheVariants.{MembersFull, Exhausted, TotalFull}
 use Rattle.replica.specs.Changes.{Change, Meaning, AddMember, RemoveMember, SetField, CountCall, Refused, Makes, time_of, time_replaced, add_at, write_at, remove_of, is_full, is_too_long, is_exhausted, is_past_total, within_limits, in_queue, where_absent, where_present, meaning_of_setting, meaning}
 use Rattle.replica.specs.Promises.{AreAlike, AreAsFull, MeansTheSameAlike}
 use Rattle.replica.specs.Queues.{number_of}
+use Rattle.replica.proofs.SeenOnce.{seen_visible}
 use Rattle.replica.specs.SiteViews.{SiteView, greatest, is_dead, older_dots, with_interface, dots_seen, visible_with, known_with, is_past_limits}
 
 -- the dots that a command goes over
@@ -27,38 +28,6 @@ same_seen r s alike None interface =
     ap (option_and_then (λ member. if bytes_eq member.interface interface then Some (dot, member) else None)) (alike.member dot (listed_in r.visible dot here)))
     ∙ ap (λ v. filter_map (with_interface s interface) (in_order v)) alike.visible
 same_seen r s alike (Some queue) interface = ap (each (λ dot. let d : Dot × Member = (dot, record { queue = queue; interface = interface }) in d)) (same_dots r s alike (record { queue = queue; interface = interface }))
-
-in_each : (member : Member) (dots : List Dot) (d : Dot × Member) → Contains (each (λ dot. let p : Dot × Member = (dot, member) in p) dots) d → Contains dots d.0
-in_each member [] d h = absurd (omega (arith, h.1))
-in_each member (x ∷ xs) d h = elim (cases_in (x, member) (each (λ dot. let p : Dot × Member = (dot, member) in p) xs) d h) [
-  | inl e ↦ subst (Contains (x ∷ xs)) (ap (λ (p : Dot × Member). p.0) e) (first_in x xs)
-  | inr r ↦ later_in x xs d.0 (in_each member xs d r)
-]
-
-with_own : (r : DotView) (interface : List ℕ) (dot : Dot) (d : Dot × Member) → with_interface r interface dot ≡ Some d → dot ≡ d.0
-with_own r interface dot d h = by (r.member dot) h
-  where
-    no : None ≡ Some d → dot ≡ d.0
-    no e = (cc)
-
-    one : (member : Member) → Some (dot, member) ≡ Some d → (dot, member) ≡ d
-    one member e = cc
-
-    found : (member : Member) (b : Bool) → (if b then Some (dot, member) else None) ≡ Some d → dot ≡ d.0
-    found member true e = ap (λ (p : Dot × Member). p.0) (one member e)
-    found member false e = no e
-
-    by : (o : Option Member) → option_and_then (λ member. if bytes_eq member.interface interface then Some (dot, member) else None) o ≡ Some d → dot ≡ d.0
-    by None e = no e
-    by (Some member) e = found member (bytes_eq member.interface interface) e
-
--- they are visible
-seen_visible : (r : DotView) (queue : Option ℕ) (interface : List ℕ) (d : Dot × Member) → Contains (dots_seen r queue interface) d → set.contains r.visible d.0 ≡ true
-seen_visible r None interface d h =
-    let found = in_some (with_interface r interface) (in_order r.visible) d h in
-    listed_in r.visible d.0 (subst (Contains (in_order r.visible)) (with_own r interface found.0 d found.2) found.1)
-seen_visible r (Some queue) interface d h =
-    let member : Member = record { queue = queue; interface = interface } in own_visible r member d.0 (in_each member (dots_of r member) d h)
 
 greatest_same : {X : Type 0} (f g : X → ℕ) (xs : List X) → ((x : X) → Contains xs x → f x ≡ g x) → greatest f xs ≡ greatest g xs
 greatest_same f g [] same = refl

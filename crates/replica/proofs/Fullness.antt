@@ -1,8 +1,7 @@
 -- Whether a site is full, by what it keeps and by the change that stands for an operation.
-use Rattle.std.proofs.Common.{◌≡◌, ℕ, suc, ◌+◌, ◌≤◌, ◌<◌, Bool, true, false, not, ◌&&◌, ◌||◌, [], ◌∷◌, List, length, cond, Contains, map as each, Option, Some, None, is_some, if◌then◌else◌, refl, sym, ap, ◌∙◌, arith, true≢false}
+use Rattle.std.proofs.Common.{◌≡◌, ℕ, suc, ◌+◌, ◌≤◌, ◌<◌, Bool, true, false, not, ◌&&◌, ◌||◌, [], ◌∷◌, List, length, cond, Contains, map as each, Option, Some, None, is_some, refl, sym, ap, ◌∙◌, arith, true≢false}
 use Rattle.std.specs.Prelude.{nat_eq, nat_lt}
 use Rattle.std.specs.List.{AllByRecursion, IsDistinct, list_any}
-use Rattle.std.specs.Option.{option_map}
 use Rattle.std.specs.FinMap as map
 use Rattle.std.specs.FinSet as set
 use Rattle.std.proofs.lemmas.Bool.{false_from_ne_true, le-ltb, or_right}
@@ -15,7 +14,7 @@ use Rattle.dots.specs.declared.member.Member.{Member}
 use Rattle.dots.specs.Values.{Dot, Stamp, PauseState}
 use Rattle.dots.specs.Orders.{dot_cmp}
 use Rattle.dots.specs.DotSets.{is_older, next_dot, run_count}
-use Rattle.operations.specs.Conditions.{Condition, DotFields, Live, Dead, condition_joined, fields_in}
+use Rattle.operations.specs.Conditions.{DotFields, condition_joined, fields_in}
 use Rattle.operations.specs.Knowledge.{asserted_dots, asserts, is_dot, known_dots, member_of, names}
 use Rattle.dots.specs.declared.calls.Calls.{Calls}
 use Rattle.dots.specs.declared.label.Label.{Label}
@@ -37,7 +36,7 @@ use Rattle.member_orset.specs.Members.{Holding, IsWithinLimits, both_joined, cel
 use Rattle.member_orset.specs.Reads.{dots_seen_below, seen_dots}
 use Rattle.delta.specs.DeltaStates.{DeltaState}
 use Rattle.delta.specs.Standing.{IsDeltaOf}
-use Rattle.replica.proofs.MadeChanges.{known_by}
+use Rattle.replica.proofs.MadeChanges.{condition_by, known_by}
 use Rattle.replica.specs.Changes.{is_full, is_too_long}
 use Rattle.replica.specs.Site.{SiteState, view_of}
 use Rattle.replica.specs.SiteViews.{is_dead, is_past_limits, known_with, older_dots, visible_with}
@@ -45,10 +44,6 @@ use Rattle.replica.specs.SiteViews.{is_dead, is_past_limits, known_with, older_d
 -- sets of dots
 abbrev Dots : Type 0
 Dots = set.FinSet dot_cmp
-
--- the condition of a dot by whether it is named, its member and its fields
-abbrev condition_by : Bool → Option Member → DotFields → Option Condition
-condition_by named member fields = if named then Some Dead else option_map (λ m. Live m fields) member
 
 module _ (s : SiteState) (d : DeltaState) where
   -- what is visible is what is live

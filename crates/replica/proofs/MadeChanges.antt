@@ -48,7 +48,7 @@ Dots = set.FinSet dot_cmp
 -- ---- conditions
 
 -- the condition of a dot by whether it is named, its member and its fields
-abbrev condition_by : Bool → Option Member → DotFields → Option Condition
+abbrev pub condition_by : Bool → Option Member → DotFields → Option Condition
 condition_by named member fields = if named then Some Dead else option_map (λ m. Live m fields) member
 
 -- what one operation alone sets of a field
