@@ -143,7 +143,7 @@ fn end_sites<R: Threads, G: Gate + Drop>(rt: &R, sites: Sites<G>, fault: RunFaul
 {
     let mut first = fault;
     for site in sites {
-        if let Err(RunFault::NoThread) = site.join(rt) {
+        if site.join(rt).err() == Some(RunFault::NoThread) {
             first = RunFault::NoThread;
         }
     }

@@ -57,6 +57,9 @@ fn run_threads<
     if let Err(fault) = start_takers(scope, rt, alloc, desk, &mut passes, from, &mut takers) {
         drop(to);
         join_each(rt, takers);
+        drop(gathered);
+        drop(passes);
+        drop(gate);
         return Err(fault);
     }
     match ask_and_send(scope, rt, alloc, desk, passes, tasks, gate, to) {
@@ -68,6 +71,7 @@ fn run_threads<
         }
         Err(fault) => {
             join_each(rt, takers);
+            drop(gathered);
             Err(fault)
         }
     }
@@ -144,6 +148,36 @@ fn ended<L: SiteLedger, G: Drop>(desk: SiteDesk<L>, gathered: Gathered<L>, gate:
     }
 }
 
+// Runs the threads of a site at its desk, and closes that.
+fn run_desk<L: SiteLedger + Send + Sync, R: Threads + Wait + Sync, G: Gate + Send + Drop>(
+    rt: &R,
+    alloc: Global,
+    desk: SiteDesk<L>,
+    passes: Vec<Pass<L>>,
+    asks: &[Ask],
+    plan: &LinkPlan,
+    gate: G,
+    links: LinkEnds,
+) -> Result<SiteEnd<G>, RunFault>
+    requires passes { AreFresh (vec_len links.from + 2) passes.items }
+    requires all { desk.passes ≡ vec_len links.from + 2 }
+    requires most { L.limit ≡ MOST_STEPS }
+    requires new { IsNew L.base }
+    ensures end { IfOk result (λ end. HasRun L.site L.names (vec_len links.from + 2) asks.now
+        end.journal (map (λ list. list.items) end.receipts.items) end.fault) }
+    ensures gated { IfOk result (λ end. IsGatedBy G.called gate
+        (map (λ list. list.items) end.receipts.items) end.fault end.gate) }
+    ensures fault { IfErr result (λ fault. fault ≢ RunFault.BadSites) }
+{
+    match run_scoped(rt, alloc, &desk, passes, asks, plan, gate, links) {
+        Ok((gathered, gate)) => Ok(ended(desk, gathered, gate)),
+        Err(fault) => {
+            drop(desk);
+            Err(fault)
+        }
+    }
+}
+
 // A site under a ledger: its desk is made, its threads are run, and it is closed.
 fn run_site<L: SiteLedger + Send + Sync, R: Threads + Wait + Sync, G: Gate + Send + Drop>(
     rt: &R,
@@ -171,20 +205,22 @@ fn run_site<L: SiteLedger + Send + Sync, R: Threads + Wait + Sync, G: Gate + Sen
 {
     let SiteWork { asks, plan, gate } = work;
     let number = links.from.len() as u32 + 2;
-    let Ok((desk, passes)) = SiteDesk::<L>::new(alloc, blank, journal, number) else {
-        return Err(RunFault::Memory);
-    };
-    let (gathered, gate) = run_scoped(
-        rt,
-        alloc,
-        &desk,
-        passes,
-        asks.as_slice(),
-        &plan,
-        gate,
-        links,
-    )?;
-    Ok(ended(desk, gathered, gate))
+    match SiteDesk::<L>::new(alloc, blank, journal, number) {
+        Ok((desk, passes)) => {
+            let ended = run_desk(rt, alloc, desk, passes, asks.as_slice(), &plan, gate, links);
+            drop(asks);
+            drop(plan);
+            ended
+        }
+        Err((_, journal)) => {
+            drop(journal);
+            drop(asks);
+            drop(plan);
+            drop(gate);
+            drop(links);
+            Err(RunFault::Memory)
+        }
+    }
 }
 
 // A site that knows nothing yet, under a ledger that this call names.
@@ -204,9 +240,16 @@ pub(crate) fn run_new_site<R: Threads + Wait + Sync, G: Gate + Send + Drop>(
     ensures fault { IfErr result (λ fault. fault ≢ RunFault.BadSites) }
 {
     let replica = Replica::new(alloc, site, list);
-    let Ok(journal) = Journaled::new(alloc, replica, MOST_STEPS) else {
-        return Err(RunFault::Memory);
-    };
-    let blank = Blank::new(links.from.len() as u64 + 2);
-    run_site::<Brand, R, G>(rt, alloc, blank, journal, work, links)
+    match Journaled::new(alloc, replica, MOST_STEPS) {
+        Ok(journal) => {
+            let blank = Blank::new(links.from.len() as u64 + 2);
+            run_site::<Brand, R, G>(rt, alloc, blank, journal, work, links)
+        }
+        Err((_, replica)) => {
+            drop(replica);
+            drop(work);
+            drop(links);
+            Err(RunFault::Memory)
+        }
+    }
 }
