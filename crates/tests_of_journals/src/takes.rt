@@ -3,10 +3,9 @@
 ghost use Rattle.std.specs.Prelude.{◌≡◌};
 ghost use Rattle.site_journal.specs.Journals.{IsOfSite};
 
+use crate::asks::SALES;
 use crate::frames::{ADDED, GREATEST, NOTHING, REMOVED, TOUCHING};
-use dots::{QueueName, SiteId};
-use replica::{QueueList, Replica};
-use site_desk::{SiteDesk, SiteLedger, close};
+use site_desk::{Pass, SiteDesk, SiteLedger, close};
 use site_journal::{DecodeFault, DeskFault, Journaled, StepDeed, TakeFault};
 use std::alloc::Global;
 use std::marker::Brand;
@@ -58,16 +57,21 @@ const SPOILED: &[Spoiled] = &[
     (ADDED, 81, b"\x02", b"", DecodeFault::BadRange),
 ];
 
-// The bytes of a row.
-fn spoiled(rt: &impl Abort, alloc: Global, row: &Spoiled) -> Vec<u8> {
-    let (frame, place, others, behind, _) = *row;
-    let front = frame.get(..place).expect(rt, "a place");
-    let rest = frame.get(place.saturating_add(others.len())..);
-    let mut bytes = Vec::from_slice(alloc, front).expect(rt, "memory");
-    for part in [others, rest.expect(rt, "a place"), behind] {
+// The bytes of these parts.
+fn joined(rt: &impl Abort, alloc: Global, parts: &[&[u8]]) -> Vec<u8> {
+    let mut bytes = Vec::new(alloc);
+    for part in parts {
         bytes.extend_from_slice(part).expect(rt, "memory");
     }
     bytes
+}
+
+// The bytes of a row.
+fn spoiled(rt: &impl Abort, alloc: Global, row: &Spoiled) -> Vec<u8> {
+    let front = row.0.get(..row.1).expect(rt, "a place");
+    let behind = row.1.saturating_add(row.2.len());
+    let rest = row.0.get(behind..).expect(rt, "a place");
+    joined(rt, alloc, &[front, row.2, rest, row.3])
 }
 
 // The journal of a site that knows nothing, of the queue `sales`.
@@ -75,13 +79,7 @@ fn journal(rt: &impl Abort, alloc: Global, site: u16) -> Journaled
     ensures begun { result.count ≡ 0 }
     ensures site { IsOfSite result.base.site result.base.names result }
 {
-    let name = QueueName::new(b"sales").expect(rt, "a name");
-    let list = QueueList::new(alloc, &[name]).expect(rt, "a list");
-    let site = SiteId::new(site).expect(rt, "a site");
-    match Journaled::new(alloc, Replica::new(alloc, site, list), 5) {
-        Ok(journal) => journal,
-        Err(_) => rt.panic("memory"),
-    }
+    crate::asks::journal(rt, alloc, site, SALES, 5)
 }
 
 // Asserts that bytes come back as they are for this fault, and that the journal has the one step that it had.
@@ -143,8 +141,23 @@ fn a_site_takes_a_frame_of_another_alone(rt: HostRuntime) {
     drop(other);
 }
 
-// Asserts that a desk gives bytes that are no frame back, and does no step.
+// Asserts that a desk gives bytes back as they are for this fault.
 fn assert_desk_refuses<L: SiteLedger, R: Abort + Wait>(
+    rt: &R,
+    alloc: Global,
+    desk: &SiteDesk<L>,
+    pass: &mut Pass<L>,
+    bytes: &[u8],
+    fault: DeskFault,
+) {
+    let given = Vec::from_slice(alloc, bytes).expect(rt, "memory");
+    let (told, back) = desk.take(rt, pass, given).err().expect(rt, "a fault");
+    assert!(rt; told == fault);
+    assert!(rt; back.as_slice() == bytes);
+}
+
+// Asserts that a desk gives bytes that are no frame back, and its own frame, and does no step.
+fn assert_takes_none<L: SiteLedger, R: Abort + Wait>(
     rt: &R,
     alloc: Global,
     blank: Blank,
@@ -164,14 +177,11 @@ fn assert_desk_refuses<L: SiteLedger, R: Abort + Wait>(
     let mut pass = passes.pop().expect(rt, "a pass");
     for row in SPOILED {
         let bytes = spoiled(rt, alloc, row);
-        let given = Vec::from_slice(alloc, &bytes).expect(rt, "memory");
-        let (told, back) = desk.take(rt, &mut pass, given).err().expect(rt, "a fault");
-        assert!(rt; told == DeskFault::Decode(row.4));
-        assert!(rt; back.as_slice() == bytes.as_slice());
+        let fault = DeskFault::Decode(row.4);
+        assert_desk_refuses(rt, alloc, &desk, &mut pass, &bytes, fault);
     }
-    let given = Vec::from_slice(alloc, ADDED).expect(rt, "memory");
-    let (told, back) = desk.take(rt, &mut pass, given).err().expect(rt, "a fault");
-    assert!(rt; told == DeskFault::Take(TakeFault::NotMine) && back.as_slice() == ADDED);
+    let fault = DeskFault::Take(TakeFault::NotMine);
+    assert_desk_refuses(rt, alloc, &desk, &mut pass, ADDED, fault);
     assert!(rt; pass.seen() == 0);
     passes.push(pass).expect(rt, "memory");
     let own = close(desk, passes).ok().expect(rt, "a journal");
@@ -183,5 +193,5 @@ fn assert_desk_refuses<L: SiteLedger, R: Abort + Wait>(
 fn a_desk_takes_no_bytes_that_are_no_frame(rt: HostRuntime) {
     let alloc = rt.alloc();
     let own = journal(&rt, alloc, 0);
-    assert_desk_refuses::<Brand, HostRuntime>(&rt, alloc, Blank::new(1), own);
+    assert_takes_none::<Brand, HostRuntime>(&rt, alloc, Blank::new(1), own);
 }
