@@ -487,11 +487,12 @@ def no_connections():
     """Where the system has no connection to give that is told once by each thread that wants one, which then waits; and a client is served when
     there is one again."""
     with Server(1) as server:
+        time.sleep(0.3)
         files = max(map(int, os.listdir(f"/proc/{server.process.pid}/fd"))) + 1
         resource.prlimit(server.process.pid, resource.RLIMIT_NOFILE, (files + 2, files + 2))
-        # A thread that waits has a file already.
-        for it in [server.logged_in() for _ in range(SLOTS)]:
-            it.leave()
+        # Each thread that waits has a file already, which it gives up behind its next client.
+        for _ in range(4 * SLOTS):
+            server.logged_in().leave()
         first = [server.logged_in() for _ in range(2)]
         more = [Client(server.port) for _ in range(2)]
         server.rests()
