@@ -37,6 +37,21 @@ pub(crate) fn row_totals(rows: &[Row], key: TotalKey) -> CallTotals
     }
 }
 
+// What the entries have at a key, no calls where they have none, and the place where it is or would go. It is looked for at a
+// guessed place first.
+pub(crate) fn row_totals_near(rows: &[Row], key: TotalKey, guess: usize) -> (CallTotals, usize)
+    requires { IsRising key_cmp rows.now }
+    ensures { result.0 ≡ row_totals rows.now key }
+{
+    if guess < rows.len() && rows[guess].0 == key {
+        return (rows[guess].1, guess);
+    }
+    match search(rows, key) {
+        Ok(at) => (rows[at].1, at),
+        Err(at) => (CallTotals::none(), at),
+    }
+}
+
 // Whether both lists are one.
 pub(crate) fn same_rows(rows: &[Row], others: &[Row]) -> bool
     ensures { IsTrue result ↔ (rows.now ≡ others.now) }
