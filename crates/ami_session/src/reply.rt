@@ -7,6 +7,9 @@ use dots::{Bytes, Memory};
 use status_report::{push_action_id_line, push_end, push_field};
 use std::alloc::Global;
 
+// For how many bytes a reply has room at first: most have fewer.
+const FIRST_ROOM: usize = 128;
+
 /// How a reply begins.
 #[derive(Clone, Copy)]
 pub enum Response {
@@ -40,7 +43,7 @@ pub fn message_reply(
     ensures { IfOk result
         (λ out. out.items ≡ reply (response_text response) action_id.now message.now) }
 {
-    let mut out = Vec::new(alloc);
+    let mut out = Vec::with_capacity(alloc, FIRST_ROOM)?;
     push_field(&mut out, "Response", response.text())?;
     push_action_id_line(&mut out, action_id.as_slice())?;
     push_field(&mut out, "Message", message)?;
