@@ -50,7 +50,7 @@ ROWS = commands(256, 25_000) + commands(15_000, 75_000) + [
     Counted("take_at_256", 1_000, 3_500, lambda: taken(256, 1)),
     Counted("take_at_15000", 1_000, 25_000, lambda: taken(15_000, 1)),
     Counted("call_beside_16384_totals", 1_000, 5_500, lambda: counted_calls(1_000)),
-    Counted("queue_of_report_of_16384_totals", 2_560, 5_000, lambda: reports_of_totals(10)),
+    Counted("queue_of_report_of_16384_totals", 2_560, 3_300, lambda: reports_of_totals(10)),
     Counted("member_of_report_of_16384", 16_384, 1_700, lambda: statuses(1, 16_384)),
     Counted("line_of_64_sites", 20_000, 10_500, lines_of_64_sites),
     Counted("line_of_status_of_10", 10_000, 28_000, lambda: lines_of_statuses(10_000, 10)),
