@@ -52,14 +52,14 @@ TESTS = [
     ),
     MemoryTest(
         crate="tests_of_sites",
-        name="worlds::memory_of_worlds",
+        name="worlds::events_that_lack_memory_change_nothing_and_happen_again",
         what="two worlds",
         whole="at once",
         refused={"again": "changed nothing, and were told as NoMemory"},
     ),
     MemoryTest(
         crate="tests_of_sites",
-        name="served::memory_of_a_session",
+        name="served::a_session_that_lacks_memory_ends_or_tells_so",
         what="a served session",
         whole="whole",
         refused={"fault": "ended it with Memory", "reply": "were replied to as Out of memory"},

@@ -1,4 +1,5 @@
-//! How another crate calls replicas and a world: of two sites the first adds a member, and the second takes what it has done.
+//! How another crate calls replicas and a world: of two sites the first adds a member, and the second takes what it has done. It takes
+//! nothing from the other files, so that it can be read alone.
 use delta::Frame;
 use dots::{Interface, Label, Penalty, QueueName, SiteId, Text80};
 use replica::{Command, QueueList, Replica};
@@ -41,7 +42,7 @@ fn added(rt: &impl Abort, site: &mut Replica) -> Frame {
 }
 
 #[test]
-fn two_replicas(rt: HostRuntime) {
+fn what_one_replica_does_the_other_takes(rt: HostRuntime) {
     let alloc = rt.alloc();
     let mut first = Replica::new(alloc, site(&rt, 0), list(&rt, alloc));
     let mut second = Replica::new(alloc, site(&rt, 1), list(&rt, alloc));
@@ -52,7 +53,7 @@ fn two_replicas(rt: HostRuntime) {
 }
 
 #[test]
-fn a_world_of_two_sites(rt: HostRuntime) {
+fn what_one_site_of_a_world_does_the_other_takes(rt: HostRuntime) {
     let alloc = rt.alloc();
     let mut world = World::new(alloc, 2, &list(&rt, alloc)).expect(&rt, "a world");
     let (first, second) = (site(&rt, 0), site(&rt, 1));

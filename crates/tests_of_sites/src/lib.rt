@@ -5,13 +5,13 @@
 #[cfg(test)]
 mod copies;
 #[cfg(test)]
-mod devices;
-#[cfg(test)]
 mod example;
 #[cfg(test)]
 mod lists;
 #[cfg(test)]
 mod reports;
+#[cfg(test)]
+mod script_runs;
 #[cfg(test)]
 mod served;
 #[cfg(test)]

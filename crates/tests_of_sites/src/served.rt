@@ -3,7 +3,7 @@ ghost use Rattle.std.specs.Prelude.{◌≡◌, Bool, OnOk, Some, None, false};
 ghost use Rattle.serve.specs.Replicas.{AnswersAs};
 ghost use Rattle.serve.specs.Sessions.{HasCarried, IsServed};
 
-use crate::shared::{assert_text, replica, text};
+use crate::shared::{assert_text, is_text, replica, text};
 use ami_session::Session;
 use ami_text::{Failed, MemorySink, MemorySource, Sink, Source, StdSink, StdSource};
 use serve::laws::a_session_keeps_what_each_answer_keeps;
@@ -95,12 +95,11 @@ fn end_of_failing(
     alloc: Global,
     stream: &[u8],
     reads: u64,
-    most: usize,
-    writes: u64,
+    writes: (usize, u64),
     answers: u32,
 ) -> (Result<(), ServeFault>, usize) {
     let mut reader = MemorySource::failing(stream, 1, reads);
-    let mut writer = MemorySink::failing(alloc, most, writes);
+    let mut writer = MemorySink::failing(alloc, writes.0, writes.1);
     let mut tired = TiredDesk {
         desk: desk(rt, alloc),
         answers,
@@ -111,18 +110,18 @@ fn end_of_failing(
     (served, writer.as_slice().len())
 }
 
-// Numbers of calls from the first to below the second.
-type Calls = (u64, u64);
+// Numbers of reads or writes, from the first to below the second.
+type Numbers = (u64, u64);
 
-// More calls than there are.
-const NEVER: Calls = (1_000, 1_001);
+// More reads or writes than there are.
+const NEVER: Numbers = (1_000, 1_001);
 
-// At which reads and writes devices fail, how many bytes a write takes and how many answers the desk gives; how the session
-// ends; and the least and the most that is written.
+// Behind how many reads the reader fails; how many bytes the writer takes at most a write, and behind how many writes it fails; how many
+// answers the desk gives; how the session ends; and the least and the most bytes that are written.
 type Failing = (
-    Calls,
+    Numbers,
     usize,
-    Calls,
+    Numbers,
     u32,
     Result<(), ServeFault>,
     (usize, usize),
@@ -157,32 +156,31 @@ const FAILING: &[Failing] = &[
     (NEVER, 700, NEVER, 1, DOWN, (143, 143)),
 ];
 
-#[test]
-fn devices_and_a_desk_that_fail(rt: HostRuntime) {
-    for (reads, most, writes, answers, end, (least, greatest)) in FAILING {
-        for read in reads.0..reads.1 {
-            for write in writes.0..writes.1 {
-                let (ended, written) = end_of_failing(
-                    &rt,
-                    rt.alloc(),
-                    SESSION.as_bytes(),
-                    read,
-                    *most,
-                    write,
-                    *answers,
-                );
-                assert!(rt; ended == *end && *least <= written && written <= *greatest);
-            }
+// Asserts how the session ends, and how much is written, at each of the reads and writes of a row.
+fn assert_failing(rt: &impl Abort, alloc: Global, row: &Failing) {
+    let (reads, most, writes, answers, wanted, (least, greatest)) = row;
+    let stream = SESSION.as_bytes();
+    for read in reads.0..reads.1 {
+        for write in writes.0..writes.1 {
+            let (end, written) = end_of_failing(rt, alloc, stream, read, (*most, write), *answers);
+            assert!(rt; end == *wanted && *least <= written && written <= *greatest);
         }
     }
 }
 
 #[test]
-fn reads_are_numbered(rt: HostRuntime) {
+fn a_session_ends_with_the_fault_of_its_devices_or_its_desk(rt: HostRuntime) {
+    for row in FAILING {
+        assert_failing(&rt, rt.alloc(), row);
+    }
+}
+
+#[test]
+fn a_session_reads_a_million_times_at_most(rt: HostRuntime) {
     // The last read of 1,000,000 may tell the end.
     for (lines, end) in [(999_999, Ok(())), (1_000_000, Err(ServeFault::Turns))] {
         let stream = vec![in rt.alloc(); b'\n'; lines].expect(&rt, "memory");
-        let ended = end_of_failing(&rt, rt.alloc(), &stream, u64::MAX, 700, u64::MAX, 0);
+        let ended = end_of_failing(&rt, rt.alloc(), &stream, u64::MAX, (700, u64::MAX), 0);
         assert!(rt; ended == (end, GREETING.len()));
     }
 }
@@ -202,6 +200,17 @@ impl<'a> Sink for CountingSink<'a> {
         self.taken.set(self.taken.get().saturating_add(bytes.len()));
         Ok(bytes.len())
     }
+}
+
+// How many bytes are due once `read` of the session's were read: the greeting, and a reply for each message that has come.
+fn due(read: usize) -> usize {
+    let mut written = 0;
+    for (from, bytes) in [(0, 32), (46, 87), (93, 143), (114, 495)] {
+        if from <= read {
+            written = bytes;
+        }
+    }
+    written
 }
 
 // A source that sees how many bytes a sink has taken, and keeps whether these were at each read as many as were due.
@@ -232,17 +241,6 @@ impl<'a> Source for SeeingSource<'a> {
     }
 }
 
-// How many bytes are due once `read` of the session's were read: the greeting, and a reply for each message that has come.
-fn due(read: usize) -> usize {
-    let mut written = 0;
-    for (from, bytes) in [(0, 32), (46, 87), (93, 143), (114, 495)] {
-        if from <= read {
-            written = bytes;
-        }
-    }
-    written
-}
-
 // Whether a session is served in pieces of `most` bytes by at most `reads` reads, and all that is due is written before each of them.
 fn is_prompt(rt: &impl Abort, alloc: Global, most: usize, reads: u64) -> bool {
     let taken = Cell::new(0);
@@ -268,7 +266,7 @@ fn all_that_is_due_is_written_before_each_read(rt: HostRuntime) {
 }
 
 #[test]
-fn messages_are_not_numbered(rt: HostRuntime) {
+fn a_session_has_more_messages_than_reads(rt: HostRuntime) {
     // One more than there may be reads, in pieces of 1,024 bytes.
     const MESSAGES: usize = 1_000_001;
     let alloc = rt.alloc();
@@ -287,18 +285,6 @@ fn messages_are_not_numbered(rt: HostRuntime) {
 }
 
 const WANTING: &str = "Response: Error\r\nMessage: Out of memory\r\n\r\n";
-
-// Whether these texts, one behind the other, are the bytes.
-fn is_text(given: &[u8], texts: &[&str]) -> bool {
-    let mut rest = given;
-    for text in texts {
-        match rest.strip_prefix(text.as_bytes()) {
-            Some(behind) => rest = behind,
-            None => return false,
-        }
-    }
-    rest.is_empty()
-}
 
 // How a session upon an add and a status has ended that lacked memory at most once, as a word. What was written is the greeting
 // and whole replies; or the desk lacked memory, the reply tells so, and the session went on.
@@ -344,7 +330,7 @@ fn served_over_a_slice<'a>(
 }
 
 #[test]
-fn a_session_over_a_slice_and_a_vector(rt: HostRuntime) {
+fn a_session_is_served_over_a_slice_and_a_vector(rt: HostRuntime) {
     let alloc = rt.alloc();
     let mut desk = desk(&rt, alloc);
     let held = Vec::new(alloc);
@@ -363,7 +349,7 @@ fn a_session_over_a_slice_and_a_vector(rt: HostRuntime) {
 // Serves a session over a reader and a writer of std's that take no memory, and prints how it ended; tools/memory_tests.py
 // runs this test with each allocation refused in turn.
 #[test]
-fn memory_of_a_session(rt: HostRuntime) {
+fn a_session_that_lacks_memory_ends_or_tells_so(rt: HostRuntime) {
     let alloc = rt.alloc();
     let mut desk = desk(&rt, alloc);
     let room = Vec::with_capacity(alloc, 1_024).expect(&rt, "memory");

@@ -1,6 +1,7 @@
 //! What a session replies upon each answer, also those that no site gives to what was asked.
-use crate::shared::{act, assert_text};
+use crate::shared::assert_text;
 use ami_session::{Act, Session};
+use ami_text::{Feed, Message};
 use dots::Bytes;
 use replica::Refusal;
 use status_report::Answer;
@@ -20,6 +21,22 @@ const PAUSE: &str = "Action: QueuePause\r\nInterface: SIP/1\r\nPaused: yes\r\n";
 const PENALTY: &str = "Action: QueuePenalty\r\nInterface: SIP/1\r\nPenalty: 3\r\n";
 
 const STATUS: &str = "Action: QueueStatus\r\nQueue: sales\r\nMember: SIP/1\r\nActionID: 4\r\n";
+
+// The message of these lines.
+fn message(rt: &impl Abort, alloc: Global, lines: &str) -> Message {
+    let mut feed = Feed::new(alloc);
+    feed.feed(lines.as_bytes()).expect(rt, "memory");
+    feed.feed(b"\r\n").expect(rt, "memory");
+    let found = feed.next_message().expect(rt, "no fault");
+    drop(feed);
+    found.expect(rt, "a message")
+}
+
+// What a session does upon a message of these lines.
+fn act(rt: &impl Abort, alloc: Global, session: &mut Session, lines: &str) -> Act {
+    let message = message(rt, alloc, lines);
+    session.handle(alloc, &message).expect(rt, "memory")
+}
 
 // Asserts what a trusted session replies to a message of these lines upon an answer.
 fn assert_reply(rt: &impl Abort, alloc: Global, lines: &str, answer: Answer, wanted: &[&str]) {
@@ -66,7 +83,7 @@ fn each_refusal_has_its_text(rt: HostRuntime) {
 }
 
 #[test]
-fn a_report_is_the_reply_as_it_is(rt: HostRuntime) {
+fn a_report_is_replied_as_it_is_and_done_as_a_success(rt: HostRuntime) {
     // No site answers a command so.
     for lines in [STATUS, ADD, REMOVE, PAUSE, PENALTY] {
         let report = Vec::from_slice(rt.alloc(), b"a report").expect(&rt, "memory");

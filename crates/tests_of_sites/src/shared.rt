@@ -1,6 +1,4 @@
 //! What these tests make and assert alike.
-use ami_session::{Act, Session};
-use ami_text::{Feed, Message};
 use dots::{Bytes, Interface, Label, Penalty, QueueName, SiteId, Text80};
 use replica::{Command, QueueList, Replica};
 use status_report::StatusRequest;
@@ -90,34 +88,23 @@ pub(crate) fn request(
     }
 }
 
-// The message of these lines.
-fn message(rt: &impl Abort, alloc: Global, lines: &str) -> Message {
-    let mut feed = Feed::new(alloc);
-    feed.feed(lines.as_bytes()).expect(rt, "memory");
-    feed.feed(b"\r\n").expect(rt, "memory");
-    let found = feed.next_message().expect(rt, "no fault");
-    drop(feed);
-    found.expect(rt, "a message")
+// What stands behind these texts, where bytes begin with them, one behind the other.
+fn behind<'a>(given: &'a [u8], texts: &[&str]) -> Option<&'a [u8]> {
+    let mut rest = given;
+    for text in texts {
+        rest = rest.strip_prefix(text.as_bytes())?;
+    }
+    Some(rest)
 }
 
-// What a session does upon a message of these lines.
-pub(crate) fn act(rt: &impl Abort, alloc: Global, session: &mut Session, lines: &str) -> Act {
-    let message = message(rt, alloc, lines);
-    session.handle(alloc, &message).expect(rt, "memory")
-}
-
-// What is behind a text, with which bytes must begin.
-fn after<'a>(rt: &impl Abort, given: &'a [u8], text: &str) -> &'a [u8] {
-    given.strip_prefix(text.as_bytes()).expect(rt, text)
+// Whether bytes are these texts, one behind the other.
+pub(crate) fn is_text(given: &[u8], texts: &[&str]) -> bool {
+    matches!(behind(given, texts), Some([]))
 }
 
 // Asserts that bytes are these texts, one behind the other.
 pub(crate) fn assert_text(rt: &impl Abort, given: &[u8], texts: &[&str]) {
-    let mut rest = given;
-    for text in texts {
-        rest = after(rt, rest, text);
-    }
-    assert!(rt; rest.is_empty(), "there is more");
+    assert!(rt; is_text(given, texts));
 }
 
 const OPENING: &str =
@@ -127,12 +114,10 @@ const CLOSING: &str = "Event: QueueStatusComplete\r\nEventList: Complete\r\nList
 
 const NUMBERS: &[&str] = &["0", "1", "2", "3", "4", "5", "6"];
 
-// Asserts that a report is of these blocks between its first and its last.
+// Asserts that a report is of these blocks between its first and its last, which tells how many they are.
 pub(crate) fn assert_report(rt: &impl Abort, given: &[u8], blocks: &[&str]) {
-    let mut rest = after(rt, given, OPENING);
-    for block in blocks {
-        rest = after(rt, rest, block);
-    }
+    let rest = behind(given, &[OPENING]).expect(rt, "an opening");
+    let rest = behind(rest, blocks).expect(rt, "these blocks");
     let items = NUMBERS.get(blocks.len()).expect(rt, "a number");
     assert_text(rt, rest, &[CLOSING, items, "\r\n\r\n"]);
 }
@@ -152,8 +137,7 @@ macro_rules! queue_block {
     };
 }
 
-// The block of a member: its queue, name, interface, state interface, penalty, whether it is
-// paused, and why.
+// The block of a member: its queue, name, interface, state interface, penalty, whether it is paused, and why.
 macro_rules! member_block {
     ($queue:literal, $name:literal, $of:literal, $state:literal, $penalty:literal, $paused:literal,
         $reason:literal) => {

@@ -250,7 +250,7 @@ fn happen_again(rt: &impl Abort, world: &mut World, events: &[Event], told: &[To
 // What comes of events is the same, whether memory is there at once, or wanting for one of them and there when it happens again.
 // tools/memory_tests.py runs this test with each allocation refused in turn.
 #[test]
-fn memory_of_worlds(rt: HostRuntime) {
+fn events_that_lack_memory_change_nothing_and_happen_again(rt: HostRuntime) {
     let alloc = rt.alloc();
     let added = events_of(&rt, alloc, ADDED_TWICE);
     let taken = events_of(&rt, alloc, IN_TURN);

@@ -86,7 +86,7 @@ fn assert_run(rt: &impl Abort, alloc: Global, row: Run) {
 }
 
 #[test]
-fn scripts_over_devices(rt: HostRuntime) {
+fn a_script_is_read_to_its_end_or_ends_with_its_fault(rt: HostRuntime) {
     for row in RUNS {
         assert_run(&rt, rt.alloc(), *row);
     }
