@@ -1,7 +1,8 @@
 //! What the lines of a story give at two sites of the reference model.
 use crate::told::{
     Words, assert_given, assert_stories, interface, label, list, member, name, number, penalty,
-    place, queue, queue_number, row_text, site, tells, text, told_and_wanted, utf8, word,
+    place, push, queue, queue_number, refused_text, row_text, site, string, tells, text,
+    told_and_wanted, utf8, word,
 };
 use crate::told_operations::{calls, operations, setting};
 use dots::{Bytes, Member, Text80};
@@ -119,14 +120,12 @@ fn outcome_text(rt: &impl Abort, alloc: Global, outcome: &Outcome) -> String {
         Outcome::Taken => "taken",
         Outcome::CellsFull => "cells full",
         Outcome::RunsFull => "runs full",
-        Outcome::Denied(refusal) => {
-            return format!(in alloc; "refused {refusal:?}").expect(rt, "memory");
-        }
+        Outcome::Denied(refusal) => return refused_text(rt, alloc, refusal),
         Outcome::Framed { number, .. } => {
             return format!(in alloc; "frame {number}").expect(rt, "memory");
         }
     };
-    String::from_str(alloc, text).expect(rt, "memory")
+    string(rt, alloc, text)
 }
 
 // Lets a site do a step, and gives what comes of it.
@@ -154,7 +153,7 @@ fn rows_text(rt: &impl Abort, alloc: Global, known: &[Operation], queue: u16) ->
     for (interface, row) in rows(alloc, known, queue).expect(rt, "memory").iter() {
         let (of, penalty) = (utf8(rt, interface.as_bytes()), row.penalty);
         let one = format!(in alloc; "[{of} {penalty}]").expect(rt, "memory");
-        text.push_str(&one).expect(rt, "memory");
+        push(rt, &mut text, &one);
     }
     text
 }
@@ -168,7 +167,7 @@ fn dots_text(rt: &impl Abort, alloc: Global, known: &[Operation], member: &Membe
     {
         let (site, count) = (dot.site().number(), dot.count());
         let one = format!(in alloc; "[{site}.{count}]").expect(rt, "memory");
-        text.push_str(&one).expect(rt, "memory");
+        push(rt, &mut text, &one);
     }
     text
 }
@@ -203,8 +202,8 @@ fn filter(rt: &impl Abort, word: &str) -> Option<Text80> {
 fn report(rt: &impl Abort, alloc: Global, told: &str) -> String {
     let mut report = String::new(alloc);
     for line in told.split('|') {
-        report.push_str(line).expect(rt, "memory");
-        report.push_str("\r\n").expect(rt, "memory");
+        push(rt, &mut report, line);
+        push(rt, &mut report, "\r\n");
     }
     report
 }
@@ -231,7 +230,7 @@ fn report_text(
             text = name;
         }
     }
-    String::from_str(alloc, text).expect(rt, "memory")
+    string(rt, alloc, text)
 }
 
 // What a line gives at a site: what is seen of what it knows, or what comes of a step.

@@ -1,12 +1,13 @@
 //! What lines give at a site: what comes of commands and of frames from elsewhere, and what is seen then.
 use crate::told::{
     Words, assert_given, assert_stories, interface, label, list, member, name, parts, penalty,
-    queue, queue_number, row_text, site, tells, text, told_and_wanted, utf8, word,
+    push, queue, queue_number, refused_text, row_text, site, string, tells, text, told_and_wanted,
+    utf8, word,
 };
 use crate::told_frames::frame;
 use delta_codec::Frame;
 use dots::Pause;
-use replica::{Command, Refusal, Replica, TakeFault};
+use replica::{Command, Replica, TakeFault};
 use std::alloc::Global;
 use std::process::Abort;
 
@@ -46,10 +47,9 @@ fn command(rt: &impl Abort, kind: &str, words: &mut Words<'_>) -> Command {
 
 // What a command gives.
 fn answer(rt: &impl Abort, alloc: Global, replica: &mut Replica, command: Command) -> String {
-    let given: Result<(), Refusal> = replica.command(command);
-    match given {
-        Ok(()) => String::from_str(alloc, "done").expect(rt, "memory"),
-        Err(refusal) => format!(in alloc; "refused {refusal:?}").expect(rt, "memory"),
+    match replica.command(command) {
+        Ok(()) => string(rt, alloc, "done"),
+        Err(refusal) => refused_text(rt, alloc, &refusal),
     }
 }
 
@@ -62,14 +62,14 @@ fn refused(rt: &impl Abort, alloc: Global, back: (TakeFault, Frame), copy: &Fram
     let (fault, back) = back;
     assert!(rt; back.same(copy), "it has changed");
     drop(back);
-    format!(in alloc; "refused {fault:?}").expect(rt, "memory")
+    refused_text(rt, alloc, &fault)
 }
 
 // What a frame gives. One that is refused comes back as it was.
 fn take(rt: &impl Abort, alloc: Global, replica: &mut Replica, frame: Frame) -> String {
     let copy = copy_of(rt, &frame);
     let given = match replica.take(frame) {
-        Ok(()) => String::from_str(alloc, "taken").expect(rt, "memory"),
+        Ok(()) => string(rt, alloc, "taken"),
         Err(back) => refused(rt, alloc, back, &copy),
     };
     drop(copy);
@@ -83,10 +83,10 @@ fn rows_text(rt: &impl Abort, alloc: Global, replica: &Replica, queue: u16) -> S
         let row = row_text(rt, alloc, Some(row));
         let of = utf8(rt, interface.as_bytes());
         let one = format!(in alloc; "[{of} {row}]").expect(rt, "memory");
-        text.push_str(&one).expect(rt, "memory");
+        push(rt, &mut text, &one);
     }
     if text.is_empty() {
-        text.push_str("none").expect(rt, "memory");
+        push(rt, &mut text, "none");
     }
     text
 }

@@ -3,6 +3,7 @@ use dots::{Dot, Interface, Label, Member, Penalty, QueueName, SiteId, Text80};
 use operations::Row;
 use replica::QueueList;
 use std::alloc::Global;
+use std::fmt::Debug;
 use std::process::Abort;
 use std::str::{SplitWhitespace, from_utf8};
 
@@ -110,6 +111,20 @@ pub(crate) fn utf8<'a>(rt: &impl Abort, bytes: &'a [u8]) -> &'a str {
     from_utf8(bytes).expect(rt, "a text")
 }
 
+// The same text, in memory of its own.
+pub(crate) fn string(rt: &impl Abort, alloc: Global, text: &str) -> String {
+    String::from_str(alloc, text).expect(rt, "memory")
+}
+
+pub(crate) fn push(rt: &impl Abort, text: &mut String, more: &str) {
+    text.push_str(more).expect(rt, "memory");
+}
+
+// The text of a refusal.
+pub(crate) fn refused_text<T: Debug>(rt: &impl Abort, alloc: Global, cause: &T) -> String {
+    format!(in alloc; "refused {cause:?}").expect(rt, "memory")
+}
+
 // A row: its penalty, whether it is paused, why, its name and its state interface.
 pub(crate) fn row_text(rt: &impl Abort, alloc: Global, row: Option<Row<'_>>) -> String {
     match row {
@@ -121,7 +136,7 @@ pub(crate) fn row_text(rt: &impl Abort, alloc: Global, row: Option<Row<'_>>) -> 
                 rt, "memory",
             )
         }
-        None => String::from_str(alloc, "none").expect(rt, "memory"),
+        None => string(rt, alloc, "none"),
     }
 }
 
