@@ -86,7 +86,10 @@ fn assert_outcome(rt: &impl Abort, outcome: &Outcome, wanted: Came) {
 
 // A world of `sites` sites with the queue `sales`, or why there is none.
 fn new_world(rt: &impl Abort, alloc: Global, sites: u16) -> Result<World, WorldFault> {
-    World::new(alloc, sites, &list(rt, alloc, &["sales"]))
+    let list = list(rt, alloc, &["sales"]);
+    let world = World::new(alloc, sites, &list);
+    drop(list);
+    world
 }
 
 fn world_of_two(rt: &impl Abort, alloc: Global) -> World {
@@ -217,11 +220,19 @@ const COUNTED: &[Told] = &[
     (0, Status, Reported(&[queue_block!("sales", "3", "1")])),
 ];
 
-// What comes of a copy of an event; none where memory is wanting.
-fn outcome_of(world: &mut World, event: &Event) -> Option<Outcome> {
-    match world.happen(event.copy().ok()?) {
+// What comes of an event; none where memory is wanting.
+fn outcome_at_once(world: &mut World, event: Event) -> Option<Outcome> {
+    match world.happen(event) {
         Outcome::NoMemory => None,
         outcome => Some(outcome),
+    }
+}
+
+// What comes of a copy of an event; none where memory is wanting.
+fn outcome_of(world: &mut World, event: &Event) -> Option<Outcome> {
+    match event.copy() {
+        Ok(copy) => outcome_at_once(world, copy),
+        Err(_) => None,
     }
 }
 
