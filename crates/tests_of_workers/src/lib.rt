@@ -8,8 +8,12 @@ mod desks;
 #[cfg(test)]
 mod links;
 #[cfg(test)]
+mod ports;
+#[cfg(test)]
 mod pumps;
 #[cfg(test)]
 mod runs;
 #[cfg(test)]
 mod schedules;
+#[cfg(test)]
+mod sites;

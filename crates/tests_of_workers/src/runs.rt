@@ -2,7 +2,7 @@
 ghost use Rattle.std.specs.Prelude.{◌≡◌};
 
 use crate::asks::{add, list, sales, status};
-use replica::Command;
+use replica::{Command, QueueList};
 use site_worker::{
     AuditFault, Deed, DeskFault, Gate, Journaled, LinkPlan, Receipt, RunFault, SiteEnd, SiteWork,
     StepDeed, audit, run_sites, settle,
@@ -78,7 +78,9 @@ fn both_meet<R: Abort + Threads + Wait + Sync>(rt: &R, alloc: Global) -> bool {
     works
         .push(meeting(rt, alloc, &other, &one))
         .expect(rt, "memory");
-    let ends = run_sites(rt, alloc, &list(rt, alloc), works).expect(rt, "ends");
+    let list = list(rt, alloc);
+    let ends = run_sites(rt, alloc, &list, works).expect(rt, "ends");
+    drop(list);
     let mut met = true;
     for end in ends.as_slice() {
         met = met && end.gate.saw;
@@ -119,6 +121,16 @@ impl Gate for TurnsGate {
             self.turns = turn.wrapping_add(1);
         }
     }
+}
+
+// Lets sites run.
+fn ran<R: Threads + Wait + Sync>(
+    rt: &R,
+    alloc: Global,
+    list: &QueueList,
+    works: Vec<SiteWork<TurnsGate>>,
+) -> Result<Vec<SiteEnd<TurnsGate>>, RunFault> {
+    run_sites(rt, alloc, list, works)
 }
 
 // The work of a site with these asks and these deeds.
@@ -178,8 +190,9 @@ fn assert_end(rt: &impl Abort, end: &SiteEnd<TurnsGate>, site: u8, others: &[u8]
 
 // Whether there is memory for the reports of journals, each of which then is what sites show that came to the same.
 fn is_reported(rt: &impl Abort, alloc: Global, journals: &[Journaled]) -> bool {
+    let request = status(alloc);
     for journal in journals {
-        let Ok(shown) = report(alloc, journal.replica(), &status(alloc)) else {
+        let Ok(shown) = report(alloc, journal.replica(), &request) else {
             return false;
         };
         assert!(rt; shown.as_slice() == REPORT.as_bytes());
@@ -188,19 +201,25 @@ fn is_reported(rt: &impl Abort, alloc: Global, journals: &[Journaled]) -> bool {
     true
 }
 
-// Asserts that journals are one run of events, which lead each site of a world to its journal's report.
-fn assert_one_run(rt: &impl Abort, alloc: Global, journals: &[Journaled]) {
-    let events = audit(alloc, journals).ok().expect(rt, "events");
-    let mut world = World::new(alloc, 3, &list(rt, alloc))
-        .ok()
-        .expect(rt, "a world");
-    assert!(rt; world.run(events.as_slice()).is_ok());
+// Asserts that the sites of journals show in a world what sites show that came to the same.
+fn assert_shown(rt: &impl Abort, alloc: Global, world: &World, journals: &[Journaled]) {
+    let request = status(alloc);
     for journal in journals {
         let replica = world.replica(journal.base().site()).expect(rt, "a site");
-        let told = report(alloc, replica, &status(alloc)).expect(rt, "memory");
+        let told = report(alloc, replica, &request).expect(rt, "memory");
         assert!(rt; told.as_slice() == REPORT.as_bytes());
         drop(told);
     }
+}
+
+// Asserts that journals are one run of events, which lead each site of a world to its journal's report.
+fn assert_one_run(rt: &impl Abort, alloc: Global, journals: &[Journaled]) {
+    let events = audit(alloc, journals).ok().expect(rt, "events");
+    let list = list(rt, alloc);
+    let mut world = World::new(alloc, 3, &list).ok().expect(rt, "a world");
+    drop(list);
+    assert!(rt; world.run(events.as_slice()).is_ok());
+    assert_shown(rt, alloc, &world, journals);
     drop(world);
     drop(events);
 }
@@ -208,18 +227,37 @@ fn assert_one_run(rt: &impl Abort, alloc: Global, journals: &[Journaled]) {
 // Three sites, and of each the others.
 const SITES: [(u8, [u8; 2]); 3] = [(0, [1, 2]), (1, [0, 2]), (2, [0, 1])];
 
+// The journal of a site that has ended.
+fn journal_of(end: SiteEnd<TurnsGate>) -> Journaled {
+    let SiteEnd {
+        journal,
+        receipts,
+        ..
+    } = end;
+    drop(receipts);
+    journal
+}
+
+// The journals of three sites, of which each has ended as it should.
+fn ended(rt: &impl Abort, alloc: Global, ends: Vec<SiteEnd<TurnsGate>>) -> Vec<Journaled> {
+    let mut journals = Vec::new(alloc);
+    for end in ends {
+        let (site, others) = SITES.get(journals.len()).expect(rt, "three sites");
+        assert_end(rt, &end, *site, others);
+        journals.push(journal_of(end)).expect(rt, "memory");
+    }
+    journals
+}
+
 #[test]
 fn sites_come_to_the_same_whatever_is_lost(rt: HostRuntime) {
     let alloc = rt.alloc();
     let works = works_of_three(&rt, alloc);
-    let ends = run_sites(&rt, alloc, &list(&rt, alloc), works).expect(&rt, "ends");
+    let list = list(&rt, alloc);
+    let ends = ran(&rt, alloc, &list, works).expect(&rt, "ends");
+    drop(list);
     assert!(rt; ends.len() == 3);
-    let mut journals = Vec::new(alloc);
-    for end in ends {
-        let (site, others) = SITES.get(journals.len()).expect(&rt, "three sites");
-        assert_end(&rt, &end, *site, others);
-        journals.push(end.journal).expect(&rt, "memory");
-    }
+    let journals = ended(&rt, alloc, ends);
     assert!(rt; is_reported(&rt, alloc, journals.as_slice()));
     assert_one_run(&rt, alloc, journals.as_slice());
     drop(journals);
@@ -237,7 +275,10 @@ fn fault_of<R: Abort + Threads + Wait + Sync>(
             .push(work(rt, alloc, 0, Vec::new(alloc), &[]))
             .expect(rt, "memory");
     }
-    run_sites(rt, alloc, &list(rt, alloc), works).err()
+    let list = list(rt, alloc);
+    let fault = ran(rt, alloc, &list, works).err();
+    drop(list);
+    fault
 }
 
 #[test]
@@ -265,7 +306,9 @@ fn assert_sends<R: Abort + Threads + Wait + Sync>(rt: &R, alloc: Global, deed: D
     works
         .push(sending(rt, alloc, b"SIP/1", Deed::Lose))
         .expect(rt, "memory");
-    let ends = run_sites(rt, alloc, &list(rt, alloc), works).expect(rt, "ends");
+    let list = list(rt, alloc);
+    let ends = ran(rt, alloc, &list, works).expect(rt, "ends");
+    drop(list);
     assert!(rt; ends.len() == 2);
     assert!(rt; ends[0].receipts.len() == 3 && ends[1].receipts.len() == 3);
     assert!(rt; ends[0].receipts[2].len() == 1 && ends[1].receipts[2].len() == takes);
@@ -287,7 +330,7 @@ fn is_stopped(rt: &impl Abort, end: SiteEnd<TurnsGate>, journals: &mut Vec<Journ
     assert!(rt; settle(&end.journal, end.receipts.as_slice()).is_ok());
     let fault = end.fault;
     assert!(rt; matches!(fault, None | Some(DeskFault::Memory)));
-    journals.push(end.journal).expect(rt, "memory");
+    journals.push(journal_of(end)).expect(rt, "memory");
     fault.is_some()
 }
 
@@ -341,7 +384,7 @@ fn memory_of_a_run(rt: HostRuntime) {
     let works = works_of_three(&rt, alloc);
     let mut journals = Vec::with_capacity(alloc, 3).expect(&rt, "memory");
     assert!(rt; println!(rt; "ready").is_ok());
-    let end = match run_sites(&rt, alloc, &list, works) {
+    let end = match ran(&rt, alloc, &list, works) {
         Ok(ends) => end_of(&rt, alloc, ends, &mut journals),
         Err(RunFault::NoThread) => "no thread",
         Err(RunFault::Memory) => "no run",

@@ -2,9 +2,8 @@
 ghost use Rattle.std.specs.Prelude.{◌≡◌};
 ghost use Rattle.site_journal.specs.Journals.{IsOfSite};
 
-use crate::asks::{add, list};
-use dots::SiteId;
-use replica::Replica;
+use crate::asks::add;
+use crate::sites::{desk_of_two, journal};
 use site_desk::{DeskPort, Pass, SiteDesk, SiteLedger};
 use site_journal::{Bell, Journaled, Receipt, StepDeed};
 use site_links::{LinkReceiver, LinkSender, pair};
@@ -102,6 +101,7 @@ impl<'a, L: SiteLedger, R: Abort + Wait> Bell<R> for AddingBell<'a, L> {
         let added = desk.call(rt, &mut self.pass, &member);
         assert!(rt; added.is_ok());
         drop(added);
+        drop(member);
         if place + 1 >= self.wanted.len() || self.rings == u8::MAX {
             self.has_ended = true;
             return false;
@@ -126,7 +126,11 @@ fn pumped<L: SiteLedger, R: Abort + Wait>(
     let mut links = [link];
     let mut port = DeskPort::new(desk, &mut pass);
     let pumped = pump_out(rt, alloc, &mut port, &mut links, &mut bell, plan);
+    drop(port);
+    drop(links);
+    drop(pass);
     assert!(rt; !bell.is_late && pumped.fault.is_none());
+    drop(bell);
     pumped
 }
 
@@ -167,19 +171,6 @@ fn assert_frames(rt: &impl Abort, items: &[Vec<u8>], receipts: &[Receipt], place
     }
 }
 
-// The journal of site 0 that knows nothing, of the queue `sales`.
-fn journal(rt: &impl Abort, alloc: Global) -> Journaled
-    ensures begun { result.count ≡ 0 }
-    ensures site { IsOfSite result.base.site result.base.names result }
-{
-    let site = SiteId::new(0).expect(rt, "a site");
-    let replica = Replica::new(alloc, site, list(rt, alloc));
-    match Journaled::new(alloc, replica, 1_000) {
-        Ok(journal) => journal,
-        Err(_) => rt.panic("memory"),
-    }
-}
-
 // Asserts what is sent, as the places of its cuts, where a number of items must have come before the first ring, before the second and so on,
 // and before the end.
 fn assert_scheduled<L: SiteLedger + Send + Sync, R: Abort + Threads + Wait + Sync>(
@@ -199,16 +190,12 @@ fn assert_scheduled<L: SiteLedger + Send + Sync, R: Abort + Threads + Wait + Syn
     requires limit { journal.limit ≡ L.limit }
     requires base { journal.base ≡ L.base }
 {
-    let Ok((desk, mut passes)) = SiteDesk::<L>::new(alloc, blank, journal, 2) else {
-        rt.panic("memory");
-    };
-    let adding = passes.pop().expect(rt, "a pass");
-    let sending = passes.pop().expect(rt, "a pass");
+    let (desk, sending, adding) = desk_of_two::<L>(rt, alloc, blank, journal);
     let (link, receiver) = pair(alloc, 16).expect(rt, "memory");
     let count = AtomicU64::new(0);
-    let (desk, count) = (&desk, &count);
+    let (lent, count) = (&desk, &count);
     let bell = AddingBell {
-        desk,
+        desk: lent,
         pass: adding,
         received: count,
         wanted,
@@ -218,14 +205,14 @@ fn assert_scheduled<L: SiteLedger + Send + Sync, R: Abort + Threads + Wait + Syn
     };
     let (pumped, items) = thread::join(
         rt,
-        move || pumped(rt, alloc, desk, sending, bell, link, plan),
+        move || pumped(rt, alloc, lent, sending, bell, link, plan),
         move || received(rt, alloc, receiver, count),
     );
     assert!(rt; pumped.receipts.len() == wanted.len() + 1);
     assert_frames(rt, items.as_slice(), pumped.receipts.as_slice(), places);
     drop(pumped);
     drop(items);
-    drop(passes);
+    drop(desk);
 }
 
 #[test]
@@ -236,7 +223,7 @@ fn a_frame_is_sent_before_the_next_ring(rt: HostRuntime) {
         &rt,
         alloc,
         Blank::new(2),
-        journal(&rt, alloc),
+        journal(&rt, alloc, 1_000),
         &[Hold, Deliver, Twice],
         &[0, 0, 2, 4],
         &[1, 0, 2, 2, 3, 4],
@@ -245,7 +232,7 @@ fn a_frame_is_sent_before_the_next_ring(rt: HostRuntime) {
         &rt,
         alloc,
         Blank::new(2),
-        journal(&rt, alloc),
+        journal(&rt, alloc, 1_000),
         &[Hold, Lose],
         &[0, 0, 1],
         &[0, 2, 3],

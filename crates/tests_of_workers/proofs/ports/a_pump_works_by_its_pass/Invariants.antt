@@ -1,4 +1,4 @@
-use Rattle.tests_of_workers.proofs.desks.a_pump_works_by_its_pass.Given as goal
+use Rattle.tests_of_workers.proofs.ports.a_pump_works_by_its_pass.Given as goal
 
 abbrev pub ghosts-assert_pumps-L-Ledger : goal.ghosts-assert_pumps-L-Ledger
 ghosts-assert_pumps-L-Ledger g a = record { name = a.blank.name; parts = a.blank.parts }

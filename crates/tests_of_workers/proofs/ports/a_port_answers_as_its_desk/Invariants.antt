@@ -1,4 +1,4 @@
-use Rattle.tests_of_workers.proofs.desks.a_port_answers_as_its_desk.Given as goal
+use Rattle.tests_of_workers.proofs.ports.a_port_answers_as_its_desk.Given as goal
 
 abbrev pub ghosts-assert_ports-L-Ledger : goal.ghosts-assert_ports-L-Ledger
 ghosts-assert_ports-L-Ledger g a = record { name = a.blank.name; parts = a.blank.parts }

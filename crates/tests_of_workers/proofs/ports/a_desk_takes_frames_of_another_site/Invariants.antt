@@ -1,4 +1,4 @@
-use Rattle.tests_of_workers.proofs.desks.a_desk_takes_frames_of_another_site.Given as goal
+use Rattle.tests_of_workers.proofs.ports.a_desk_takes_frames_of_another_site.Given as goal
 
 abbrev pub ghosts-assert_takes-L-Ledger : goal.ghosts-assert_takes-L-Ledger
 ghosts-assert_takes-L-Ledger g a = record { name = a.blank.name; parts = a.blank.parts }

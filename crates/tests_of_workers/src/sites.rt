@@ -1,0 +1,119 @@
+//! Sites that know nothing, and their desks, for tests.
+ghost use Rattle.std.specs.Prelude.{◌≡◌};
+ghost use Rattle.site_journal.specs.Journals.{IsOfSite};
+
+use crate::asks::{list, status};
+use dots::SiteId;
+use replica::Replica;
+use site_desk::{CloseFault, Pass, SiteDesk, SiteLedger, close};
+use site_journal::{Journaled, Receipt, StepDeed};
+use status_report::{Answer, Ask};
+use std::alloc::Global;
+use std::process::Abort;
+use std::sync::Wait;
+use std::sync::ledger::Blank;
+
+// A site that knows nothing, of the queue `sales`.
+pub(crate) fn replica(rt: &impl Abort, alloc: Global, site: u16) -> Replica {
+    let site = SiteId::new(site).expect(rt, "a site");
+    Replica::new(alloc, site, list(rt, alloc))
+}
+
+// The journal of a site, in which `limit` steps may stand.
+pub(crate) fn journal_of(rt: &impl Abort, alloc: Global, replica: Replica, limit: u32) -> Journaled
+    ensures begun { result.count ≡ 0 }
+    ensures site { IsOfSite result.base.site result.base.names result }
+{
+    match Journaled::new(alloc, replica, limit.clamp(1, 1_000_000)) {
+        Ok(journal) => journal,
+        Err(_) => rt.panic("memory"),
+    }
+}
+
+// The journal of site 0 that knows nothing, in which `limit` steps may stand.
+pub(crate) fn journal(rt: &impl Abort, alloc: Global, limit: u32) -> Journaled
+    ensures begun { result.count ≡ 0 }
+    ensures site { IsOfSite result.base.site result.base.names result }
+{
+    journal_of(rt, alloc, replica(rt, alloc, 0), limit)
+}
+
+// A desk over a journal, and its two passes.
+pub(crate) fn desk_of_two<L: SiteLedger>(
+    rt: &impl Abort,
+    alloc: Global,
+    blank: Blank,
+    journal: Journaled,
+) -> (SiteDesk<L>, Pass<L>, Pass<L>)
+    requires name { blank.name ≡ L.name }
+    requires ledger { blank.parts ≡ L.parts }
+    requires two { blank.parts ≡ 2 }
+    requires begun { journal.count ≡ 0 }
+    requires site { IsOfSite L.site L.names journal }
+    requires limit { journal.limit ≡ L.limit }
+    requires base { journal.base ≡ L.base }
+{
+    let made = SiteDesk::new(alloc, blank, journal, 2).ok();
+    let (desk, mut passes) = made.expect(rt, "memory");
+    let second = passes.pop().expect(rt, "a pass");
+    let first = passes.pop().expect(rt, "a pass");
+    drop(passes);
+    (desk, first, second)
+}
+
+// The journal of a desk that is closed with both of its passes.
+pub(crate) fn closed<L: SiteLedger>(
+    rt: &impl Abort,
+    alloc: Global,
+    desk: SiteDesk<L>,
+    first: Pass<L>,
+    second: Pass<L>,
+) -> Journaled {
+    let mut passes = Vec::new(alloc);
+    passes.push(first).expect(rt, "memory");
+    passes.push(second).expect(rt, "memory");
+    close(desk, passes).ok().expect(rt, "a journal")
+}
+
+// A desk that isn't closed with one of its two passes, and the pass, which have both come back.
+pub(crate) fn kept_open<L: SiteLedger>(
+    rt: &impl Abort,
+    alloc: Global,
+    desk: SiteDesk<L>,
+    pass: Pass<L>,
+) -> (SiteDesk<L>, Pass<L>) {
+    let mut passes = Vec::new(alloc);
+    passes.push(pass).expect(rt, "memory");
+    let (fault, desk, mut passes) = close(desk, passes).err().expect(rt, "a fault");
+    assert!(rt; fault == CloseFault::WrongPasses && passes.len() == 1);
+    let pass = passes.pop().expect(rt, "a pass");
+    drop(passes);
+    (desk, pass)
+}
+
+// The receipt of a status that a pass asks.
+pub(crate) fn asked<L: SiteLedger, R: Abort + Wait>(
+    rt: &R,
+    alloc: Global,
+    desk: &SiteDesk<L>,
+    pass: &mut Pass<L>,
+) -> Receipt {
+    let ask = Ask::Status(status(alloc));
+    let receipt = desk.call(rt, pass, &ask).ok().expect(rt, "a receipt");
+    drop(ask);
+    receipt
+}
+
+// Whether a receipt has a report in which these bytes stand.
+pub(crate) fn reports(receipt: &Receipt, part: &[u8]) -> bool {
+    let StepDeed::Asked(_, Answer::Report(report)) = &receipt.deed else {
+        return false;
+    };
+    let report = report.as_slice();
+    for start in 0..report.len() {
+        if report[start..].starts_with(part) {
+            return true;
+        }
+    }
+    false
+}
