@@ -17,31 +17,6 @@ const MOST_READS: u32 = 1_000_000;
 /// How many bytes a script may have.
 pub const MOST_BYTES: usize = 16_777_216;
 
-/// All bytes of the reader, from here to its end. Faults: `Read` where the reader fails, or doesn't end within
-/// 1,000,000 reads; `TooLong` where there are more than 16,777,216 bytes; `Memory`.
-pub fn read_script<S: Source>(alloc: Global, reader: &mut S) -> Result<Vec<u8>, ScriptFault>
-    requires { S.failed reader.old ≡ false }
-    ensures whole { IfOk result (λ script.
-        Consumes (S.left reader.old) (S.left reader.new) script.items) }
-    ensures ended { OnOk result (HasEnded (S.ended reader.new) (S.left reader.new)) }
-    ensures works { OnOk result (S.failed reader.new ≡ false) }
-    ensures limit { IfOk result (λ script. vec_len script ≤ 16777216) }
-    ensures fault { IfErr result (λ fault. fault ≢ ScriptFault.Write) }
-    ensures read { IsErrOf result ScriptFault.Read → (S.failed reader.new ≡ true)
-        ⊎ ((S.ended reader.new ≡ false)
-        × HasGiven (S.left reader.old) (S.left reader.new) 1000000) }
-    ensures too_long { IsErrOf result ScriptFault.TooLong
-        → HasGiven (S.left reader.old) (S.left reader.new) (16777216 + 1) }
-{
-    let mut script = Vec::new(alloc);
-    for _ in 0..MOST_READS {
-        if !read_piece(reader, &mut script)? {
-            return Ok(script);
-        }
-    }
-    Err(ScriptFault::Read)
-}
-
 // Reads once, and puts what came at the end. It answers whether anything did. Faults: `Read` where the reader fails, `TooLong`,
 // `Memory`.
 fn read_piece<S: Source>(reader: &mut S, script: &mut Vec<u8>) -> Result<bool, ScriptFault>
@@ -76,4 +51,29 @@ fn read_piece<S: Source>(reader: &mut S, script: &mut Vec<u8>) -> Result<bool, S
         Ok(()) => Ok(true),
         Err(_) => Err(ScriptFault::Memory),
     }
+}
+
+/// All bytes of the reader, from here to its end. Faults: `Read` where the reader fails, or doesn't end within
+/// 1,000,000 reads; `TooLong` where there are more than 16,777,216 bytes; `Memory`.
+pub fn read_script<S: Source>(alloc: Global, reader: &mut S) -> Result<Vec<u8>, ScriptFault>
+    requires { S.failed reader.old ≡ false }
+    ensures whole { IfOk result (λ script.
+        Consumes (S.left reader.old) (S.left reader.new) script.items) }
+    ensures ended { OnOk result (HasEnded (S.ended reader.new) (S.left reader.new)) }
+    ensures works { OnOk result (S.failed reader.new ≡ false) }
+    ensures limit { IfOk result (λ script. vec_len script ≤ 16777216) }
+    ensures fault { IfErr result (λ fault. fault ≢ ScriptFault.Write) }
+    ensures read { IsErrOf result ScriptFault.Read → (S.failed reader.new ≡ true)
+        ⊎ ((S.ended reader.new ≡ false)
+        × HasGiven (S.left reader.old) (S.left reader.new) 1000000) }
+    ensures too_long { IsErrOf result ScriptFault.TooLong
+        → HasGiven (S.left reader.old) (S.left reader.new) (16777216 + 1) }
+{
+    let mut script = Vec::new(alloc);
+    for _ in 0..MOST_READS {
+        if !read_piece(reader, &mut script)? {
+            return Ok(script);
+        }
+    }
+    Err(ScriptFault::Read)
 }

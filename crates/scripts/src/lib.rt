@@ -7,10 +7,10 @@
 mod answers;
 mod devices;
 pub mod laws;
-mod line_steps;
+mod run;
 mod script;
 mod script_fault;
 
-pub use script::run_script;
+pub use run::run_script;
 pub use script_fault::ScriptFault;
 pub use script_lines::SiteCount;

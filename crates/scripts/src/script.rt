@@ -1,95 +1,113 @@
-//! Scripts: the lines of a script, run over all sites in one process (this project's own).
-ghost use Rattle.std.specs.Prelude.{◌≡◌, ◌≤◌, ◌+◌, ◌⊎◌, false, length, IfOk, IfErr, OnOk, IsErrOf};
-ghost use Rattle.std.specs.Prelude.{true};
-ghost use Rattle.ami_text.specs.Devices.{HasEnded, HasGiven};
+//! The sites of a script, and its lines, which are run over them one after another (this project's own).
+ghost use Rattle.std.specs.Prelude.{◌≡◌, ◌≤◌, ◌⊎◌, true, false, ℕ, List, Some, length, slice_get};
+ghost use Rattle.std.specs.Prelude.{IfErr, IfOk, IsErrOf, OnOk};
+ghost use Rattle.delta.specs.Frames.{IsInRanges};
+ghost use Rattle.delta_codec.specs.Frames.{Spells};
+ghost use Rattle.replica.specs.Standing.{StandsFor};
+ghost use Rattle.replica.specs.Steps.{SiteKnowledge};
 ghost use Rattle.sites_world.specs.Worlds.{World as world_of_operations, new_world};
-ghost use Rattle.script_lines.specs.ScriptLines.{sense_of};
-ghost use Rattle.scripts.specs.Script.{HasBegunText, HasWritten, IsScriptRun, IsRunInPart};
-ghost use Rattle.scripts.specs.LineSteps.{BeganLine, GaveLine, IsOutput, StandsAt};
-ghost use Rattle.scripts.specs.LineSteps.{listed_place, place_of};
+ghost use Rattle.ami_session.specs.FieldValues.{name_of};
+ghost use Rattle.ami_session.specs.Views.{reaction_of};
+ghost use Rattle.script_lines.specs.ScriptLines.{Message as asks_message, queue_in, sense_of};
+ghost use Rattle.script_lines.specs.ScriptLines.{tried_in};
+ghost use Rattle.scripts.specs.Answers.{frame_text};
+ghost use Rattle.scripts.specs.Script.{HasBegunText, HasWritten, IsEntryShown, count_of};
+ghost use Rattle.scripts.specs.Script.{given_by_count, given_by_event, given_by_message};
+ghost use Rattle.scripts.specs.Script.{given_by_reaction, text_of_offer, waited_reply};
+ghost use Rattle.scripts.specs.LineSteps.{BeganLine, GaveLine, IsHappening, IsOutput, IsUnknown};
+ghost use Rattle.scripts.specs.LineSteps.{StandsAt, StandsForGiven, listed_place, place_of};
 
-use crate::devices::read_script;
-use crate::line_steps::not_understood;
+use crate::answers::{
+    frame_text, no_entry_text, no_queue_text, offer_text, outcome_text, unknown_text,
+};
 use crate::script_fault::ScriptFault;
-use ami_text::{Sink, Source, write_all};
-use replica::QueueList;
-use script_lines::{Line, SiteCount, cut_line, read_line};
-use sites_world::{Event, World};
+use ami_session::{Act, Pending, Session, queue_of};
+use ami_text::{Message, Sink, write_all};
+use delta_codec::{Frame, encode};
+use dots::{Calls, Memory, QueueName, SiteId};
+use offer::offer;
+use replica::{Command, QueueList, Replica};
+use script_lines::{Line, SiteCount, cut_at_bar, cut_line, interfaces_of, message_of, read_line};
+use sites_world::laws::events_are_run_in_parts;
+use sites_world::{Event, Outcome, World};
+use status_report::Ask;
 use std::alloc::Global;
 
 /// The sites of a script.
 #[derive(Drop)]
 pub struct Script {
-    pub(crate) alloc: Global,
-    pub(crate) sites: SiteCount,
-    pub(crate) world: World,
+    alloc: Global,
+    sites: SiteCount,
+    world: World,
 }
 
 /// What a line gives: its text, and whether it was understood.
 #[derive(Drop)]
 pub struct Output {
-    pub(crate) text: Vec<u8>,
-    pub(crate) understood: bool,
+    text: Vec<u8>,
+    understood: bool,
 }
 
-/// Runs a script over new sites, `sites` in number, each with these queues: reads the reader to its end in pieces of at
-/// most 1,024 bytes, runs the lines in their order, and writes what each gives. It answers how many lines were not understood;
-/// each of them gives `line N: not understood`, N counting all lines from 1 (this project's own).
-///
-/// Faults: `Read` where the reader fails or gives no end within 1,000,000 reads, `TooLong` where the script has more
-/// than 16,777,216 bytes, `Write` where the writer fails or takes no bytes, `Memory` where memory is wanting. After the first
-/// two nothing was written, after the others what was begun of the script's text.
-pub fn run_script<S: Source, W: Sink>(
-    alloc: Global,
-    reader: &mut S,
-    writer: &mut W,
-    sites: SiteCount,
-    list: &QueueList,
-) -> Result<u64, ScriptFault>
-    requires reader { S.failed reader.old ≡ false }
-    requires writer { W.failed writer.old ≡ false }
-    ensures ended { OnOk result (HasEnded (S.ended reader.new) (S.left reader.new)) }
-    ensures works { OnOk result ((S.failed reader.new ≡ false) × (W.failed writer.new ≡ false)) }
-    ensures whole { IsErrOf result ScriptFault.Write
-        → HasEnded (S.ended reader.new) (S.left reader.new) }
-
-    // The script's text was written; `unknown` tells how many of its lines were not understood.
-    ensures text { IfOk result (λ unknown. IsScriptRun (listed_place sites list.now)
-        (S.left reader.old) (S.left reader.new)
-        (W.taken writer.old) (W.taken writer.new) unknown) }
-
-    // Each of these faults stands only where its cause does.
-    ensures read { IsErrOf result ScriptFault.Read → (S.failed reader.new ≡ true)
-        ⊎ ((S.ended reader.new ≡ false)
-        × HasGiven (S.left reader.old) (S.left reader.new) 1000000) }
-    ensures length { IsErrOf result ScriptFault.TooLong
-        → HasGiven (S.left reader.old) (S.left reader.new) (16777216 + 1) }
-    ensures write { IsErrOf result ScriptFault.Write → W.failed writer.new ≡ true }
-
-    // After these two nothing was written.
-    ensures unread { IsErrOf result ScriptFault.Read → W.taken writer.new ≡ W.taken writer.old }
-    ensures too_long { IsErrOf result ScriptFault.TooLong
-        → W.taken writer.new ≡ W.taken writer.old }
-
-    // After these the reader has ended and the text was begun; or nothing was written.
-    ensures unwritten { IsErrOf result ScriptFault.Write → IsRunInPart (listed_place sites list.now)
-        (S.left reader.old) (S.left reader.new) (W.taken writer.old) (W.taken writer.new) }
-    ensures memory { IsErrOf result ScriptFault.Memory → (W.taken writer.new ≡ W.taken writer.old)
-        ⊎ (HasEnded (S.ended reader.new) (S.left reader.new)
-        × IsRunInPart (listed_place sites list.now)
-        (S.left reader.old) (S.left reader.new) (W.taken writer.old) (W.taken writer.new)) }
+// The line of a frame that is shown.
+fn shown(alloc: Global, frame: &Frame) -> Result<Vec<u8>, Memory>
+    ensures { IsInRanges frame.now → IfOk result (λ text. (bytes : List ℕ)
+        × Spells frame.now bytes × (text.items ≡ frame_text bytes)) }
 {
-    let text = read_script(alloc, reader)?;
-    let mut script = Script::new(alloc, sites, list)?;
-    script.run_lines(writer, &text)
+    let bytes = encode(alloc, frame)?;
+    frame_text(alloc, &bytes)
+}
+
+// The ask for a call of a queue to be counted.
+fn count_of(calls: Calls, queue: QueueName) -> Ask
+    ensures { result ≡ count_of calls queue }
+{
+    Ask::Command(match calls {
+        Calls::Completed => Command::Completed { queue },
+        Calls::Abandoned => Command::Abandoned { queue },
+    })
+}
+
+// What is written of an offer of a site's replica.
+fn offer_of(alloc: Global, replica: &Replica, parts: &[u8]) -> Result<Vec<u8>, Memory>
+    ensures { IfOk result (λ text. (s : SiteKnowledge) → StandsFor replica.now s → text.items
+        ≡ text_of_offer replica.now.names (Some s) (queue_in parts.now) (tried_in parts.now)) }
+{
+    let (queue, behind) = cut_at_bar(parts);
+    match queue_of(queue) {
+        None => no_queue_text(alloc),
+        Some(queue) => {
+            let tried = interfaces_of(alloc, behind)?;
+            offer_text(alloc, offer(replica, &queue, &tried))
+        }
+    }
+}
+
+// The reply to a message that waits for what comes of its ask; none where there is no such site.
+fn reply(alloc: Global, pending: Pending, outcome: Outcome) -> Result<Vec<u8>, Memory>
+    ensures { IfOk result (λ text. text.items ≡ waited_reply pending outcome) }
+{
+    match outcome {
+        Outcome::Answered(answer) => pending.answer(alloc, answer).map_err(|(memory, _)| memory),
+        _ => Ok(Vec::new(alloc)),
+    }
+}
+
+// What is written of a line that isn't understood.
+fn not_understood(alloc: Global, number: u64) -> Result<Output, Memory>
+    ensures { IfOk result (λ output. IsUnknown number output) }
+{
+    let text = unknown_text(alloc, number)?;
+    Ok(Output {
+        text,
+        understood: false,
+    })
 }
 
 impl Script {
-    // A script whose sites know nothing yet. The one fault is `Memory`.
-    fn new(alloc: Global, sites: SiteCount, list: &QueueList) -> Result<Script, ScriptFault>
+    // A script whose sites know nothing yet. The one fault is want of memory.
+    pub(crate) fn new(alloc: Global, sites: SiteCount, list: &QueueList) -> Result<Script, Memory>
         ensures place { IfOk result (λ script. place_of script ≡ listed_place sites list.now) }
         ensures stands { IfOk result (λ script. StandsAt script.world (new_world sites)) }
-        ensures fault { IfErr result (λ fault. fault ≡ ScriptFault.Memory) }
     {
         match World::new(alloc, sites.get(), list) {
             Ok(world) => Ok(Script {
@@ -97,37 +115,137 @@ impl Script {
                 sites,
                 world,
             }),
-            Err(_) => Err(ScriptFault::Memory),
+            Err(_) => Err(Memory),
         }
     }
 
-    // Runs the lines of a script.
-    fn run_lines<W: Sink>(&mut self, writer: &mut W, text: &[u8]) -> Result<u64, ScriptFault>
-        requires writer { W.failed writer.old ≡ false }
-        requires short { length text.now ≤ 16777216 }
-        ensures ok { IfOk result (λ unknown. (w : world_of_operations)
-            → StandsAt self.old.world w → HasWritten (place_of self.old) w text.now
-            (W.taken writer.old) (W.taken writer.new) unknown) }
-        ensures err { IfErr result (λ _. (w : world_of_operations)
-            → StandsAt self.old.world w → HasBegunText (place_of self.old) w text.now
-            (W.taken writer.old) (W.taken writer.new)) }
-        ensures works { OnOk result (W.failed writer.new ≡ false) }
-        ensures write { IsErrOf result ScriptFault.Write → W.failed writer.new ≡ true }
-        ensures fault { IfErr result
-            (λ fault. (fault ≡ ScriptFault.Write) ⊎ (fault ≡ ScriptFault.Memory)) }
+    // Lets an event happen. Want of memory is no outcome, but the one fault.
+    fn happen(&mut self, event: Event) -> Result<Outcome, Memory>
+        ensures ok { IfOk result (λ outcome. (w : world_of_operations)
+            → StandsAt self.old.world w
+            → IsHappening (place_of self.old) w event self.new.world outcome) }
+        ensures place { place_of self.new ≡ place_of self.old }
     {
-        let mut rest = text;
-        let mut number = 0u64;
-        let mut unknown = 0u64;
-        while !rest.is_empty() {
-            let (line, others) = cut_line(rest);
-            rest = others;
-            number += 1;
-            if !self.give_line(writer, line, number)? {
-                unknown += 1;
+        events_are_run_in_parts();
+        match self.world.happen(event) {
+            Outcome::NoMemory => Err(Memory),
+            outcome => Ok(outcome),
+        }
+    }
+
+    // What is written of an event. The one fault is want of memory.
+    fn run_event(&mut self, event: Event) -> Result<Vec<u8>, Memory>
+        ensures ok { IfOk result (λ text. (w : world_of_operations) → StandsAt self.old.world w
+            → StandsForGiven (given_by_event (place_of self.old) w event) self.new.world text.items) }
+        ensures place { place_of self.new ≡ place_of self.old }
+    {
+        let outcome = self.happen(event)?;
+        outcome_text(self.alloc, outcome)
+    }
+
+    // What is written of a call that is to be counted. The one fault is want of memory.
+    fn run_count(&mut self, site: SiteId, calls: Calls, queue: &[u8]) -> Result<Vec<u8>, Memory>
+        ensures ok { IfOk result (λ text. (w : world_of_operations) → StandsAt self.old.world w
+            → StandsForGiven (given_by_count (place_of self.old) w site calls (name_of queue.now))
+            self.new.world text.items) }
+        ensures place { place_of self.new ≡ place_of self.old }
+    {
+        match queue_of(queue) {
+            None => no_queue_text(self.alloc),
+            Some(queue) => self.run_event(Event::Ask(site, count_of(calls, queue))),
+        }
+    }
+
+    // What is written of an offer. The one fault is want of memory.
+    fn run_offer(&self, site: SiteId, parts: &[u8]) -> Result<Vec<u8>, Memory>
+        ensures { IfOk result (λ text. (w : world_of_operations) → StandsAt self.now.world w
+            → text.items ≡ text_of_offer self.now.world.names (slice_get w.sites site)
+            (queue_in parts.now) (tried_in parts.now)) }
+    {
+        match self.world.replica(site) {
+            None => Ok(Vec::new(self.alloc)),
+            Some(replica) => offer_of(self.alloc, replica, parts),
+        }
+    }
+
+    // What is written of what a session does. The one fault is want of memory.
+    fn run_act(&mut self, site: SiteId, act: Act) -> Result<Vec<u8>, Memory>
+        ensures ok { IfOk result (λ text. (w : world_of_operations) → StandsAt self.old.world w
+            → StandsForGiven (given_by_reaction (place_of self.old) w site (reaction_of act))
+            self.new.world text.items) }
+        ensures place { place_of self.new ≡ place_of self.old }
+    {
+        match act {
+            Act::Reply(bytes) | Act::End(bytes) => Ok(bytes),
+            Act::Ask(asked, pending) => {
+                let outcome = self.happen(Event::Ask(site, asked))?;
+                reply(self.alloc, pending, outcome)
             }
         }
-        Ok(unknown)
+    }
+
+    // What a site replies to a message, in a trusted session of its own. The one fault is want of memory.
+    fn run_message(&mut self, site: SiteId, message: &Message) -> Result<Vec<u8>, Memory>
+        ensures ok { IfOk result (λ text. (w : world_of_operations) → StandsAt self.old.world w
+            → StandsForGiven (given_by_message (place_of self.old) w site message.now)
+            self.new.world text.items) }
+        ensures place { place_of self.new ≡ place_of self.old }
+    {
+        let mut session = Session::trusted();
+        let act = session.handle(self.alloc, message)?;
+        self.run_act(site, act)
+    }
+
+    // Runs the line of this number that has a message of these fields for a site, if they are one.
+    fn run_fields(&mut self, site: SiteId, fields: &[u8], number: u64) -> Result<Output, Memory>
+        ensures ok { IfOk result (λ output. (w : world_of_operations)
+            → StandsAt self.old.world w → IsOutput (place_of self.old) w number
+            (asks_message site fields.now) self.new.world output) }
+        ensures place { place_of self.new ≡ place_of self.old }
+    {
+        let Some(message) = message_of(self.alloc, fields)? else {
+            return not_understood(self.alloc, number);
+        };
+        let text = self.run_message(site, &message)?;
+        Ok(Output {
+            text,
+            understood: true,
+        })
+    }
+
+    // What is written of an entry that is shown. The one fault is want of memory.
+    fn show(&self, entry: usize) -> Result<Vec<u8>, Memory>
+        ensures { IfOk result (λ text. (w : world_of_operations) → StandsAt self.now.world w
+            → IsEntryShown entry (slice_get w.pool entry) text.items) }
+    {
+        match self.world.entry(entry) {
+            None => no_entry_text(self.alloc),
+            Some(frame) => shown(self.alloc, frame),
+        }
+    }
+
+    // Runs the line of this number. The one fault is want of memory.
+    fn run_line(&mut self, line: &[u8], number: u64) -> Result<Output, Memory>
+        ensures ok { IfOk result (λ output. (w : world_of_operations)
+            → StandsAt self.old.world w → IsOutput (place_of self.old) w number
+            (sense_of self.old.sites line.now) self.new.world output) }
+        ensures place { place_of self.new ≡ place_of self.old }
+    {
+        let text = match read_line(self.sites, line) {
+            Line::Nothing => Vec::new(self.alloc),
+            Line::Unknown => return not_understood(self.alloc, number),
+            Line::Message(site, fields) => return self.run_fields(site, fields, number),
+            Line::Count(site, calls, queue) => self.run_count(site, calls, queue)?,
+            Line::Offer(site, parts) => self.run_offer(site, parts)?,
+            Line::Cut(site) => self.run_event(Event::Cut(site))?,
+            Line::Whole(site) => self.run_event(Event::Whole(site))?,
+            Line::Take(site, entry) => self.run_event(Event::Take(site, entry))?,
+            Line::Show(entry) => self.show(entry)?,
+        };
+        Ok(Output {
+            text,
+            understood: true,
+        })
     }
 
     // Runs the line of this number and writes what it gives. It answers whether the line was understood.
@@ -157,28 +275,36 @@ impl Script {
         Ok(output.understood)
     }
 
-    // Runs the line of this number. The one fault is `Memory`.
-    fn run_line(&mut self, line: &[u8], number: u64) -> Result<Output, ScriptFault>
-        ensures ok { IfOk result (λ output. (w : world_of_operations)
-            → StandsAt self.old.world w → IsOutput (place_of self.old) w number
-            (sense_of self.old.sites line.now) self.new.world output) }
-        ensures place { place_of self.new ≡ place_of self.old }
-        ensures fault { IfErr result (λ fault. fault ≡ ScriptFault.Memory) }
+    // Runs the lines of a script.
+    pub(crate) fn run_lines<W: Sink>(
+        &mut self,
+        writer: &mut W,
+        text: &[u8],
+    ) -> Result<u64, ScriptFault>
+        requires writer { W.failed writer.old ≡ false }
+        requires short { length text.now ≤ 16777216 }
+        ensures ok { IfOk result (λ unknown. (w : world_of_operations)
+            → StandsAt self.old.world w → HasWritten (place_of self.old) w text.now
+            (W.taken writer.old) (W.taken writer.new) unknown) }
+        ensures err { IfErr result (λ _. (w : world_of_operations)
+            → StandsAt self.old.world w → HasBegunText (place_of self.old) w text.now
+            (W.taken writer.old) (W.taken writer.new)) }
+        ensures works { OnOk result (W.failed writer.new ≡ false) }
+        ensures write { IsErrOf result ScriptFault.Write → W.failed writer.new ≡ true }
+        ensures fault { IfErr result
+            (λ fault. (fault ≡ ScriptFault.Write) ⊎ (fault ≡ ScriptFault.Memory)) }
     {
-        let text = match read_line(self.sites, line) {
-            Line::Nothing => Vec::new(self.alloc),
-            Line::Unknown => return Ok(not_understood(self.alloc, number)?),
-            Line::Message(site, fields) => return self.run_fields(site, fields, number),
-            Line::Count(site, calls, queue) => self.run_count(site, calls, queue)?,
-            Line::Offer(site, parts) => self.run_offer(site, parts)?,
-            Line::Cut(site) => self.run_event(Event::Cut(site))?,
-            Line::Whole(site) => self.run_event(Event::Whole(site))?,
-            Line::Take(site, entry) => self.run_event(Event::Take(site, entry))?,
-            Line::Show(entry) => self.show(entry)?,
-        };
-        Ok(Output {
-            text,
-            understood: true,
-        })
+        let mut rest = text;
+        let mut number = 0u64;
+        let mut unknown = 0u64;
+        while !rest.is_empty() {
+            let (line, others) = cut_line(rest);
+            rest = others;
+            number += 1;
+            if !self.give_line(writer, line, number)? {
+                unknown += 1;
+            }
+        }
+        Ok(unknown)
     }
 }

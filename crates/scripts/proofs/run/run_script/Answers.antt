@@ -5,7 +5,7 @@ use Rattle.sites_world.specs.Worlds.{World, new_world}
 use Rattle.scripts.specs.declared.script.Script.{Script}
 use Rattle.scripts.specs.LineSteps.{StandsAt, place_of}
 use Rattle.scripts.specs.Script.{HasBegunText, HasWritten, IsScriptRun, IsRunInPart, ScriptSites}
-use Rattle.scripts.proofs.script.run_script.Goals as goal
+use Rattle.scripts.proofs.run.run_script.Goals as goal
 
 -- a script that was read, and whose lines were run over new sites, was run
 run_whole : (place : ScriptSites) (script : Script) (text : List ℕ) (left left_new taken taken_new : Option (List ℕ)) (unknown : ℕ)
