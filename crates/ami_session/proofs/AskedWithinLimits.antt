@@ -2,19 +2,20 @@
 use Rattle.std.proofs.Common.{◌≡◌, ◌≤◌, ℕ, Bool, true, false, true≢false, cond, not, nat_lt, List, [], ◌∷◌, ◌++◌, length, map as each, Option, Some, None, codes, if◌then◌else◌, is_none, is_some, unwrap_or, refl, sym, ap, subst, arith}
 use Rattle.std.specs.Char.{is_ascii_digit}
 use Rattle.std.specs.List.{find, list_all, list_any}
-use Rattle.std.specs.Option.{option_map}
+use Rattle.std.specs.Option.{option_and_then, option_map}
 use Rattle.std.proofs.lemmas.Bool.Decides.{nat_tests}
 use Rattle.dots.specs.declared.limits.TheConstants.{MOST_PENALTY, TEXT_BYTES}
 use Rattle.dots.specs.Values.{IsName, IsPenalty, IsText, is_bad_byte}
 use Rattle.dots.specs.WithinLimits.{IsPause}
 use Rattle.ami_text.specs.MessageFields.{value_of}
+use Rattle.ami_text.specs.Numbers.{number_of}
 use Rattle.status_report.specs.declared.asks.Ask.{Ask}
 use Rattle.ami_session.specs.declared.action.Action.{Action}
 use Rattle.ami_session.specs.declared.action.Action.TheVariants.{QueueAdd, QueueRemove, QueuePause, QueuePenalty, QueueStatus}
 use Rattle.ami_session.specs.Actions.{FieldRow, Name, Text, Number, absent_in, absent_of, action_named, is_unread, row_of, says_yes, text_at, unread_in}
 use Rattle.ami_session.specs.AskedValues.{IsAskWithinLimits}
 use Rattle.ami_session.specs.Checks.{Asks, Ends, Replies, SessionState, Waiting, accepts, error_reply, login_reaction, named_reaction, reaction, reaction_to, row_reaction}
-use Rattle.ami_session.specs.FieldValues.{Fields, id_of, is_word, name_of, number_of, penalty_of, text_of}
+use Rattle.ami_session.specs.FieldValues.{Fields, as_penalty, id_of, is_word, name_of, penalty_of, text_of}
 use Rattle.ami_session.specs.Replies.{reply}
 
 -- ---- values
@@ -36,17 +37,22 @@ name_is (b ∷ bs) h = record { text = text_is (b ∷ bs) h; present = omega ari
 
 penalty_is : (v : List ℕ) → is_some (penalty_of v) ≡ true → IsPenalty (number_of v)
 penalty_is [] h = absurd (true≢false (sym h))
-penalty_is (d ∷ ds) h = by (nat_lt 10 (length (d ∷ ds))) (not (list_all is_ascii_digit (d ∷ ds))) (nat_lt MOST_PENALTY (number_of (d ∷ ds))) refl h
+penalty_is (d ∷ ds) h = by (nat_lt 10 (length (d ∷ ds))) (not (list_all is_ascii_digit (d ∷ ds))) h
   where
-    few : (n most : ℕ) → nat_lt most n ≡ false → n ≤ most
-    few n most h = grind (arith, nat_tests)
+    n : ℕ
+    n = number_of (d ∷ ds)
 
-    by : (a b c : Bool) → nat_lt MOST_PENALTY (number_of (d ∷ ds)) ≡ c
-        → is_some (if a then None else if b then None else if c then None else Some (number_of (d ∷ ds))) ≡ true → IsPenalty (number_of (d ∷ ds))
-    by true b c e h = absurd (true≢false (sym h))
-    by false true c e h = absurd (true≢false (sym h))
-    by false false true e h = absurd (true≢false (sym h))
-    by false false false e h = few (number_of (d ∷ ds)) MOST_PENALTY e
+    few : (k most : ℕ) → nat_lt most k ≡ false → k ≤ most
+    few k most h = grind (arith, nat_tests)
+
+    last : (c : Bool) → nat_lt MOST_PENALTY n ≡ c → is_some (if c then None else Some n) ≡ true → IsPenalty n
+    last true e h = absurd (true≢false (sym h))
+    last false e h = few n MOST_PENALTY e
+
+    by : (a b : Bool) → is_some (option_and_then as_penalty (if a then None else if b then None else Some n)) ≡ true → IsPenalty n
+    by true b h = absurd (true≢false (sym h))
+    by false true h = absurd (true≢false (sym h))
+    by false false h = last (nat_lt MOST_PENALTY n) refl h
 
 passed : (b : Bool) → not b ≡ false → b ≡ true
 passed true h = refl

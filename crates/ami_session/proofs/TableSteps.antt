@@ -2,11 +2,12 @@
 use Rattle.std.proofs.Common.{◌≡◌, ℕ, Bool, true, false, cond, not, nat_lt, List, [], ◌∷◌, length, Option, Some, None, codes, is_none, is_some, unwrap_or, refl, sym, ap, true≢false}
 use Rattle.std.specs.Char.{is_ascii_digit}
 use Rattle.std.specs.List.{list_all, list_any}
-use Rattle.std.specs.Option.{option_map}
+use Rattle.std.specs.Option.{option_and_then, option_map}
 use Rattle.dots.specs.declared.limits.TheConstants.{MOST_PENALTY, TEXT_BYTES}
 use Rattle.dots.specs.Values.{is_bad_byte}
 use Rattle.ami_session.specs.Actions.{FieldRow, Name, Text, Number, YesOrNo, is_unread}
-use Rattle.ami_session.specs.FieldValues.{name_of, number_of, penalty_of, text_of}
+use Rattle.ami_text.specs.Numbers.{number_in, number_of}
+use Rattle.ami_session.specs.FieldValues.{as_penalty, name_of, penalty_of, text_of}
 
 -- a field that doesn't pass is passed over, and one that does is found
 pub skip : (b : Bool) (x y : Option FieldRow) → b ≡ false → cond b x y ≡ y
@@ -79,11 +80,15 @@ pub name_is : (value x : List ℕ) → name_of value ≡ Some x → x ≡ value
 name_is [] x h = absurd (true≢false (sym (ap is_some h)))
 name_is (b ∷ bs) x h = text_is (b ∷ bs) x h
 
-pub penalty_is : (digits : List ℕ) (n : ℕ) → penalty_of digits ≡ Some n → n ≡ number_of digits
-penalty_is [] n h = absurd (true≢false (sym (ap is_some h)))
-penalty_is (d ∷ ds) n h =
-    let few = nat_lt MOST_PENALTY (number_of (d ∷ ds)) in
+number_is : (most : ℕ) (digits : List ℕ) (n : ℕ) → number_in most digits ≡ Some n → n ≡ number_of digits
+number_is most [] n h = absurd (true≢false (sym (ap is_some h)))
+number_is most (d ∷ ds) n h =
     let digits = not (list_all is_ascii_digit (d ∷ ds)) in
-    some_by few ℕ (number_of (d ∷ ds)) n
-    (none_by digits ℕ (cond few None (Some (number_of (d ∷ ds)))) n
-    (none_by (nat_lt 10 (length (d ∷ ds))) ℕ (cond digits None (cond few None (Some (number_of (d ∷ ds))))) n h))
+    some_by digits ℕ (number_of (d ∷ ds)) n (none_by (nat_lt most (length (d ∷ ds))) ℕ (cond digits None (Some (number_of (d ∷ ds)))) n h)
+
+within : (o : Option ℕ) (n : ℕ) → option_and_then as_penalty o ≡ Some n → o ≡ Some n
+within None n h = absurd (true≢false (sym (ap is_some h)))
+within (Some m) n h = ap Some (sym (some_by (nat_lt MOST_PENALTY m) ℕ m n h))
+
+pub penalty_is : (digits : List ℕ) (n : ℕ) → penalty_of digits ≡ Some n → n ≡ number_of digits
+penalty_is digits n h = number_is 10 digits n (within (number_in 10 digits) n h)

@@ -4,6 +4,7 @@ use Rattle.std.specs.Prelude.{ℕ, ◌≡◌, ◌++◌, Bool, true, false, not, 
 use Rattle.std.specs.List.{find}
 use Rattle.std.specs.Option.{option_map}
 use Rattle.ami_text.specs.MessageFields.{value_of}
+use Rattle.ami_text.specs.Numbers.{number_of}
 use Rattle.dots.specs.Values.{PauseState}
 use Rattle.replica.specs.declared.command.Command.TheVariants.{Add, Remove, Pause, Penalty}
 use Rattle.replica.specs.declared.refusal.Refusal.{Refusal}
@@ -11,7 +12,7 @@ use Rattle.status_report.specs.declared.asks.Ask.{Ask}
 use Rattle.status_report.specs.declared.asks.Ask.TheVariants.{Command, Status}
 use Rattle.ami_session.specs.declared.action.Action.{Action}
 use Rattle.ami_session.specs.declared.action.Action.TheVariants.{QueueAdd, QueueRemove, QueuePause, QueuePenalty, QueueStatus}
-use Rattle.ami_session.specs.FieldValues.{Fields, is_word, is_yes, id_of, text_of, name_of, penalty_of, number_of}
+use Rattle.ami_session.specs.FieldValues.{Fields, is_word, is_yes, id_of, text_of, name_of, penalty_of}
 use Rattle.ami_session.specs.Replies.{refusal_text, removal_refusal_text}
 
 -- how the value of a field is read: as a name, which is a text that has a byte, as a text, as a

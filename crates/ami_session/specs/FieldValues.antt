@@ -1,10 +1,11 @@
 -- How the values of fields are read.
-use Rattle.std.specs.Prelude.{ℕ, ◌+◌, ◌*◌, ◌-◌, ◌==◌, ◌||◌, Bool, not, nat_lt, List, [], ◌∷◌, length, codes, Option, Some, None, unwrap_or, if◌then◌else◌}
-use Rattle.std.specs.List.{list_all, list_any}
-use Rattle.std.specs.Char.{is_ascii_digit}
+use Rattle.std.specs.Prelude.{ℕ, ◌==◌, ◌||◌, Bool, nat_lt, List, [], ◌∷◌, length, codes, Option, Some, None, unwrap_or, if◌then◌else◌}
+use Rattle.std.specs.List.{list_any}
+use Rattle.std.specs.Option.{option_and_then}
 use Rattle.dots.specs.declared.limits.TheConstants.{MOST_PENALTY, TEXT_BYTES}
 use Rattle.dots.specs.Values.{is_bad_byte}
 use Rattle.ami_text.specs.MessageFields.{same_name, value_of}
+use Rattle.ami_text.specs.Numbers.{number_in}
 
 -- a message: its fields, each a name and a value
 abbrev pub Fields : Type 0
@@ -41,19 +42,11 @@ abbrev pub name_of : List ℕ → Option (List ℕ)
 name_of [] = None
 name_of (b ∷ bs) = text_of (b ∷ bs)
 
--- the number whose decimal digits are those of `n` and then these
-abbrev pub read_on : ℕ → List ℕ → ℕ
-read_on n [] = n
-read_on n (d ∷ ds) = read_on (n * 10 + (d - 48)) ds
-
--- the number that the decimal digits `digits` stand for
-abbrev pub number_of : List ℕ → ℕ
-number_of digits = read_on 0 digits
+-- the penalty `n`; `None` where `n` is above 2,147,483,647
+abbrev pub as_penalty : ℕ → Option ℕ
+as_penalty n = if nat_lt MOST_PENALTY n then None else Some n
 
 -- the penalty that a value of 1 to 10 decimal digits stands for, at most 2,147,483,647; `None` of
 -- any other value
 abbrev pub penalty_of : List ℕ → Option ℕ
-penalty_of [] = None
-penalty_of (d ∷ ds) =
-    if nat_lt 10 (length (d ∷ ds)) then None else if not (list_all is_ascii_digit (d ∷ ds)) then None
-    else if nat_lt MOST_PENALTY (number_of (d ∷ ds)) then None else Some (number_of (d ∷ ds))
+penalty_of digits = option_and_then as_penalty (number_in 10 digits)

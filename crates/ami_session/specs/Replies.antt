@@ -1,6 +1,6 @@
 -- The texts of replies. Their wording is this project's own; their lines are those of Asterisk's Manager Interface.
 use Rattle.std.specs.Prelude.{ℕ, List, ◌++◌, codes}
-use Rattle.status_report.specs.WrittenLines.{field, action_id_line}
+use Rattle.ami_text.specs.WrittenLines.{field, action_id_line}
 use Rattle.replica.specs.declared.refusal.Refusal.{Refusal}
 use Rattle.replica.specs.declared.refusal.Refusal.TheVariants.{NoSuchQueue, AlreadyThere, NotThere, MembersFull, Exhausted, TotalFull, Memory}
 

@@ -23,6 +23,49 @@ pub enum Action {
     QueueStatus,
 }
 
+// The first of two fields that the message lacks.
+fn first_absent(
+    message: &Message,
+    first: &'static str,
+    second: &'static str,
+) -> Option<&'static str>
+    ensures { option_map (λ name. name.now) result
+        ≡ absent_of (first.now ∷ second.now ∷ []) message.now }
+{
+    if message.get(first.as_bytes()).is_none() {
+        Some(first)
+    } else if message.get(second.as_bytes()).is_none() {
+        Some(second)
+    } else {
+        None
+    }
+}
+
+// What an error says of a refusal.
+fn refusal_text(refusal: Refusal) -> &'static str
+    ensures { result.now ≡ refusal_text refusal }
+{
+    match refusal {
+        Refusal::NoSuchQueue => "No such queue",
+        Refusal::AlreadyThere => "Unable to add interface: Already there",
+        Refusal::NotThere => "Interface not found",
+        Refusal::MembersFull => "Unable to change members: Full",
+        Refusal::Exhausted => "Unable to change members: Numbers used up",
+        Refusal::TotalFull => "Total full",
+        Refusal::Memory => "Out of memory",
+    }
+}
+
+// What an error says of a removal that is refused.
+fn removal_refusal_text(refusal: Refusal) -> &'static str
+    ensures { result.now ≡ removal_refusal_text refusal }
+{
+    match refusal {
+        Refusal::NotThere => "Unable to remove interface: Not there",
+        other => refusal_text(other),
+    }
+}
+
 impl Action {
     ghost use Rattle.ami_session.specs.Actions.{absent_in, action_named, row_of};
 
@@ -80,48 +123,5 @@ impl Action {
             Action::QueueAdd | Action::QueuePause | Action::QueuePenalty | Action::QueueStatus =>
                 refusal_text(refusal),
         }
-    }
-}
-
-// The first of two fields that the message lacks.
-fn first_absent(
-    message: &Message,
-    first: &'static str,
-    second: &'static str,
-) -> Option<&'static str>
-    ensures { option_map (λ name. name.now) result
-        ≡ absent_of (first.now ∷ second.now ∷ []) message.now }
-{
-    if message.get(first.as_bytes()).is_none() {
-        Some(first)
-    } else if message.get(second.as_bytes()).is_none() {
-        Some(second)
-    } else {
-        None
-    }
-}
-
-// What an error says of a removal that is refused.
-fn removal_refusal_text(refusal: Refusal) -> &'static str
-    ensures { result.now ≡ removal_refusal_text refusal }
-{
-    match refusal {
-        Refusal::NotThere => "Unable to remove interface: Not there",
-        other => refusal_text(other),
-    }
-}
-
-// What an error says of a refusal.
-fn refusal_text(refusal: Refusal) -> &'static str
-    ensures { result.now ≡ refusal_text refusal }
-{
-    match refusal {
-        Refusal::NoSuchQueue => "No such queue",
-        Refusal::AlreadyThere => "Unable to add interface: Already there",
-        Refusal::NotThere => "Interface not found",
-        Refusal::MembersFull => "Unable to change members: Full",
-        Refusal::Exhausted => "Unable to change members: Numbers used up",
-        Refusal::TotalFull => "Total full",
-        Refusal::Memory => "Out of memory",
     }
 }

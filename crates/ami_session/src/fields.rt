@@ -40,6 +40,13 @@ pub fn says_yes(message: &Message) -> bool
     is_yes(text_at(message, "Paused"))
 }
 
+// The penalty of a message; 0 where it is absent.
+fn penalty_in(message: &Message) -> Option<Penalty>
+    ensures { result ≡ penalty_of (unwrap_or (value_of (codes "Penalty") message.now) (codes "0")) }
+{
+    penalty_of(message.get(b"Penalty").unwrap_or(b"0"))
+}
+
 /// What a QueueAdd asks that lacks no field. `Err` names the first field, in the order Queue, Interface, Penalty, Paused, MemberName,
 /// StateInterface, that can't be read. An absent penalty is 0, an absent Paused is no.
 pub fn queue_add(message: &Message) -> Result<Command, Unreadable>
@@ -86,6 +93,19 @@ pub fn queue_remove(message: &Message) -> Result<Command, Unreadable>
         return Err("Interface");
     };
     Ok(Command::Remove { queue, interface })
+}
+
+// The queue of a value that may be absent; `None` where it is no name.
+fn optional_queue(value: Option<&[u8]>) -> Option<Option<QueueName>>
+    ensures { MatchOption result
+        (is_unread Name (option_map (λ v. v.now) value.entry) ≡ true)
+        (λ queue. (is_unread Name (option_map (λ v. v.now) value.entry) ≡ false)
+        × (queue ≡ option_map (λ v. v.now) value.entry)) }
+{
+    match value {
+        None => Some(None),
+        Some(value) => queue_of(value).map(Some),
+    }
 }
 
 /// What a QueuePause asks that lacks no field: without a Queue of every queue that the interface is a member of. `Err` names the
@@ -136,6 +156,19 @@ pub fn queue_penalty(message: &Message) -> Result<Command, Unreadable>
     })
 }
 
+// The text of a value that may be absent; `None` where it is no text.
+fn optional_text(value: Option<&[u8]>) -> Option<Option<Text80>>
+    ensures { MatchOption result
+        (is_unread Text (option_map (λ v. v.now) value.entry) ≡ true)
+        (λ text. (is_unread Text (option_map (λ v. v.now) value.entry) ≡ false)
+        × (text ≡ option_map (λ v. v.now) value.entry)) }
+{
+    match value {
+        None => Some(None),
+        Some(value) => text_of(value).map(Some),
+    }
+}
+
 /// What a QueueStatus asks, under this ActionID. `Err` names the first of Queue and Member that can't be read.
 pub fn queue_status(message: &Message, action_id: Bytes) -> Result<StatusRequest, Unreadable>
     requires { action_id ≡ id_of message.now }
@@ -154,37 +187,4 @@ pub fn queue_status(message: &Message, action_id: Bytes) -> Result<StatusRequest
         member,
         action_id,
     })
-}
-
-// The penalty of a message; 0 where it is absent.
-fn penalty_in(message: &Message) -> Option<Penalty>
-    ensures { result ≡ penalty_of (unwrap_or (value_of (codes "Penalty") message.now) (codes "0")) }
-{
-    penalty_of(message.get(b"Penalty").unwrap_or(b"0"))
-}
-
-// The queue of a value that may be absent; `None` where it is no name.
-fn optional_queue(value: Option<&[u8]>) -> Option<Option<QueueName>>
-    ensures { MatchOption result
-        (is_unread Name (option_map (λ v. v.now) value.entry) ≡ true)
-        (λ queue. (is_unread Name (option_map (λ v. v.now) value.entry) ≡ false)
-        × (queue ≡ option_map (λ v. v.now) value.entry)) }
-{
-    match value {
-        None => Some(None),
-        Some(value) => queue_of(value).map(Some),
-    }
-}
-
-// The text of a value that may be absent; `None` where it is no text.
-fn optional_text(value: Option<&[u8]>) -> Option<Option<Text80>>
-    ensures { MatchOption result
-        (is_unread Text (option_map (λ v. v.now) value.entry) ≡ true)
-        (λ text. (is_unread Text (option_map (λ v. v.now) value.entry) ≡ false)
-        × (text ≡ option_map (λ v. v.now) value.entry)) }
-{
-    match value {
-        None => Some(None),
-        Some(value) => text_of(value).map(Some),
-    }
 }

@@ -17,4 +17,4 @@ pub use act::Act;
 pub use dots::Memory;
 pub use pending::Pending;
 pub use session::Session;
-pub use values::{are_digits, interface_of, is_login_word, number_of, queue_of};
+pub use values::{interface_of, is_login_word, queue_of};

@@ -3,8 +3,8 @@ ghost use Rattle.std.specs.Prelude.{◌≡◌, ◌++◌, codes, IfOk};
 ghost use Rattle.ami_session.specs.Replies.{reply};
 ghost use Rattle.ami_session.specs.Responses.{response_text};
 
+use ami_text::{push_action_id_line, push_end, push_field};
 use dots::{Bytes, Memory};
-use status_report::{push_action_id_line, push_end, push_field};
 use std::alloc::Global;
 
 // For how many bytes a reply has room at first: most have fewer.

@@ -58,6 +58,58 @@ impl Model for Session {
     } };
 }
 
+fn error(alloc: Global, id: &Bytes, text: &str) -> Result<Act, Memory>
+    ensures { IfOk result
+        (λ act. reaction_of act ≡ Replies (reply (codes "Error") id.now text.now)) }
+{
+    let bytes = message_reply(alloc, Response::Error, id, text.as_bytes())?;
+    Ok(Act::Reply(bytes))
+}
+
+fn goodbye(alloc: Global, id: &Bytes) -> Result<Act, Memory>
+    ensures { IfOk result
+        (λ act. reaction_of act
+        ≡ Ends (reply (codes "Goodbye") id.now (codes "Thanks for all the fish."))) }
+{
+    let bytes = message_reply(alloc, Response::Goodbye, id, b"Thanks for all the fish.")?;
+    Ok(Act::End(bytes))
+}
+
+// What an action asks, or the field that can't be read.
+fn ask_of(action: Action, message: &Message, id: Bytes) -> Result<Ask, Unreadable>
+    requires id { id ≡ id_of message.now }
+    requires none_absent { absent_in (row_of action) message.now ≡ None }
+    ensures { MatchResult result
+        (λ ask. AsksBy (row_of action) message.now ask)
+        (λ name. unread_in (row_of action) message.now ≡ Some name.now) }
+{
+    match action {
+        Action::QueueAdd => queue_add(message).map(Ask::Command),
+        Action::QueueRemove => queue_remove(message).map(Ask::Command),
+        Action::QueuePause => queue_pause(message).map(Ask::Command),
+        Action::QueuePenalty => queue_penalty(message).map(Ask::Command),
+        Action::QueueStatus => queue_status(message, id).map(Ask::Status),
+    }
+}
+
+// What a message of a known action asks of the site, or what is wrong with it.
+fn asked(alloc: Global, action: Action, message: &Message, id: Bytes) -> Result<Act, Memory>
+    requires { id ≡ id_of message.now }
+    ensures { IfOk result (λ act. reaction_of act ≡ named_reaction (Some action) message.now) }
+{
+    if let Some(name) = action.missing(message) {
+        let bytes = field_error(alloc, &id, "'", name, "' not specified.")?;
+        return Ok(Act::Reply(bytes));
+    }
+    match ask_of(action, message, id.copy()?) {
+        Ok(ask) => Ok(Act::Ask(ask, Pending::new(action, says_yes(message), id))),
+        Err(name) => {
+            let bytes = field_error(alloc, &id, "Field not valid: ", name, "")?;
+            Ok(Act::Reply(bytes))
+        }
+    }
+}
+
 impl Session {
     /// A session that isn't logged in, for this user and secret; nobody can send one that is no login word
     /// (`is_login_word`). It greets with `Queue Sites Call Manager/1.0.0`.
@@ -108,21 +160,37 @@ impl Session {
         }
     }
 
-    /// What the session does upon a message. In this order: a message with no `Action` is an error; `Logoff` ends the
-    /// session; `Login` is accepted where user and secret are the session's, and else is an error that leaves the
-    /// session as it was; before a Login all else is an error; so is an action that isn't known, then a required field
-    /// that is absent, then a field that can't be read; and then the site is asked. The one fault is want of memory,
-    /// and leaves the session as it was.
-    pub fn handle(&mut self, alloc: Global, message: &Message) -> Result<Act, Memory>
-        ensures reaction { IfOk result (λ act. reaction_of act ≡ reaction self.old message.now) }
-        ensures after { OnOk result (self.new ≡ after self.old message.now) }
+    // Whether user and secret are the session's, byte by byte; an absent one counts as empty.
+    fn accepts(&self, message: &Message) -> bool
+        ensures { result ≡ accepts self.now.login message.now }
+    {
+        match &self.credentials {
+            None => true,
+            Some(Credentials { user, secret }) => {
+                text_at(message, "Username") == user.as_bytes()
+                    && text_at(message, "Secret") == secret.as_bytes()
+            }
+        }
+    }
+
+    // A Login: accepted, or an error that leaves the session as it was.
+    fn login(&mut self, alloc: Global, message: &Message, id: &Bytes) -> Result<Act, Memory>
+        requires { id.now ≡ id_of message.now }
+        ensures reaction { IfOk result
+            (λ act. reaction_of act ≡ login_reaction self.old message.now) }
+        ensures accepted { OnOk result
+            (accepts self.old.login message.now ≡ true
+            → self.new ≡ record self.old { logged_in = true }) }
+        ensures refused { OnOk result
+            (accepts self.old.login message.now ≡ false → self.new ≡ self.old) }
         ensures err { OnErr result (self.new ≡ self.old) }
     {
-        let id = action_id(alloc, message)?;
-        match message.get(b"Action") {
-            None => error(alloc, &id, "Missing action in request"),
-            Some(name) => self.react(alloc, message, name, id),
+        if !self.accepts(message) {
+            return error(alloc, id, "Authentication failed");
         }
+        let bytes = message_reply(alloc, Response::Success, id, b"Authentication accepted")?;
+        self.logged_in = true;
+        Ok(Act::Reply(bytes))
     }
 
     // What the session does upon a message of this action.
@@ -154,88 +222,20 @@ impl Session {
         }
     }
 
-    // A Login: accepted, or an error that leaves the session as it was.
-    fn login(&mut self, alloc: Global, message: &Message, id: &Bytes) -> Result<Act, Memory>
-        requires { id.now ≡ id_of message.now }
-        ensures reaction { IfOk result
-            (λ act. reaction_of act ≡ login_reaction self.old message.now) }
-        ensures accepted { OnOk result
-            (accepts self.old.login message.now ≡ true
-            → self.new ≡ record self.old { logged_in = true }) }
-        ensures refused { OnOk result
-            (accepts self.old.login message.now ≡ false → self.new ≡ self.old) }
+    /// What the session does upon a message. In this order: a message with no `Action` is an error; `Logoff` ends the
+    /// session; `Login` is accepted where user and secret are the session's, and else is an error that leaves the
+    /// session as it was; before a Login all else is an error; so is an action that isn't known, then a required field
+    /// that is absent, then a field that can't be read; and then the site is asked. The one fault is want of memory,
+    /// and leaves the session as it was.
+    pub fn handle(&mut self, alloc: Global, message: &Message) -> Result<Act, Memory>
+        ensures reaction { IfOk result (λ act. reaction_of act ≡ reaction self.old message.now) }
+        ensures after { OnOk result (self.new ≡ after self.old message.now) }
         ensures err { OnErr result (self.new ≡ self.old) }
     {
-        if !self.accepts(message) {
-            return error(alloc, id, "Authentication failed");
+        let id = action_id(alloc, message)?;
+        match message.get(b"Action") {
+            None => error(alloc, &id, "Missing action in request"),
+            Some(name) => self.react(alloc, message, name, id),
         }
-        let bytes = message_reply(alloc, Response::Success, id, b"Authentication accepted")?;
-        self.logged_in = true;
-        Ok(Act::Reply(bytes))
-    }
-
-    // Whether user and secret are the session's, byte by byte; an absent one counts as empty.
-    fn accepts(&self, message: &Message) -> bool
-        ensures { result ≡ accepts self.now.login message.now }
-    {
-        match &self.credentials {
-            None => true,
-            Some(Credentials { user, secret }) => {
-                text_at(message, "Username") == user.as_bytes()
-                    && text_at(message, "Secret") == secret.as_bytes()
-            }
-        }
-    }
-}
-
-fn error(alloc: Global, id: &Bytes, text: &str) -> Result<Act, Memory>
-    ensures { IfOk result
-        (λ act. reaction_of act ≡ Replies (reply (codes "Error") id.now text.now)) }
-{
-    let bytes = message_reply(alloc, Response::Error, id, text.as_bytes())?;
-    Ok(Act::Reply(bytes))
-}
-
-fn goodbye(alloc: Global, id: &Bytes) -> Result<Act, Memory>
-    ensures { IfOk result
-        (λ act. reaction_of act
-        ≡ Ends (reply (codes "Goodbye") id.now (codes "Thanks for all the fish."))) }
-{
-    let bytes = message_reply(alloc, Response::Goodbye, id, b"Thanks for all the fish.")?;
-    Ok(Act::End(bytes))
-}
-
-// What a message of a known action asks of the site, or what is wrong with it.
-fn asked(alloc: Global, action: Action, message: &Message, id: Bytes) -> Result<Act, Memory>
-    requires { id ≡ id_of message.now }
-    ensures { IfOk result (λ act. reaction_of act ≡ named_reaction (Some action) message.now) }
-{
-    if let Some(name) = action.missing(message) {
-        let bytes = field_error(alloc, &id, "'", name, "' not specified.")?;
-        return Ok(Act::Reply(bytes));
-    }
-    match ask_of(action, message, id.copy()?) {
-        Ok(ask) => Ok(Act::Ask(ask, Pending::new(action, says_yes(message), id))),
-        Err(name) => {
-            let bytes = field_error(alloc, &id, "Field not valid: ", name, "")?;
-            Ok(Act::Reply(bytes))
-        }
-    }
-}
-
-// What an action asks, or the field that can't be read.
-fn ask_of(action: Action, message: &Message, id: Bytes) -> Result<Ask, Unreadable>
-    requires id { id ≡ id_of message.now }
-    requires none_absent { absent_in (row_of action) message.now ≡ None }
-    ensures { MatchResult result
-        (λ ask. AsksBy (row_of action) message.now ask)
-        (λ name. unread_in (row_of action) message.now ≡ Some name.now) }
-{
-    match action {
-        Action::QueueAdd => queue_add(message).map(Ask::Command),
-        Action::QueueRemove => queue_remove(message).map(Ask::Command),
-        Action::QueuePause => queue_pause(message).map(Ask::Command),
-        Action::QueuePenalty => queue_penalty(message).map(Ask::Command),
-        Action::QueueStatus => queue_status(message, id).map(Ask::Status),
     }
 }

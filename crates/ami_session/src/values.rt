@@ -1,13 +1,11 @@
 //! How the values of fields are read.
-ghost use Rattle.std.specs.Prelude.{◌≡◌, ◌≢◌, ◌↔◌, ◌<◌, ◌^◌, [], length, true, unwrap_or, IsTrue};
-ghost use Rattle.std.specs.Option.{SomeIff};
-ghost use Rattle.std.specs.List.{list_all, list_any};
-ghost use Rattle.std.specs.Char.{is_ascii_digit};
+ghost use Rattle.std.specs.Prelude.{◌≡◌, ◌≢◌, ◌↔◌, [], unwrap_or, IsTrue};
+ghost use Rattle.std.specs.List.{list_any};
 ghost use Rattle.ami_text.specs.MessageFields.{trim_of};
 ghost use Rattle.ami_session.specs.FieldValues.{is_word, is_yes, is_bad_in_id, clean_id, id_of};
-ghost use Rattle.ami_session.specs.FieldValues.{text_of, name_of, penalty_of, number_of};
+ghost use Rattle.ami_session.specs.FieldValues.{text_of, name_of, penalty_of};
 
-use ami_text::{Message, trimmed};
+use ami_text::{Message, number_in, trimmed};
 use dots::{Interface, Penalty, QueueName, Text80};
 
 /// Whether a text is this word, without ASCII case.
@@ -29,11 +27,10 @@ pub fn is_yes(value: &[u8]) -> bool
         || is_word(value, b"on")
 }
 
-/// The ActionID of a message; no bytes where it has none. One that holds a CR or NUL counts as absent.
-pub fn id_of(message: &Message) -> &[u8]
-    ensures { result.now ≡ id_of message.now }
+fn has_bad_in_id(value: &[u8]) -> bool
+    ensures { result ≡ list_any is_bad_in_id value.now }
 {
-    clean_id(message.get(b"ActionID").unwrap_or(b""))
+    value.iter().any(|b| *b == b'\r' || *b == 0)
 }
 
 fn clean_id(value: &[u8]) -> &[u8]
@@ -42,10 +39,11 @@ fn clean_id(value: &[u8]) -> &[u8]
     if has_bad_in_id(value) { b"" } else { value }
 }
 
-fn has_bad_in_id(value: &[u8]) -> bool
-    ensures { result ≡ list_any is_bad_in_id value.now }
+/// The ActionID of a message; no bytes where it has none. One that holds a CR or NUL counts as absent.
+pub fn id_of(message: &Message) -> &[u8]
+    ensures { result.now ≡ id_of message.now }
 {
-    value.iter().any(|b| *b == b'\r' || *b == 0)
+    clean_id(message.get(b"ActionID").unwrap_or(b""))
 }
 
 /// The text of a value, where it is one.
@@ -82,38 +80,6 @@ pub fn queue_of(value: &[u8]) -> Option<QueueName>
 pub fn penalty_of(digits: &[u8]) -> Option<Penalty>
     ensures { result ≡ penalty_of digits.now }
 {
-    if digits.is_empty() || digits.len() > 10 || !are_digits(digits) {
-        return None;
-    }
-    Penalty::new(number_of(digits)?)
-}
-
-/// Whether all bytes are decimal digits.
-pub fn are_digits(digits: &[u8]) -> bool
-    ensures { result ≡ list_all is_ascii_digit digits.now }
-{
-    digits.iter().all(|b| b.is_ascii_digit())
-}
-
-/// The number that decimal digits stand for, where it is below 2^32.
-pub fn number_of(digits: &[u8]) -> Option<u32>
-    requires digits { list_all is_ascii_digit digits.now ≡ true }
-    requires some { 0 < length digits.now }
-    ensures { SomeIff result (number_of digits.now < 2 ^ 32) (number_of digits.now) }
-{
-    match str::from_utf8(digits) {
-        Ok(text) => parsed(text),
-        Err(_) => None,
-    }
-}
-
-fn parsed(text: &str) -> Option<u32>
-    requires digits { list_all is_ascii_digit text.now ≡ true }
-    requires some { 0 < length text.now }
-    ensures { SomeIff result (number_of text.now < 2 ^ 32) (number_of text.now) }
-{
-    match text.parse::<u32>() {
-        Ok(number) => Some(number),
-        Err(_) => None,
-    }
+    let number = number_in(10, digits)?;
+    Penalty::new(u32::try_from(number).ok()?)
 }

@@ -1,5 +1,6 @@
 pub mod Bounds
 pub mod ByteSearch
+pub mod Digits
 pub mod Existence
 pub mod Feeding
 pub mod FieldLemmas

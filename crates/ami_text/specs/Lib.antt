@@ -1,6 +1,7 @@
 pub mod Devices
 pub mod Field
 pub mod MessageFields
+pub mod Numbers
 pub mod Found
 pub mod FeedStates
 pub mod FirstMessages
@@ -9,3 +10,4 @@ pub mod Lines
 pub mod Progress
 pub mod StdDevices
 pub mod Stream
+pub mod WrittenLines

@@ -68,6 +68,17 @@ impl<'a> MemorySource<'a> {
     }
 }
 
+// Copies from the front of the bytes what the piece has room for, at most `most` bytes, and
+// returns how many.
+fn copy_front(bytes: &[u8], most: usize, piece: &mut [u8]) -> usize
+    ensures count { result ≡ min (min (length bytes.now) most) (length piece.old) }
+    ensures bytes { take result piece.new ≡ take result bytes.now }
+{
+    let count = bytes.len().min(most).min(piece.len());
+    piece[..count].copy_from_slice(&bytes[..count]);
+    count
+}
+
 impl<'a> Source for MemorySource<'a> {
     ghost left = { λ s. Some s.left };
 
@@ -113,15 +124,4 @@ impl<'a> Source for MemorySource<'a> {
         }
         Ok(count)
     }
-}
-
-// Copies from the front of the bytes what the piece has room for, at most `most` bytes, and
-// returns how many.
-fn copy_front(bytes: &[u8], most: usize, piece: &mut [u8]) -> usize
-    ensures count { result ≡ min (min (length bytes.now) most) (length piece.old) }
-    ensures bytes { take result piece.new ≡ take result bytes.now }
-{
-    let count = bytes.len().min(most).min(piece.len());
-    piece[..count].copy_from_slice(&bytes[..count]);
-    count
 }

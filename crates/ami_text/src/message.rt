@@ -29,6 +29,29 @@ impl Model for Message {
     ghost view = { λ m. map pair_of m.fields.items };
 }
 
+// The value of the first field of this name.
+fn first_value<'a>(fields: &'a [Field], name: &[u8]) -> Option<&'a [u8]>
+    ensures { option_copied result ≡ first_value name.now (map pair_of fields.now) }
+{
+    for field in fields {
+        if field.name.eq_ignore_ascii_case(name) {
+            return Some(field.value.as_slice());
+        }
+    }
+    None
+}
+
+// Adds the field that a line is; a line without a colon is none.
+fn push_line(alloc: Global, fields: &mut Vec<Field>, line: &[u8]) -> Result<(), Memory>
+    ensures { OnOk result (map pair_of fields.new.items
+        ≡ map pair_of fields.old.items ++ fields_of (line.now ∷ [])) }
+{
+    if let Some((name, value)) = name_and_value(content(line)) {
+        fields.push(Field::new(alloc, name, value)?)?;
+    }
+    Ok(())
+}
+
 impl Message {
     /// The value of the first field of this name, where ASCII letters of either case are the same.
     /// `None` where there is no such field, and where its value is empty: a later field of the name
@@ -47,32 +70,9 @@ impl Message {
         let mut fields = Vec::new(alloc);
         let mut rest = bytes;
         'lines: while let Some(end) = rest.find_byte(b'\n') {
-            push_field(alloc, &mut fields, &rest[..end])?;
+            push_line(alloc, &mut fields, &rest[..end])?;
             rest = &rest[end + 1..];
         }
         Ok(Message { fields })
     }
-}
-
-// The value of the first field of this name.
-fn first_value<'a>(fields: &'a [Field], name: &[u8]) -> Option<&'a [u8]>
-    ensures { option_copied result ≡ first_value name.now (map pair_of fields.now) }
-{
-    for field in fields {
-        if field.name.eq_ignore_ascii_case(name) {
-            return Some(field.value.as_slice());
-        }
-    }
-    None
-}
-
-// Adds the field that a line is; a line without a colon is none.
-fn push_field(alloc: Global, fields: &mut Vec<Field>, line: &[u8]) -> Result<(), Memory>
-    ensures { OnOk result (map pair_of fields.new.items
-        ≡ map pair_of fields.old.items ++ fields_of (line.now ∷ [])) }
-{
-    if let Some((name, value)) = name_and_value(content(line)) {
-        fields.push(Field::new(alloc, name, value)?)?;
-    }
-    Ok(())
 }

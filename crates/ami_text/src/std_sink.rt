@@ -61,6 +61,42 @@ impl<W> StdSink<W> {
     }
 }
 
+// Writes once, and tries again where the write is interrupted, or has waited and may wait again.
+fn write_retrying<W: Write>(writer: &mut W, waits: u32, bytes: &[u8]) -> Result<usize, Failed>
+    ensures count { IfOk result (λ n. n ≤ length bytes.now) }
+    ensures writer { WriteAppends (W.contents writer.old) (W.contents writer.new) result bytes.now }
+{
+    let mut waits = waits;
+    for _ in 0..WRITE_TRIES {
+        match writer.write(bytes) {
+            Ok(count) => return Ok(count),
+            Err(error) => match error.kind() {
+                ErrorKind::Interrupted => {}
+                ErrorKind::WouldBlock | ErrorKind::TimedOut if waits > 1 => waits -= 1,
+                _ => return Err(Failed),
+            },
+        }
+    }
+    Err(Failed)
+}
+
+// Flushes, and tries again where that is interrupted.
+fn flush_retrying<W: Write>(writer: &mut W) -> Result<(), Failed>
+    ensures { Keeps (W.contents writer.old) (W.contents writer.new) }
+{
+    for _ in 0..WRITE_TRIES {
+        match writer.flush() {
+            Ok(()) => return Ok(()),
+            Err(error) => {
+                if error.kind() != ErrorKind::Interrupted {
+                    return Err(Failed);
+                }
+            }
+        }
+    }
+    Err(Failed)
+}
+
 impl<W: Write> Sink for StdSink<W> {
     ghost taken = { λ s. W.contents (sink_writer s) };
 
@@ -101,40 +137,4 @@ impl<W: Write> Sink for StdSink<W> {
             }
         }
     }
-}
-
-// Writes once, and tries again where the write is interrupted, or has waited and may wait again.
-fn write_retrying<W: Write>(writer: &mut W, waits: u32, bytes: &[u8]) -> Result<usize, Failed>
-    ensures count { IfOk result (λ n. n ≤ length bytes.now) }
-    ensures writer { WriteAppends (W.contents writer.old) (W.contents writer.new) result bytes.now }
-{
-    let mut waits = waits;
-    for _ in 0..WRITE_TRIES {
-        match writer.write(bytes) {
-            Ok(count) => return Ok(count),
-            Err(error) => match error.kind() {
-                ErrorKind::Interrupted => {}
-                ErrorKind::WouldBlock | ErrorKind::TimedOut if waits > 1 => waits -= 1,
-                _ => return Err(Failed),
-            },
-        }
-    }
-    Err(Failed)
-}
-
-// Flushes, and tries again where that is interrupted.
-fn flush_retrying<W: Write>(writer: &mut W) -> Result<(), Failed>
-    ensures { Keeps (W.contents writer.old) (W.contents writer.new) }
-{
-    for _ in 0..WRITE_TRIES {
-        match writer.flush() {
-            Ok(()) => return Ok(()),
-            Err(error) => {
-                if error.kind() != ErrorKind::Interrupted {
-                    return Err(Failed);
-                }
-            }
-        }
-    }
-    Err(Failed)
 }

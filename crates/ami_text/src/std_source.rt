@@ -40,6 +40,25 @@ impl<R> StdSource<R> {
     }
 }
 
+// Reads once, and tries again where the read is interrupted.
+fn read_retrying<R: Read>(reader: &mut R, piece: &mut [u8]) -> Result<usize, Failed>
+    ensures count { IfOk result (λ n. n ≤ length piece.new) }
+    ensures reader { ReadConsumes (R.remaining reader.old)
+        (R.remaining reader.new) result piece.new }
+{
+    for _ in 0..READ_TRIES {
+        match reader.read(piece) {
+            Ok(count) => return Ok(count),
+            Err(error) => {
+                if error.kind() != ErrorKind::Interrupted {
+                    return Err(Failed);
+                }
+            }
+        }
+    }
+    Err(Failed)
+}
+
 impl<R: Read> Source for StdSource<R> {
     ghost left = { λ s. R.remaining (source_reader s) };
 
@@ -81,23 +100,4 @@ impl<R: Read> Source for StdSource<R> {
             }
         }
     }
-}
-
-// Reads once, and tries again where the read is interrupted.
-fn read_retrying<R: Read>(reader: &mut R, piece: &mut [u8]) -> Result<usize, Failed>
-    ensures count { IfOk result (λ n. n ≤ length piece.new) }
-    ensures reader { ReadConsumes (R.remaining reader.old)
-        (R.remaining reader.new) result piece.new }
-{
-    for _ in 0..READ_TRIES {
-        match reader.read(piece) {
-            Ok(count) => return Ok(count),
-            Err(error) => {
-                if error.kind() != ErrorKind::Interrupted {
-                    return Err(Failed);
-                }
-            }
-        }
-    }
-    Err(Failed)
 }

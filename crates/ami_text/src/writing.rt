@@ -18,15 +18,11 @@ pub fn write_all<W: Sink>(writer: &mut W, bytes: &[u8]) -> Result<(), Failed>
 {
     let mut rest = bytes;
     while !rest.is_empty() {
-        match writer.write(rest) {
-            Err(failed) => return Err(failed),
-            Ok(count) => {
-                if count == 0 {
-                    return Err(Failed);
-                }
-                rest = &rest[count..];
-            }
+        let count = writer.write(rest)?;
+        if count == 0 {
+            return Err(Failed);
         }
+        rest = &rest[count..];
     }
     Ok(())
 }

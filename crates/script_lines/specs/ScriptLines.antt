@@ -1,12 +1,12 @@
 -- The lines of a script, and what each of them asks (this project's own).
-use Rattle.std.specs.Prelude.{ℕ, ◌==◌, Bool, not, nat_lt, List, [], ◌∷◌, ◌++◌, length, Option, Some, None, codes, if◌then◌else◌}
-use Rattle.std.specs.Char.{is_ascii_digit}
+use Rattle.std.specs.Prelude.{ℕ, ◌==◌, Bool, nat_lt, List, [], ◌∷◌, ◌++◌, Option, Some, None, codes, if◌then◌else◌}
 use Rattle.std.specs.Option.{option_and_then, option_map}
-use Rattle.std.specs.List.{filter_map, list_all, slice_split}
+use Rattle.std.specs.List.{filter_map, slice_split}
 use Rattle.ami_text.specs.MessageFields.{NameAndValue}
 use Rattle.ami_text.specs.Lines.{content}
 use Rattle.ami_text.specs.Stream.{Reads, Rest}
-use Rattle.ami_session.specs.FieldValues.{name_of, number_of}
+use Rattle.ami_text.specs.Numbers.{number_in}
+use Rattle.ami_session.specs.FieldValues.{name_of}
 use Rattle.dots.specs.declared.calls.Calls.{Calls}
 use Rattle.dots.specs.declared.calls.Calls.TheVariants.{Completed, Abandoned}
 
@@ -43,12 +43,6 @@ abbrev pub behind : List ℕ → List ℕ → Option (List ℕ)
 behind [] bytes = Some bytes
 behind (f ∷ front) [] = None
 behind (f ∷ front) (b ∷ bytes) = if b == f then behind front bytes else None
-
--- the number that a word of 1 to `most` decimal digits spells; `None` of any other word
-abbrev pub number_in : ℕ → List ℕ → Option ℕ
-number_in most [] = None
-number_in most (d ∷ ds) =
-    if nat_lt most (length (d ∷ ds)) then None else if not (list_all is_ascii_digit (d ∷ ds)) then None else Some (number_of (d ∷ ds))
 
 -- the number of an entry that a word of one digit to nine spells
 abbrev pub entry_in : List ℕ → Option ℕ

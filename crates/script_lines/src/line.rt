@@ -3,11 +3,11 @@ ghost use Rattle.std.specs.Prelude.{◌≡◌, ◌<◌, ◌∷◌, length};
 ghost use Rattle.std.specs.Option.{option_copied};
 ghost use Rattle.script_lines.specs.ScriptLines.{behind, before_blank, behind_blank};
 ghost use Rattle.script_lines.specs.ScriptLines.{lines_of, sense_of, words_sense};
-ghost use Rattle.ami_text.specs.Lines.{content};
 ghost use Rattle.script_lines.specs.Views.{sense};
 
 use crate::numbers::{entry_of, site_of};
 use crate::site_count::SiteCount;
+use ami_text::content;
 use bstr::ByteSlice;
 use dots::{Calls, SiteId};
 
@@ -42,37 +42,7 @@ pub fn cut_line(bytes: &[u8]) -> (&[u8], &[u8])
 {
     match bytes.find_byte(b'\n') {
         None => (bytes, &[]),
-        Some(end) => (without_cr(&bytes[..end]), &bytes[end + 1..]),
-    }
-}
-
-// A line without one CR at its end.
-fn without_cr(line: &[u8]) -> &[u8]
-    ensures { result.now ≡ content line.now }
-{
-    match line {
-        [content @ .., b'\r'] => content,
-        _ => line,
-    }
-}
-
-/// What a line asks of one of `sites` sites, or of the pool. The line is without its end.
-pub fn read_line(sites: SiteCount, line: &[u8]) -> Line<'_>
-    ensures { sense result ≡ sense_of sites line.now }
-{
-    if line.is_empty() || line[0] == b'#' {
-        return Line::Nothing;
-    }
-    if let Some(word) = behind(b"show ", line) {
-        return match entry_of(word) {
-            Some(entry) => Line::Show(entry),
-            None => Line::Unknown,
-        };
-    }
-    let (word, words) = cut_at_blank(line);
-    match (site_of(sites, word), words) {
-        (Some(site), Some(words)) => read_words(site, words),
-        _ => Line::Unknown,
+        Some(end) => (content(&bytes[..end]), &bytes[end + 1..]),
     }
 }
 
@@ -85,6 +55,13 @@ fn cut_at_blank(line: &[u8]) -> (&[u8], Option<&[u8]>)
         None => (line, None),
         Some(blank) => (&line[..blank], Some(&line[blank + 1..])),
     }
+}
+
+// What stands behind `front`, where `bytes` begin with that; else `None`.
+fn behind<'a>(front: &[u8], bytes: &'a [u8]) -> Option<&'a [u8]>
+    ensures { option_copied result ≡ behind front.now bytes.now }
+{
+    bytes.strip_prefix(front)
 }
 
 // What the words behind the number of a site ask of that.
@@ -116,9 +93,22 @@ fn read_words(site: SiteId, words: &[u8]) -> Line<'_>
     }
 }
 
-// What stands behind `front`, where `bytes` begin with that; else `None`.
-fn behind<'a>(front: &[u8], bytes: &'a [u8]) -> Option<&'a [u8]>
-    ensures { option_copied result ≡ behind front.now bytes.now }
+/// What a line asks of one of `sites` sites, or of the pool. The line is without its end.
+pub fn read_line(sites: SiteCount, line: &[u8]) -> Line<'_>
+    ensures { sense result ≡ sense_of sites line.now }
 {
-    bytes.strip_prefix(front)
+    if line.is_empty() || line[0] == b'#' {
+        return Line::Nothing;
+    }
+    if let Some(word) = behind(b"show ", line) {
+        return match entry_of(word) {
+            Some(entry) => Line::Show(entry),
+            None => Line::Unknown,
+        };
+    }
+    let (word, words) = cut_at_blank(line);
+    match (site_of(sites, word), words) {
+        (Some(site), Some(words)) => read_words(site, words),
+        _ => Line::Unknown,
+    }
 }

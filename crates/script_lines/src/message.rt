@@ -11,19 +11,14 @@ use bstr::ByteSlice;
 use dots::Memory;
 use std::alloc::Global;
 
-/// The message whose lines stand between bars; `None` where they are not exactly one message. The one fault is want of
-/// memory.
-pub fn message_of(alloc: Global, fields: &[u8]) -> Result<Option<Message>, Memory>
-    ensures one { IfOk result (λ found. IfSome found (λ message. IsMessage fields.now message)) }
-    ensures none { result ≡ Ok None → (message : Fields) → IsMessage fields.now message → ⊥ }
+// Feeds one line, with CR and LF behind it.
+fn feed_line(feed: &mut Feed, line: &[u8]) -> Result<(), Memory>
+    requires { feed.old.fault ≡ None }
+    ensures { OnOk result (feed.new
+        ≡ record { held = feed.old.held ++ line.now ++ codes "\r\n"; fault = None }) }
 {
-    stream_has_one_outcome();
-    let mut feed = feed_of(alloc, fields)?;
-    match feed.next_message() {
-        Ok(Some(message)) => only_message(feed, message),
-        Ok(None) => Ok(None),
-        Err(fault) => without_message(fault),
-    }
+    feed.feed(line)?;
+    feed.feed(b"\r\n")
 }
 
 // A feed that holds the stream of `fields`: a line for each part between bars, and an empty line behind them.
@@ -41,14 +36,16 @@ fn feed_of(alloc: Global, fields: &[u8]) -> Result<Feed, Memory>
     Ok(feed)
 }
 
-// Feeds one line, with CR and LF behind it.
-fn feed_line(feed: &mut Feed, line: &[u8]) -> Result<(), Memory>
-    requires { feed.old.fault ≡ None }
-    ensures { OnOk result (feed.new
-        ≡ record { held = feed.old.held ++ line.now ++ codes "\r\n"; fault = None }) }
+// No message where the stream has this fault; but want of memory, which is no fault of the stream, is answered as such.
+fn without_message(fault: FeedFault) -> Result<Option<Message>, Memory>
+    ensures none { IfOk result (λ found. found ≡ None) }
+    ensures stream { OnOk result (fault ≢ FeedFault.Memory) }
+    ensures memory { OnErr result (fault ≡ FeedFault.Memory) }
 {
-    feed.feed(line)?;
-    feed.feed(b"\r\n")
+    match fault {
+        FeedFault::Memory => Err(Memory),
+        FeedFault::LineTooLong | FeedFault::TooManyFields => Ok(None),
+    }
 }
 
 // `message`, which the feed gave, where no other message and no fault follows; else `None`.
@@ -67,14 +64,17 @@ fn only_message(feed: Feed, message: Message) -> Result<Option<Message>, Memory>
     }
 }
 
-// No message where the stream has this fault; but want of memory, which is no fault of the stream, is answered as such.
-fn without_message(fault: FeedFault) -> Result<Option<Message>, Memory>
-    ensures none { IfOk result (λ found. found ≡ None) }
-    ensures stream { OnOk result (fault ≢ FeedFault.Memory) }
-    ensures memory { OnErr result (fault ≡ FeedFault.Memory) }
+/// The message whose lines stand between bars; `None` where they are not exactly one message. The one fault is want of
+/// memory.
+pub fn message_of(alloc: Global, fields: &[u8]) -> Result<Option<Message>, Memory>
+    ensures one { IfOk result (λ found. IfSome found (λ message. IsMessage fields.now message)) }
+    ensures none { result ≡ Ok None → (message : Fields) → IsMessage fields.now message → ⊥ }
 {
-    match fault {
-        FeedFault::Memory => Err(Memory),
-        FeedFault::LineTooLong | FeedFault::TooManyFields => Ok(None),
+    stream_has_one_outcome();
+    let mut feed = feed_of(alloc, fields)?;
+    match feed.next_message() {
+        Ok(Some(message)) => only_message(feed, message),
+        Ok(None) => Ok(None),
+        Err(fault) => without_message(fault),
     }
 }

@@ -1,9 +1,9 @@
 //! The numbers of a line: of a site, and of an entry (this project's own).
-ghost use Rattle.std.specs.Prelude.{◌≡◌, ◌≤◌};
-ghost use Rattle.script_lines.specs.ScriptLines.{entry_in, number_in, site_in};
+ghost use Rattle.std.specs.Prelude.{◌≡◌};
+ghost use Rattle.script_lines.specs.ScriptLines.{entry_in, site_in};
 
 use crate::site_count::SiteCount;
-use ami_session::{are_digits, number_of};
+use ami_text::number_in;
 use dots::SiteId;
 
 /// The site that a word names by one digit or two; `None` where that is none of the `sites` sites.
@@ -11,7 +11,7 @@ pub fn site_of(sites: SiteCount, word: &[u8]) -> Option<SiteId>
     ensures { result ≡ site_in sites word.now }
 {
     let number = number_in(2, word)?;
-    if number < u32::from(sites.get()) {
+    if number < u64::from(sites.get()) {
         SiteId::new(number as u16)
     } else {
         None
@@ -24,15 +24,4 @@ pub fn entry_of(word: &[u8]) -> Option<usize>
 {
     let number = number_in(9, word)?;
     Some(number as usize)
-}
-
-// The number that a word of 1 to `most` decimal digits spells; `None` of any other word. `most` is at most nine.
-fn number_in(most: usize, word: &[u8]) -> Option<u32>
-    requires { most ≤ 9 }
-    ensures { result ≡ number_in most word.now }
-{
-    if word.is_empty() || word.len() > most || !are_digits(word) {
-        return None;
-    }
-    number_of(word)
 }

@@ -6,78 +6,19 @@ ghost use Rattle.scripts.specs.Answers.{no_entry};
 ghost use Rattle.scripts.specs.Answers.{offer_line, offer_text, outcome_text, refusal_name};
 ghost use Rattle.scripts.specs.Answers.{refused_text, take_fault_name, unknown_text};
 
+use ami_text::push_decimal;
 use dots::Memory;
-use itoa::Buffer;
 use offer::{NoSuchQueue, Offer};
 use replica::{CutFault, Refusal, TakeFault};
 use sites_world::Outcome;
 use status_report::Answer;
 use std::alloc::Global;
 
-/// The lines of what comes of an event: `done`, `entry` and its number, `nothing`, `taken`, `no entry`, or `refused` and the
-/// refusal's name; a report is written as its bytes. Nothing is written of a site that isn't there, nor of want of memory. The one
-/// fault is want of memory.
-pub fn outcome_text(alloc: Global, outcome: Outcome) -> Result<Vec<u8>, Memory>
-    ensures { IfOk result (λ text. text.items ≡ outcome_text outcome) }
-{
-    match outcome {
-        Outcome::Answered(answer) => answer_text(alloc, answer),
-        Outcome::Cut(Ok(Some(entry))) => entry_text(alloc, entry),
-        Outcome::Cut(Ok(None)) => text_of(alloc, b"nothing\n"),
-        Outcome::Cut(Err(fault)) => refused_text(alloc, cut_fault_name(fault)),
-        Outcome::Took(Ok(())) => text_of(alloc, b"taken\n"),
-        Outcome::Took(Err(fault)) => refused_text(alloc, take_fault_name(fault)),
-        Outcome::NoEntry => text_of(alloc, b"no entry\n"),
-        Outcome::NoSite | Outcome::NoMemory => Ok(Vec::new(alloc)),
-    }
-}
-
-// These bytes as a text.
-fn text_of(alloc: Global, bytes: &[u8]) -> Result<Vec<u8>, Memory>
-    ensures { IfOk result (λ text. text.items ≡ bytes.now) }
-{
-    let text = Vec::from_slice(alloc, bytes)?;
-    Ok(text)
-}
-
-// The line of an answer to a command; a report has its own lines.
-fn answer_text(alloc: Global, answer: Answer) -> Result<Vec<u8>, Memory>
-    ensures { IfOk result (λ text. text.items ≡ answer_text answer) }
-{
-    match answer {
-        Answer::Done => text_of(alloc, b"done\n"),
-        Answer::Refused(refusal) => refused_text(alloc, refusal_name(refusal)),
-        Answer::Report(bytes) => Ok(bytes.into_vec()),
-    }
-}
-
-// The line of an entry that was made.
-fn entry_text(alloc: Global, entry: usize) -> Result<Vec<u8>, Memory>
-    ensures { IfOk result (λ text. text.items ≡ entry_text entry) }
-{
-    let mut buffer = Buffer::new();
-    let mut text = text_of(alloc, b"entry ")?;
-    text.extend_from_slice(buffer.format(entry).as_bytes())?;
-    text.extend_from_slice(b"\n")?;
-    Ok(text)
-}
-
-/// What is written of the line of this number, where it isn't understood. The one fault is want of memory.
-pub fn unknown_text(alloc: Global, number: u64) -> Result<Vec<u8>, Memory>
-    ensures { IfOk result (λ text. text.items ≡ unknown_text number) }
-{
-    let mut buffer = Buffer::new();
-    let mut text = text_of(alloc, b"line ")?;
-    text.extend_from_slice(buffer.format(number).as_bytes())?;
-    text.extend_from_slice(b": not understood\n")?;
-    Ok(text)
-}
-
 // The line of a refusal of this name.
 fn refused_text(alloc: Global, name: &[u8]) -> Result<Vec<u8>, Memory>
     ensures { IfOk result (λ text. text.items ≡ refused_text name.now) }
 {
-    let mut text = text_of(alloc, b"refused ")?;
+    let mut text = Vec::from_slice(alloc, b"refused ")?;
     text.extend_from_slice(name)?;
     text.extend_from_slice(b"\n")?;
     Ok(text)
@@ -96,6 +37,27 @@ fn refusal_name(refusal: Refusal) -> &'static [u8]
         Refusal::TotalFull => b"TotalFull",
         Refusal::Memory => b"Memory",
     }
+}
+
+// The line of an answer to a command; a report has its own lines.
+fn answer_text(alloc: Global, answer: Answer) -> Result<Vec<u8>, Memory>
+    ensures { IfOk result (λ text. text.items ≡ answer_text answer) }
+{
+    match answer {
+        Answer::Done => Vec::from_slice(alloc, b"done\n"),
+        Answer::Refused(refusal) => refused_text(alloc, refusal_name(refusal)),
+        Answer::Report(bytes) => Ok(bytes.into_vec()),
+    }
+}
+
+// The line of an entry that was made.
+fn entry_text(alloc: Global, entry: usize) -> Result<Vec<u8>, Memory>
+    ensures { IfOk result (λ text. text.items ≡ entry_text entry) }
+{
+    let mut text = Vec::from_slice(alloc, b"entry ")?;
+    push_decimal(&mut text, entry as u64)?;
+    text.extend_from_slice(b"\n")?;
+    Ok(text)
 }
 
 // The name of why no frame was made.
@@ -122,11 +84,51 @@ fn take_fault_name(fault: TakeFault) -> &'static [u8]
     }
 }
 
+/// The lines of what comes of an event: `done`, `entry` and its number, `nothing`, `taken`, `no entry`, or `refused` and the
+/// refusal's name; a report is written as its bytes. Nothing is written of a site that isn't there, nor of want of memory. The one
+/// fault is want of memory.
+pub fn outcome_text(alloc: Global, outcome: Outcome) -> Result<Vec<u8>, Memory>
+    ensures { IfOk result (λ text. text.items ≡ outcome_text outcome) }
+{
+    match outcome {
+        Outcome::Answered(answer) => answer_text(alloc, answer),
+        Outcome::Cut(Ok(Some(entry))) => entry_text(alloc, entry),
+        Outcome::Cut(Ok(None)) => Vec::from_slice(alloc, b"nothing\n"),
+        Outcome::Cut(Err(fault)) => refused_text(alloc, cut_fault_name(fault)),
+        Outcome::Took(Ok(())) => Vec::from_slice(alloc, b"taken\n"),
+        Outcome::Took(Err(fault)) => refused_text(alloc, take_fault_name(fault)),
+        Outcome::NoEntry => Vec::from_slice(alloc, b"no entry\n"),
+        Outcome::NoSite | Outcome::NoMemory => Ok(Vec::new(alloc)),
+    }
+}
+
+/// What is written of the line of this number, where it isn't understood. The one fault is want of memory.
+pub fn unknown_text(alloc: Global, number: u64) -> Result<Vec<u8>, Memory>
+    ensures { IfOk result (λ text. text.items ≡ unknown_text number) }
+{
+    let mut text = Vec::from_slice(alloc, b"line ")?;
+    push_decimal(&mut text, number)?;
+    text.extend_from_slice(b": not understood\n")?;
+    Ok(text)
+}
+
 /// The line of a queue that isn't there. The one fault is want of memory.
 pub fn no_queue_text(alloc: Global) -> Result<Vec<u8>, Memory>
     ensures { IfOk result (λ text. text.items ≡ refused_text (refusal_name Refusal.NoSuchQueue)) }
 {
     refused_text(alloc, refusal_name(Refusal::NoSuchQueue))
+}
+
+// The line of a member that is offered.
+fn offer_line(alloc: Global, offer: &Offer) -> Result<Vec<u8>, Memory>
+    ensures { IfOk result (λ text. text.items ≡ offer_line (Some offer.now)) }
+{
+    let mut text = Vec::from_slice(alloc, b"offer ")?;
+    push_decimal(&mut text, u64::from(offer.penalty))?;
+    text.extend_from_slice(b" ")?;
+    text.extend_from_slice(offer.interface.as_bytes())?;
+    text.extend_from_slice(b"\n")?;
+    Ok(text)
 }
 
 /// The line of what a queue offers, where there is such a queue. The one fault is want of memory.
@@ -138,22 +140,9 @@ pub fn offer_text(
 {
     match offered {
         Err(NoSuchQueue) => no_queue_text(alloc),
-        Ok(None) => text_of(alloc, b"offer none\n"),
+        Ok(None) => Vec::from_slice(alloc, b"offer none\n"),
         Ok(Some(offer)) => offer_line(alloc, &offer),
     }
-}
-
-// The line of a member that is offered.
-fn offer_line(alloc: Global, offer: &Offer) -> Result<Vec<u8>, Memory>
-    ensures { IfOk result (λ text. text.items ≡ offer_line (Some offer.now)) }
-{
-    let mut buffer = Buffer::new();
-    let mut text = text_of(alloc, b"offer ")?;
-    text.extend_from_slice(buffer.format(offer.penalty).as_bytes())?;
-    text.extend_from_slice(b" ")?;
-    text.extend_from_slice(offer.interface.as_bytes())?;
-    text.extend_from_slice(b"\n")?;
-    Ok(text)
 }
 
 /// The line of the bytes of a frame, in lower-case hexadecimal. The one fault is want of memory.
@@ -169,5 +158,5 @@ pub fn frame_text(alloc: Global, bytes: &[u8]) -> Result<Vec<u8>, Memory>
 pub fn no_entry_text(alloc: Global) -> Result<Vec<u8>, Memory>
     ensures { IfOk result (λ text. text.items ≡ no_entry) }
 {
-    text_of(alloc, b"no entry\n")
+    Vec::from_slice(alloc, b"no entry\n")
 }

@@ -1,6 +1,6 @@
 -- Texts that are written piece by piece.
 use Rattle.std.proofs.Common.{◌≡◌, ℕ, List, ◌++◌, Result, Ok, Err, OnOk, append_assoc, ap, ◌∙◌}
-use Rattle.status_report.specs.WrittenLines.{field}
+use Rattle.ami_text.specs.WrittenLines.{field}
 
 -- a piece that was written at the end
 pub record Writes (before piece after : List ℕ) : Type 0 where

@@ -1,4 +1,3 @@
 pub mod Answers
 pub mod Knowing
-pub mod WrittenLines
 pub mod Status

@@ -6,7 +6,7 @@ use Rattle.dots.specs.declared.call_totals.CallTotals.{CallTotals}
 use Rattle.operations.specs.Rows.{MemberRow}
 use Rattle.replica.specs.Site.{SiteState, rows_of, sums_of}
 use Rattle.status_report.specs.declared.request.StatusRequest.{StatusRequest}
-use Rattle.status_report.specs.WrittenLines.{field, action_id_line}
+use Rattle.ami_text.specs.WrittenLines.{field, action_id_line}
 
 -- an interface with its row
 abbrev pub Row : Type 0

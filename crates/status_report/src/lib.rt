@@ -12,7 +12,6 @@ ghost use Rattle.status_report.specs.Knowing.{IsAnswered, answer_in};
 
 mod asks;
 pub mod laws;
-mod lines;
 mod queues;
 mod request;
 mod status;
@@ -20,32 +19,11 @@ mod status;
 pub use asks::{Answer, Ask};
 use dots::Bytes;
 pub use dots::Memory;
-pub use lines::{push_action_id_line, push_end, push_field, push_number};
 pub use queues::Queues;
 use replica::{Command, Refusal, Replica};
 pub use request::StatusRequest;
 pub use status::{report, write_report};
 use std::alloc::Global;
-
-/// Does what is asked of a site: a command changes the replica or is refused and changes nothing; a status
-/// leaves the replica as it was, and where memory for its report is wanting it is refused as `Memory`.
-pub fn ask(alloc: Global, replica: &mut Replica, asked: Ask) -> Answer
-    ensures command { AnswersCommand replica.old asked replica.new result }
-    ensures status { AnswersStatus replica.old asked result }
-    ensures status_unchanged { KeepsAtStatus replica.old asked replica.new }
-    ensures site { replica.new.site ≡ replica.old.site }
-    ensures names { replica.new.names ≡ replica.old.names }
-
-    // Where the replica stands for what a site knows, the answer is that site's.
-    ensures meaning { (s : SiteKnowledge) → StandsFor replica.old s
-        → IsAnswered replica.old replica.new result
-        (answer_in replica.old.site replica.old.names s asked) }
-{
-    match asked {
-        Ask::Command(command) => answer_command(replica, command),
-        Ask::Status(request) => answer_status(alloc, replica, &request),
-    }
-}
 
 fn answer_command(replica: &mut Replica, command: Command) -> Answer
     ensures command { AnswersCommand replica.old (Ask.Command command) replica.new result }
@@ -70,5 +48,25 @@ fn answer_status(alloc: Global, replica: &Replica, request: &StatusRequest) -> A
     match report(alloc, replica, request) {
         Ok(text) => Answer::Report(Bytes::new(text)),
         Err(_) => Answer::Refused(Refusal::Memory),
+    }
+}
+
+/// Does what is asked of a site: a command changes the replica or is refused and changes nothing; a status
+/// leaves the replica as it was, and where memory for its report is wanting it is refused as `Memory`.
+pub fn ask(alloc: Global, replica: &mut Replica, asked: Ask) -> Answer
+    ensures command { AnswersCommand replica.old asked replica.new result }
+    ensures status { AnswersStatus replica.old asked result }
+    ensures status_unchanged { KeepsAtStatus replica.old asked replica.new }
+    ensures site { replica.new.site ≡ replica.old.site }
+    ensures names { replica.new.names ≡ replica.old.names }
+
+    // Where the replica stands for what a site knows, the answer is that site's.
+    ensures meaning { (s : SiteKnowledge) → StandsFor replica.old s
+        → IsAnswered replica.old replica.new result
+        (answer_in replica.old.site replica.old.names s asked) }
+{
+    match asked {
+        Ask::Command(command) => answer_command(replica, command),
+        Ask::Status(request) => answer_status(alloc, replica, &request),
     }
 }

@@ -1,6 +1,7 @@
 ghost use Rattle.std.specs.Prelude.{◌≡◌, ◌≤◌, ◌+◌, ◌++◌, length, map as each, slice_get, IfOk};
 ghost use Rattle.std.specs.Prelude.{OnOk};
 ghost use Rattle.std.specs.List.{concat};
+ghost use Rattle.ami_text.specs.WrittenLines.{action_id_line};
 ghost use Rattle.operations.specs.Views.{row_view, listed_row_view};
 ghost use Rattle.replica.specs.Standing.{StandsFor};
 ghost use Rattle.replica.specs.Steps.{SiteKnowledge};
@@ -8,60 +9,18 @@ ghost use Rattle.status_report.specs.Knowing.{status_in};
 ghost use Rattle.status_report.specs.Status.{blocks_named, closing, event_lines, is_member_wanted};
 ghost use Rattle.status_report.specs.Status.{is_queue_wanted, member_block, member_blocks, opening};
 ghost use Rattle.status_report.specs.Status.{queue_block, report_of, text_shown, status_text};
-ghost use Rattle.status_report.specs.WrittenLines.{action_id_line};
 
-use crate::lines::{push_action_id_line, push_end, push_field, push_number};
 use crate::{Queues, StatusRequest};
+use ami_text::{push_action_id_line, push_end, push_field, push_number};
 use dots::{CallTotals, Interface, Memory, QueueName};
 use replica::{Replica, Row};
 use std::alloc::Global;
-
-/// The report of what the replica's queues show, as `write_report` writes it. Where the replica stands for what a site
-/// knows, it is the status text of that. The one fault is want of memory.
-pub fn report(alloc: Global, replica: &Replica, request: &StatusRequest) -> Result<Vec<u8>, Memory>
-    ensures value { IfOk result (λ out. out.items ≡ report_of replica.now request.now) }
-    ensures meaning { IfOk result (λ out. (s : SiteKnowledge) → StandsFor replica.now s
-        → out.items ≡ status_in s.known replica.now.names request.now) }
-{
-    write_report(alloc, replica, request)
-}
-
-/// The report of what queues show: a block that opens it, then for each queue of the list that the request doesn't
-/// leave out a block of its totals and one block a member, in the order of the interfaces' bytes, and a block that
-/// closes it with the number of blocks between (Asterisk's QueueStatus; which fields there are and their order are
-/// this project's own). The one fault is want of memory.
-pub fn write_report<Q: Queues>(
-    alloc: Global,
-    queues: &Q,
-    request: &StatusRequest,
-) -> Result<Vec<u8>, Memory>
-    ensures { IfOk result (λ out. out.items
-        ≡ status_text (Q.names queues.now) (Q.totals queues.now) (Q.rows queues.now) request.now) }
-{
-    let mut out = Vec::new(alloc);
-    push_opening(&mut out, request)?;
-    let mut events = 0;
-    for number in 0..queues.list().len() {
-        events += push_queue(alloc, &mut out, queues, request, number)?;
-    }
-    push_closing(&mut out, request, events)?;
-    Ok(out)
-}
 
 // The ActionID's line, where the request has one.
 fn push_action_id(out: &mut Vec<u8>, request: &StatusRequest) -> Result<(), Memory>
     ensures { OnOk result (out.new.items ≡ out.old.items ++ action_id_line request.now.action_id) }
 {
     push_action_id_line(out, request.action_id.as_slice())
-}
-
-// The lines that begin an event: its name, and the ActionID where the request has one.
-fn push_event(out: &mut Vec<u8>, request: &StatusRequest, event: &[u8]) -> Result<(), Memory>
-    ensures { OnOk result
-        (out.new.items ≡ out.old.items ++ event_lines request.now.action_id event.now) }
-{
-    push_field(out, "Event", event)?;
-    push_action_id(out, request)
 }
 
 fn push_opening(out: &mut Vec<u8>, request: &StatusRequest) -> Result<(), Memory>
@@ -74,6 +33,15 @@ fn push_opening(out: &mut Vec<u8>, request: &StatusRequest) -> Result<(), Memory
     push_end(out)
 }
 
+// The lines that begin an event: its name, and the ActionID where the request has one.
+fn push_event(out: &mut Vec<u8>, request: &StatusRequest, event: &[u8]) -> Result<(), Memory>
+    ensures { OnOk result
+        (out.new.items ≡ out.old.items ++ event_lines request.now.action_id event.now) }
+{
+    push_field(out, "Event", event)?;
+    push_action_id(out, request)
+}
+
 fn push_closing(out: &mut Vec<u8>, request: &StatusRequest, events: u64) -> Result<(), Memory>
     ensures { OnOk result (out.new.items ≡ out.old.items ++ closing request.now.action_id events) }
 {
@@ -83,32 +51,50 @@ fn push_closing(out: &mut Vec<u8>, request: &StatusRequest, events: u64) -> Resu
     push_end(out)
 }
 
-// The blocks of the queue of this number, and how many they are: none where the request leaves it out.
-fn push_queue<Q: Queues>(
-    alloc: Global,
-    out: &mut Vec<u8>,
-    queues: &Q,
-    request: &StatusRequest,
-    number: u16,
-) -> Result<u64, Memory>
-    ensures text { OnOk result (out.new.items ≡ out.old.items
-        ++ concat (blocks_named request.now (Q.totals queues.now) (Q.rows queues.now) number
-        (slice_get (Q.names queues.now) number))) }
-    ensures count { IfOk result (λ events. events
-        ≡ length (blocks_named request.now (Q.totals queues.now) (Q.rows queues.now) number
-        (slice_get (Q.names queues.now) number))) }
-    ensures few { IfOk result (λ events. length out.old.items + events ≤ length out.new.items) }
+// A text of a member as it is shown: the interface where it is empty.
+fn shown<'a>(text: &'a [u8], interface: &'a Interface) -> &'a [u8]
+    ensures { result.now ≡ text_shown text.now interface.now }
 {
-    let Some(name) = queues.list().name(number) else {
-        return Ok(0);
-    };
-    if !is_queue_wanted(request, name) {
-        return Ok(0);
+    if text.is_empty() {
+        interface.as_bytes()
+    } else {
+        text
     }
-    push_totals(out, request, name, queues.totals(number))?;
-    let rows = queues.rows(alloc, number)?;
-    let members = push_members(out, request, name, &rows)?;
-    Ok(1 + members)
+}
+
+fn is_member_wanted(request: &StatusRequest, interface: &Interface, row: &Row<'_>) -> bool
+    ensures { result ≡ is_member_wanted request.now.member (interface.now, row_view row.now) }
+{
+    match &request.member {
+        None => true,
+        Some(wanted) => {
+            wanted.as_bytes() == interface.as_bytes()
+                || wanted.as_bytes() == shown(row.name, interface)
+        }
+    }
+}
+
+fn push_member(
+    out: &mut Vec<u8>,
+    request: &StatusRequest,
+    name: &QueueName,
+    interface: &Interface,
+    row: &Row<'_>,
+) -> Result<(), Memory>
+    ensures { OnOk result (out.new.items
+        ≡ out.old.items
+        ++ member_block request.now.action_id name.now (interface.now, row_view row.now)) }
+{
+    push_event(out, request, b"QueueMember")?;
+    push_field(out, "Queue", name.as_bytes())?;
+    push_field(out, "Name", shown(row.name, interface))?;
+    push_field(out, "Location", interface.as_bytes())?;
+    push_field(out, "StateInterface", shown(row.state, interface))?;
+    push_field(out, "Membership", b"dynamic")?;
+    push_number(out, "Penalty", u64::from(row.penalty))?;
+    push_number(out, "Paused", u64::from(row.paused))?;
+    push_field(out, "PausedReason", row.reason)?;
+    push_end(out)
 }
 
 // The blocks of the members of a queue that the request doesn't leave out, and how many they are.
@@ -143,29 +129,6 @@ fn is_queue_wanted(request: &StatusRequest, name: &QueueName) -> bool
     }
 }
 
-fn is_member_wanted(request: &StatusRequest, interface: &Interface, row: &Row<'_>) -> bool
-    ensures { result ≡ is_member_wanted request.now.member (interface.now, row_view row.now) }
-{
-    match &request.member {
-        None => true,
-        Some(wanted) => {
-            wanted.as_bytes() == interface.as_bytes()
-                || wanted.as_bytes() == shown(row.name, interface)
-        }
-    }
-}
-
-// A text of a member as it is shown: the interface where it is empty.
-fn shown<'a>(text: &'a [u8], interface: &'a Interface) -> &'a [u8]
-    ensures { result.now ≡ text_shown text.now interface.now }
-{
-    if text.is_empty() {
-        interface.as_bytes()
-    } else {
-        text
-    }
-}
-
 // The block of a queue, with how many of its calls were completed and how many abandoned.
 fn push_totals(
     out: &mut Vec<u8>,
@@ -183,25 +146,62 @@ fn push_totals(
     push_end(out)
 }
 
-fn push_member(
+// The blocks of the queue of this number, and how many they are: none where the request leaves it out.
+fn push_queue<Q: Queues>(
+    alloc: Global,
     out: &mut Vec<u8>,
+    queues: &Q,
     request: &StatusRequest,
-    name: &QueueName,
-    interface: &Interface,
-    row: &Row<'_>,
-) -> Result<(), Memory>
-    ensures { OnOk result (out.new.items
-        ≡ out.old.items
-        ++ member_block request.now.action_id name.now (interface.now, row_view row.now)) }
+    number: u16,
+) -> Result<u64, Memory>
+    ensures text { OnOk result (out.new.items ≡ out.old.items
+        ++ concat (blocks_named request.now (Q.totals queues.now) (Q.rows queues.now) number
+        (slice_get (Q.names queues.now) number))) }
+    ensures count { IfOk result (λ events. events
+        ≡ length (blocks_named request.now (Q.totals queues.now) (Q.rows queues.now) number
+        (slice_get (Q.names queues.now) number))) }
+    ensures few { IfOk result (λ events. length out.old.items + events ≤ length out.new.items) }
 {
-    push_event(out, request, b"QueueMember")?;
-    push_field(out, "Queue", name.as_bytes())?;
-    push_field(out, "Name", shown(row.name, interface))?;
-    push_field(out, "Location", interface.as_bytes())?;
-    push_field(out, "StateInterface", shown(row.state, interface))?;
-    push_field(out, "Membership", b"dynamic")?;
-    push_number(out, "Penalty", u64::from(row.penalty))?;
-    push_number(out, "Paused", u64::from(row.paused))?;
-    push_field(out, "PausedReason", row.reason)?;
-    push_end(out)
+    let Some(name) = queues.list().name(number) else {
+        return Ok(0);
+    };
+    if !is_queue_wanted(request, name) {
+        return Ok(0);
+    }
+    push_totals(out, request, name, queues.totals(number))?;
+    let rows = queues.rows(alloc, number)?;
+    let members = push_members(out, request, name, &rows)?;
+    Ok(1 + members)
+}
+
+/// The report of what queues show: a block that opens it, then for each queue of the list that the request doesn't
+/// leave out a block of its totals and one block a member, in the order of the interfaces' bytes, and a block that
+/// closes it with the number of blocks between (Asterisk's QueueStatus; which fields there are and their order are
+/// this project's own). The one fault is want of memory.
+pub fn write_report<Q: Queues>(
+    alloc: Global,
+    queues: &Q,
+    request: &StatusRequest,
+) -> Result<Vec<u8>, Memory>
+    ensures { IfOk result (λ out. out.items
+        ≡ status_text (Q.names queues.now) (Q.totals queues.now) (Q.rows queues.now) request.now) }
+{
+    let mut out = Vec::new(alloc);
+    push_opening(&mut out, request)?;
+    let mut events = 0;
+    for number in 0..queues.list().len() {
+        events += push_queue(alloc, &mut out, queues, request, number)?;
+    }
+    push_closing(&mut out, request, events)?;
+    Ok(out)
+}
+
+/// The report of what the replica's queues show, as `write_report` writes it. Where the replica stands for what a site
+/// knows, it is the status text of that. The one fault is want of memory.
+pub fn report(alloc: Global, replica: &Replica, request: &StatusRequest) -> Result<Vec<u8>, Memory>
+    ensures value { IfOk result (λ out. out.items ≡ report_of replica.now request.now) }
+    ensures meaning { IfOk result (λ out. (s : SiteKnowledge) → StandsFor replica.now s
+        → out.items ≡ status_in s.known replica.now.names request.now) }
+{
+    write_report(alloc, replica, request)
 }

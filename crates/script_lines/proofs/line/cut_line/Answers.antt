@@ -17,5 +17,5 @@ returns-in-Some-clause-lines c =
     let n = c.in-Some.end in
     let found = c.in-Some.ensures in
     let first = lines_found bytes n [] (found.0.high, fails_before (is_byte 10) bytes n found.0.before, found.1) in
-    let line = ap (λ line. line ∷ lines_of (drop (n + 1) bytes)) (sym c.without_cr.ensures) in
-    first ∙ line ∙ ap (λ rest. c.without_cr.result.now ∷ lines_of rest) (sym (take_rest bytes (n + 1)))
+    let line = ap (λ line. line ∷ lines_of (drop (n + 1) bytes)) (sym c.content.ensures) in
+    first ∙ line ∙ ap (λ rest. c.content.result.now ∷ lines_of rest) (sym (take_rest bytes (n + 1)))

@@ -1,7 +1,7 @@
 use Rattle.std.proofs.Common.{◌≡◌, ◌∙◌, Bool, true, false, codes, decimal, ap, refl, if◌then◌else◌}
 use Rattle.std.specs.Int.{from_bool}
 use Rattle.operations.specs.Views.{row_view}
-use Rattle.status_report.specs.WrittenLines.{field}
+use Rattle.ami_text.specs.WrittenLines.{field}
 use Rattle.status_report.specs.Status.{event_lines, end, member_block, text_shown}
 use Rattle.status_report.proofs.TextLemmas.{wrote, wrote_value, and_then, all_written}
 use Rattle.status_report.proofs.status.push_member.Goals as goal

@@ -1,7 +1,7 @@
 use Rattle.std.proofs.Common.{codes}
-use Rattle.status_report.specs.WrittenLines.{field}
+use Rattle.ami_text.specs.WrittenLines.{field}
 use Rattle.status_report.specs.Status.{end, opening}
-use Rattle.status_report.specs.WrittenLines.{action_id_line}
+use Rattle.ami_text.specs.WrittenLines.{action_id_line}
 use Rattle.status_report.proofs.TextLemmas.{wrote, and_then, all_written}
 use Rattle.status_report.proofs.status.push_opening.Goals as goal
 

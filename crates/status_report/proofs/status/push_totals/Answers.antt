@@ -1,5 +1,5 @@
 use Rattle.std.proofs.Common.{codes, decimal}
-use Rattle.status_report.specs.WrittenLines.{field}
+use Rattle.ami_text.specs.WrittenLines.{field}
 use Rattle.status_report.specs.Status.{event_lines, end, queue_block}
 use Rattle.status_report.proofs.TextLemmas.{wrote, wrote_value, and_then, all_written}
 use Rattle.status_report.proofs.status.push_totals.Goals as goal

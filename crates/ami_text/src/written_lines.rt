@@ -1,8 +1,8 @@
 //! Lines of a message that is written: `Name: value`, ended by CR LF, and an empty line at the message's end.
 ghost use Rattle.std.specs.Prelude.{◌≡◌, ◌++◌, codes, decimal, OnOk};
-ghost use Rattle.status_report.specs.WrittenLines.{field, action_id_line};
+ghost use Rattle.ami_text.specs.WrittenLines.{field, action_id_line};
 
-use dots::Memory;
+use crate::Memory;
 use itoa::Buffer;
 
 /// Writes a field at the end: its name, a colon and one space, its value, CR LF. The one fault is want of memory;
@@ -23,6 +23,14 @@ pub fn push_number(out: &mut Vec<u8>, name: &str, value: u64) -> Result<(), Memo
 {
     let mut buffer = Buffer::new();
     push_field(out, name, buffer.format(value).as_bytes())
+}
+
+/// Writes a number at the end, in decimal digits without leading zeros. The one fault is want of memory.
+pub fn push_decimal(out: &mut Vec<u8>, value: u64) -> Result<(), Memory>
+    ensures { OnOk result (out.new.items ≡ out.old.items ++ decimal value) }
+{
+    let mut buffer = Buffer::new();
+    out.extend_from_slice(buffer.format(value).as_bytes())
 }
 
 /// Writes the line of an ActionID at the end, and nothing where it has no bytes. The one fault is want of memory; part

@@ -1,6 +1,6 @@
 use Rattle.std.proofs.Common.{sym, ◌∙◌}
-use Rattle.script_lines.proofs.Digits.{is_number}
-use Rattle.script_lines.proofs.numbers.number_in.Goals as goal
+use Rattle.ami_text.proofs.Digits.{is_number}
+use Rattle.ami_text.proofs.numbers.number_in.Goals as goal
 
 pub returns : goal.returns
 returns c =
