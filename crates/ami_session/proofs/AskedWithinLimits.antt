@@ -9,11 +9,14 @@ use Rattle.dots.specs.Values.{IsName, IsPenalty, IsText, is_bad_byte}
 use Rattle.dots.specs.WithinLimits.{IsPause}
 use Rattle.ami_text.specs.MessageFields.{value_of}
 use Rattle.ami_text.specs.Numbers.{number_of}
+use Rattle.replica.specs.declared.command.Command.{Command}
+use Rattle.replica.specs.Changes.{change_of}
+use Rattle.replica.specs.Promises.{IsChange}
 use Rattle.status_report.specs.declared.asks.Ask.{Ask}
+use Rattle.status_report.specs.declared.asks.Ask.TheVariants.{Command as asked_command, Status}
 use Rattle.ami_session.specs.declared.action.Action.{Action}
 use Rattle.ami_session.specs.declared.action.Action.TheVariants.{QueueAdd, QueueRemove, QueuePause, QueuePenalty, QueueStatus}
 use Rattle.ami_session.specs.Actions.{FieldRow, Name, Text, Number, absent_in, absent_of, action_named, is_unread, row_of, says_yes, text_at, unread_in}
-use Rattle.ami_session.specs.AskedValues.{IsAskWithinLimits}
 use Rattle.ami_session.specs.Checks.{Asks, Ends, Replies, SessionState, Waiting, accepts, error_reply, login_reaction, named_reaction, reaction, reaction_to, row_reaction}
 use Rattle.ami_session.specs.FieldValues.{Fields, as_penalty, id_of, is_word, name_of, penalty_of, text_of}
 use Rattle.ami_session.specs.Replies.{reply}
@@ -109,6 +112,11 @@ all_there m (name ∷ names) h = by (is_none (value_of name m)) refl h (all_ther
 
 -- ---- actions
 
+-- what is asked has values within their limits
+abbrev IsAskWithinLimits : Ask → Type 0
+IsAskWithinLimits (asked_command command) = IsChange (change_of command)
+IsAskWithinLimits (Status request) = Unit {0}
+
 -- what an action asks, where its required fields are there and all can be read
 asked_within : (action : Action) (m : Fields) → AreThere m (each (λ f. f.name) (row_of action).required) → AreRead m ((row_of action).required ++ (row_of action).optional)
     → IsAskWithinLimits ((row_of action).ask m)
@@ -162,5 +170,5 @@ reaction_within s m (Some name) ask w h = by (is_word name (codes "Logoff")) (is
     by false false true h = absurd (cc)
     by false false false h = named_within (action_named name) m ask w h
 
-pub what_is_asked : (s : SessionState) (m : Fields) (ask : Ask) (w : Waiting) → reaction s m ≡ Asks ask w → IsAskWithinLimits ask
-what_is_asked s m ask w h = reaction_within s m (value_of (codes "Action") m) ask w h
+pub what_is_asked : (s : SessionState) (m : Fields) (command : Command) (w : Waiting) → reaction s m ≡ Asks (asked_command command) w → IsChange (change_of command)
+what_is_asked s m command w h = reaction_within s m (value_of (codes "Action") m) (asked_command command) w h

@@ -1,5 +1,4 @@
 pub mod Actions
-pub mod AskedValues
 pub mod Checks
 pub mod FieldValues
 pub mod Logins

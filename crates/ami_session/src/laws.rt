@@ -2,8 +2,10 @@
 //! the laws.
 ghost use Rattle.std.specs.Prelude.{◌≡◌, ℕ, List};
 ghost use Rattle.status_report.specs.declared.asks.Answer.{Answer};
-ghost use Rattle.status_report.specs.declared.asks.Ask.{Ask};
-ghost use Rattle.ami_session.specs.AskedValues.{IsAskWithinLimits};
+ghost use Rattle.replica.specs.declared.command.Command.{Command};
+ghost use Rattle.replica.specs.Changes.{change_of};
+ghost use Rattle.replica.specs.Promises.{IsChange};
+ghost use Rattle.status_report.specs.declared.asks.Ask.TheVariants.{Command as asked_command};
 ghost use Rattle.ami_session.specs.Checks.{Asks, SessionState, Waiting, reaction};
 ghost use Rattle.ami_session.specs.FieldValues.{Fields};
 ghost use Rattle.ami_session.specs.Text.{AreOf, IsFrontOfLonger, IsFrontOfMore, NothingFollows};
@@ -40,8 +42,9 @@ pub fn a_stream_has_one_text()
     stream_of_two_pieces();
 }
 
-/// What a message asks of the site has values within their limits, since its fields were read (this project's own).
+/// A command that a message asks of the site has values within their limits, since its fields were read (this project's own).
 pub fn what_a_message_asks_is_within_limits()
-    ensures { (s : SessionState) (message : Fields) (ask : Ask) (waiting : Waiting)
-        → reaction s message ≡ Asks ask waiting → IsAskWithinLimits ask }
+    ensures { (s : SessionState) (message : Fields) (command : Command) (waiting : Waiting)
+        → reaction s message ≡ Asks (asked_command command) waiting
+        → IsChange (change_of command) }
 {}

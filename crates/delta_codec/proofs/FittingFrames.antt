@@ -224,8 +224,8 @@ module _ (frame : Frame) (k : Knowledge) (fits : FitsInFrame k) (is : IsDeltaOf 
       let members = frame.delta.members in
       let as_many = own_cells frame.delta k is in
       let runs_are : run_count members.known ≡ run_count (known_dots k) = ap run_count is.dots in
-      let few_runs = fits.runs in
-      let few_cells = fits.cells in
+      let few_runs = fits.small.runs in
+      let few_cells = fits.small.cells in
       record {
         maker = maker;
         number = number;

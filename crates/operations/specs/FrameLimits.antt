@@ -6,8 +6,12 @@ use Rattle.dots.specs.DotSets.{run_count}
 use Rattle.operations.specs.Knowledge.{Knowledge, known_dots, visible_dots}
 use Rattle.operations.specs.OperationLimits.{AreWithinLimits}
 
--- a knowledge fits in a frame: its operations are within their limits, and it has no more visible dots, and no more runs of known ones, than a frame may have
-pub record FitsInFrame (k : Knowledge) : Type 0 where
-  pub within : AreWithinLimits k
+-- a knowledge is small enough for a frame: it has no more visible dots, and no more runs of known ones, than a frame may have
+pub record IsSmallEnough (k : Knowledge) : Type 0 where
   pub cells : set.len (visible_dots k) ≤ MOST_LIVE
   pub runs : run_count (known_dots k) ≤ MOST_RUNS
+
+-- it fits in a frame: it is small enough, and its operations are within their limits
+pub record FitsInFrame (k : Knowledge) : Type 0 where
+  pub small : IsSmallEnough k
+  pub within : AreWithinLimits k

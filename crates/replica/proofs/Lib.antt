@@ -3,7 +3,6 @@ pub mod Below
 pub mod Doing
 pub mod DotCounts
 pub mod FieldsSet
-pub mod FittingSteps
 pub mod Found
 pub mod FramedSites
 pub mod Fullness
@@ -27,6 +26,7 @@ pub mod SeenOnce
 pub mod ShownSites
 pub mod SiteChanges
 pub mod SiteViewLaws
+pub mod SmallSites
 pub mod StandingSites
 pub mod StepLaws
 pub mod TakenCopies

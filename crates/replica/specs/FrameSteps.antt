@@ -1,34 +1,24 @@
--- What fits in a frame, step by step.
+-- What is small enough for a frame, step by step.
 use Rattle.std.specs.Prelude.{ℕ, ⊤, List}
-use Rattle.dots.specs.Values.{IsCount, IsSite}
-use Rattle.operations.specs.FrameLimits.{FitsInFrame}
-use Rattle.operations.specs.OperationLimits.{AreWithinLimits}
-use Rattle.replica.specs.Promises.{IsChange}
-use Rattle.replica.specs.Queues.{AreQueues}
-use Rattle.replica.specs.Steps.{SiteKnowledge, Outcome, Step, Do, Framed, Take, step}
+use Rattle.dots.specs.Values.{IsCount}
+use Rattle.operations.specs.FrameLimits.{IsSmallEnough}
+use Rattle.replica.specs.Steps.{SiteKnowledge, Outcome, Step, Framed, step}
 
--- what a site knows fits in a frame, and so does what it has in its buffer
-pub record FitsInFrames (s : SiteKnowledge) : Type 0 where
-  pub known : FitsInFrame s.known
-  pub buffer : FitsInFrame s.buffer
+-- what a site knows is small enough for a frame, and so is what it has in its buffer
+pub record IsSmallSite (s : SiteKnowledge) : Type 0 where
+  pub known : IsSmallEnough s.known
+  pub buffer : IsSmallEnough s.buffer
 
--- what a step is of has values within their limits
-abbrev pub IsStepWithinLimits : Step → Type 0
-IsStepWithinLimits (Do change) = IsChange change
-IsStepWithinLimits (Take frame) = AreWithinLimits frame
-IsStepWithinLimits other = ⊤
+-- a frame that was made carries what is small enough for one, under a number of a frame
+abbrev pub IsSmallFrame : Outcome → Type 0
+IsSmallFrame (Framed number frame) = IsCount number × IsSmallEnough frame
+IsSmallFrame other = ⊤
 
--- a frame that was made fits in one, under a number of a frame
-abbrev pub IsFrameThatFits : Outcome → Type 0
-IsFrameThatFits (Framed number frame) = IsCount number × FitsInFrame frame
-IsFrameThatFits other = ⊤
+-- a site after a step, and the frame that it may have made, are so
+pub record StaysSmall (after : SiteKnowledge × Outcome) : Type 0 where
+  pub site : IsSmallSite after.0
+  pub frame : IsSmallFrame after.1
 
--- a site after a step, and what comes of it, fit
-pub record KeepsWhatFits (after : SiteKnowledge × Outcome) : Type 0 where
-  pub site : FitsInFrames after.0
-  pub frame : IsFrameThatFits after.1
-
--- so it is with each step of values within their limits, at a site that fits
-abbrev pub StepsKeepWhatFits : Type 0
-StepsKeepWhatFits = (site : ℕ) (names : List (List ℕ)) (s : SiteKnowledge) (event : Step) → IsSite site → AreQueues names → IsStepWithinLimits event → FitsInFrames s
-    → KeepsWhatFits (step site names s event)
+-- so it is after each step, whatever is asked and taken
+abbrev pub StepsStaySmall : Type 0
+StepsStaySmall = (site : ℕ) (names : List (List ℕ)) (s : SiteKnowledge) (event : Step) → IsSmallSite s → StaysSmall (step site names s event)

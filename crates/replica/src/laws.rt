@@ -15,7 +15,7 @@ ghost use Rattle.replica.specs.Promises.{MeansTheSameAlike, RefusalsChangeNothin
 ghost use Rattle.replica.specs.Changes.{Change, Makes, meaning};
 ghost use Rattle.replica.specs.Commands.{Follows};
 ghost use Rattle.replica.specs.Deeds.{IsCutDeed, IsNew, IsTakeDeed, IsWholeDeed};
-ghost use Rattle.replica.specs.FrameSteps.{FitsInFrames, StepsKeepWhatFits};
+ghost use Rattle.replica.specs.FrameSteps.{IsSmallSite, StepsStaySmall};
 ghost use Rattle.replica.specs.Framing.{IsFramed};
 ghost use Rattle.replica.specs.Keeping.{IsKept};
 ghost use Rattle.replica.specs.MadeOperations.{IsMadeAt};
@@ -193,9 +193,9 @@ pub fn a_next_frame_is_in_ranges()
         → IsInRanges (frame_of s.site (suc s.frames) s.state) }
 {}
 
-/// What a site knows and what it has in its buffer fits in a frame each: so it is at a new site, and so each step leaves it that is of values within their limits. And
-/// each frame that is made fits, under a number of a frame (this project's own).
-pub fn a_step_keeps_what_fits_in_a_frame()
-    ensures new { FitsInFrames new_site }
-    ensures steps { StepsKeepWhatFits }
+/// What a site knows, and what it has in its buffer, is small enough for a frame: so it is at a new site, and after each step, whatever is asked and taken, since what
+/// would be too much is refused. And each frame that is made carries what is, under a number of a frame (this project's own).
+pub fn what_a_site_knows_stays_small_enough_for_a_frame()
+    ensures new { IsSmallSite new_site }
+    ensures steps { StepsStaySmall }
 {}

@@ -176,8 +176,9 @@ pub record HaveOneText (place : ScriptSites) (w : World) (number : ℕ) (lines :
   pub unknown : (text other : List ℕ) (unknown others : ℕ) → LinesGive place w number lines text unknown → LinesGive place w number lines other others → others ≡ unknown
   pub begun : (text front : List ℕ) (unknown : ℕ) → LinesGive place w number lines text unknown → AreBegun place w number lines front → IsFront front text
 
--- lines have a text, and a number of lines that aren't understood
+-- lines have a text, and a number of lines that aren't understood, and what was begun of them is a front of that text
 pub record HaveText (place : ScriptSites) (w : World) (number : ℕ) (lines : List (List ℕ)) : Type 0 where
   pub text : List ℕ
   pub unknown : ℕ
   pub is : LinesGive place w number lines text unknown
+  pub begun : (front : List ℕ) → AreBegun place w number lines front → IsFront front text

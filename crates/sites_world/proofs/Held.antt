@@ -36,7 +36,7 @@ use Rattle.sites_world.proofs.SteppedHistories.{reached_history}
 use Rattle.sites_world.proofs.VisibleCounts.{few_visible}
 
 -- what is held stands for a knowledge of the world
-held_in : (state : WorldState) (w : World) (d : DeltaState) → StandsForWorld state w → IsHeldIn state d → (k : Knowledge) × IsIn w k × IsDeltaOf d k
+pub held_in : (state : WorldState) (w : World) (d : DeltaState) → StandsForWorld state w → IsHeldIn state d → (k : Knowledge) × IsIn w k × IsDeltaOf d k
 held_in state w d stands (State site s here is) =
     let knows = correspond_get (IsSiteOf state.names) state.sites w.sites stands.sites site s here in
     (knows.0.known, Known site knows.0 knows.1 refl, subst (λ x. IsDeltaOf x knows.0.known) (sym is) knows.2.stands.known)

@@ -20,4 +20,4 @@ mod Growing
 mod WithinLimits
 mod GrowingStates
 mod OperationsByConditions
-mod FittingWorlds
+mod SmallWorlds

@@ -5,8 +5,8 @@ ghost use Rattle.replica.specs.Queues.{AreQueues};
 ghost use Rattle.sites_world.specs.declared.event.Event.{Event};
 ghost use Rattle.sites_world.specs.declared.outcome.Outcome.{Outcome};
 ghost use Rattle.sites_world.specs.Conditions.{EventsLead, EventLeads};
-ghost use Rattle.sites_world.specs.Fitting.{EntriesHaveFrames, EventsKeepWhatFits};
-ghost use Rattle.sites_world.specs.Fitting.{WorldFits, WorldsFit};
+ghost use Rattle.sites_world.specs.Fitting.{EntriesFit, EntriesHaveFrames, FramesFit};
+ghost use Rattle.sites_world.specs.Fitting.{HoldWhatFits, WorldsAreSmall};
 ghost use Rattle.sites_world.specs.Holding.{EventsGrow, HeldAgree, HoldFewCells, HoldOneDotASite};
 ghost use Rattle.sites_world.specs.Holding.{HoldWithinLimits};
 ghost use Rattle.sites_world.specs.Holding.{LeadAllGrows, LeadsGrow, MayJoinFrames, MayTakeEntries};
@@ -21,13 +21,14 @@ ghost use Rattle.sites_world.specs.Promises.{HaveSameStatus, LeadsOn, ReportsAre
 ghost use Rattle.sites_world.specs.Promises.{AreOfTheirEvents, RefusalsChangeNothing, RunsInParts};
 ghost use Rattle.sites_world.specs.Promises.{TellNoEntry, TellNoSite};
 ghost use Rattle.sites_world.specs.WithinLimits.{HasValuesWithinLimits};
-ghost use Rattle.sites_world.specs.Worlds.{IsReached, World, new_world};
+ghost use Rattle.sites_world.specs.Worlds.{IsReached, World};
 ghost use Rattle.sites_world.specs.WorldStates.{HasHappened, HaveHappened, IsUnchanged, IsWorld};
 ghost use Rattle.sites_world.specs.WorldStates.{StandsForWorld, WorldState};
 
 use delta::laws::a_knowledge_has_one_delta;
 use replica::laws::{
-    a_step_keeps_what_fits_in_a_frame, deeds_stand_for_steps, refusals_stand_for_steps,
+    deeds_stand_for_steps, refusals_stand_for_steps,
+    what_a_site_knows_stays_small_enough_for_a_frame,
 };
 use status_report::laws::a_report_is_the_status_text_of_what_its_site_stands_for;
 
@@ -195,14 +196,16 @@ pub fn events_are_run_in_parts()
     ensures leads { LeadsOn }
 {}
 
-/// Each entry of a world fits in a frame, under its maker's and its own number, and so does what each site knows and has in its buffer, where the queues are, there
-/// are at most 64 sites, and the values of each command were within their limits. So each entry has a frame within the ranges of the format (this project's own).
+/// Whatever events lead to a world, what each of its sites knows and has in its buffer is small enough for a frame, and so is what each entry carries, under the number
+/// of one of the sites and that of a frame. So each entry fits in a frame, where there are at most 64 sites and the operations of the world are within their limits, and
+/// then it has one within the ranges of the format. And what is held in a world, as each frame of its pool, stands for a knowledge that fits (this project's own).
 pub fn entries_of_a_world_fit_in_frames()
-    ensures new { (sites : ℕ) → WorldFits (new_world sites) }
-    ensures event { EventsKeepWhatFits }
-    ensures events { WorldsFit }
+    ensures small { WorldsAreSmall }
+    ensures entries { EntriesFit }
     ensures frames { EntriesHaveFrames }
+    ensures held { HoldWhatFits }
+    ensures pool { FramesFit }
 {
-    a_step_keeps_what_fits_in_a_frame();
+    what_a_site_knows_stays_small_enough_for_a_frame();
     a_knowledge_has_one_delta();
 }

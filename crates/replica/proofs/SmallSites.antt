@@ -1,30 +1,26 @@
--- A step keeps what fits in a frame.
-use Rattle.std.proofs.Common.{◌≡◌, ◌≤◌, ℕ, suc, nat_lt, Bool, true, false, ◌||◌, List, [], ◌∷◌, ◌++◌, Some, None, refl, sym, ap, subst, ◌∙◌, arith, if◌then◌else◌, inl, inr}
+-- What a site knows stays small enough for a frame.
+use Rattle.std.proofs.Common.{◌≡◌, ◌≤◌, ℕ, suc, nat_lt, Bool, true, false, ◌||◌, List, [], ◌∷◌, ◌++◌, Some, None, sym, ap, subst, ◌∙◌, refl, arith, if◌then◌else◌}
 use Rattle.std.specs.FinSet as set
 use Rattle.std.proofs.lemmas.Bool.Decides.{nat_tests}
-use Rattle.std.proofs.lemmas.List.Elements.{Contains-append_cases}
-use Rattle.general_lemmas.proofs.Membership.{cases_in, nothing_in}
 use Rattle.dots.specs.declared.limits.TheConstants.{MOST_COUNT, MOST_LIVE, MOST_RUNS}
 use Rattle.dots.specs.declared.member.Member.{Member}
 use Rattle.dots.specs.DotSets.{run_count}
 use Rattle.dots.specs.Orders.{dot_cmp}
-use Rattle.dots.specs.Values.{Dot, IsSite}
+use Rattle.dots.specs.Values.{Dot}
 use Rattle.dots.proofs.DotOrder.{dots_exact, dots_total}
 use Rattle.dots.proofs.RunCounts.{run_count_runs}
-use Rattle.operations.specs.FrameLimits.{FitsInFrame}
+use Rattle.operations.specs.FrameLimits.{IsSmallEnough}
 use Rattle.operations.specs.Knowledge.{Knowledge, known_dots, visible_dots}
-use Rattle.operations.specs.OperationLimits.{AreWithinLimits, IsWithinLimits}
 use Rattle.operations.specs.Operations.{Operation, Setting}
 use Rattle.operations.proofs.StandingJoins.{represents_none}
 use Rattle.operations.proofs.VisibleLaws.{visible_dot}
 use Rattle.replica.specs.declared.refusal.Refusal.TheVariants.{Exhausted, MembersFull, TotalFull}
 use Rattle.replica.specs.Changes.{Change, Meaning, Refused, Makes, AddMember, RemoveMember, SetField, CountCall, add_at, count_at, is_exhausted, is_full, is_past_total, is_too_long, meaning, meaning_of_setting, remove_of, within_limits, write_at}
-use Rattle.replica.specs.FrameSteps.{FitsInFrames, KeepsWhatFits, StepsKeepWhatFits}
-use Rattle.replica.specs.Promises.{IsChange}
-use Rattle.replica.specs.Queues.{AreQueues, number_of}
+use Rattle.replica.specs.FrameSteps.{IsSmallSite, StaysSmall, StepsStaySmall}
+use Rattle.replica.specs.Queues.{number_of}
 use Rattle.replica.specs.SiteViews.{SiteView, dots_seen, is_past_limits, site_view}
 use Rattle.replica.specs.Steps.{SiteKnowledge, Do, Cut, Whole, Take, CellsFull, Framed, NoNumber, RunsFull, Taken, after_frame, after_meaning, cut, new_site, take}
-use Rattle.replica.proofs.MadeLimits.{in_queue_made, makes_within_limits, where_absent_made, where_present_made}
+use Rattle.replica.proofs.MadeLimits.{in_queue_made, where_absent_made, where_present_made}
 use Rattle.replica.proofs.SiteViewLaws.{one_more}
 
 -- ---- nothing
@@ -36,14 +32,14 @@ none_visible = set.same_set dots_total dots_exact _ _ (λ q. visible_dot [] q �
 no_runs : run_count (set.empty {R = dot_cmp}) ≡ 0
 no_runs = run_count_runs [] set.empty (record { apart = tt; same = λ q. set.contains-empty dot_cmp q })
 
-pub nothing_fits : FitsInFrame []
-nothing_fits =
+nothing_small : IsSmallEnough []
+nothing_small =
     let cells = ap set.len none_visible ∙ set.len-empty dot_cmp in
     let runs = ap run_count (sym represents_none.dots) ∙ no_runs in
-    record { within = λ o here. absurd (nothing_in o here); cells = omega (arith, cells); runs = omega (arith, runs) }
+    record { cells = omega (arith, cells); runs = omega (arith, runs) }
 
-pub new_fits : FitsInFrames new_site
-new_fits = record { known = nothing_fits; buffer = nothing_fits }
+pub new_small : IsSmallSite new_site
+new_small = record { known = nothing_small; buffer = nothing_small }
 
 -- ---- one operation more
 
@@ -89,71 +85,61 @@ means_below site names (CountCall queue calls) r buffer o h =
 within_both : (a b c d : ℕ) → (nat_lt a b || nat_lt c d) ≡ false → (b ≤ a) × (d ≤ c)
 within_both a b c d h = (grind (arith, nat_tests), grind (arith, nat_tests))
 
-one_more_fits : (site : ℕ) (k : Knowledge) (o : Operation) → IsWithinLimits o → FitsInFrame k → is_full (site_view site k) o ≡ false → FitsInFrame (o ∷ k)
-one_more_fits site k o is fits below =
+one_more_small : (site : ℕ) (k : Knowledge) (o : Operation) → is_full (site_view site k) o ≡ false → IsSmallEnough (o ∷ k)
+one_more_small site k o below =
     let seen = one_more site k o in
     let few =
     within_both MOST_LIVE (set.len (visible_dots (o ∷ k))) MOST_RUNS (run_count (known_dots (o ∷ k)))
     (sym (λ i. is_past_limits (seen.visible i) (seen.known i)) ∙ below) in
-    record {
-      within = λ p here. elim (cases_in o k p here) [ inl same ↦ subst IsWithinLimits same is | inr later ↦ fits.within p later ];
-      cells = few.0;
-      runs = few.1;
-    }
+    record { cells = few.0; runs = few.1 }
 
 -- ---- steps
 
-do_keeps : (site : ℕ) (names : List (List ℕ)) (s : SiteKnowledge) (change : Change) → IsSite site → AreQueues names → IsChange change → FitsInFrames s
-    → (m : Meaning) → meaning site names (site_view site s.known) (site_view site s.buffer) change ≡ m → KeepsWhatFits (after_meaning s m)
-do_keeps site names s change at queues values fits (Refused refusal) is = record { site = fits; frame = tt }
-do_keeps site names s change at queues values fits (Makes o) is =
-    let limits = makes_within_limits site names change s.known s.buffer o at queues values fits.known.within is in
+do_stays : (site : ℕ) (names : List (List ℕ)) (s : SiteKnowledge) (change : Change) → IsSmallSite s → (m : Meaning) → meaning site names (site_view site s.known) (site_view site s.buffer) change ≡ m
+    → StaysSmall (after_meaning s m)
+do_stays site names s change small (Refused refusal) is = record { site = small; frame = tt }
+do_stays site names s change small (Makes o) is =
     let below = means_below site names change (site_view site s.known) (site_view site s.buffer) o is in
-    record {
-      site = record { known = one_more_fits site s.known o limits fits.known below.known; buffer = one_more_fits site s.buffer o limits fits.buffer below.pending };
-      frame = tt;
-    }
+    record { site = record { known = one_more_small site s.known o below.known; buffer = one_more_small site s.buffer o below.pending }; frame = tt }
 
-frame_keeps : (s : SiteKnowledge) (frame buffer : Knowledge) → FitsInFrames s → FitsInFrame frame → FitsInFrame buffer → KeepsWhatFits (after_frame s frame buffer)
-frame_keeps s frame buffer fits says rest = by (nat_lt MOST_COUNT (suc s.frames)) refl
+frame_stays : (s : SiteKnowledge) (frame buffer : Knowledge) → IsSmallSite s → IsSmallEnough frame → IsSmallEnough buffer → StaysSmall (after_frame s frame buffer)
+frame_stays s frame buffer small says rest = by (nat_lt MOST_COUNT (suc s.frames)) refl
   where
     counted : (n most : ℕ) → nat_lt most (suc n) ≡ false → suc n ≤ most
     counted n most h = grind (arith, nat_tests)
 
     by : (b : Bool) → nat_lt MOST_COUNT (suc s.frames) ≡ b
-        → KeepsWhatFits (if b then (s, NoNumber) else (record { known = s.known; buffer = buffer; frames = suc s.frames }, Framed (suc s.frames) frame))
-    by true e = record { site = fits; frame = tt }
-    by false e = record { site = record { known = fits.known; buffer = rest }; frame = ((omega arith, counted s.frames MOST_COUNT e), says) }
+        → StaysSmall (if b then (s, NoNumber) else (record { known = s.known; buffer = buffer; frames = suc s.frames }, Framed (suc s.frames) frame))
+    by true e = record { site = small; frame = tt }
+    by false e = record { site = record { known = small.known; buffer = rest }; frame = ((omega arith, counted s.frames MOST_COUNT e), says) }
 
-cut_keeps : (s : SiteKnowledge) (buffer : Knowledge) → FitsInFrames s → FitsInFrame buffer → KeepsWhatFits (cut s buffer)
-cut_keeps s [] fits says = record { site = fits; frame = tt }
-cut_keeps s (o ∷ os) fits says = frame_keeps s (o ∷ os) [] fits says nothing_fits
+cut_stays : (s : SiteKnowledge) (buffer : Knowledge) → IsSmallSite s → IsSmallEnough buffer → StaysSmall (cut s buffer)
+cut_stays s [] small says = record { site = small; frame = tt }
+cut_stays s (o ∷ os) small says = frame_stays s (o ∷ os) [] small says nothing_small
 
-take_keeps : (s : SiteKnowledge) (frame : Knowledge) → FitsInFrames s → AreWithinLimits frame → KeepsWhatFits (take s frame)
-take_keeps s frame fits says = by (nat_lt MOST_LIVE (set.len (visible_dots (frame ++ s.known)))) (nat_lt MOST_RUNS (run_count (known_dots (frame ++ s.known)))) refl refl
+take_stays : (s : SiteKnowledge) (frame : Knowledge) → IsSmallSite s → StaysSmall (take s frame)
+take_stays s frame small = by (nat_lt MOST_LIVE (set.len (visible_dots (frame ++ s.known)))) (nat_lt MOST_RUNS (run_count (known_dots (frame ++ s.known)))) refl refl
   where
     few : (n most : ℕ) → nat_lt most n ≡ false → n ≤ most
     few n most h = grind (arith, nat_tests)
 
     by : (cells runs : Bool) → nat_lt MOST_LIVE (set.len (visible_dots (frame ++ s.known))) ≡ cells → nat_lt MOST_RUNS (run_count (known_dots (frame ++ s.known))) ≡ runs
-        → KeepsWhatFits (if cells then (s, CellsFull) else if runs then (s, RunsFull) else (record { known = frame ++ s.known; buffer = s.buffer; frames = s.frames }, Taken))
-    by true runs e f = record { site = fits; frame = tt }
-    by false true e f = record { site = fits; frame = tt }
+        → StaysSmall (if cells then (s, CellsFull) else if runs then (s, RunsFull) else (record { known = frame ++ s.known; buffer = s.buffer; frames = s.frames }, Taken))
+    by true runs e f = record { site = small; frame = tt }
+    by false true e f = record { site = small; frame = tt }
     by false false e f = record {
       site = record {
         known = record {
-          within = λ o here. elim (Contains-append_cases frame s.known o here) [ inl a ↦ says o a | inr b ↦ fits.known.within o b ];
           cells = few (set.len (visible_dots (frame ++ s.known))) MOST_LIVE e;
           runs = few (run_count (known_dots (frame ++ s.known))) MOST_RUNS f;
         };
-        buffer = fits.buffer;
+        buffer = small.buffer;
       };
       frame = tt;
     }
 
-pub steps_keep : StepsKeepWhatFits
-steps_keep site names s (Do change) at queues values fits =
-    do_keeps site names s change at queues values fits (meaning site names (site_view site s.known) (site_view site s.buffer) change) refl
-steps_keep site names s Cut at queues values fits = cut_keeps s s.buffer fits fits.buffer
-steps_keep site names s Whole at queues values fits = frame_keeps s s.known s.buffer fits fits.known fits.buffer
-steps_keep site names s (Take frame) at queues values fits = take_keeps s frame fits values
+pub steps_stay : StepsStaySmall
+steps_stay site names s (Do change) small = do_stays site names s change small (meaning site names (site_view site s.known) (site_view site s.buffer) change) refl
+steps_stay site names s Cut small = cut_stays s s.buffer small small.buffer
+steps_stay site names s Whole small = frame_stays s s.known s.buffer small small.known small.buffer
+steps_stay site names s (Take frame) small = take_stays s frame small
