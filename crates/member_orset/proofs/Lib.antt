@@ -29,6 +29,7 @@ pub mod RisingMaps
 pub mod PlacedDots
 pub mod PlacedChanges
 pub mod CellMoves
+pub mod FreedCells
 pub mod MovedCells
 pub mod LiveMaps
 pub mod SeenDots
@@ -44,6 +45,7 @@ pub mod ListedIds
 pub mod MovedIndex
 pub mod IndexLists
 pub mod MovedSets
+pub mod FreedSets
 pub mod LiveChanges
 pub mod ShownCells
 pub mod MemberDots

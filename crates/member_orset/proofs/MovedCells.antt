@@ -47,7 +47,7 @@ pub rise_sorted : (ps : List Placed) → IsStrictlySortedBy placed_cmp ps → Ri
 rise_sorted ps s = rising.rise_steps dot_cmp dots_total dots_exact (λ p. p.dot) (λ p. p.id) ps (λ k e l. ap is_lt (lies_before placed_cmp placed_total ps k (suc k) e e s (omega arith) l))
 
 -- what is found of a dot is among them
-found_in : (ps : List Placed) (d : Dot) (id : Id) → find dot_cmp d (id_entries ps) ≡ Some id → Contains ps (record { dot = d; id = id })
+pub found_in : (ps : List Placed) (d : Dot) (id : Id) → find dot_cmp d (id_entries ps) ≡ Some id → Contains ps (record { dot = d; id = id })
 found_in [] d id e = absurd (cc)
 found_in (p ∷ ps) d id e = elim (cases_Bool (eq_by_cmp dot_cmp d p.dot)) [
   | inl t ↦

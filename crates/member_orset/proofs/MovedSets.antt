@@ -47,7 +47,7 @@ pub record HasCell (s : PlacedState) (q : Dot) (h : Holding) : Type 0 where
   pub dot : cell.dot ≡ q
   pub is : holding cell ≡ h
 
-dot_of : (o : Option LiveDot) (q : Dot) → option_map (λ c. c.dot) o ≡ Some q → (c : LiveDot) × (o ≡ Some c) × (c.dot ≡ q)
+pub dot_of : (o : Option LiveDot) (q : Dot) → option_map (λ c. c.dot) o ≡ Some q → (c : LiveDot) × (o ≡ Some c) × (c.dot ≡ q)
 dot_of None q e = absurd (cc)
 dot_of (Some c) q e = (c, refl, same_some c.dot q e)
 
@@ -66,7 +66,7 @@ cell_of_live s a q h e = elim (look (maps.get (ids_by s.dots) q)) [
 ]
 
 -- each cell's id is in the index
-in_index : (s : PlacedState) (ids : List Id) → AreIndexed s ids → (id : Id) (cell : LiveDot) → maps.get s.held id ≡ Some cell → (k : ℕ) × (k < length ids) × (get_or ids k id ≡ id)
+pub in_index : (s : PlacedState) (ids : List Id) → AreIndexed s ids → (id : Id) (cell : LiveDot) → maps.get s.held id ≡ Some cell → (k : ℕ) × (k < length ids) × (get_or ids k id ≡ id)
 in_index s ids x id cell e =
     let live = live_of (cells_of s) in
     let held : is_held live cell.member cell.dot ≡ true =

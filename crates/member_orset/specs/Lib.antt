@@ -17,6 +17,7 @@ pub mod LiveLists
 pub mod Index
 pub mod PlacedStates
 pub mod Moves
+pub mod Freed
 pub mod Joining
 pub mod ShownRows
 pub mod RowWalks

@@ -1,11 +1,11 @@
 //! The join of what is live in two sets: what is live here and dead there goes, and what is live there comes.
 ghost use Rattle.std.specs.Prelude.{◌≡◌, ◌≢◌, ◌↔◌, ◌+◌, ◌<◌, ◌≤◌, Err, IsOk, IsSome, OnOk, length, not};
-ghost use Rattle.std.specs.Prelude.{true, false};
+ghost use Rattle.std.specs.Prelude.{true, false, ◌&&◌};
 ghost use Rattle.std.specs.List.{All, count_by};
 ghost use Rattle.std.specs.FinMap as map;
 ghost use Rattle.std.specs.FinSet as set;
 ghost use Rattle.dots.specs.Values.{Dot};
-ghost use Rattle.dots.specs.DotSets.{AreApart, run_count};
+ghost use Rattle.dots.specs.DotSets.{AreApart, IsRunsOf, run_count};
 ghost use Rattle.causal_context.specs.Contexts.{IsPrepared};
 ghost use Rattle.member_orset.specs.CellIds.{retired_of};
 ghost use Rattle.member_orset.specs.Members.{most_places};
@@ -18,12 +18,13 @@ use crate::JoinFault;
 use crate::live_cells::LiveCells;
 use crate::live_dot::LiveDot;
 use crate::placed::Placed;
-use crate::placed_lists::{dots_in, next_in};
+use crate::placed_lists::{count_outside, dots_in, next_in};
 use crate::places::LAST_GENERATION;
 use causal_context::{Context, ContextFault, Run};
 use dots::{Dot, MOST_RUNS};
 
-// Up to so many cells come one by one, since to search a place for each and to move what stands behind it takes less then.
+// Up to so many dots come, or die, one by one, since to search a place for each and to move what stands behind it takes less
+// then than to walk all.
 const FEW: usize = 8;
 
 // How many live dots aren't known.
@@ -108,8 +109,8 @@ fn drop_dead_in(
     }
 }
 
-// Lets the dots of runs be live no more that are live here and not there.
-pub(crate) fn drop_dead(
+// Lets the dots of runs be live no more that are live here and not there, one by one.
+fn drop_each(
     cells: &mut LiveCells<LAST_GENERATION>,
     runs: &[Run],
     there: &LiveCells<LAST_GENERATION>,
@@ -118,6 +119,31 @@ pub(crate) fn drop_dead(
 {
     for run in runs {
         drop_dead_in(cells, *run, there);
+    }
+}
+
+// Lets the dots of a context be live no more that are live here and not there. Where more than a few that are live here are of
+// its runs, all that are live here are walked once; else each that dies is searched for, and ids are moved for it.
+pub(crate) fn drop_dead(
+    cells: &mut LiveCells<LAST_GENERATION>,
+    context: &Context,
+    runs: &[Run],
+    there: &LiveCells<LAST_GENERATION>,
+)
+    requires { IsRunsOf runs.now context.now.dots }
+    ensures { IsThinned (dead_in_runs runs.now there.now.live) cells.old cells.new }
+{
+    let dots = cells.placed();
+    let outside = count_outside(dots, runs);
+    if dots.len() <= outside + FEW {
+        drop_each(cells, runs, there);
+    } else {
+        cells.thin(
+            |dot: Dot| -> bool
+                ensures { result ≡ (set.contains context.entry.now.dots dot
+                    && not (map.contains_key there.entry.now.live dot)) }
+            { context.contains(dot) && there.get(dot).is_none() },
+        );
     }
 }
 

@@ -8,6 +8,7 @@ mod cells_lent;
 mod dead;
 mod dots_lent;
 mod edits;
+mod freeing;
 mod gathered;
 mod insertion;
 mod join_fault;

@@ -1,5 +1,5 @@
 ghost use Rattle.std.specs.Prelude.{◌≡◌, ◌+◌, ◌<◌, ◌≤◌, ◌↔◌, ◌≢◌, [], IsOk, IsTrue, length};
-ghost use Rattle.std.specs.Prelude.{IfOk, IfSome, IsSome, OnOk, Err, None};
+ghost use Rattle.std.specs.Prelude.{Bool, IfOk, IfSome, IsSome, OnOk, Err, None};
 ghost use Rattle.std.specs.Prelude.{map as each};
 ghost use Rattle.std.specs.Option.{option_map, option_or};
 ghost use Rattle.std.specs.FinMap as map;
@@ -9,7 +9,7 @@ ghost use Rattle.dots.specs.Values.{Dot};
 ghost use Rattle.operations.specs.Rows.{dots_of, row_of, rows_of};
 ghost use Rattle.operations.specs.Views.{row_view};
 ghost use Rattle.member_orset.specs.CellIds.{IsNew, retired_of};
-ghost use Rattle.member_orset.specs.Joining.{HaveGrown};
+ghost use Rattle.member_orset.specs.Joining.{HaveGrown, IsThinned};
 ghost use Rattle.member_orset.specs.Members.{IsPresentIn, most_places, view_of};
 ghost use Rattle.member_orset.specs.Reads.{cell_read};
 ghost use Rattle.member_orset.specs.LiveLists.{live_of};
@@ -19,6 +19,7 @@ ghost use Rattle.member_orset.specs.PlacedStates.{IsPlaced, cells_of};
 
 use crate::cells_lent::Cells;
 use crate::dots_lent::Dots;
+use crate::freeing::keep_ids;
 use crate::insertion::put_in;
 use crate::live_dot::LiveDot;
 use crate::member_groups::{group_of, has_member};
@@ -231,6 +232,18 @@ impl<const LAST: u32> LiveCells<LAST> {
         } = others;
         self.placed.append(placed, &mut members);
         merge_members(&self.placed, &mut self.members, &members);
+    }
+
+    // Lets the dots be live no more that a test passes. Each list of ids is walked once.
+    pub(crate) fn thin<F: Fn(Dot) -> bool>(&mut self, dies: F)
+        requires { F.IsAlwaysCallable dies }
+        ensures thinned { (test : Dot → Bool)
+            → ((dot : Dot) (b : Bool) → F.post dies dot b → b ≡ test dot)
+            → IsThinned test self.old self.new }
+        ensures few { map.len self.new.live ≤ map.len self.old.live }
+    {
+        self.placed.thin(dies);
+        keep_ids(&self.placed, &mut self.members);
     }
 
     // Joins the fields of a live dot with others that agree with them.

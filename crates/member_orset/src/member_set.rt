@@ -326,7 +326,7 @@ impl MemberSet {
     {
         let _ = self.cells.len(); // so that it is known what holds of them
         let MemberSet { context, cells } = other;
-        drop_dead(&mut self.cells, context.as_slice(), &cells);
+        drop_dead(&mut self.cells, &context, context.as_slice(), &cells);
         take_all(&self.context, &mut self.cells, cells);
         self.context.absorb(&context);
         let _ = self.cells.len(); // so that it is known what holds of them

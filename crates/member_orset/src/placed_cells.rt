@@ -1,22 +1,25 @@
 ghost use Rattle.std.specs.Prelude.{ℕ, ◌≡◌, ◌+◌, ◌*◌, ◌<◌, ◌≤◌, ◌↔◌, [], true, false, length};
-ghost use Rattle.std.specs.Prelude.{IfErr, IfOk, IsOk, IsTrue, List, OnOk, slice_index_or, slice_set};
+ghost use Rattle.std.specs.Prelude.{Bool, IfErr, IfOk, IsOk, IsTrue, List, OnOk, slice_index_or, slice_set};
 ghost use Rattle.std.specs.FinMap as map;
 ghost use Rattle.std.specs.FinSet as set;
 ghost use Rattle.std.specs.List.{AllWithin, insert, remove};
 ghost use Rattle.std.specs.Option.{option_copied};
 ghost use Rattle.std.specs.Ordering.{is_lt};
 ghost use Rattle.operations.specs.Conditions.{FieldsAgree};
+ghost use Rattle.dots.specs.Values.{Dot as dot_value};
 ghost use Rattle.dots.specs.Orders.{dot_cmp};
 ghost use Rattle.op_arena.specs.Ids.{Id, id_of};
 ghost use Rattle.member_orset.specs.declared.live_dot.LiveDot.{LiveDot as live_dot};
 ghost use Rattle.member_orset.specs.declared.placed.Placed.{Placed as placed_dot};
 ghost use Rattle.member_orset.specs.CellIds.{retired_of};
+ghost use Rattle.member_orset.specs.Freed.{AreChosen, AreFreed, with_cells};
 ghost use Rattle.member_orset.specs.LiveLists.{IsCellAt, IsGap, entries_of};
 ghost use Rattle.member_orset.specs.Members.{most_places};
 ghost use Rattle.member_orset.specs.Moves.{AreMoved};
 ghost use Rattle.member_orset.specs.PlacedStates.{AreIndexed, IsPlaced, cells_of, joined_with};
 ghost use Rattle.member_orset.specs.PlacedLists.{id_entries, is_placed};
 
+use crate::freeing::{free_cells, keep_dots};
 use crate::insertion::put_in;
 use crate::live_dot::LiveDot;
 use crate::moving::move_cells;
@@ -235,6 +238,22 @@ impl<const LAST: u32> PlacedCells<LAST> {
     {
         let placed = self.dots.remove(place);
         self.cells.take(placed.id).unwrap()
+    }
+
+    // Lets the dots be placed no more that a test passes. Each list is walked once.
+    pub(crate) fn thin<F: Fn(Dot) -> bool>(&mut self, dies: F)
+        requires { F.IsAlwaysCallable dies }
+        ensures freed { AreFreed self.old.dots self.old.held self.old.spent self.new.held
+            self.new.spent }
+        ensures chosen { (test : dot_value → Bool)
+            → ((dot : dot_value) (b : Bool) → F.post dies dot b → b ≡ test dot)
+            → AreChosen test self.old.dots self.old.held self.new.held }
+        ensures dots { self.new.dots ≡ with_cells self.new.held self.old.dots }
+        ensures room { self.old.room + length self.new.dots ≤ self.new.room + length self.old.dots }
+        ensures valid { IsPlaced self.new }
+    {
+        free_cells(&mut self.cells, &self.dots, dies);
+        keep_dots(&self.cells, &mut self.dots);
     }
 
     // Joins the fields of the cell at a place with others that agree with them.

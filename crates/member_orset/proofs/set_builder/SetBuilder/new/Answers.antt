@@ -1,4 +1,4 @@
-use Rattle.std.proofs.Common.{◌≡◌, length, ap, ◌∙◌, arith}
+use Rattle.std.proofs.Common.{length, ap, ◌∙◌, arith}
 use Rattle.std.specs.FinMap as map
 use Rattle.dots.specs.Orders.{dot_cmp}
 use Rattle.member_orset.specs.LiveLists.{live_of}

@@ -1,7 +1,7 @@
 -- Of the runs so far those are dropped that are dead there.
 use Rattle.std.proofs.Common.{take}
 use Rattle.member_orset.specs.Joining.{IsThinned, dead_in_runs}
-use Rattle.member_orset.proofs.joining.drop_dead.Given as goal
+use Rattle.member_orset.proofs.joining.drop_each.Given as goal
 
 abbrev pub invariant-loop-run : goal.invariant-loop-run
 invariant-loop-run l = IsThinned (dead_in_runs (take l.run-index l.runs) l.there.live) l.fn.cells l.cells

@@ -1,0 +1,34 @@
+use Rattle.std.proofs.Common.{◌≡◌, ◌+◌, ◌≤◌, length, min, sym, ap, subst, arith}
+use Rattle.std.specs.FinMap as map
+use Rattle.std.specs.Vec.{vec_capacity}
+use Rattle.std.proofs.lemmas.List.Sums.{count_by-le-length, length-filter}
+use Rattle.member_orset.specs.declared.placed.Placed.{Placed}
+use Rattle.member_orset.specs.Joining.{IsThinned}
+use Rattle.member_orset.specs.LiveLists.{live_of}
+use Rattle.member_orset.specs.PlacedStates.{AreIndexed, cells_of, live_state}
+use Rattle.member_orset.proofs.FreedSets.{kept_indexed, thinned_once}
+use Rattle.member_orset.proofs.LiveMaps.{len_live}
+use Rattle.member_orset.proofs.live_cells.LiveCells.thin.Goals as goal
+
+pub invariant_of-self : goal.invariant_of-self
+invariant_of-self g c =
+    subst (AreIndexed c.thin.new.self) (sym c.keep_ids.ensures.kept) (kept_indexed c.self.inside.placed c.self.inside.members.items c.self.invariant c.thin.new.self c.thin.ensures.freed c.thin.ensures.valid)
+
+pub returns-clause-thinned : goal.returns-clause-thinned
+returns-clause-thinned g c test computes =
+    let s = c.self.inside.placed in
+    let u = c.thin.new.self in
+    let p = λ (q : Placed). map.contains_key u.held q.id in
+    let fewer : length u.dots ≤ length s.dots = omega (arith, ap length c.thin.ensures.dots, length-filter p s.dots, count_by-le-length p s.dots) in
+    let room : min s.room (vec_capacity c.self.inside.members) + length u.dots ≤ min u.room (vec_capacity c.keep_ids.new.ids) + length s.dots =
+    omega (arith, c.thin.ensures.room, c.keep_ids.ensures.capacity, fewer) in
+    subst (λ l. IsThinned test l (live_state u (vec_capacity c.keep_ids.new.ids))) c.self.view_is
+    (thinned_once s c.self.inside.members.items c.self.invariant u c.thin.ensures.freed c.thin.ensures.valid test (c.thin.ensures.chosen test computes) (vec_capacity c.self.inside.members) (vec_capacity c.keep_ids.new.ids) room)
+
+pub returns-clause-few : goal.returns-clause-few
+returns-clause-few g c =
+    let s = c.self.inside.placed in
+    let u = c.thin.new.self in
+    let p = λ (q : Placed). map.contains_key u.held q.id in
+    let before : map.len (live_of (cells_of s)) ≡ map.len c.args.self.now.live = ap (λ l. map.len l.live) c.self.view_is in
+    omega (arith, before, len_live s.dots s.held s.spent c.self.invariant.placed, len_live u.dots u.held u.spent c.thin.ensures.valid, ap length c.thin.ensures.dots, length-filter p s.dots, count_by-le-length p s.dots)
