@@ -11,7 +11,7 @@ pub record IsSmallEnough (k : Knowledge) : Type 0 where
   pub cells : set.len (visible_dots k) ≤ MOST_LIVE
   pub runs : run_count (known_dots k) ≤ MOST_RUNS
 
--- it fits in a frame: it is small enough, and its operations are within their limits
+-- knowledge `k` fits in a frame: it is small enough for one, and its operations are within their limits
 pub record FitsInFrame (k : Knowledge) : Type 0 where
   pub small : IsSmallEnough k
   pub within : AreWithinLimits k

@@ -14,11 +14,11 @@ abbrev pub IsSmallFrame : Outcome → Type 0
 IsSmallFrame (Framed number frame) = IsCount number × IsSmallEnough frame
 IsSmallFrame other = ⊤
 
--- a site after a step, and the frame that it may have made, are so
+-- what a site knows after a step is small enough for a frame, and so is the frame that it may have made
 pub record StaysSmall (after : SiteKnowledge × Outcome) : Type 0 where
   pub site : IsSmallSite after.0
   pub frame : IsSmallFrame after.1
 
--- so it is after each step, whatever is asked and taken
+-- a site that is small enough for a frame stays so with each step, whatever is asked and taken
 abbrev pub StepsStaySmall : Type 0
 StepsStaySmall = (site : ℕ) (names : List (List ℕ)) (s : SiteKnowledge) (event : Step) → IsSmallSite s → StaysSmall (step site names s event)

@@ -24,11 +24,11 @@ session_of settings = record {
 abbrev pub ClientDesk : Type 0
 ClientDesk = RingingDesk PassState
 
--- it answers by its pass
+-- the desk of a client's session answers an ask by its pass
 abbrev pub AnswersClient : ℕ → List (List ℕ) → ClientDesk → Ask → Answer → ClientDesk → Type 0
 AnswersClient site names old asked answer new = AnswersByPass site names (inner_desk old) asked answer (inner_desk new)
 
--- where it gives no answer its pass stays
+-- where the desk of a client's session gives no answer its pass stays
 abbrev pub RefusesClient : ClientDesk → Ask → ClientDesk → Type 0
 RefusesClient old asked new = inner_desk new ≡ inner_desk old
 

@@ -20,13 +20,13 @@ pub record IsSmallEntry (sites : ℕ) (entry : Entry) : Type 0 where
   pub number : IsCount entry.number
   pub carried : IsSmallEnough entry.carried
 
--- a world of so many sites is small: each of them is, and so is each entry
+-- world `w` has `sites` sites, and what each of them knows, and each entry, is small enough for a frame
 pub record IsSmallWorld (sites : ℕ) (w : World) : Type 0 where
   pub count : length w.sites ≡ sites
   pub known : (site : ℕ) (s : SiteKnowledge) → slice_get w.sites site ≡ Some s → IsSmallSite s
   pub pool : (entry : Entry) → Contains w.pool entry → IsSmallEntry sites entry
 
--- so is each world that events lead to, whatever they are
+-- each world that events lead to is small enough for frames, whatever the events are
 abbrev pub WorldsAreSmall : Type 0
 WorldsAreSmall = (names : List (List ℕ)) (sites : ℕ) (w : World) → IsReached names sites w → IsSmallWorld sites w
 
@@ -36,7 +36,7 @@ pub record IsEntryThatFits (entry : Entry) : Type 0 where
   pub number : IsCount entry.number
   pub carried : FitsInFrame entry.carried
 
--- each entry of a world does that events lead to, where there are at most as many sites as there may be, and all operations are within their limits
+-- each entry fits in a frame in a world that events lead to, of at most 64 sites, whose operations are all within their limits
 abbrev pub EntriesFit : Type 0
 EntriesFit = (names : List (List ℕ)) (sites : ℕ) (w : World) (entry : Entry) → IsReached names sites w → sites ≤ SITES → KnowsWithinLimits w → Contains w.pool entry
     → IsEntryThatFits entry
@@ -45,7 +45,7 @@ EntriesFit = (names : List (List ℕ)) (sites : ℕ) (w : World) (entry : Entry)
 abbrev pub EntriesHaveFrames : Type 0
 EntriesHaveFrames = (place : ℕ) (entry : Entry) → IsEntryThatFits entry → (frame : Frame) × IsFrameOf place frame entry
 
--- what is held stands for a knowledge that fits in a frame
+-- each delta that is held in a world stands for a knowledge that fits in a frame
 abbrev pub HoldWhatFits : Type 0
 HoldWhatFits = (state : WorldState) (d : DeltaState) → IsWorld state → IsHeldIn state d → (k : Knowledge) × IsDeltaOf d k × FitsInFrame k
 
@@ -57,6 +57,6 @@ pub record StandsForWhatFits (frame : Frame) : Type 0 where
   pub maker : IsSite frame.maker
   pub number : IsCount frame.number
 
--- so does each frame of a pool
+-- each frame of the pool of a world stands for a knowledge that fits in one, and its maker and number are within their limits
 abbrev pub FramesFit : Type 0
 FramesFit = (state : WorldState) (place : ℕ) (frame : Frame) → IsWorld state → slice_get state.pool place ≡ Some frame → StandsForWhatFits frame
