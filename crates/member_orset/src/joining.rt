@@ -205,7 +205,6 @@ pub(crate) fn take_all(
         → set.contains known.now.dots q ≡ true }
     ensures { IsJoinedWith (set.contains known.now.dots) cells.old others.live cells.new }
 {
-    let _ = others.len(); // so that it is known what holds of them
     if others.len() > FEW && are_unknown(known, others.placed()) {
         cells.append(others);
     } else {
