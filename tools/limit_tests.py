@@ -11,7 +11,8 @@ from workloads import cells, frame, number, run_of, total
 MOST_MEMBERS = 16_384
 MOST_RUNS = 65_536
 MOST_TOTALS = 16_384
-ONE_GIBIBYTE = 1 << 30
+MOST_FRAME_BYTES = 7_618_588
+CHANGES, ROOM_OF_CHANGES = 20_000, 48 << 20  # twice what they take
 FRAMES = f"{folder('frame_cases')}/out/frame_cases"
 SESSIONS = f"{folder('session_cases')}/out/session_cases"
 
@@ -28,7 +29,7 @@ FULL = reply("Error", "Unable to change members: Full")
 def member(interface):
     return (
         f"Event: QueueMember\r\nQueue: sales\r\nName: {interface}\r\nLocation: {interface}\r\nStateInterface: {interface}\r\n"
-        "Membership: dynamic\r\nPenalty: 0\r\nPaused: 0\r\nPausedReason: \r\n\r\n"
+        "Membership: dynamic\r\nPenalty: 0\r\nPaused: 0\r\nPausedReason: \r\nRingInUse: 1\r\n\r\n"
     )
 
 
@@ -141,17 +142,29 @@ def check_frame(what, given, lines):
         raise Failed(f"a frame of {what} is told in {len(told)} lines, of which the last is {''.join(told[-1:])[:80]!r}; status {ran.returncode}")
 
 
+def full_cell(count):
+    """A live dot of site 0 with all its fields, whose texts are as long as they may be."""
+    stamp, text = number(count, 8) + number(0, 1), number(80, 1) + 80 * b"a"
+    fields = stamp + number(0, 4) + stamp + number(1, 1) + text + stamp + 2 * text + stamp + number(1, 1)
+    return number(0, 1) + number(count, 8) + number(0, 2) + text + number(15, 1) + fields
+
+
 def frames_past_the_limits():
-    """A frame is read and spelled again with as many cells, runs and totals as it may have, and refused with one more."""
-    runs_of = lambda count: frame(0, [run_of(it % 2, it // 2 * 2 + 1, it // 2 * 2 + 1) for it in sorted(range(count), key=lambda it: it % 2)])
+    """A frame is read and spelled again with as many cells, runs and totals as it may have, also with all of these and as many bytes as it may
+    have, and refused with one more."""
+    runs = lambda count: [run_of(it % 2, it // 2 * 2 + 1, it // 2 * 2 + 1) for it in sorted(range(count), key=lambda it: it % 2)]
     totals = [total(it // 256, it % 256, it + 1) for it in range(MOST_TOTALS)]
+    greatest = frame(0, runs(MOST_RUNS), [full_cell(2 * it + 1) for it in range(MOST_MEMBERS)], totals)
+    if len(greatest) != MOST_FRAME_BYTES:
+        raise Failed(f"the greatest frame has {len(greatest):,} bytes")
     check_frame("as many cells as there may be", cells(0, MOST_MEMBERS), 3 + 2 * MOST_MEMBERS)
-    check_frame("as many runs as there may be", runs_of(MOST_RUNS), 2 + MOST_RUNS)
+    check_frame("as many runs as there may be", frame(0, runs(MOST_RUNS)), 2 + MOST_RUNS)
     check_frame("as many totals as there may be", frame(0, totals=totals), 2 + MOST_TOTALS)
+    check_frame("as many bytes as there may be", greatest, 2 + MOST_RUNS + 5 * MOST_MEMBERS + MOST_TOTALS)
     check_frame("a cell more", cells(0, MOST_MEMBERS + 1), "fault TooLarge")
-    check_frame("a run more", runs_of(MOST_RUNS + 1), "fault TooLarge")
+    check_frame("a run more", frame(0, runs(MOST_RUNS + 1)), "fault TooLarge")
     check_frame("a total more", frame(0, totals=[*totals, number(0, 19)]), "fault TooLarge")
-    return f"frames of {MOST_MEMBERS:,} cells, {MOST_RUNS:,} runs and {MOST_TOTALS:,} totals, and of one more each"
+    return f"frames of {MOST_MEMBERS:,} cells, {MOST_RUNS:,} runs and {MOST_TOTALS:,} totals, of {MOST_FRAME_BYTES:,} bytes, and of one more each"
 
 
 def session_of_all_members():
@@ -169,15 +182,15 @@ def session_of_all_members():
 
 
 def changes_with_little_memory():
-    """Thousands of changes, each sent to another site, fit in a gibibyte of addresses: no step takes more room than it needs."""
+    """Thousands of changes, each sent to another site, fit in little room: neither a step nor a frame that is kept takes more than it needs."""
     lines = [
-        line for it in range(5_000) for line in ((remove if it % 2 else add)(0, "SIP/1"), "0 cut", f"1 take {it}", f"1 ami Action: QueueStatus")
+        line for it in range(CHANGES) for line in ((remove if it % 2 else add)(0, "SIP/1"), "0 cut", f"1 take {it}", f"1 ami Action: QueueStatus")
     ]
-    limit = lambda: resource.setrlimit(resource.RLIMIT_AS, (ONE_GIBIBYTE, ONE_GIBIBYTE))
+    limit = lambda: resource.setrlimit(resource.RLIMIT_AS, (ROOM_OF_CHANGES, ROOM_OF_CHANGES))
     ran = run(BUILT, ["script", "2", "sales"], "".join(f"{it}\n" for it in lines).encode(), before=limit)
-    if ran.returncode or ran.stdout.count(b"taken\n") != 5_000:
-        raise Failed(f"a script of 5,000 changes in a gibibyte ends with status {ran.returncode} and tells {ran.stderr!r}")
-    return "a script of 5,000 changes in a gibibyte of addresses"
+    if ran.returncode or ran.stdout.count(b"taken\n") != CHANGES:
+        raise Failed(f"a script of {CHANGES:,} changes in {ROOM_OF_CHANGES >> 20} mebibytes ends with status {ran.returncode} and tells {ran.stderr!r}")
+    return f"a script of {CHANGES:,} changes in {ROOM_OF_CHANGES >> 20} mebibytes of addresses"
 
 
 TESTS = {

@@ -326,13 +326,15 @@ def ask_by_lot(client, lot, asks):
     """Asks so often what is drawn by lot. Each reply has the ID of its ask."""
     for number in range(asks):
         queue, interface, fields = lot.choice(QUEUES), f"SIP/{lot.randrange(20)}", {"ActionID": number}
-        action = lot.choice(["QueueAdd", "QueueAdd", "QueueRemove", "QueuePause", "QueuePenalty", "QueueStatus"])
+        action = lot.choice(["QueueAdd", "QueueAdd", "QueueRemove", "QueuePause", "QueuePenalty", "QueueMemberRingInUse", "QueueStatus"])
         if action != "QueueStatus":
             fields |= {"Interface": interface, "Queue": queue}
         if action == "QueuePause":
             fields |= {"Paused": lot.choice(["yes", "no"]), "Reason": "lunch"}
         if action == "QueuePenalty":
             fields |= {"Penalty": lot.randrange(100)}
+        if action == "QueueMemberRingInUse":
+            fields |= {"RingInUse": lot.choice(["yes", "no"])}
         reply = client.ask(action, **fields)
         head, _, rest = reply.partition(b"\r\n")
         need(rest.startswith(b"ActionID: %d\r\n" % number), f"ask {number}, {action}, is answered {reply!r}")
@@ -602,7 +604,7 @@ def idle_clients():
 
 
 def long_reports():
-    """A site whose reports are long keeps no more of them than its journal may: here 250 are asked for, which have 190 megabytes."""
+    """A site whose reports are long keeps no more of them than its journal may: here 250 are asked for, which have 204 megabytes."""
     with Server(1) as server:
         fill(server, 0, 5_000)
         with server.logged_in() as it:

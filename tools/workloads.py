@@ -61,7 +61,7 @@ def total(site, queue, completed):
 def frame(site, runs=(), cells=(), totals=()):
     """The first frame of a site."""
     parts = b"".join(number(len(part), 4) + b"".join(part) for part in (runs, cells, totals))
-    content = b"QD\x01" + number(site, 1) + number(1, 8) + parts
+    content = b"QD\x02" + number(site, 1) + number(1, 8) + parts
     return number(len(content), 4) + content
 
 

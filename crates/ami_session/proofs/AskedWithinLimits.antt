@@ -15,7 +15,7 @@ use Rattle.replica.specs.Promises.{IsChange}
 use Rattle.status_report.specs.declared.asks.Ask.{Ask}
 use Rattle.status_report.specs.declared.asks.Ask.TheVariants.{Command as asked_command, Status}
 use Rattle.ami_session.specs.declared.action.Action.{Action}
-use Rattle.ami_session.specs.declared.action.Action.TheVariants.{QueueAdd, QueueRemove, QueuePause, QueuePenalty, QueueStatus}
+use Rattle.ami_session.specs.declared.action.Action.TheVariants.{QueueAdd, QueueRemove, QueuePause, QueuePenalty, QueueMemberRingInUse, QueueStatus}
 use Rattle.ami_session.specs.Actions.{FieldRow, Name, Text, Number, absent_in, absent_of, action_named, is_unread, row_of, says_yes, text_at, unread_in}
 use Rattle.ami_session.specs.Checks.{Asks, Ends, Replies, SessionState, Waiting, accepts, error_reply, login_reaction, named_reaction, reaction, reaction_to, row_reaction}
 use Rattle.ami_session.specs.FieldValues.{Fields, as_penalty, id_of, is_word, name_of, penalty_of, text_of}
@@ -130,9 +130,10 @@ asked_within QueueAdd m has is = (
 asked_within QueueRemove m has is = name_value (value_of (codes "Interface") m) has.1.0 is.1.0
 asked_within QueuePause m has is = (
   name_value (value_of (codes "Interface") m) has.0 is.0,
-  pause_is (says_yes m) (text_at (codes "Reason") m) (text_value (value_of (codes "Reason") m) is.1.1.1.0),
+  pause_is (says_yes (codes "Paused") m) (text_at (codes "Reason") m) (text_value (value_of (codes "Reason") m) is.1.1.1.0),
 )
 asked_within QueuePenalty m has is = (name_value (value_of (codes "Interface") m) has.0 is.0, penalty_value (value_of (codes "Penalty") m) is.1.0)
+asked_within QueueMemberRingInUse m has is = (name_value (value_of (codes "Interface") m) has.0 is.0, tt)
 asked_within QueueStatus m has is = tt
 
 row_within : (action : Action) (m : Fields) (ask : Ask) (w : Waiting) → row_reaction action m (absent_in (row_of action) m) (unread_in (row_of action) m) ≡ Asks ask w → IsAskWithinLimits ask

@@ -6,12 +6,12 @@ use Rattle.std.specs.Option.{option_map}
 use Rattle.ami_text.specs.MessageFields.{value_of}
 use Rattle.ami_text.specs.Numbers.{number_of}
 use Rattle.dots.specs.Values.{PauseState}
-use Rattle.replica.specs.declared.command.Command.TheVariants.{Add, Remove, Pause, Penalty}
+use Rattle.replica.specs.declared.command.Command.TheVariants.{Add, Remove, Pause, Penalty, RingInUse}
 use Rattle.replica.specs.declared.refusal.Refusal.{Refusal}
 use Rattle.status_report.specs.declared.asks.Ask.{Ask}
 use Rattle.status_report.specs.declared.asks.Ask.TheVariants.{Command, Status}
 use Rattle.ami_session.specs.declared.action.Action.{Action}
-use Rattle.ami_session.specs.declared.action.Action.TheVariants.{QueueAdd, QueueRemove, QueuePause, QueuePenalty, QueueStatus}
+use Rattle.ami_session.specs.declared.action.Action.TheVariants.{QueueAdd, QueueRemove, QueuePause, QueuePenalty, QueueMemberRingInUse, QueueStatus}
 use Rattle.ami_session.specs.FieldValues.{Fields, is_word, is_yes, id_of, text_of, name_of, penalty_of}
 use Rattle.ami_session.specs.Replies.{refusal_text, removal_refusal_text}
 
@@ -50,9 +50,9 @@ interface = record { name = codes "Interface"; kind = Name }
 abbrev pub penalty : FieldRow
 penalty = record { name = codes "Penalty"; kind = Number }
 
--- the field `Paused`, which says whether to pause
-abbrev pub paused : FieldRow
-paused = record { name = codes "Paused"; kind = YesOrNo }
+-- the field of the name `name` that says yes or no
+abbrev pub yes_or_no : List ℕ → FieldRow
+yes_or_no name = record { name = name; kind = YesOrNo }
 
 -- the field of the name `name` that has a text
 abbrev pub text : List ℕ → FieldRow
@@ -66,23 +66,23 @@ text_at name m = unwrap_or (value_of name m) []
 abbrev pub penalty_in : Fields → ℕ
 penalty_in m = number_of (unwrap_or (value_of (codes "Penalty") m) (codes "0"))
 
--- whether the field `Paused` of message `m` says yes
-abbrev pub says_yes : Fields → Bool
-says_yes m = is_yes (text_at (codes "Paused") m)
+-- whether the field `name` of message `m` says yes
+abbrev pub says_yes : List ℕ → Fields → Bool
+says_yes name m = is_yes (text_at name m)
 
 -- the pause that message `m` has: where its `Paused` says yes, paused for its `Reason`; else not
 -- paused, and a `Reason` is dropped
 abbrev pub pause_in : Fields → PauseState
-pause_in m = record { paused = says_yes m; reason = if says_yes m then text_at (codes "Reason") m else [] }
+pause_in m = record { paused = says_yes (codes "Paused") m; reason = if says_yes (codes "Paused") m then text_at (codes "Reason") m else [] }
 
 -- `QueueAdd`, by which a member is added to a queue; it may be paused at once
 abbrev pub queue_add : ActionRow
 queue_add = record {
   name = codes "QueueAdd";
   required = queue ∷ interface ∷ [];
-  optional = penalty ∷ paused ∷ text (codes "MemberName") ∷ text (codes "StateInterface") ∷ [];
+  optional = penalty ∷ yes_or_no (codes "Paused") ∷ text (codes "MemberName") ∷ text (codes "StateInterface") ∷ [];
   ask = λ m.
-      Command (Add (text_at (codes "Queue") m) (text_at (codes "Interface") m) (penalty_in m) (says_yes m)
+      Command (Add (text_at (codes "Queue") m) (text_at (codes "Interface") m) (penalty_in m) (says_yes (codes "Paused") m)
       (record { name = text_at (codes "MemberName") m; state = text_at (codes "StateInterface") m }));
   success = λ yes. codes "Added interface to queue";
   refusal = refusal_text;
@@ -104,7 +104,7 @@ queue_remove = record {
 abbrev pub queue_pause : ActionRow
 queue_pause = record {
   name = codes "QueuePause";
-  required = interface ∷ paused ∷ [];
+  required = interface ∷ yes_or_no (codes "Paused") ∷ [];
   optional = queue ∷ text (codes "Reason") ∷ [];
   ask = λ m. Command (Pause (value_of (codes "Queue") m) (text_at (codes "Interface") m) (pause_in m));
   success = λ yes. if yes then codes "Interface paused successfully" else codes "Interface unpaused successfully";
@@ -120,6 +120,18 @@ queue_penalty = record {
   optional = queue ∷ [];
   ask = λ m. Command (Penalty (value_of (codes "Queue") m) (text_at (codes "Interface") m) (penalty_in m));
   success = λ yes. codes "Interface penalty set successfully";
+  refusal = refusal_text;
+}
+
+-- `QueueMemberRingInUse`, by which it is set whether an interface is rung while its device is in use,
+-- in a queue, or, without one, in every queue that it is a member of
+abbrev pub queue_member_ring_in_use : ActionRow
+queue_member_ring_in_use = record {
+  name = codes "QueueMemberRingInUse";
+  required = interface ∷ yes_or_no (codes "RingInUse") ∷ [];
+  optional = queue ∷ [];
+  ask = λ m. Command (RingInUse (value_of (codes "Queue") m) (text_at (codes "Interface") m) (says_yes (codes "RingInUse") m));
+  success = λ yes. codes "Interface ring in use set successfully";
   refusal = refusal_text;
 }
 
@@ -140,11 +152,12 @@ row_of QueueAdd = queue_add
 row_of QueueRemove = queue_remove
 row_of QueuePause = queue_pause
 row_of QueuePenalty = queue_penalty
+row_of QueueMemberRingInUse = queue_member_ring_in_use
 row_of QueueStatus = queue_status
 
 -- all actions of the table, in its order
 abbrev pub actions : List Action
-actions = QueueAdd ∷ QueueRemove ∷ QueuePause ∷ QueuePenalty ∷ QueueStatus ∷ []
+actions = QueueAdd ∷ QueueRemove ∷ QueuePause ∷ QueuePenalty ∷ QueueMemberRingInUse ∷ QueueStatus ∷ []
 
 -- the action of the name `name`, compared without ASCII case, if there is one
 abbrev pub action_named : List ℕ → Option Action

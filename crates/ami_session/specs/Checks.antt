@@ -55,7 +55,7 @@ pub data Reaction : Type 0 where
 abbrev pub row_reaction : Action → Fields → Option (List ℕ) → Option (List ℕ) → Reaction
 row_reaction action m (Some name) unread = Replies (error_reply m (codes "'" ++ name ++ codes "' not specified."))
 row_reaction action m None (Some name) = Replies (error_reply m (codes "Field not valid: " ++ name))
-row_reaction action m None None = Asks ((row_of action).ask m) (record { action = action; says_yes = says_yes m; id = id_of m })
+row_reaction action m None None = Asks ((row_of action).ask m) (record { action = action; says_yes = says_yes (codes "Paused") m; id = id_of m })
 
 -- what is done upon message `m` of an action that is in the table, by its row; of another an error
 abbrev pub named_reaction : Option Action → Fields → Reaction

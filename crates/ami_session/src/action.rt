@@ -19,6 +19,8 @@ pub enum Action {
     QueuePause,
     /// Sets the penalty of an interface in a queue or in every one that it is a member of.
     QueuePenalty,
+    /// Sets whether an interface is rung while its device is in use, in a queue or in every one that it is a member of.
+    QueueMemberRingInUse,
     /// Reports the queues and their members.
     QueueStatus,
 }
@@ -81,6 +83,8 @@ impl Action {
             Some(Action::QueuePause)
         } else if is_word(name, b"QueuePenalty") {
             Some(Action::QueuePenalty)
+        } else if is_word(name, b"QueueMemberRingInUse") {
+            Some(Action::QueueMemberRingInUse)
         } else if is_word(name, b"QueueStatus") {
             Some(Action::QueueStatus)
         } else {
@@ -96,6 +100,7 @@ impl Action {
             Action::QueueAdd | Action::QueueRemove => first_absent(message, "Queue", "Interface"),
             Action::QueuePause => first_absent(message, "Interface", "Paused"),
             Action::QueuePenalty => first_absent(message, "Interface", "Penalty"),
+            Action::QueueMemberRingInUse => first_absent(message, "Interface", "RingInUse"),
             Action::QueueStatus => None,
         }
     }
@@ -110,6 +115,7 @@ impl Action {
             Action::QueuePause if says_yes => "Interface paused successfully",
             Action::QueuePause => "Interface unpaused successfully",
             Action::QueuePenalty => "Interface penalty set successfully",
+            Action::QueueMemberRingInUse => "Interface ring in use set successfully",
             Action::QueueStatus => "",
         }
     }
@@ -120,8 +126,11 @@ impl Action {
     {
         match self {
             Action::QueueRemove => removal_refusal_text(refusal),
-            Action::QueueAdd | Action::QueuePause | Action::QueuePenalty | Action::QueueStatus =>
-                refusal_text(refusal),
+            Action::QueueAdd
+            | Action::QueuePause
+            | Action::QueuePenalty
+            | Action::QueueMemberRingInUse
+            | Action::QueueStatus => refusal_text(refusal),
         }
     }
 }

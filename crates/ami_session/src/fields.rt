@@ -33,11 +33,11 @@ pub fn text_at<'a>(message: &'a Message, name: &str) -> &'a [u8]
     message.get(name.as_bytes()).unwrap_or(b"")
 }
 
-/// Whether the `Paused` of a message says yes.
-pub fn says_yes(message: &Message) -> bool
-    ensures { result ≡ says_yes message.now }
+/// Whether a field says yes; an absent one doesn't.
+pub fn says_yes(message: &Message, name: &str) -> bool
+    ensures { result ≡ says_yes name.now message.now }
 {
-    is_yes(text_at(message, "Paused"))
+    is_yes(text_at(message, name))
 }
 
 // The penalty of a message; 0 where it is absent.
@@ -74,7 +74,7 @@ pub fn queue_add(message: &Message) -> Result<Command, Unreadable>
         queue,
         interface,
         penalty,
-        paused: says_yes(message),
+        paused: says_yes(message, "Paused"),
         label: Label { name, state },
     })
 }
@@ -128,7 +128,7 @@ pub fn queue_pause(message: &Message) -> Result<Command, Unreadable>
     Ok(Command::Pause {
         queue,
         interface,
-        pause: Pause::new(says_yes(message), reason),
+        pause: Pause::new(says_yes(message, "Paused"), reason),
     })
 }
 
@@ -153,6 +153,27 @@ pub fn queue_penalty(message: &Message) -> Result<Command, Unreadable>
         queue,
         interface,
         penalty,
+    })
+}
+
+/// What a QueueMemberRingInUse asks that lacks no field: without a Queue of every queue that the interface is a member of. `Err`
+/// names the first of Interface and Queue that can't be read; a RingInUse always can.
+pub fn queue_member_ring_in_use(message: &Message) -> Result<Command, Unreadable>
+    requires { absent_in (row_of Action.QueueMemberRingInUse) message.now ≡ None }
+    ensures { MatchResult result
+        (λ command. AsksBy (row_of Action.QueueMemberRingInUse) message.now (Ask.Command command))
+        (λ name. unread_in (row_of Action.QueueMemberRingInUse) message.now ≡ Some name.now) }
+{
+    let Some(interface) = interface_of(text_at(message, "Interface")) else {
+        return Err("Interface");
+    };
+    let Some(queue) = optional_queue(message.get(b"Queue")) else {
+        return Err("Queue");
+    };
+    Ok(Command::RingInUse {
+        queue,
+        interface,
+        ring: says_yes(message, "RingInUse"),
     })
 }
 

@@ -10,8 +10,8 @@ ghost use Rattle.ami_session.specs.Views.{reaction_of};
 
 use crate::action::Action;
 use crate::fields::{
-    Unreadable, action_id, queue_add, queue_pause, queue_penalty, queue_remove, queue_status,
-    says_yes, text_at,
+    Unreadable, action_id, queue_add, queue_member_ring_in_use, queue_pause, queue_penalty,
+    queue_remove, queue_status, says_yes, text_at,
 };
 use crate::reply::{Response, field_error, message_reply};
 use crate::values::is_word;
@@ -88,6 +88,7 @@ fn ask_of(action: Action, message: &Message, id: Bytes) -> Result<Ask, Unreadabl
         Action::QueueRemove => queue_remove(message).map(Ask::Command),
         Action::QueuePause => queue_pause(message).map(Ask::Command),
         Action::QueuePenalty => queue_penalty(message).map(Ask::Command),
+        Action::QueueMemberRingInUse => queue_member_ring_in_use(message).map(Ask::Command),
         Action::QueueStatus => queue_status(message, id).map(Ask::Status),
     }
 }
@@ -102,7 +103,7 @@ fn asked(alloc: Global, action: Action, message: &Message, id: Bytes) -> Result<
         return Ok(Act::Reply(bytes));
     }
     match ask_of(action, message, id.copy()?) {
-        Ok(ask) => Ok(Act::Ask(ask, Pending::new(action, says_yes(message), id))),
+        Ok(ask) => Ok(Act::Ask(ask, Pending::new(action, says_yes(message, "Paused"), id))),
         Err(name) => {
             let bytes = field_error(alloc, &id, "Field not valid: ", name, "")?;
             Ok(Act::Reply(bytes))

@@ -1,13 +1,13 @@
 -- A delta shows what its knowledge shows.
 use Rattle.std.proofs.Common.{◌≡◌, ℕ, Bool, true, false, not, ◌&&◌, Option, Some, None, is_some, if◌then◌else◌, refl, sym, ap, ◌∙◌}
-use Rattle.std.specs.Option.{option_and_then, option_map}
+use Rattle.std.specs.Option.{option_map, option_map_or}
 use Rattle.std.specs.FinMap as map
 use Rattle.std.specs.FinSet as set
 use Rattle.dots.specs.declared.calls.Calls.{Calls}
 use Rattle.dots.specs.declared.calls.Calls.TheVariants.{Completed, Abandoned}
 use Rattle.dots.specs.declared.member.Member.{Member}
 use Rattle.dots.specs.Values.{Dot}
-use Rattle.operations.specs.Conditions.{DotFields, Live, Dead, fields_in}
+use Rattle.operations.specs.Conditions.{DotFields, Live, Dead, fields_in, no_fields}
 use Rattle.operations.specs.Counts.{site_total}
 use Rattle.operations.specs.Knowledge.{Knowledge, is_named, member_of, visible_dots}
 use Rattle.operations.specs.Rows.{ShowAlike, dot_view}
@@ -64,9 +64,7 @@ module _ (d : DeltaState) (k : Knowledge) (is : IsDeltaOf d k) where
   shows_alike = record {
     visible = visible_is;
     member = λ dot h. let s = seen_live dot h in ap (option_map (λ x. x.0)) s.1 ∙ sym s.2;
-    penalty = λ dot h. let s = seen_live dot h in ap (option_and_then (λ x. x.1.penalty)) s.1;
-    pause = λ dot h. let s = seen_live dot h in ap (option_and_then (λ x. x.1.pause)) s.1;
-    label = λ dot h. let s = seen_live dot h in ap (option_and_then (λ x. x.1.label)) s.1;
+    fields = λ dot h. let s = seen_live dot h in ap (λ o. option_map_or (λ x. x.1) o no_fields) s.1;
   }
 
   totals_alike : (site queue : ℕ) (calls : Calls) → number_of calls (totals_of d.totals.entries site queue) ≡ site_total k site queue calls

@@ -10,7 +10,7 @@ use Rattle.causal_context.specs.Contexts.{IsRunWithinLimits}
 use Rattle.delta_codec.specs.declared.decode_fault.DecodeFault.TheVariants.{BadRange}
 use Rattle.delta_codec.specs.Faults.{CellFails, FieldsFail, IsFlags, IsPlace, Lacks, TextFails, place_bytes}
 use Rattle.delta_codec.specs.Frames.{IsHeading, heading_bytes}
-use Rattle.delta_codec.specs.Parts.{byte, run_bytes, text_bytes, total_bytes}
+use Rattle.delta_codec.specs.Parts.{byte, most_flags, run_bytes, text_bytes, total_bytes}
 use Rattle.delta_codec.specs.Reading.{both, byte_at, calls_at, cell_at, count_at, dot_at, fields_at, flags_at, heading_at, last_at, made, number_at, place_at, queue_at, run_at, set_fields_at, site_at, text_at, total_at}
 use Rattle.delta_codec.proofs.CellLaws.{heading_reads, place_reads, run_reads, total_reads}
 use Rattle.delta_codec.proofs.FieldFaults.{one_count, one_site, set_fields_tell, text_tells}
@@ -32,9 +32,9 @@ one_calls : HasOneFault BadRange calls_at
 unfolding calls_at
 one_calls = one_tested (number_at w64) (λ n. nat_le n MOST_CALLS) BadRange (one_number w64)
 
-one_flags : HasOneFault BadRange flags_at
+one_flags : (version : ℕ) → HasOneFault BadRange (flags_at version)
 unfolding flags_at
-one_flags = one_tested byte_at (λ n. nat_le 1 n && nat_le n 7) BadRange one_byte
+one_flags version = one_tested byte_at (λ n. nat_le 1 n && nat_le n (most_flags version)) BadRange one_byte
 
 -- ---- runs, headings, totals
 
@@ -77,17 +77,17 @@ one_place = one_made (λ p. record { dot = p.0; queue = p.1 }) (λ bytes. both (
 place_tells : Tells place_at (Lacks IsPlace place_bytes BadRange)
 place_tells = tells_lacks place_at IsPlace place_bytes BadRange place_reads one_place
 
-flags_tell : Tells flags_at (Lacks IsFlags byte BadRange)
-flags_tell = tells_lacks flags_at IsFlags byte BadRange flags_reads one_flags
+flags_tell : (version : ℕ) → Tells (flags_at version) (Lacks (IsFlags version) byte BadRange)
+flags_tell version = tells_lacks (flags_at version) (IsFlags version) byte BadRange (flags_reads version) (one_flags version)
 
 interface_reads : Reads (text_at 1) IsName text_bytes
 interface_reads = reads_good (text_at 1) (IsTextOf 1) IsName text_bytes (text_reads 1) (λ text g. record { text = g.0; present = omega (arith, g.1) }) (λ text g. (g.text, omega (arith, g.present)))
 
-pub cell_tells : Tells cell_at CellFails
+pub cell_tells : (version : ℕ) → Tells (cell_at version) (CellFails version)
 unfolding cell_at fields_at
-cell_tells =
-    let fields = tells_both flags_at set_fields_at IsFlags byte (Lacks IsFlags byte BadRange) FieldsFail flags_reads flags_tell (λ flags _. set_fields_tell flags) in
-    let behind = tells_made (λ p. p.1) (λ bytes. both (flags_at bytes) set_fields_at) _ fields in
-    let later = tells_both (text_at 1) (λ _. fields_at) IsName text_bytes (TextFails 1) _ interface_reads (text_tells 1) (λ _ _. behind) in
-    let all = tells_both place_at (λ _ rest. both (text_at 1 rest) (λ _. fields_at)) IsPlace place_bytes (Lacks IsPlace place_bytes BadRange) _ place_reads place_tells (λ _ _. later) in
-    tells_made (λ p. (p.0.dot, (record { queue = p.0.queue; interface = p.1.0 }, p.1.1))) (λ bytes. both (place_at bytes) (λ _ rest. both (text_at 1 rest) (λ _. fields_at))) CellFails all
+cell_tells version =
+    let fields = tells_both (flags_at version) set_fields_at (IsFlags version) byte (Lacks (IsFlags version) byte BadRange) FieldsFail (flags_reads version) (flags_tell version) (λ flags _. set_fields_tell flags) in
+    let behind = tells_made (λ p. p.1) (λ bytes. both (flags_at version bytes) set_fields_at) _ fields in
+    let later = tells_both (text_at 1) (λ _. fields_at version) IsName text_bytes (TextFails 1) _ interface_reads (text_tells 1) (λ _ _. behind) in
+    let all = tells_both place_at (λ _ rest. both (text_at 1 rest) (λ _. fields_at version)) IsPlace place_bytes (Lacks IsPlace place_bytes BadRange) _ place_reads place_tells (λ _ _. later) in
+    tells_made (λ p. (p.0.dot, (record { queue = p.0.queue; interface = p.1.0 }, p.1.1))) (λ bytes. both (place_at bytes) (λ _ rest. both (text_at 1 rest) (λ _. fields_at version))) (CellFails version) all

@@ -1,5 +1,5 @@
 -- What is read behind the length is spelled so, and what is spelled so is read.
-use Rattle.std.proofs.Common.{◌≡◌, ℕ, suc, Bool, true, false, ◌&&◌, ◌||◌, List, [], ◌∷◌, ◌++◌, length, Result, Ok, refl, sym, ap, subst, ◌∙◌, arith}
+use Rattle.std.proofs.Common.{◌≡◌, ℕ, suc, Bool, true, false, ◌&&◌, ◌||◌, cond, List, [], ◌∷◌, ◌++◌, length, Result, Ok, Err, refl, sym, ap, subst, ◌∙◌, arith}
 use Rattle.std.specs.Prelude.{◌==◌, fold}
 use Rattle.std.specs.FinMap as map
 use Rattle.std.specs.FinSet as set
@@ -15,10 +15,9 @@ use Rattle.dots.proofs.DotOrder.{dots_total}
 use Rattle.dots.proofs.Runs.{contains_set_of}
 use Rattle.delta_codec.specs.declared.decode_fault.DecodeFault.{DecodeFault}
 use Rattle.delta_codec.specs.declared.decode_fault.DecodeFault.TheVariants.{BadMagic, BadRange, BadVersion}
-use Rattle.delta_codec.specs.declared.limits.TheConstants.{VERSION}
-use Rattle.delta_codec.specs.Frames.{AreCells, AreParts, FrameParts, Heading, content_bytes, heading_bytes, magic}
+use Rattle.delta_codec.specs.Frames.{AreCells, AreParts, FrameParts, Heading, IsVersion, content_bytes, heading_bytes, magic}
 use Rattle.delta_codec.specs.Parts.{CellParts, byte, cell_bytes, list_bytes, run_bytes, total_bytes}
-use Rattle.delta_codec.specs.Reading.{◌>>=◌, Kept, cells_at, ended, heading_at, kept_at, known_of, live_of, made, magic_at, runs_at, totals_at, totals_of, version_at, with_run}
+use Rattle.delta_codec.specs.Reading.{◌>>=◌, Kept, cells_at, ended, heading_at, is_version, kept_at, known_of, live_of, made, magic_at, runs_at, totals_at, totals_of, version_at, with_run}
 use Rattle.delta_codec.proofs.CellLaws.{heading_reads}
 use Rattle.delta_codec.proofs.ListLaws.{AreCellsOf, cells_reads, runs_reads, totals_reads}
 use Rattle.delta_codec.proofs.PartLaws.{IsBytes, Reads, Takes, bind_ok, ok_is, test_ok}
@@ -45,22 +44,25 @@ magic_again x rest h = rw h refl
 pub magic_reads : Reads magic_at (λ letters. letters ≡ magic) (λ letters. letters)
 magic_reads = record { takes = magic_takes; again = magic_again }
 
-version_is : (n : ℕ) → (n == VERSION) ≡ true → n ≡ VERSION
-version_is n h = grind (arith, nat_tests)
+is_read : (n : ℕ) → is_version n ≡ true → IsVersion n
+is_read n h = (grind (arith, nat_tests), grind (arith, nat_tests))
 
-version_takes : (bytes : List ℕ) (x : ℕ) (rest : List ℕ) → IsBytes bytes → version_at bytes ≡ Ok (x, rest) → Takes (λ n. n ≡ VERSION) byte bytes x rest
+passes : (n : ℕ) → IsVersion n → is_version n ≡ true
+passes n h = let a = h.0 in let b = h.1 in grind (arith, nat_tests)
+
+version_takes : (bytes : List ℕ) (x : ℕ) (rest : List ℕ) → IsBytes bytes → version_at bytes ≡ Ok (x, rest) → Takes IsVersion byte bytes x rest
 unfolding version_at
 version_takes [] x rest fits e = absurd cc
 version_takes (n ∷ bytes) x rest fits e =
     let found : ℕ × List ℕ = (n, bytes) in
-    let g = test_ok (n == VERSION) BadVersion found (x, rest) e in
-    subst (λ (z : ℕ × List ℕ). Takes (λ k. k ≡ VERSION) byte (n ∷ bytes) z.0 z.1) g.1 (record { good = version_is n g.0; parts = refl; rest_fits = λ i. fits (suc i) })
+    let g = test_ok (is_version n) BadVersion found (x, rest) e in
+    subst (λ (z : ℕ × List ℕ). Takes IsVersion byte (n ∷ bytes) z.0 z.1) g.1 (record { good = is_read n g.0; parts = refl; rest_fits = λ i. fits (suc i) })
 
-version_again : (x : ℕ) (rest : List ℕ) → x ≡ VERSION → version_at (byte x ++ rest) ≡ Ok (x, rest)
+version_again : (x : ℕ) (rest : List ℕ) → IsVersion x → version_at (byte x ++ rest) ≡ Ok (x, rest)
 unfolding version_at
-version_again x rest h = rw h refl
+version_again x rest h = let found : Result (ℕ × List ℕ) DecodeFault = Ok (x, rest) in ap (λ b. cond b found (Err BadVersion)) (passes x h)
 
-pub version_reads : Reads version_at (λ n. n ≡ VERSION) byte
+pub version_reads : Reads version_at IsVersion byte
 version_reads = record { takes = version_takes; again = version_again }
 
 -- ---- the known dots
@@ -80,11 +82,11 @@ pub contains_known_of : (runs : List Run) (q : Dot) → set.contains (known_of r
 contains_known_of runs q = known_from set.empty runs q ∙ ap (λ (b : Bool). b || in_runs runs q) (set.contains-empty dot_cmp q)
 
 -- cells of known dots are cells of dots in the runs
-pub known_cells : (runs : List Run) (cells : List CellParts) → AreCellsOf (set.contains (known_of runs)) cells → AreCells runs cells
-known_cells runs cells good = record { listed = good.listed; known = λ k d lt. sym (contains_known_of runs _) ∙ good.known k d lt }
+pub known_cells : (version : ℕ) (runs : List Run) (cells : List CellParts) → AreCellsOf version (set.contains (known_of runs)) cells → AreCells version runs cells
+known_cells version runs cells good = record { listed = good.listed; known = λ k d lt. sym (contains_known_of runs _) ∙ good.known k d lt }
 
-pub cells_known : (runs : List Run) (cells : List CellParts) → AreCells runs cells → AreCellsOf (set.contains (known_of runs)) cells
-cells_known runs cells good = record { listed = good.listed; known = λ k d lt. contains_known_of runs _ ∙ good.known k d lt }
+pub cells_known : (version : ℕ) (runs : List Run) (cells : List CellParts) → AreCells version runs cells → AreCellsOf version (set.contains (known_of runs)) cells
+cells_known version runs cells good = record { listed = good.listed; known = λ k d lt. contains_known_of runs _ ∙ good.known k d lt }
 
 -- ---- the parts behind the length
 
@@ -96,10 +98,10 @@ pub record ContentRead (bytes : List ℕ) (parts : FrameParts) : Type 0 where
   pub cells : List ℕ
   pub totals : List ℕ
   pub magic_is : magic_at bytes ≡ Ok (magic, version)
-  pub version_is : version_at version ≡ Ok (VERSION, heading)
+  pub version_is : version_at version ≡ Ok (parts.version, heading)
   pub heading_is : heading_at heading ≡ Ok (parts.heading, runs)
   pub runs_are : runs_at runs ≡ Ok (parts.runs, cells)
-  pub cells_are : cells_at (set.contains (known_of parts.runs)) cells ≡ Ok (parts.cells, totals)
+  pub cells_are : cells_at parts.version (set.contains (known_of parts.runs)) cells ≡ Ok (parts.cells, totals)
   pub totals_are : totals_at totals ≡ Ok (parts.totals, [])
 
 -- what is kept of parts
@@ -113,27 +115,27 @@ kept_of_read bytes parts r = rw (r.magic_is, r.version_is, r.heading_is, r.runs_
 pub content_spelled : (bytes : List ℕ) (parts : FrameParts) → IsBytes bytes → ContentRead bytes parts → AreParts parts × (bytes ≡ content_bytes parts)
 content_spelled bytes parts fits r =
     let m = magic_reads.takes bytes magic r.version fits r.magic_is in
-    let v = version_reads.takes r.version VERSION r.heading m.rest_fits r.version_is in
+    let v = version_reads.takes r.version parts.version r.heading m.rest_fits r.version_is in
     let h = heading_reads.takes r.heading parts.heading r.runs v.rest_fits r.heading_is in
     let p = runs_reads.takes r.runs parts.runs r.cells h.rest_fits r.runs_are in
-    let c = (cells_reads (set.contains (known_of parts.runs))).takes r.cells parts.cells r.totals p.rest_fits r.cells_are in
+    let c = (cells_reads parts.version (set.contains (known_of parts.runs))).takes r.cells parts.cells r.totals p.rest_fits r.cells_are in
     let t = totals_reads.takes r.totals parts.totals [] c.rest_fits r.totals_are in (
-      record { heading = h.good; runs = p.good; cells = known_cells parts.runs parts.cells c.good; totals = t.good },
-      m.parts ∙ ap (λ (x : List ℕ). magic ++ x) (v.parts ∙ ap (λ (x : List ℕ). byte VERSION ++ x) (h.parts ∙ ap (λ (x : List ℕ). heading_bytes parts.heading ++ x) (p.parts ∙ ap (λ (x : List ℕ). list_bytes run_bytes parts.runs ++ x) (c.parts ∙ ap (λ (x : List ℕ). list_bytes cell_bytes parts.cells ++ x) (t.parts ∙ append-nil (list_bytes total_bytes parts.totals)))))),
+      record { version = v.good; heading = h.good; runs = p.good; cells = known_cells parts.version parts.runs parts.cells c.good; totals = t.good },
+      m.parts ∙ ap (λ (x : List ℕ). magic ++ x) (v.parts ∙ ap (λ (x : List ℕ). byte parts.version ++ x) (h.parts ∙ ap (λ (x : List ℕ). heading_bytes parts.heading ++ x) (p.parts ∙ ap (λ (x : List ℕ). list_bytes run_bytes parts.runs ++ x) (c.parts ∙ ap (λ (x : List ℕ). list_bytes cell_bytes parts.cells ++ x) (t.parts ∙ append-nil (list_bytes total_bytes parts.totals)))))),
     )
 
 pub content_read : (parts : FrameParts) → AreParts parts → ContentRead (content_bytes parts) parts
 content_read parts good = record {
-  version = byte VERSION ++ (heading_bytes parts.heading ++ (list_bytes run_bytes parts.runs ++ (list_bytes cell_bytes parts.cells ++ list_bytes total_bytes parts.totals)));
+  version = byte parts.version ++ (heading_bytes parts.heading ++ (list_bytes run_bytes parts.runs ++ (list_bytes cell_bytes parts.cells ++ list_bytes total_bytes parts.totals)));
   heading = heading_bytes parts.heading ++ (list_bytes run_bytes parts.runs ++ (list_bytes cell_bytes parts.cells ++ list_bytes total_bytes parts.totals));
   runs = list_bytes run_bytes parts.runs ++ (list_bytes cell_bytes parts.cells ++ list_bytes total_bytes parts.totals);
   cells = list_bytes cell_bytes parts.cells ++ list_bytes total_bytes parts.totals;
   totals = list_bytes total_bytes parts.totals;
-  magic_is = magic_reads.again magic (byte VERSION ++ (heading_bytes parts.heading ++ (list_bytes run_bytes parts.runs ++ (list_bytes cell_bytes parts.cells ++ list_bytes total_bytes parts.totals)))) refl;
-  version_is = version_reads.again VERSION (heading_bytes parts.heading ++ (list_bytes run_bytes parts.runs ++ (list_bytes cell_bytes parts.cells ++ list_bytes total_bytes parts.totals))) refl;
+  magic_is = magic_reads.again magic (byte parts.version ++ (heading_bytes parts.heading ++ (list_bytes run_bytes parts.runs ++ (list_bytes cell_bytes parts.cells ++ list_bytes total_bytes parts.totals)))) refl;
+  version_is = version_reads.again parts.version (heading_bytes parts.heading ++ (list_bytes run_bytes parts.runs ++ (list_bytes cell_bytes parts.cells ++ list_bytes total_bytes parts.totals))) good.version;
   heading_is = heading_reads.again parts.heading (list_bytes run_bytes parts.runs ++ (list_bytes cell_bytes parts.cells ++ list_bytes total_bytes parts.totals)) good.heading;
   runs_are = runs_reads.again parts.runs (list_bytes cell_bytes parts.cells ++ list_bytes total_bytes parts.totals) good.runs;
-  cells_are = (cells_reads (set.contains (known_of parts.runs))).again parts.cells (list_bytes total_bytes parts.totals) (cells_known parts.runs parts.cells good.cells);
+  cells_are = (cells_reads parts.version (set.contains (known_of parts.runs))).again parts.cells (list_bytes total_bytes parts.totals) (cells_known parts.version parts.runs parts.cells good.cells);
   totals_are = ap totals_at (sym (append-nil (list_bytes total_bytes parts.totals))) ∙ totals_reads.again parts.totals [] good.totals;
 }
 
@@ -155,14 +157,14 @@ step6 h known live = λ totals. ended ((h, (known, (live, totals.0))), totals.1)
 abbrev step5 : Heading → set.FinSet dot_cmp → map.FinMap dot_cmp Holding × List ℕ → Result Kept DecodeFault
 step5 h known = λ live. made totals_of (totals_at live.1) >>= step6 h known live.0
 
-abbrev step4 : Heading → set.FinSet dot_cmp × List ℕ → Result Kept DecodeFault
-step4 h = λ known. made live_of (cells_at (set.contains known.0) known.1) >>= step5 h known.0
+abbrev step4 : ℕ → Heading → set.FinSet dot_cmp × List ℕ → Result Kept DecodeFault
+step4 version h = λ known. made live_of (cells_at version (set.contains known.0) known.1) >>= step5 h known.0
 
-abbrev step3 : Heading × List ℕ → Result Kept DecodeFault
-step3 = λ heading. made known_of (runs_at heading.1) >>= step4 heading.0
+abbrev step3 : ℕ → Heading × List ℕ → Result Kept DecodeFault
+step3 version = λ heading. made known_of (runs_at heading.1) >>= step4 version heading.0
 
 abbrev step2 : ℕ × List ℕ → Result Kept DecodeFault
-step2 = λ version. heading_at version.1 >>= step3
+step2 = λ version. heading_at version.1 >>= step3 version.0
 
 abbrev step1 : List ℕ × List ℕ → Result Kept DecodeFault
 step1 = λ letters. version_at letters.1 >>= step2
@@ -181,18 +183,17 @@ read_of_kept bytes k fits e =
     let a = bind_ok (magic_at bytes) step1 k e in
     let m = magic_reads.takes bytes a.0.0 a.0.1 fits a.1 in
     let b = bind_ok (version_at a.0.1) step2 k a.2 in
-    let v = version_reads.takes a.0.1 b.0.0 b.0.1 m.rest_fits b.1 in
-    let h = bind_ok (heading_at b.0.1) step3 k b.2 in
-    let r = bind_ok (made known_of (runs_at h.0.1)) (step4 h.0.0) k h.2 in
+    let h = bind_ok (heading_at b.0.1) (step3 b.0.0) k b.2 in
+    let r = bind_ok (made known_of (runs_at h.0.1)) (step4 b.0.0 h.0.0) k h.2 in
     let runs = made_ok known_of (runs_at h.0.1) r.0 r.1 in
-    let l = bind_ok (made live_of (cells_at (set.contains r.0.0) r.0.1)) (step5 h.0.0 r.0.0) k r.2 in
-    let cells = made_ok live_of (cells_at (set.contains r.0.0) r.0.1) l.0 l.1 in
+    let l = bind_ok (made live_of (cells_at b.0.0 (set.contains r.0.0) r.0.1)) (step5 h.0.0 r.0.0) k r.2 in
+    let cells = made_ok live_of (cells_at b.0.0 (set.contains r.0.0) r.0.1) l.0 l.1 in
     let t = bind_ok (made totals_of (totals_at l.0.1)) (step6 h.0.0 r.0.0 l.0.0) k l.2 in
     let totals = made_ok totals_of (totals_at l.0.1) t.0 t.1 in
     let z = ended_ok (h.0.0, (r.0.0, (l.0.0, t.0.0))) k t.0.1 t.2 in
     let rest : totals.0.1 ≡ [] = ap (λ (x : Entries × List ℕ). x.1) totals.2 ∙ z.0 in
     record {
-      parts = record { heading = h.0.0; runs = runs.0.0; cells = cells.0.0; totals = totals.0.0 };
+      parts = record { version = b.0.0; heading = h.0.0; runs = runs.0.0; cells = cells.0.0; totals = totals.0.0 };
       read = record {
         version = a.0.1;
         heading = b.0.1;
@@ -200,10 +201,10 @@ read_of_kept bytes k fits e =
         cells = runs.0.1;
         totals = cells.0.1;
         magic_is = a.1 ∙ ap (λ (x : List ℕ). found x a.0.1) m.good;
-        version_is = b.1 ∙ ap (λ (x : ℕ). found x b.0.1) v.good;
+        version_is = b.1;
         heading_is = h.1;
         runs_are = runs.1;
-        cells_are = ap (λ (x : set.FinSet dot_cmp × List ℕ). cells_at (set.contains x.0) x.1) runs.2 ∙ cells.1;
+        cells_are = ap (λ (x : set.FinSet dot_cmp × List ℕ). cells_at b.0.0 (set.contains x.0) x.1) runs.2 ∙ cells.1;
         totals_are = ap (λ (x : map.FinMap dot_cmp Holding × List ℕ). totals_at x.1) cells.2 ∙ totals.1 ∙ ap (λ (x : List ℕ). found totals.0.0 x) rest;
       };
       same = (λ i. (h.0.0, ((runs.2 i).0, ((cells.2 i).0, (totals.2 i).0)))) ∙ z.1;

@@ -3,7 +3,6 @@ use Rattle.std.proofs.Common.{◌≡◌, ◌≢◌, ◌⊎◌, ℕ, List, ◌++�
 use Rattle.delta_codec.specs.declared.decode_fault.DecodeFault.{DecodeFault}
 use Rattle.delta_codec.specs.declared.decode_fault.DecodeFault.TheVariants.{Truncated, Memory}
 use Rattle.delta.specs.declared.frame.Frame.{Frame}
-use Rattle.delta_codec.specs.declared.limits.TheConstants.{VERSION}
 use Rattle.delta_codec.specs.Decoding.{HasOpening, IsFrontFault, IsNextFault, UnlessMemory}
 use Rattle.delta_codec.specs.Faults.{HasFault}
 use Rattle.delta_codec.specs.Frames.{Heading, magic}
@@ -48,14 +47,16 @@ opening_found bytes heading more fits e =
     let v = version_reads.takes letters.0.1 version.0.0 version.0.1 m.rest_fits version.1 in
     let h = heading_reads.takes version.0.1 heading more v.rest_fits version.2 in
     record {
+      version = version.0.0;
       heading = heading;
       content = content.0;
       more = more;
       rest = front.rest;
+      known = v.good;
       good = h.good;
       least = front.least;
       most = front.most;
-      opens = m.parts ∙ (λ i. m.good i ++ v.parts i) ∙ ap (λ (n : ℕ). magic ++ (byte n ++ version.0.1)) v.good ∙ ap (λ (x : List ℕ). magic ++ (byte VERSION ++ x)) h.parts;
+      opens = m.parts ∙ (λ i. m.good i ++ v.parts i) ∙ ap (λ (x : List ℕ). magic ++ (byte version.0.0 ++ x)) h.parts;
       spelled = front.parts;
     }
 

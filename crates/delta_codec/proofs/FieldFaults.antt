@@ -7,13 +7,13 @@ use Rattle.std.proofs.lemmas.Bool.{cases_lt, ltb-true, ltb-false, lt-ltb, le-ltb
 use Rattle.std.proofs.lemmas.Bool.Decides.{nat_tests}
 use Rattle.dots.specs.declared.limits.TheConstants.{MOST_PENALTY, SITES, TEXT_BYTES}
 use Rattle.dots.specs.Values.{IsPenalty, IsText, is_bad_byte}
-use Rattle.dots.specs.WithinLimits.{IsPause, IsStamp}
+use Rattle.dots.specs.WithinLimits.{IsLabel, IsPause, IsStamp}
 use Rattle.delta_codec.specs.declared.decode_fault.DecodeFault.{DecodeFault}
 use Rattle.delta_codec.specs.declared.decode_fault.DecodeFault.TheVariants.{BadRange, BadText}
-use Rattle.delta_codec.specs.Faults.{FieldFails, FieldsFail, IsBit, IsFlagged, LabelFails, Lacks, NoReasonFails, PauseFails, PenaltyFails, ReasonFails, TextFails, label_flag, pause_flag, penalty_flag}
-use Rattle.delta_codec.specs.Parts.{byte, field_bytes, pause_bytes, penalty_bytes, stamp_bytes, text_bytes}
-use Rattle.delta_codec.specs.Reading.{Read, bit_at, both, byte_at, count_at, entry_at, field_at, is_count, label_at, no_reason_at, number_at, pause_at, penalty_at, reason_at, set_fields_at, site_at, stamp_at, tested, text_at, text_of}
-use Rattle.delta_codec.proofs.FieldLaws.{IsTextOf, bit_reads, field_reads, pause_reads, penalty_reads, stamp_reads, text_reads}
+use Rattle.delta_codec.specs.Faults.{FieldFails, FieldsFail, IsBit, IsFlagged, LabelFails, Lacks, NoReasonFails, PauseFails, PenaltyFails, ReasonFails, RingFails, TextFails, label_flag, pause_flag, penalty_flag, ring_flag}
+use Rattle.delta_codec.specs.Parts.{byte, field_bytes, label_bytes, pause_bytes, penalty_bytes, stamp_bytes, text_bytes}
+use Rattle.delta_codec.specs.Reading.{Read, bit_at, both, byte_at, count_at, entry_at, field_at, is_count, label_at, no_reason_at, number_at, pause_at, penalty_at, reason_at, ring_at, set_fields_at, site_at, stamp_at, tested, text_at, text_of}
+use Rattle.delta_codec.proofs.FieldLaws.{IsTextOf, bit_reads, field_reads, label_reads, last_fields_at, later_fields_at, pause_reads, penalty_reads, stamp_reads, text_reads}
 use Rattle.delta_codec.proofs.PartFaults.{HasOneFault, Tells, fault_is, guard_err, is_over, is_under, last_err, one_both, one_byte, one_made, one_number, one_tested, over, tells_both, tells_lacks, tells_made, tells_same, test_err, under}
 use Rattle.delta_codec.proofs.PartLaws.{Reads, reads_good}
 
@@ -171,6 +171,10 @@ label_tells : Tells label_at LabelFails
 unfolding label_at
 label_tells = tells_made (λ p. record { name = p.0; state = p.1 }) (λ bytes. both (text_at 0 bytes) (λ _. text_at 0)) LabelFails (tells_both (text_at 0) (λ _. text_at 0) IsText text_bytes (TextFails 0) (λ fault _ rest. TextFails 0 fault rest) name_reads (text_tells 0) (λ _ _. text_tells 0))
 
+ring_tells : Tells ring_at RingFails
+unfolding ring_at
+ring_tells = tells_made (λ n. n == 1) bit_at RingFails bit_tells
+
 entry_tells : {T : Type 0} (at : List ℕ → Read T) (Fails : DecodeFault → List ℕ → Type 0) → Tells at Fails → Tells (entry_at at) (λ fault bytes. FieldFails Fails fault true bytes)
 unfolding entry_at
 entry_tells at Fails t = tells_made (λ p. record { stamp = p.0; value = p.1 }) (λ bytes. both (stamp_at bytes) (λ _. at)) (λ fault bytes. FieldFails Fails fault true bytes) (tells_both stamp_at (λ _. at) IsStamp stamp_bytes (Lacks IsStamp stamp_bytes BadRange) (λ fault _ rest. Fails fault rest) stamp_reads stamp_tells (λ _ _. t))
@@ -186,6 +190,8 @@ set_fields_tell flags =
     let p = penalty_flag flags in
     let q = pause_flag flags in
     let l = label_flag flags in
-    let later = tells_both (field_at q pause_at) (λ _. field_at l label_at) (IsFlagged IsPause q) (field_bytes pause_bytes) (λ fault bytes. FieldFails PauseFails fault q bytes) (λ fault _ rest. FieldFails LabelFails fault l rest) (field_reads pause_at IsPause pause_bytes pause_reads q) (field_tells pause_at PauseFails pause_tells q) (λ _ _. field_tells label_at LabelFails label_tells l) in
-    let all = tells_both (field_at p penalty_at) (λ _ rest. both (field_at q pause_at rest) (λ _. field_at l label_at)) (IsFlagged IsPenalty p) (field_bytes penalty_bytes) (λ fault bytes. FieldFails PenaltyFails fault p bytes) _ (field_reads penalty_at IsPenalty penalty_bytes penalty_reads p) (field_tells penalty_at PenaltyFails penalty_tells p) (λ _ _. later) in
-    tells_made (λ p. record { penalty = p.0; pause = p.1.0; label = p.1.1 }) (λ bytes. both (field_at p penalty_at bytes) (λ _ rest. both (field_at q pause_at rest) (λ _. field_at l label_at))) (λ fault bytes. FieldsFail fault flags bytes) all
+    let r = ring_flag flags in
+    let last = tells_both (field_at l label_at) (λ _. field_at r ring_at) (IsFlagged IsLabel l) (field_bytes label_bytes) (λ fault bytes. FieldFails LabelFails fault l bytes) (λ fault _ rest. FieldFails RingFails fault r rest) (field_reads label_at IsLabel label_bytes label_reads l) (field_tells label_at LabelFails label_tells l) (λ _ _. field_tells ring_at RingFails ring_tells r) in
+    let later = tells_both (field_at q pause_at) (λ _. last_fields_at flags) (IsFlagged IsPause q) (field_bytes pause_bytes) (λ fault bytes. FieldFails PauseFails fault q bytes) _ (field_reads pause_at IsPause pause_bytes pause_reads q) (field_tells pause_at PauseFails pause_tells q) (λ _ _. last) in
+    let all = tells_both (field_at p penalty_at) (λ _. later_fields_at flags) (IsFlagged IsPenalty p) (field_bytes penalty_bytes) (λ fault bytes. FieldFails PenaltyFails fault p bytes) _ (field_reads penalty_at IsPenalty penalty_bytes penalty_reads p) (field_tells penalty_at PenaltyFails penalty_tells p) (λ _ _. later) in
+    tells_made (λ p. record { penalty = p.0; pause = p.1.0; label = p.1.1.0; ring = p.1.1.1 }) (λ bytes. both (field_at p penalty_at bytes) (λ _. later_fields_at flags)) (λ fault bytes. FieldsFail fault flags bytes) all

@@ -6,14 +6,16 @@ use Rattle.std.specs.Int.{w16, w32, w64, to_be_bytes}
 use Rattle.std.proofs.lemmas.Bool.{ltb-false, le-ltb}
 use Rattle.std.proofs.lemmas.Bool.Decides.{nat_tests}
 use Rattle.std.proofs.lemmas.List.{take_at, drop_at, take-append-drop, length-append, length-take}
+use Rattle.dots.specs.declared.label.Label.{Label}
 use Rattle.dots.specs.declared.limits.TheConstants.{MOST_CALLS, MOST_COUNT, MOST_PENALTY, QUEUES, SITES, TEXT_BYTES}
 use Rattle.operations.specs.Registers.{Entry}
 use Rattle.dots.specs.Values.{IsCount, IsPenalty, IsSite, IsText, PauseState, is_bad_byte}
 use Rattle.dots.specs.WithinLimits.{IsLabel, IsPause, IsStamp}
 use Rattle.delta_codec.specs.declared.decode_fault.DecodeFault.TheVariants.{BadRange, BadText}
-use Rattle.delta_codec.specs.Faults.{IsBit, IsFlagged, IsFlags}
-use Rattle.delta_codec.specs.Parts.{IsEntry, bit_of, byte, field_bytes, label_bytes, pause_bytes, penalty_bytes, stamp_bytes, text_bytes}
-use Rattle.delta_codec.specs.Reading.{Read, bit_at, both, byte_at, calls_at, count_at, entry_at, field_at, flags_at, is_count, label_at, last_at, no_reason_at, number_at, pause_at, penalty_at, queue_at, reason_at, site_at, stamp_at, tested, text_at, text_of}
+use Rattle.delta_codec.specs.declared.limits.TheConstants.{OLDEST_VERSION}
+use Rattle.delta_codec.specs.Faults.{IsBit, IsFlagged, IsFlags, label_flag, pause_flag, ring_flag}
+use Rattle.delta_codec.specs.Parts.{IsEntry, IsRing, bit_of, byte, field_bytes, label_bytes, most_flags, pause_bytes, penalty_bytes, ring_bytes, stamp_bytes, text_bytes}
+use Rattle.delta_codec.specs.Reading.{Read, bit_at, both, byte_at, calls_at, count_at, entry_at, field_at, flags_at, is_count, label_at, last_at, no_reason_at, number_at, pause_at, penalty_at, queue_at, reason_at, ring_at, site_at, stamp_at, tested, text_at, text_of}
 use Rattle.delta_codec.proofs.PartLaws.{IsBytes, IsBytes_drop, Reads, Takes, bind_ok, byte_reads, number2_reads, number4_reads, number8_reads, ok_is, reads_both, reads_good, reads_made, reads_tested}
 
 -- ---- numbers
@@ -50,9 +52,25 @@ pub bit_reads : Reads bit_at IsBit byte
 unfolding bit_at
 bit_reads = reads_good bit_at (λ n. (n < 256) × (nat_lt n 2 ≡ true)) IsBit byte (reads_tested byte_at (λ n. n < 256) byte (λ n. nat_lt n 2) BadRange byte_reads) (λ n g. let t = g.1 in grind (arith, nat_tests)) (λ n g. (omega arith, grind (arith, nat_tests)))
 
-pub flags_reads : Reads flags_at IsFlags byte
+-- no version has greater flags
+pub few_flags : (version : ℕ) → most_flags version ≤ 15
+few_flags version = by (version == OLDEST_VERSION)
+  where
+    by : (b : Bool) → cond b 7 15 ≤ 15
+    by true = omega arith
+    by false = omega arith
+
+are_flags : (most n : ℕ) → (nat_le 1 n && nat_le n most) ≡ true → (1 ≤ n) × (n ≤ most)
+are_flags most n h = (grind (arith, nat_tests), grind (arith, nat_tests))
+
+flags_are : (most n : ℕ) → 1 ≤ n → n ≤ most → (nat_le 1 n && nat_le n most) ≡ true
+flags_are most n a b = grind (arith, nat_tests)
+
+pub flags_reads : (version : ℕ) → Reads (flags_at version) (IsFlags version) byte
 unfolding flags_at
-flags_reads = reads_good flags_at (λ n. (n < 256) × ((nat_le 1 n && nat_le n 7) ≡ true)) IsFlags byte (reads_tested byte_at (λ n. n < 256) byte (λ n. nat_le 1 n && nat_le n 7) BadRange byte_reads) (λ n g. let t = g.1 in (grind (arith, nat_tests), grind (arith, nat_tests))) (λ n g. (omega arith, (let a = g.0 in let b = g.1 in grind (arith, nat_tests))))
+flags_reads version = reads_good (flags_at version) (λ n. (n < 256) × ((nat_le 1 n && nat_le n (most_flags version)) ≡ true)) (IsFlags version) byte (reads_tested byte_at (λ n. n < 256) byte (λ n. nat_le 1 n && nat_le n (most_flags version)) BadRange byte_reads)
+    (λ n g. are_flags (most_flags version) n g.1)
+    (λ n g. (omega (arith, few_flags version, g.1), flags_are (most_flags version) n g.0 g.1))
 
 -- ---- texts
 
@@ -156,6 +174,12 @@ label_reads = reads_made (λ bytes. both (text_at 0 bytes) (λ _. text_at 0)) (�
     (λ p g. (record { name = g.0.0; state = g.1.0 }, refl))
     (λ label g. (((g.name, omega arith), (g.state, omega arith)), refl, refl))
 
+pub ring_reads : Reads ring_at IsRing ring_bytes
+unfolding ring_at
+ring_reads = reads_made bit_at IsBit byte IsRing ring_bytes (λ n. n == 1) bit_of bit_reads
+    (λ n g. (tt, ap byte (sym (bit_back n g))))
+    (λ ring g. ((bit_is ring).0, (bit_is ring).1, refl))
+
 abbrev entry_bytes : {T : Type 0} → (T → List ℕ) → Entry T → List ℕ
 entry_bytes value entry = stamp_bytes entry.stamp ++ value entry.value
 
@@ -187,3 +211,11 @@ field_takes {T = T} at IsValue value r true bytes x rest fits e =
 
 pub field_reads : {T : Type 0} (at : List ℕ → Read T) (IsValue : T → Type 0) (value : T → List ℕ) → Reads at IsValue value → (flag : Bool) → Reads (field_at flag at) (IsFlagged IsValue flag) (field_bytes value)
 field_reads at IsValue value r flag = record { takes = field_takes at IsValue value r flag; again = field_again at IsValue value r flag }
+
+-- ---- the fields that stand last
+
+abbrev pub last_fields_at : ℕ → List ℕ → Read (Option (Entry Label) × Option (Entry Bool))
+last_fields_at flags bytes = both (field_at (label_flag flags) label_at bytes) (λ _. field_at (ring_flag flags) ring_at)
+
+abbrev pub later_fields_at : ℕ → List ℕ → Read (Option (Entry PauseState) × (Option (Entry Label) × Option (Entry Bool)))
+later_fields_at flags bytes = both (field_at (pause_flag flags) pause_at bytes) (λ _. last_fields_at flags)

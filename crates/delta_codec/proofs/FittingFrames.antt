@@ -19,7 +19,7 @@ use Rattle.operations.specs.Counts.{count_in, site_total}
 use Rattle.operations.specs.FrameLimits.{FitsInFrame}
 use Rattle.operations.specs.Knowledge.{Knowledge, asserts, field_of, is_asserted, is_named, known_dots, member_of, settings_of}
 use Rattle.operations.specs.OperationLimits.{AreWithinLimits, IsWithinLimits}
-use Rattle.operations.specs.Operations.{Operation, Field, SetPenalty, SetPause, SetLabel, Add, Write, Remove, Count, penalty_field, pause_field, label_field}
+use Rattle.operations.specs.Operations.{Operation, Field, SetPenalty, SetPause, SetLabel, SetRing, Add, Write, Remove, Count, penalty_field, pause_field, label_field, ring_field}
 use Rattle.operations.specs.Registers.{Entry}
 use Rattle.operations.specs.Totals.{IsTotal, Key}
 use Rattle.operations.proofs.FieldLaws.{latest_in, latest_some}
@@ -33,7 +33,9 @@ use Rattle.delta.specs.Standing.{IsDeltaOf}
 use Rattle.delta.proofs.ShownDeltas.{live_is}
 use Rattle.delta.proofs.StandingDeltas.{own_cells}
 use Rattle.delta_codec.specs.Fitting.{FitsFormat}
-use Rattle.delta_codec.specs.Parts.{AreInLimits, IsCell, IsEntry, IsField}
+use Rattle.delta_codec.specs.Parts.{AreInLimits, IsCell, IsEntry, IsField, IsRing}
+use Rattle.delta_codec.specs.declared.limits.TheConstants.{VERSION}
+use Rattle.delta_codec.proofs.CellLaws.{flags_few}
 
 -- ---- fields
 
@@ -70,6 +72,7 @@ penalty_within (Add dot member stamp penalty pause label older) e is h = one_ent
 penalty_within (Write dots (SetPenalty n) stamp older) e is h = one_entry IsPenalty _ e (record { stamp = is.stamp_is; value = is.setting_is }) h
 penalty_within (Write dots (SetPause p) stamp older) e is h = absurd (cc)
 penalty_within (Write dots (SetLabel l) stamp older) e is h = absurd (cc)
+penalty_within (Write dots (SetRing r) stamp older) e is h = absurd (cc)
 penalty_within (Remove dots) e is h = absurd (cc)
 penalty_within (Count site queue calls total) e is h = absurd (cc)
 
@@ -78,6 +81,7 @@ pause_within (Add dot member stamp penalty pause label older) e is h = one_entry
 pause_within (Write dots (SetPenalty n) stamp older) e is h = absurd (cc)
 pause_within (Write dots (SetPause p) stamp older) e is h = one_entry IsPause _ e (record { stamp = is.stamp_is; value = is.setting_is }) h
 pause_within (Write dots (SetLabel l) stamp older) e is h = absurd (cc)
+pause_within (Write dots (SetRing r) stamp older) e is h = absurd (cc)
 pause_within (Remove dots) e is h = absurd (cc)
 pause_within (Count site queue calls total) e is h = absurd (cc)
 
@@ -86,14 +90,25 @@ label_within (Add dot member stamp penalty pause label older) e is h = one_entry
 label_within (Write dots (SetPenalty n) stamp older) e is h = absurd (cc)
 label_within (Write dots (SetPause p) stamp older) e is h = absurd (cc)
 label_within (Write dots (SetLabel l) stamp older) e is h = one_entry IsLabel _ e (record { stamp = is.stamp_is; value = is.setting_is }) h
+label_within (Write dots (SetRing r) stamp older) e is h = absurd (cc)
 label_within (Remove dots) e is h = absurd (cc)
 label_within (Count site queue calls total) e is h = absurd (cc)
+
+ring_within : (o : Operation) (e : Entry Bool) → IsWithinLimits o → ring_field o ≡ Some e → IsEntry IsRing e
+ring_within (Add dot member stamp penalty pause label older) e is h = absurd (cc)
+ring_within (Write dots (SetPenalty n) stamp older) e is h = absurd (cc)
+ring_within (Write dots (SetPause p) stamp older) e is h = absurd (cc)
+ring_within (Write dots (SetLabel l) stamp older) e is h = absurd (cc)
+ring_within (Write dots (SetRing r) stamp older) e is h = one_entry IsRing _ e (record { stamp = is.stamp_is; value = tt }) h
+ring_within (Remove dots) e is h = absurd (cc)
+ring_within (Count site queue calls total) e is h = absurd (cc)
 
 fields_within : (k : Knowledge) (dot : Dot) → AreWithinLimits k → AreInLimits (fields_in k dot)
 fields_within k dot within = record {
   penalty = field_within IsPenalty penalty_field k dot (λ o e here. penalty_within o e (within o here));
   pause = field_within IsPause pause_field k dot (λ o e here. pause_within o e (within o here));
   label = field_within IsLabel label_field k dot (λ o e here. label_within o e (within o here));
+  ring = field_within IsRing ring_field k dot (λ o e here. ring_within o e (within o here));
 }
 
 -- a field that an operation gives of a dot that it asserts is set
@@ -118,6 +133,8 @@ some_field k dot h unset = let o = in_any (asserts dot) k h in by o.0 o.1 o.2
         is_set pause_field k dot (Write dots (SetPause p) stamp older) (record { stamp = stamp; value = p }) here asserted refl (ap (λ f. f.pause) unset)
     by (Write dots (SetLabel l) stamp older) here asserted =
         is_set label_field k dot (Write dots (SetLabel l) stamp older) (record { stamp = stamp; value = l }) here asserted refl (ap (λ f. f.label) unset)
+    by (Write dots (SetRing r) stamp older) here asserted =
+        is_set ring_field k dot (Write dots (SetRing r) stamp older) (record { stamp = stamp; value = r }) here asserted refl (ap (λ f. f.ring) unset)
     by (Remove dots) here asserted = true≢false (sym asserted)
     by (Count site queue calls total) here asserted = true≢false (sym asserted)
 
@@ -210,13 +227,13 @@ module _ (frame : Frame) (k : Knowledge) (fits : FitsInFrame k) (is : IsDeltaOf 
   asserted : (dot : Dot) (held : Holding) → IsGiven dot held → is_asserted k dot ≡ true
   asserted dot held g = sym (member_some k dot) ∙ ap is_some g.is_member
 
-  cell_is : (dot : Dot) (held : Holding) → IsGiven dot held → IsCell (dot, held)
+  cell_is : (dot : Dot) (held : Holding) → IsGiven dot held → IsCell VERSION (dot, held)
   cell_is dot held g =
       let m = member_of_is k fits.within dot g.member g.is_member in
-      subst (λ h. IsCell (dot, h)) g.holding (record {
+      subst (λ h. IsCell VERSION (dot, h)) g.holding (record {
         dot = m.0;
         member = m.1;
-        fields = record { within = fields_within k dot fits.within; some = some_field k dot (asserted dot held g) };
+        fields = record { within = fields_within k dot fits.within; some = some_field k dot (asserted dot held g); of_version = flags_few (fields_in k dot) };
       })
 
   pub fits_format : IsSite frame.maker → IsCount frame.number → FitsFormat frame

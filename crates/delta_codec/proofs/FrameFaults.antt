@@ -12,11 +12,11 @@ use Rattle.dots.specs.Orders.{dot_cmp}
 use Rattle.member_orset.specs.Members.{Holding}
 use Rattle.delta_codec.specs.declared.decode_fault.DecodeFault.{DecodeFault}
 use Rattle.delta_codec.specs.declared.decode_fault.DecodeFault.TheVariants.{BadMagic, BadRange, BadVersion, TooLarge, Truncated}
-use Rattle.delta_codec.specs.declared.limits.TheConstants.{LEAST_LENGTH, MOST_LENGTH, VERSION}
+use Rattle.delta_codec.specs.declared.limits.TheConstants.{LEAST_LENGTH, MOST_LENGTH}
 use Rattle.delta_codec.specs.Faults.{After, CellsFail, ContentFails, HasFault, IsNumber4, Lacks, RunsFail, TotalsFail, number4}
-use Rattle.delta_codec.specs.Frames.{AreCells, AreRuns, AreTotals, Heading, IsHeading, heading_bytes, magic}
+use Rattle.delta_codec.specs.Frames.{AreCells, AreRuns, AreTotals, Heading, IsHeading, IsVersion, heading_bytes, magic}
 use Rattle.delta_codec.specs.Parts.{byte, cell_bytes, list_bytes, run_bytes, total_bytes}
-use Rattle.delta_codec.specs.Reading.{◌>>=◌, Kept, Read, cells_at, content_in, ended, heading_at, kept_at, kept_in, known_of, live_of, made, magic_at, runs_at, totals_at, totals_of, version_at, within_at}
+use Rattle.delta_codec.specs.Reading.{◌>>=◌, Kept, Read, cells_at, content_in, ended, heading_at, is_version, kept_at, kept_in, known_of, live_of, made, magic_at, runs_at, totals_at, totals_of, version_at, within_at}
 use Rattle.delta_codec.proofs.CellFaults.{heading_tells}
 use Rattle.delta_codec.proofs.CellLaws.{heading_reads}
 use Rattle.delta_codec.proofs.ContentLaws.{cells_known, known_cells, magic_reads, version_reads}
@@ -30,9 +30,6 @@ use Rattle.delta_codec.proofs.PartLaws.{IsBytes, IsBytes_take, Reads, number4_re
 abbrev IsMagic : List ℕ → Type 0
 IsMagic letters = letters ≡ magic
 
-abbrev IsVersion : ℕ → Type 0
-IsVersion number = number ≡ VERSION
-
 pub one_magic : HasOneFault BadMagic magic_at
 unfolding magic_at
 one_magic [] fault e = sym (fault_is {A = List ℕ × List ℕ} BadMagic fault e)
@@ -45,7 +42,7 @@ magic_tells = tells_lacks magic_at IsMagic (λ letters. letters) BadMagic magic_
 pub one_version : HasOneFault BadVersion version_at
 unfolding version_at
 one_version [] fault e = sym (fault_is {A = ℕ × List ℕ} BadVersion fault e)
-one_version (n ∷ rest) fault e = let found : ℕ × List ℕ = (n, rest) in (last_err (n == VERSION) found BadVersion fault e).1
+one_version (n ∷ rest) fault e = let found : ℕ × List ℕ = (n, rest) in (last_err (is_version n) found BadVersion fault e).1
 
 version_tells : Tells version_at (Lacks IsVersion byte BadVersion)
 version_tells = tells_lacks version_at IsVersion byte BadVersion version_reads one_version
@@ -80,50 +77,50 @@ ended_tells x = record {
 abbrev totals_step : Heading → set.FinSet dot_cmp → map.FinMap dot_cmp Holding → List ℕ → Result Kept DecodeFault
 totals_step heading known live rest = made totals_of (totals_at rest) >>= λ totals. ended ((heading, (known, (live, totals.0))), totals.1)
 
-abbrev cells_step : Heading → set.FinSet dot_cmp → List ℕ → Result Kept DecodeFault
-cells_step heading known rest = made live_of (cells_at (set.contains known) rest) >>= λ live. totals_step heading known live.0 live.1
+abbrev cells_step : ℕ → Heading → set.FinSet dot_cmp → List ℕ → Result Kept DecodeFault
+cells_step version heading known rest = made live_of (cells_at version (set.contains known) rest) >>= λ live. totals_step heading known live.0 live.1
 
-abbrev runs_step : Heading → List ℕ → Result Kept DecodeFault
-runs_step heading rest = made known_of (runs_at rest) >>= λ known. cells_step heading known.0 known.1
+abbrev runs_step : ℕ → Heading → List ℕ → Result Kept DecodeFault
+runs_step version heading rest = made known_of (runs_at rest) >>= λ known. cells_step version heading known.0 known.1
 
-abbrev heading_step : List ℕ → Result Kept DecodeFault
-heading_step rest = heading_at rest >>= λ heading. runs_step heading.0 heading.1
+abbrev heading_step : ℕ → List ℕ → Result Kept DecodeFault
+heading_step version rest = heading_at rest >>= λ heading. runs_step version heading.0 heading.1
 
 abbrev version_step : List ℕ → Result Kept DecodeFault
-version_step rest = version_at rest >>= λ version. heading_step version.1
+version_step rest = version_at rest >>= λ version. heading_step version.0 version.1
 
 abbrev TotalsStop : DecodeFault → List ℕ → Type 0
 TotalsStop fault totals = TotalsFail fault totals ⊎ After AreTotals (list_bytes total_bytes) (λ _ rest. MoreFollow fault rest) totals
 
-abbrev CellsStop : List Run → DecodeFault → List ℕ → Type 0
-CellsStop runs fault cells = CellsFail runs fault cells ⊎ After (AreCells runs) (list_bytes cell_bytes) (λ _ totals. TotalsStop fault totals) cells
+abbrev CellsStop : ℕ → List Run → DecodeFault → List ℕ → Type 0
+CellsStop version runs fault cells = CellsFail version runs fault cells ⊎ After (AreCells version runs) (list_bytes cell_bytes) (λ _ totals. TotalsStop fault totals) cells
 
-abbrev RunsStop : DecodeFault → List ℕ → Type 0
-RunsStop fault runs = RunsFail fault runs ⊎ After AreRuns (list_bytes run_bytes) (λ known cells. CellsStop known fault cells) runs
+abbrev RunsStop : ℕ → DecodeFault → List ℕ → Type 0
+RunsStop version fault runs = RunsFail fault runs ⊎ After AreRuns (list_bytes run_bytes) (λ known cells. CellsStop version known fault cells) runs
 
-abbrev HeadingStop : DecodeFault → List ℕ → Type 0
-HeadingStop fault heading = Lacks IsHeading heading_bytes BadRange fault heading ⊎ After IsHeading heading_bytes (λ _ runs. RunsStop fault runs) heading
+abbrev HeadingStop : ℕ → DecodeFault → List ℕ → Type 0
+HeadingStop version fault heading = Lacks IsHeading heading_bytes BadRange fault heading ⊎ After IsHeading heading_bytes (λ _ runs. RunsStop version fault runs) heading
 
 abbrev VersionStop : DecodeFault → List ℕ → Type 0
-VersionStop fault version = Lacks IsVersion byte BadVersion fault version ⊎ After IsVersion byte (λ _ heading. HeadingStop fault heading) version
+VersionStop fault versioned = Lacks IsVersion byte BadVersion fault versioned ⊎ After IsVersion byte (λ version heading. HeadingStop version fault heading) versioned
 
 totals_stop : (heading : Heading) (known : set.FinSet dot_cmp) (live : map.FinMap dot_cmp Holding) → Tells (totals_step heading known live) TotalsStop
 totals_stop heading known live = tells_kept totals_at totals_of (λ totals rest. ended ((heading, (known, (live, totals))), rest)) AreTotals (list_bytes total_bytes) TotalsFail (λ fault _ rest. MoreFollow fault rest) totals_reads totals_tell (λ totals _. ended_tells (heading, (known, (live, totals_of totals))))
 
-cells_of_runs_reads : (runs : List Run) → Reads (cells_at (set.contains (known_of runs))) (AreCells runs) (list_bytes cell_bytes)
-cells_of_runs_reads runs = reads_good (cells_at (set.contains (known_of runs))) (AreCellsOf (set.contains (known_of runs))) (AreCells runs) (list_bytes cell_bytes) (cells_reads (set.contains (known_of runs))) (known_cells runs) (cells_known runs)
+cells_of_runs_reads : (version : ℕ) (runs : List Run) → Reads (cells_at version (set.contains (known_of runs))) (AreCells version runs) (list_bytes cell_bytes)
+cells_of_runs_reads version runs = reads_good (cells_at version (set.contains (known_of runs))) (AreCellsOf version (set.contains (known_of runs))) (AreCells version runs) (list_bytes cell_bytes) (cells_reads version (set.contains (known_of runs))) (known_cells version runs) (cells_known version runs)
 
-cells_stop : (heading : Heading) (runs : List Run) → Tells (cells_step heading (known_of runs)) (CellsStop runs)
-cells_stop heading runs = tells_kept (cells_at (set.contains (known_of runs))) live_of (totals_step heading (known_of runs)) (AreCells runs) (list_bytes cell_bytes) (CellsFail runs) (λ fault _ rest. TotalsStop fault rest) (cells_of_runs_reads runs) (cells_tell runs) (λ cells _. totals_stop heading (known_of runs) (live_of cells))
+cells_stop : (version : ℕ) (heading : Heading) (runs : List Run) → Tells (cells_step version heading (known_of runs)) (CellsStop version runs)
+cells_stop version heading runs = tells_kept (cells_at version (set.contains (known_of runs))) live_of (totals_step heading (known_of runs)) (AreCells version runs) (list_bytes cell_bytes) (CellsFail version runs) (λ fault _ rest. TotalsStop fault rest) (cells_of_runs_reads version runs) (cells_tell version runs) (λ cells _. totals_stop heading (known_of runs) (live_of cells))
 
-runs_stop : (heading : Heading) → Tells (runs_step heading) RunsStop
-runs_stop heading = tells_kept runs_at known_of (cells_step heading) AreRuns (list_bytes run_bytes) RunsFail (λ fault runs rest. CellsStop runs fault rest) runs_reads runs_tell (λ runs _. cells_stop heading runs)
+runs_stop : (version : ℕ) (heading : Heading) → Tells (runs_step version heading) (RunsStop version)
+runs_stop version heading = tells_kept runs_at known_of (cells_step version heading) AreRuns (list_bytes run_bytes) RunsFail (λ fault runs rest. CellsStop version runs fault rest) runs_reads runs_tell (λ runs _. cells_stop version heading runs)
 
-heading_stop : Tells heading_step HeadingStop
-heading_stop = tells_then heading_at runs_step IsHeading heading_bytes (Lacks IsHeading heading_bytes BadRange) (λ fault _ rest. RunsStop fault rest) heading_reads heading_tells (λ heading _. runs_stop heading)
+heading_stop : (version : ℕ) → Tells (heading_step version) (HeadingStop version)
+heading_stop version = tells_then heading_at (runs_step version) IsHeading heading_bytes (Lacks IsHeading heading_bytes BadRange) (λ fault _ rest. RunsStop version fault rest) heading_reads heading_tells (λ heading _. runs_stop version heading)
 
 version_stop : Tells version_step VersionStop
-version_stop = tells_then version_at (λ _ rest. heading_step rest) IsVersion byte (Lacks IsVersion byte BadVersion) (λ fault _ rest. HeadingStop fault rest) version_reads version_tells (λ _ _. heading_stop)
+version_stop = tells_then version_at heading_step IsVersion byte (Lacks IsVersion byte BadVersion) (λ fault version rest. HeadingStop version fault rest) version_reads version_tells (λ version _. heading_stop version)
 
 pub content_tells : Tells kept_at ContentFails
 unfolding kept_at

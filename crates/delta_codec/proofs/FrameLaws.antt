@@ -1,5 +1,5 @@
 -- What a frame at the front of bytes is, and which bytes spell one.
-use Rattle.std.proofs.Common.{◌≡◌, ℕ, ◌+◌, ◌*◌, ◌<◌, ◌≤◌, Bool, true, false, cond, ltb, List, [], ◌∷◌, ◌++◌, length, take, drop, Option, Some, None, Result, Ok, Err, refl, sym, ap, subst, ◌∙◌, append_assoc, arith}
+use Rattle.std.proofs.Common.{◌≡◌, ℕ, ◌+◌, ◌*◌, ◌<◌, ◌≤◌, Bool, true, false, cond, ltb, List, [], ◌∷◌, ◌++◌, length, get_or, take, drop, Option, Some, None, Result, Ok, Err, refl, sym, ap, subst, ◌∙◌, append_assoc, arith}
 use Rattle.std.specs.Prelude.{fold}
 use Rattle.std.specs.FinMap as map
 use Rattle.std.specs.FinSet as set
@@ -38,9 +38,9 @@ use Rattle.delta.specs.declared.frame.Frame.{Frame}
 use Rattle.delta_codec.specs.declared.limits.TheConstants.{LEAST_LENGTH, MOST_LENGTH}
 use Rattle.delta.specs.Frames.{IsSameFrame}
 use Rattle.delta_codec.specs.Decoding.{frame_kept}
-use Rattle.delta_codec.specs.Frames.{AreParts, FrameParts, Spells, content_bytes, frame_bytes}
-use Rattle.delta_codec.specs.Measures.{most_cell, most_field, most_label, most_pause, most_penalty}
-use Rattle.delta_codec.specs.Parts.{CellParts, IsCell, IsField, TotalParts, cell_bytes, field_bytes, fields_bytes, label_bytes, pause_bytes, penalty_bytes, text_bytes}
+use Rattle.delta_codec.specs.Frames.{AreParts, FrameParts, Spells, SpellsIn, content_bytes, frame_bytes}
+use Rattle.delta_codec.specs.Measures.{most_cell, most_field, most_label, most_pause, most_penalty, most_ring}
+use Rattle.delta_codec.specs.Parts.{CellParts, IsCell, IsField, IsRing, TotalParts, cell_bytes, field_bytes, fields_bytes, label_bytes, pause_bytes, penalty_bytes, ring_bytes, text_bytes}
 use Rattle.delta_codec.specs.Reading.{◌>>=◌, Kept, content_in, kept_at, kept_in, known_of, live_of, number_at, totals_of, with_cell, with_total, within_at}
 use Rattle.delta_codec.proofs.ContentLaws.{contains_known_of, content_read, content_spelled, kept_of, kept_of_read, read_of_kept}
 use Rattle.delta_codec.proofs.PartLaws.{IsBytes, IsBytes_take, bind_ok, number4_reads, ok_is}
@@ -216,33 +216,35 @@ pause_length pause h = omega (arith, h.reason.short)
 label_length : (label : Label) → IsLabel label → length (label_bytes label) ≤ most_label
 label_length label h = omega (arith, length-append label.name (text_bytes label.state), h.name.short, h.state.short)
 
-cell_length : (cell : CellParts) → IsCell cell → length (cell_bytes cell) ≤ most_cell
-cell_length cell good =
+cell_length : (version : ℕ) (cell : CellParts) → IsCell version cell → length (cell_bytes cell) ≤ most_cell
+cell_length version cell good =
     let f = cell.1.1 in
     let a = length-append cell.1.0.interface (fields_bytes f) in
-    let b = length-append (field_bytes penalty_bytes f.penalty) (field_bytes pause_bytes f.pause ++ field_bytes label_bytes f.label) in
-    let c = length-append (field_bytes pause_bytes f.pause) (field_bytes label_bytes f.label) in
+    let b = length-append (field_bytes penalty_bytes f.penalty) (field_bytes pause_bytes f.pause ++ (field_bytes label_bytes f.label ++ field_bytes ring_bytes f.ring)) in
+    let c = length-append (field_bytes pause_bytes f.pause) (field_bytes label_bytes f.label ++ field_bytes ring_bytes f.ring) in
+    let d = length-append (field_bytes label_bytes f.label) (field_bytes ring_bytes f.ring) in
     let penalty = field_length IsPenalty penalty_bytes most_penalty (λ n h. omega arith) f.penalty good.fields.within.penalty in
     let pause = field_length IsPause pause_bytes most_pause pause_length f.pause good.fields.within.pause in
     let label = field_length IsLabel label_bytes most_label label_length f.label good.fields.within.label in
-    omega (arith, a, b, c, penalty, pause, label, good.member.interface.text.short)
+    let ring = field_length IsRing ring_bytes most_ring (λ b h. omega arith) f.ring good.fields.within.ring in
+    omega (arith, a, b, c, d, penalty, pause, label, ring, good.member.interface.text.short)
 
-cells_length : (cells : List CellParts) → AllByRecursion IsCell cells → length (flat_map cell_bytes cells) ≤ most_cell * length cells
-cells_length [] h = omega arith
-cells_length (cell ∷ cells) h = omega (arith, length-append (cell_bytes cell) (flat_map cell_bytes cells), cell_length cell h.0, cells_length cells h.1)
+cells_length : (version : ℕ) (cells : List CellParts) → AllByRecursion (IsCell version) cells → length (flat_map cell_bytes cells) ≤ most_cell * length cells
+cells_length version [] h = omega arith
+cells_length version (cell ∷ cells) h = omega (arith, length-append (cell_bytes cell) (flat_map cell_bytes cells), cell_length version cell h.0, cells_length version cells h.1)
 
 -- a length within its limits always has room for a frame
 pub lengths : (parts : FrameParts) → AreParts parts → (LEAST_LENGTH ≤ length (content_bytes parts)) × (length (content_bytes parts) ≤ MOST_LENGTH)
 lengths parts good =
     let size = content_size parts (length (flat_map cell_bytes parts.cells)) (length parts.totals) refl refl in
-    let cells = cells_length parts.cells (by_recursion IsCell parts.cells good.cells.listed.each) in
+    let cells = cells_length parts.version parts.cells (by_recursion (IsCell parts.version) parts.cells good.cells.listed.each) in
     (omega (arith, size), omega (arith, size, cells, good.runs.few, good.cells.listed.few, good.totals.few))
 
 -- nor is a frame greater than the greatest of its parts make it
-pub whole_length : (parts : FrameParts) → AreParts parts → length (frame_bytes parts) ≤ 7454748
+pub whole_length : (parts : FrameParts) → AreParts parts → length (frame_bytes parts) ≤ 7618588
 whole_length parts good =
     let size = content_size parts (length (flat_map cell_bytes parts.cells)) (length parts.totals) refl refl in
-    let cells = cells_length parts.cells (by_recursion IsCell parts.cells good.cells.listed.each) in
+    let cells = cells_length parts.version parts.cells (by_recursion (IsCell parts.version) parts.cells good.cells.listed.each) in
     omega (arith, size, cells, good.runs.few, good.cells.listed.few, good.totals.few)
 
 -- ---- a frame that is there is found
@@ -312,16 +314,29 @@ spells_same x y bytes s same = record {
   spelled = s.spelled;
 }
 
-pub one_spelling : (x y : Frame) (a b : List ℕ) → IsSameFrame x y → Spells x a → Spells y b → a ≡ b
-one_spelling x y a b same s t =
-    let o : Spells y a = spells_same x y a s same in
+pub spells_same_in : (version : ℕ) (x y : Frame) (bytes : List ℕ) → SpellsIn version x bytes → IsSameFrame x y → SpellsIn version y bytes
+unfolding spells_same
+spells_same_in version x y bytes s same = record { spells = spells_same x y bytes s.spells same; version_is = s.version_is }
+
+pub one_spelling : (version : ℕ) (x y : Frame) (a b : List ℕ) → IsSameFrame x y → SpellsIn version x a → SpellsIn version y b → a ≡ b
+one_spelling version x y a b same first second =
+    let of_y = spells_same_in version x y a first same in
+    let o = of_y.spells in
+    let t = second.spells in
+    let in_one : o.parts.version ≡ t.parts.version = of_y.version_is ∙ sym second.version_is in
     let maker : o.parts.heading.maker ≡ t.parts.heading.maker = o.of_frame.maker ∙ sym t.of_frame.maker in
     let number : o.parts.heading.number ≡ t.parts.heading.number = o.of_frame.number ∙ sym t.of_frame.number in
     let runs : o.parts.runs ≡ t.parts.runs = runs_unique o.parts.runs t.parts.runs y.delta.members.known o.of_frame.runs t.of_frame.runs in
     let cells : o.parts.cells ≡ t.parts.cells = o.of_frame.cells ∙ sym t.of_frame.cells in
     let totals : o.parts.totals ≡ t.parts.totals = o.of_frame.totals ∙ sym t.of_frame.totals in
-    let parts : o.parts ≡ t.parts = λ i. record { heading = record { maker = maker i; number = number i }; runs = runs i; cells = cells i; totals = totals i } in
+    let parts : o.parts ≡ t.parts = λ i. record { version = in_one i; heading = record { maker = maker i; number = number i }; runs = runs i; cells = cells i; totals = totals i } in
     o.spelled ∙ ap frame_bytes parts ∙ sym t.spelled
+
+-- bytes show the version: it stands behind the length and the magic
+pub one_version : (v w : ℕ) (x y : Frame) (bytes : List ℕ) → SpellsIn v x bytes → SpellsIn w y bytes → v ≡ w
+one_version v w x y bytes s t =
+    let shown : s.spells.parts.version ≡ t.spells.parts.version = ap (λ (b : List ℕ). get_or b 6 0) (sym s.spells.spelled ∙ t.spells.spelled) in
+    sym s.version_is ∙ shown ∙ t.version_is
 
 -- bytes that begin with the spellings of two frames
 pub both_found : (bytes : List ℕ) (x y : Frame) (n m : ℕ) → n ≤ length bytes → m ≤ length bytes → (s : Spells x (take n bytes)) → (t : Spells y (take m bytes)) → (kept_of s.parts ≡ kept_of t.parts) × (n ≡ m)

@@ -2,7 +2,7 @@
 use Rattle.std.proofs.Common.{◌≡◌, ◌≢◌, ℕ, Bool, true, false, List, [], ◌∷◌, take, sym, subst, ◌∙◌, inl, inr}
 use Rattle.delta_codec.specs.declared.decode_fault.DecodeFault.{DecodeFault}
 use Rattle.delta_codec.specs.declared.decode_fault.DecodeFault.TheVariants.{Truncated, BadMagic, BadVersion, BadRange, BadOrder, BadText, TooLarge, Memory}
-use Rattle.delta_codec.specs.Faults.{CellFails, ContentFails, FieldFails, FieldsFail, HasFault, LabelFails, ListFails, NextCellFails, NoReasonFails, PauseFails, PenaltyFails, RunFails, TextFails, TotalFails, label_flag, pause_flag, penalty_flag}
+use Rattle.delta_codec.specs.Faults.{CellFails, ContentFails, FieldFails, FieldsFail, HasFault, LabelFails, ListFails, NextCellFails, NoReasonFails, PauseFails, PenaltyFails, RingFails, RunFails, TextFails, TotalFails, label_flag, pause_flag, penalty_flag, ring_flag}
 use Rattle.dots.specs.declared.limits.TheConstants.{MOST_LIVE, MOST_RUNS}
 use Rattle.dots.specs.DotSets.{Run}
 use Rattle.delta_codec.specs.declared.limits.TheConstants.{MOST_TOTALS}
@@ -63,12 +63,15 @@ module _ (P : DecodeFault → Type 0) (range : P BadRange) (text : P BadText) (o
         | inl penalty ↦ of_field PenaltyFails fault (λ rest lacks. is_one fault BadRange range lacks.fault_is) (penalty_flag flags) bytes penalty
         | inr after ↦ elim after.next [
           | inl pause ↦ of_field PauseFails fault (of_pause fault) (pause_flag flags) after.rest pause
-          | inr later ↦ of_field LabelFails fault (of_label fault) (label_flag flags) later.rest later.next
+          | inr later ↦ elim later.next [
+            | inl label ↦ of_field LabelFails fault (of_label fault) (label_flag flags) later.rest label
+            | inr last ↦ of_field RingFails fault (λ rest lacks. is_one fault BadRange range lacks.fault_is) (ring_flag flags) last.rest last.next
+          ]
         ]
       ]
 
-  of_cell : (fault : DecodeFault) (bytes : List ℕ) → CellFails fault bytes → P fault
-  of_cell fault bytes h =
+  of_cell : (version : ℕ) (fault : DecodeFault) (bytes : List ℕ) → CellFails version fault bytes → P fault
+  of_cell version fault bytes h =
       elim h [
         | inl lacks ↦ is_one fault BadRange range lacks.fault_is
         | inr place ↦ elim place.next [
@@ -87,10 +90,10 @@ module _ (P : DecodeFault → Type 0) (range : P BadRange) (text : P BadText) (o
         | inr after ↦ is_one fault BadOrder order after.next.1
       ]
 
-  of_next_cell : (runs : List Run) (fault : DecodeFault) (before : List CellParts) (bytes : List ℕ) → NextCellFails runs fault before bytes → P fault
-  of_next_cell runs fault before bytes h =
+  of_next_cell : (version : ℕ) (runs : List Run) (fault : DecodeFault) (before : List CellParts) (bytes : List ℕ) → NextCellFails version runs fault before bytes → P fault
+  of_next_cell version runs fault before bytes h =
       elim h [
-        | inl cell ↦ of_cell fault bytes cell
+        | inl cell ↦ of_cell version fault bytes cell
         | inr after ↦ elim after.next [
           | inl first ↦ is_one fault BadOrder order first.1
           | inr dot ↦ is_one fault BadRange range dot.2
@@ -125,7 +128,7 @@ module _ (P : DecodeFault → Type 0) (range : P BadRange) (text : P BadText) (o
             | inr heading ↦ elim heading.next [
               | inl runs ↦ of_list AreRuns run_bytes MOST_RUNS RunFails fault (of_run fault) heading.rest runs
               | inr runs ↦ elim runs.next [
-                | inl cells ↦ of_list (AreCells runs.value) cell_bytes MOST_LIVE (NextCellFails runs.value) fault (of_next_cell runs.value fault) runs.rest cells
+                | inl cells ↦ of_list (AreCells version.value runs.value) cell_bytes MOST_LIVE (NextCellFails version.value runs.value) fault (of_next_cell version.value runs.value fault) runs.rest cells
                 | inr cells ↦ elim cells.next [
                   | inl totals ↦ of_list AreTotals total_bytes MOST_TOTALS TotalFails fault (of_total fault) cells.rest totals
                   | inr totals ↦ is_one fault BadRange range totals.next.1

@@ -219,23 +219,23 @@ dot_of cell = cell.0
 abbrev CellBreaks : List Run → DecodeFault → List CellParts → CellParts → Type 0
 CellBreaks runs fault before cell = (¬ FollowsLast is_cell_before before cell × (fault ≡ BadOrder)) ⊎ (FollowsLast is_cell_before before cell × (in_runs runs cell.0 ≡ false) × (fault ≡ BadRange))
 
-cell_breaks : (runs : List Run) (fault : DecodeFault) (before : List CellParts) (cell : CellParts) → fault_behind (cell_elements (set.contains (known_of runs))) before cell ≡ Some fault → CellBreaks runs fault before cell
-cell_breaks runs fault before cell h =
+cell_breaks : (version : ℕ) (runs : List Run) (fault : DecodeFault) (before : List CellParts) (cell : CellParts) → fault_behind (cell_elements version (set.contains (known_of runs))) before cell ≡ Some fault → CellBreaks runs fault before cell
+cell_breaks version runs fault before cell h =
     let known = set.contains (known_of runs) cell.0 in
     elim (either_fails (order_fault is_dot_before (option_map dot_of (last_or None before)) cell.0) (unless known BadRange) fault h) [
       | inl order ↦ inl (order_fails dot_of is_dot_before (last_or None before) cell fault order)
       | inr dot ↦ let fails = unless_fails known BadRange fault dot.1 in inr (order_keeps dot_of is_dot_before (last_or None before) cell dot.0, sym (contains_known_of runs cell.0) ∙ fails.0, fails.1)
     ]
 
-breaks_cell : (runs : List Run) (fault : DecodeFault) (before : List CellParts) (cell : CellParts) → CellBreaks runs fault before cell → fault_behind (cell_elements (set.contains (known_of runs))) before cell ≡ Some fault
-breaks_cell runs fault before cell h =
+breaks_cell : (version : ℕ) (runs : List Run) (fault : DecodeFault) (before : List CellParts) (cell : CellParts) → CellBreaks runs fault before cell → fault_behind (cell_elements version (set.contains (known_of runs))) before cell ≡ Some fault
+breaks_cell version runs fault before cell h =
     elim h [
       | inl order ↦ ap (λ o. or_else o (unless (set.contains (known_of runs) cell.0) BadRange)) (fails_order dot_of is_dot_before (last_or None before) cell fault order.0 order.1)
       | inr dot ↦ ap (λ o. or_else o (unless (set.contains (known_of runs) cell.0) BadRange)) (keeps_order dot_of is_dot_before (last_or None before) cell dot.0) ∙ fails_unless (set.contains (known_of runs) cell.0) BadRange fault (contains_known_of runs cell.0 ∙ dot.1) dot.2
     ]
 
-pub cells_tell : (runs : List Run) → Tells (cells_at (set.contains (known_of runs))) (CellsFail runs)
-cells_tell runs = list_tells (cell_elements (set.contains (known_of runs))) IsCell cell_bytes MOST_LIVE (AreCells runs) (NextCellFails runs) cell_reads
-    (next_tells (cell_elements (set.contains (known_of runs))) IsCell cell_bytes CellFails (CellBreaks runs) cell_reads cell_tells (cell_breaks runs) (breaks_cell runs))
-    (λ xs g. known_cells runs xs (read_are_cells (set.contains (known_of runs)) xs g))
-    (λ xs g. cells_are_read (set.contains (known_of runs)) xs (cells_known runs xs g))
+pub cells_tell : (version : ℕ) (runs : List Run) → Tells (cells_at version (set.contains (known_of runs))) (CellsFail version runs)
+cells_tell version runs = list_tells (cell_elements version (set.contains (known_of runs))) (IsCell version) cell_bytes MOST_LIVE (AreCells version runs) (NextCellFails version runs) (cell_reads version)
+    (next_tells (cell_elements version (set.contains (known_of runs))) (IsCell version) cell_bytes (CellFails version) (CellBreaks runs) (cell_reads version) (cell_tells version) (cell_breaks version runs) (breaks_cell version runs))
+    (λ xs g. known_cells version runs xs (read_are_cells version (set.contains (known_of runs)) xs g))
+    (λ xs g. cells_are_read version (set.contains (known_of runs)) xs (cells_known version runs xs g))

@@ -213,35 +213,35 @@ or_else_none : (o p : Option DecodeFault) → or_else o p ≡ None → (o ≡ No
 or_else_none None p h = (refl, h)
 or_else_none (Some f) p h = absurd cc
 
-cell_ascends : (k : Dot → Bool) (a : Dot) (xs : List CellParts) → Chain (cell_elements k) (Some a) xs → Ascends dot_cmp a xs × AllByRecursion (λ c. IsTrue (k c.0)) xs
-cell_ascends k a [] h = (tt, tt)
-cell_ascends k a (x ∷ xs) h =
+cell_ascends : (version : ℕ) (k : Dot → Bool) (a : Dot) (xs : List CellParts) → Chain (cell_elements version k) (Some a) xs → Ascends dot_cmp a xs × AllByRecursion (λ c. IsTrue (k c.0)) xs
+cell_ascends version k a [] h = (tt, tt)
+cell_ascends version k a (x ∷ xs) h =
     let here = or_else_none (order_fault is_dot_before (Some a) x.0) (unless (k x.0) BadRange) h.0 in
-    let rest = cell_ascends k x.0 xs h.1 in
+    let rest = cell_ascends version k x.0 xs h.1 in
     ((unless_none (is_dot_before a x.0) BadOrder here.0, rest.0), (unless_none (k x.0) BadRange here.1, rest.1))
 
-cell_chain : (k : Dot → Bool) (a : Dot) (xs : List CellParts) → Ascends dot_cmp a xs → AllByRecursion (λ c. IsTrue (k c.0)) xs → Chain (cell_elements k) (Some a) xs
-cell_chain k a [] h g = tt
-cell_chain k a (x ∷ xs) h g = (ap (λ o. or_else o (unless (k x.0) BadRange)) (none_unless (is_dot_before a x.0) BadOrder h.0) ∙ none_unless (k x.0) BadRange g.0, cell_chain k x.0 xs h.1 g.1)
+cell_chain : (version : ℕ) (k : Dot → Bool) (a : Dot) (xs : List CellParts) → Ascends dot_cmp a xs → AllByRecursion (λ c. IsTrue (k c.0)) xs → Chain (cell_elements version k) (Some a) xs
+cell_chain version k a [] h g = tt
+cell_chain version k a (x ∷ xs) h g = (ap (λ o. or_else o (unless (k x.0) BadRange)) (none_unless (is_dot_before a x.0) BadOrder h.0) ∙ none_unless (k x.0) BadRange g.0, cell_chain version k x.0 xs h.1 g.1)
 
-cells_rise : (k : Dot → Bool) (xs : List CellParts) → Chain (cell_elements k) None xs → IsRising dot_cmp xs × AllByRecursion (λ c. IsTrue (k c.0)) xs
-cells_rise k [] h = (refl, tt)
-cells_rise k (x ∷ xs) h = let rest = cell_ascends k x.0 xs h.1 in (rises dot_cmp dots_total x xs rest.0, (unless_none (k x.0) BadRange h.0, rest.1))
+cells_rise : (version : ℕ) (k : Dot → Bool) (xs : List CellParts) → Chain (cell_elements version k) None xs → IsRising dot_cmp xs × AllByRecursion (λ c. IsTrue (k c.0)) xs
+cells_rise version k [] h = (refl, tt)
+cells_rise version k (x ∷ xs) h = let rest = cell_ascends version k x.0 xs h.1 in (rises dot_cmp dots_total x xs rest.0, (unless_none (k x.0) BadRange h.0, rest.1))
 
-cells_chain : (k : Dot → Bool) (xs : List CellParts) → IsRising dot_cmp xs → AllByRecursion (λ c. IsTrue (k c.0)) xs → Chain (cell_elements k) None xs
-cells_chain k [] h g = tt
-cells_chain k (x ∷ xs) h g = (none_unless (k x.0) BadRange g.0, cell_chain k x.0 xs (ascends dot_cmp dots_total x xs h) g.1)
+cells_chain : (version : ℕ) (k : Dot → Bool) (xs : List CellParts) → IsRising dot_cmp xs → AllByRecursion (λ c. IsTrue (k c.0)) xs → Chain (cell_elements version k) None xs
+cells_chain version k [] h g = tt
+cells_chain version k (x ∷ xs) h g = (none_unless (k x.0) BadRange g.0, cell_chain version k x.0 xs (ascends dot_cmp dots_total x xs h) g.1)
 
--- cells of dots that pass a test
-pub record AreCellsOf (k : Dot → Bool) (xs : List CellParts) : Type 0 where
-  pub listed : IsListOf IsCell (IsRising dot_cmp) MOST_LIVE xs
+-- cells of a version, of dots that pass a test
+pub record AreCellsOf (version : ℕ) (k : Dot → Bool) (xs : List CellParts) : Type 0 where
+  pub listed : IsListOf (IsCell version) (IsRising dot_cmp) MOST_LIVE xs
   pub known : All (λ cell. IsTrue (k cell.0)) xs
 
-pub read_are_cells : (k : Dot → Bool) (xs : List CellParts) → AreElements (cell_elements k) IsCell MOST_LIVE xs → AreCellsOf k xs
-read_are_cells k xs g = let order = cells_rise k xs g.1.1 in record { listed = record { each = All-from_recursion IsCell xs g.1.0; order = order.0; few = g.0 }; known = All-from_recursion (λ c. IsTrue (k c.0)) xs order.1 }
+pub read_are_cells : (version : ℕ) (k : Dot → Bool) (xs : List CellParts) → AreElements (cell_elements version k) (IsCell version) MOST_LIVE xs → AreCellsOf version k xs
+read_are_cells version k xs g = let order = cells_rise version k xs g.1.1 in record { listed = record { each = All-from_recursion (IsCell version) xs g.1.0; order = order.0; few = g.0 }; known = All-from_recursion (λ c. IsTrue (k c.0)) xs order.1 }
 
-pub cells_are_read : (k : Dot → Bool) (xs : List CellParts) → AreCellsOf k xs → AreElements (cell_elements k) IsCell MOST_LIVE xs
-cells_are_read k xs g = (g.listed.few, (by_recursion IsCell xs g.listed.each, cells_chain k xs g.listed.order (by_recursion (λ c. IsTrue (k c.0)) xs g.known)))
+pub cells_are_read : (version : ℕ) (k : Dot → Bool) (xs : List CellParts) → AreCellsOf version k xs → AreElements (cell_elements version k) (IsCell version) MOST_LIVE xs
+cells_are_read version k xs g = (g.listed.few, (by_recursion (IsCell version) xs g.listed.each, cells_chain version k xs g.listed.order (by_recursion (λ c. IsTrue (k c.0)) xs g.known)))
 
-pub cells_reads : (k : Dot → Bool) → Reads (cells_at k) (AreCellsOf k) (list_bytes cell_bytes)
-cells_reads k = reads_good (cells_at k) (AreElements (cell_elements k) IsCell MOST_LIVE) (AreCellsOf k) (list_bytes cell_bytes) (list_reads (cell_elements k) IsCell cell_bytes MOST_LIVE (omega arith) cell_reads) (read_are_cells k) (cells_are_read k)
+pub cells_reads : (version : ℕ) (k : Dot → Bool) → Reads (cells_at version k) (AreCellsOf version k) (list_bytes cell_bytes)
+cells_reads version k = reads_good (cells_at version k) (AreElements (cell_elements version k) (IsCell version) MOST_LIVE) (AreCellsOf version k) (list_bytes cell_bytes) (list_reads (cell_elements version k) (IsCell version) cell_bytes MOST_LIVE (omega arith) (cell_reads version)) (read_are_cells version k) (cells_are_read version k)

@@ -53,22 +53,22 @@ pub few_none : (live : map.FinMap dot_cmp Holding) → live ≡ map.empty → ma
 few_none live empty = rw (empty, map.len-empty dot_cmp) (omega arith)
 
 -- what holds once a cell was kept, of which the dot and what is live then are given
-abbrev pub AfterCell : (known : set.FinSet dot_cmp) → ℕ → ℕ → List ℕ → Read (map.FinMap dot_cmp Holding) → Dot × map.FinMap dot_cmp Holding → Type 0
-AfterCell known count i rest total kept =
-    (made (fold with_cell kept.1) (elements_at (cell_elements (set.contains known)) (count - (i + 1)) (Some kept.0) rest) ≡ total)
+abbrev pub AfterCell : ℕ → (known : set.FinSet dot_cmp) → ℕ → ℕ → List ℕ → Read (map.FinMap dot_cmp Holding) → Dot × map.FinMap dot_cmp Holding → Type 0
+AfterCell version known count i rest total kept =
+    (made (fold with_cell kept.1) (elements_at (cell_elements version (set.contains known)) (count - (i + 1)) (Some kept.0) rest) ≡ total)
     × (IsBehind (Some kept.0) kept.1)
     × (map.len kept.1 ≤ i + 1)
 
 -- one more cell, which stood behind the others
-pub cell_kept : (known : set.FinSet dot_cmp) (live : map.FinMap dot_cmp Holding) (count i : ℕ) (last : Option Dot) (bytes rest : List ℕ) (dot : Dot) (more : map.FinMap dot_cmp Holding) (total : Read (map.FinMap dot_cmp Holding)) → i < count
-    → made (kept_cell live) (next_at (cell_elements (set.contains known)) last bytes) ≡ Ok ((dot, more), rest) → order_fault is_dot_before last dot ≡ None
-    → made (fold with_cell live) (elements_at (cell_elements (set.contains known)) (count - i) last bytes) ≡ total → IsBehind last live → map.len live ≤ i
-    → AfterCell known count i rest total (dot, more)
-cell_kept known live count i last bytes rest dot more total lt h follows so_far behind few =
-    let e = cell_elements (set.contains known) in
+pub cell_kept : (version : ℕ) (known : set.FinSet dot_cmp) (live : map.FinMap dot_cmp Holding) (count i : ℕ) (last : Option Dot) (bytes rest : List ℕ) (dot : Dot) (more : map.FinMap dot_cmp Holding) (total : Read (map.FinMap dot_cmp Holding)) → i < count
+    → made (kept_cell live) (next_at (cell_elements version (set.contains known)) last bytes) ≡ Ok ((dot, more), rest) → order_fault is_dot_before last dot ≡ None
+    → made (fold with_cell live) (elements_at (cell_elements version (set.contains known)) (count - i) last bytes) ≡ total → IsBehind last live → map.len live ≤ i
+    → AfterCell version known count i rest total (dot, more)
+cell_kept version known live count i last bytes rest dot more total lt h follows so_far behind few =
+    let e = cell_elements version (set.contains known) in
     let read = made_of (kept_cell live) (next_at e last bytes) (dot, more) rest h in
     let behind_it : order_fault is_dot_before last read.0.0 ≡ None = ap (λ (p : Dot × map.FinMap dot_cmp Holding). order_fault is_dot_before last p.0) read.2 ∙ follows in
-    subst (AfterCell known count i rest total) read.2 (
+    subst (AfterCell version known count i rest total) read.2 (
       goes_on e with_cell live count i last bytes read.0 rest total lt read.1 so_far,
       behind_more last live read.0.0 read.0.1 behind_it behind,
       few_more live read.0.0 read.0.1 i few,

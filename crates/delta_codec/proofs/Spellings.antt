@@ -28,8 +28,10 @@ use Rattle.causal_context.specs.Contexts.{IsRunWithinLimits}
 use Rattle.member_orset.specs.Members.{Holding}
 use Rattle.delta.specs.declared.frame.Frame.{Frame}
 use Rattle.delta_codec.specs.Fitting.{FitsFormat}
-use Rattle.delta_codec.specs.Frames.{Spells, frame_bytes, parts_with}
+use Rattle.delta_codec.specs.Frames.{Spells, SpellsIn, frame_bytes, parts_with}
 use Rattle.delta_codec.specs.Parts.{CellParts, IsCell, TotalParts}
+use Rattle.delta_codec.specs.declared.limits.TheConstants.{VERSION}
+use Rattle.delta_codec.proofs.CellLaws.{flags_few}
 use Rattle.delta_codec.proofs.Counting.{few_totals}
 use Rattle.delta_codec.proofs.Encoded.{heading_of}
 
@@ -102,7 +104,7 @@ dots_within rs dots is within dot h =
 abbrev IsGoodTotal : TotalParts → Type 0
 IsGoodTotal total = IsTotal total.0 total.1
 
-pub has_spelling : (frame : Frame) → FitsFormat frame → (bytes : List ℕ) × Spells frame bytes
+pub has_spelling : (frame : Frame) → FitsFormat frame → (bytes : List ℕ) × SpellsIn VERSION frame bytes
 has_spelling frame fits =
     let members = frame.delta.members in
     let runs = runs_of members.known in
@@ -115,24 +117,36 @@ has_spelling frame fits =
     λ i d lt. fits.totals _ _ (entry_given keys_total exact_keys frame.delta.totals.entries i d lt) in (
       frame_bytes parts,
       record {
-        parts = parts;
-        of_frame = record { maker = refl; number = refl; runs = runs.1; cells = refl; totals = refl };
-        within = record {
-          heading = record { maker = fits.maker; number = fits.number };
-          runs = record { each = runs_within runs.0 members.known runs.1 fits.dots; order = runs.1.apart; few = omega (arith, many, few_runs) };
-          cells = record {
-            listed = record {
-              each = λ i d lt. fits.cells _ _ (entry_given dots_total dots_exact members.live i d lt);
-              order = fact _ (map.entries_sorted members.live);
-              few = omega (arith, length_is, few);
+        spells = record {
+          parts = parts;
+          of_frame = record { maker = refl; number = refl; runs = runs.1; cells = refl; totals = refl };
+          within = record {
+            version = (omega arith, omega arith);
+            heading = record { maker = fits.maker; number = fits.number };
+            runs = record { each = runs_within runs.0 members.known runs.1 fits.dots; order = runs.1.apart; few = omega (arith, many, few_runs) };
+            cells = record {
+              listed = record {
+                each = λ i d lt. fits.cells _ _ (entry_given dots_total dots_exact members.live i d lt);
+                order = fact _ (map.entries_sorted members.live);
+                few = omega (arith, length_is, few);
+              };
+              known = λ i d lt. sym (runs.1.same _) ∙ fits.known _ _ (entry_given dots_total dots_exact members.live i d lt);
             };
-            known = λ i d lt. sym (runs.1.same _) ∙ fits.known _ _ (entry_given dots_total dots_exact members.live i d lt);
+            totals = record { each = totals; order = fact _ (map.entries_sorted frame.delta.totals.entries); few = few_totals frame.delta.totals.entries totals };
           };
-          totals = record { each = totals; order = fact _ (map.entries_sorted frame.delta.totals.entries); few = few_totals frame.delta.totals.entries totals };
+          spelled = refl;
         };
-        spelled = refl;
+        version_is = refl;
       },
     )
+
+-- a cell of any version is one of that which is written
+cell_of_any : (version : ℕ) (cell : CellParts) → IsCell version cell → IsCell VERSION cell
+cell_of_any version cell is = record {
+  dot = is.dot;
+  member = is.member;
+  fields = record { within = is.fields.within; some = is.fields.some; of_version = flags_few cell.1.1 };
+}
 
 pub spelled_fits : (frame : Frame) (bytes : List ℕ) → Spells frame bytes → FitsFormat frame
 spelled_fits frame bytes spells =
@@ -152,7 +166,7 @@ spelled_fits frame bytes spells =
       number = subst IsCount spells.of_frame.number within.heading.number;
       dots = dots_within parts.runs members.known runs within.runs.each;
       runs = omega (arith, many, few_runs);
-      cells = λ dot held e. each_in IsCell parts.cells (dot, held) within.cells.listed.each (cell_in dot held e);
+      cells = λ dot held e. cell_of_any parts.version (dot, held) (each_in (IsCell parts.version) parts.cells (dot, held) within.cells.listed.each (cell_in dot held e));
       known = λ dot held e. runs.same dot ∙ each_in (λ cell. IsTrue (in_runs parts.runs cell.0)) parts.cells (dot, held) within.cells.known (cell_in dot held e);
       few = omega (arith, few, length_is, cells_are);
       totals = λ key totals e. each_in IsGoodTotal parts.totals (key, totals) within.totals.each

@@ -8,7 +8,7 @@ use Rattle.delta_codec.specs.declared.decode_fault.DecodeFault.TheVariants.{Memo
 use Rattle.delta.specs.declared.frame.Frame.{Frame}
 use Rattle.delta_codec.specs.declared.limits.TheConstants.{LEAST_LENGTH, MOST_LENGTH}
 use Rattle.delta_codec.specs.Faults.{HasFault, number4}
-use Rattle.delta_codec.specs.Frames.{Heading, IsHeading, Spells, opening_bytes}
+use Rattle.delta_codec.specs.Frames.{Heading, IsHeading, IsVersion, Spells, opening_bytes}
 use Rattle.delta_codec.specs.Reading.{Kept}
 
 -- this holds, or an allocation was refused
@@ -43,17 +43,19 @@ pub record IsFrontFrame (bytes : List ℕ) (result : Result (Frame × ℕ) Decod
   pub found : (frame : Frame) (n : ℕ) → n ≤ length bytes → Spells frame (take n bytes)
       → UnlessMemory result (IsOkAnd result (λ x. IsSameFrame x.0 frame × (x.1 ≡ n)))
 
--- A frame has begun: a length within its limits, as many bytes behind it, and at the front of these the magic, the version and a
--- heading.
+-- A frame has begun: a length within its limits, as many bytes behind it, and at the front of these the magic, a version that is read
+-- and a heading.
 pub record HasOpening (bytes : List ℕ) : Type 0 where
+  pub version : ℕ
   pub heading : Heading
   pub content : List ℕ
   pub more : List ℕ
   pub rest : List ℕ
+  pub known : IsVersion version
   pub good : IsHeading heading
   pub least : LEAST_LENGTH ≤ length content
   pub most : length content ≤ MOST_LENGTH
-  pub opens : content ≡ opening_bytes heading ++ more
+  pub opens : content ≡ opening_bytes version heading ++ more
   pub spelled : bytes ≡ (number4 (length content) ++ content) ++ rest
 
 -- A result is the fault that bytes have: it is one of theirs, or memory was refused; theirs is the result, unless memory is

@@ -9,13 +9,13 @@ use Rattle.dots.specs.Orders.{dot_cmp}
 use Rattle.operations.specs.Registers.{Entry}
 use Rattle.operations.specs.Totals.{IsTotal, key_cmp}
 use Rattle.dots.specs.Values.{Dot, IsName, IsPenalty, IsText, is_bad_byte}
-use Rattle.dots.specs.WithinLimits.{IsDot, IsPause, IsStamp}
+use Rattle.dots.specs.WithinLimits.{IsDot, IsLabel, IsPause, IsStamp}
 use Rattle.causal_context.specs.Contexts.{IsRunWithinLimits}
 use Rattle.delta_codec.specs.declared.decode_fault.DecodeFault.{DecodeFault}
 use Rattle.delta_codec.specs.declared.decode_fault.DecodeFault.TheVariants.{Truncated, BadMagic, BadVersion, BadRange, BadOrder, BadText, TooLarge}
-use Rattle.delta_codec.specs.declared.limits.TheConstants.{LEAST_LENGTH, MOST_LENGTH, MOST_TOTALS, VERSION}
-use Rattle.delta_codec.specs.Parts.{CellParts, IsCell, IsField, TotalParts, byte, cell_bytes, dot_bytes, field_bytes, list_bytes, pause_bytes, penalty_bytes, run_bytes, stamp_bytes, text_bytes, total_bytes}
-use Rattle.delta_codec.specs.Frames.{AreCells, AreRuns, AreTotals, IsHeading, heading_bytes, magic}
+use Rattle.delta_codec.specs.declared.limits.TheConstants.{LEAST_LENGTH, MOST_LENGTH, MOST_TOTALS}
+use Rattle.delta_codec.specs.Parts.{CellParts, IsCell, IsField, TotalParts, byte, cell_bytes, dot_bytes, field_bytes, label_bytes, list_bytes, most_flags, pause_bytes, penalty_bytes, run_bytes, stamp_bytes, text_bytes, total_bytes}
+use Rattle.delta_codec.specs.Frames.{AreCells, AreRuns, AreTotals, IsHeading, IsVersion, heading_bytes, magic}
 
 -- a good part stands at the front of the bytes, and this holds of it and of what follows it
 pub record After {A : Type 0} (IsGood : A → Type 0) (spell : A → List ℕ) (Next : A → List ℕ → Type 0) (bytes : List ℕ) : Type 0 where
@@ -67,14 +67,18 @@ PauseFails fault bytes = Lacks IsBit byte BadRange fault bytes ⊎ After IsBit b
 abbrev pub LabelFails : DecodeFault → List ℕ → Type 0
 LabelFails fault bytes = TextFails 0 fault bytes ⊎ After IsText text_bytes (λ name rest. TextFails 0 fault rest) bytes
 
+-- a ring is at fault: its byte
+abbrev pub RingFails : DecodeFault → List ℕ → Type 0
+RingFails fault = Lacks IsBit byte BadRange fault
+
 -- a field that is set is at fault: its stamp, or its value
 abbrev pub FieldFails : (DecodeFault → List ℕ → Type 0) → DecodeFault → Bool → List ℕ → Type 0
 FieldFails ValueFails fault false bytes = ⊥
 FieldFails ValueFails fault true bytes = Lacks IsStamp stamp_bytes BadRange fault bytes ⊎ After IsStamp stamp_bytes (λ stamp rest. ValueFails fault rest) bytes
 
--- the flags of fields of which at least one is set
-abbrev pub IsFlags : ℕ → Type 0
-IsFlags flags = (1 ≤ flags) × (flags ≤ 7)
+-- the flags of fields of a version: at least one is set, and none that the version lacks
+abbrev pub IsFlags : ℕ → ℕ → Type 0
+IsFlags version flags = (1 ≤ flags) × (flags ≤ most_flags version)
 
 -- whether flags say that the penalty is set
 abbrev pub penalty_flag : ℕ → Bool
@@ -88,19 +92,25 @@ pause_flag flags = flags / 2 % 2 == 1
 abbrev pub label_flag : ℕ → Bool
 label_flag flags = flags / 4 % 2 == 1
 
+-- that the ring is
+abbrev pub ring_flag : ℕ → Bool
+ring_flag flags = flags / 8 % 2 == 1
+
 -- a field is set where its flag is, and within its limits
 pub record IsFlagged {T : Type 0} (IsValue : T → Type 0) (flag : Bool) (field : Option (Entry T)) : Type 0 where
   pub set : is_some field ≡ flag
   pub value : IsField IsValue field
 
--- the fields behind their flags are at fault: the penalty, or the pause behind it, or the label behind both
+-- the fields behind their flags are at fault: the penalty, or the pause behind it, or the label behind both, or the ring behind these
 abbrev pub FieldsFail : DecodeFault → ℕ → List ℕ → Type 0
 FieldsFail fault flags bytes =
     FieldFails PenaltyFails fault (penalty_flag flags) bytes
-    ⊎ After (IsFlagged IsPenalty (penalty_flag flags)) (field_bytes penalty_bytes) (λ penalty pause.
+    ⊎ After (IsFlagged IsPenalty (penalty_flag flags)) (field_bytes penalty_bytes) (λ _ pause.
     FieldFails PauseFails fault (pause_flag flags) pause
     ⊎ After (IsFlagged IsPause (pause_flag flags)) (field_bytes pause_bytes) (λ _ label.
-    FieldFails LabelFails fault (label_flag flags) label) pause) bytes
+    FieldFails LabelFails fault (label_flag flags) label
+    ⊎ After (IsFlagged IsLabel (label_flag flags)) (field_bytes label_bytes) (λ _ ring.
+    FieldFails RingFails fault (ring_flag flags) ring) label) pause) bytes
 
 -- ---- runs, cells, totals
 
@@ -118,15 +128,15 @@ pub record IsPlace (place : QueuedDot) : Type 0 where
   pub dot : IsDot place.dot
   pub queue : place.queue < QUEUES
 
--- what a cell has is at fault: dot or queue, or the interface, or the flags, or a field
-abbrev pub CellFails : DecodeFault → List ℕ → Type 0
-CellFails fault bytes =
+-- what a cell of a version has is at fault: dot or queue, or the interface, or the flags, or a field
+abbrev pub CellFails : ℕ → DecodeFault → List ℕ → Type 0
+CellFails version fault bytes =
     Lacks IsPlace place_bytes BadRange fault bytes
     ⊎ After IsPlace place_bytes (λ _ interface.
     TextFails 1 fault interface
     ⊎ After IsName text_bytes (λ _ flags.
-    Lacks IsFlags byte BadRange fault flags
-    ⊎ After IsFlags byte (FieldsFail fault) flags) interface) bytes
+    Lacks (IsFlags version) byte BadRange fault flags
+    ⊎ After (IsFlags version) byte (FieldsFail fault) flags) interface) bytes
 
 -- an element follows the last one of those before it, by this test; the first follows nothing
 abbrev pub FollowsLast : {A : Type 0} → (A → A → Bool) → List A → A → Type 0
@@ -147,10 +157,10 @@ RunFails fault before bytes =
     ⊎ After IsRunWithinLimits run_bytes (λ run _. ¬ FollowsLast is_apart before run × (fault ≡ BadOrder)) bytes
 
 -- The next cell is at fault: itself, or it doesn't follow the last one, or its dot is in no run.
-abbrev pub NextCellFails : List Run → DecodeFault → List CellParts → List ℕ → Type 0
-NextCellFails runs fault before bytes =
-    CellFails fault bytes
-    ⊎ After IsCell cell_bytes (λ cell _.
+abbrev pub NextCellFails : ℕ → List Run → DecodeFault → List CellParts → List ℕ → Type 0
+NextCellFails version runs fault before bytes =
+    CellFails version fault bytes
+    ⊎ After (IsCell version) cell_bytes (λ cell _.
     (¬ FollowsLast is_cell_before before cell × (fault ≡ BadOrder))
     ⊎ (FollowsLast is_cell_before before cell × (in_runs runs cell.0 ≡ false) × (fault ≡ BadRange))) bytes
 
@@ -189,9 +199,9 @@ ListFails IsGood spell most NextFails fault bytes =
 abbrev pub RunsFail : DecodeFault → List ℕ → Type 0
 RunsFail = ListFails AreRuns run_bytes MOST_RUNS RunFails
 
--- the list of cells is at fault
-abbrev pub CellsFail : List Run → DecodeFault → List ℕ → Type 0
-CellsFail runs = ListFails (AreCells runs) cell_bytes MOST_LIVE (NextCellFails runs)
+-- the list of cells of a version is at fault
+abbrev pub CellsFail : ℕ → List Run → DecodeFault → List ℕ → Type 0
+CellsFail version runs = ListFails (AreCells version runs) cell_bytes MOST_LIVE (NextCellFails version runs)
 
 -- the list of totals is at fault
 abbrev pub TotalsFail : DecodeFault → List ℕ → Type 0
@@ -199,22 +209,22 @@ TotalsFail = ListFails AreTotals total_bytes MOST_TOTALS TotalFails
 
 -- ---- the whole
 
--- What stands behind the length is at fault: the magic; or the version behind it; or the heading; or the runs; or the cells, of which each is of a dot in a run; or the totals; or bytes follow these.
+-- What stands behind the length is at fault: the magic; or the version behind it; or the heading; or the runs; or the cells, of which each is of the version and of a dot in a run; or the totals; or bytes follow these.
 abbrev pub ContentFails : DecodeFault → List ℕ → Type 0
 ContentFails fault bytes =
     Lacks (λ letters. letters ≡ magic) (λ letters. letters) BadMagic fault bytes
-    ⊎ After (λ letters. letters ≡ magic) (λ letters. letters) (λ _ version.
-    Lacks (λ number. number ≡ VERSION) byte BadVersion fault version
-    ⊎ After (λ number. number ≡ VERSION) byte (λ _ heading.
+    ⊎ After (λ letters. letters ≡ magic) (λ letters. letters) (λ _ versioned.
+    Lacks IsVersion byte BadVersion fault versioned
+    ⊎ After IsVersion byte (λ version heading.
     Lacks IsHeading heading_bytes BadRange fault heading
     ⊎ After IsHeading heading_bytes (λ _ runs.
     RunsFail fault runs
     ⊎ After AreRuns (list_bytes run_bytes) (λ known cells.
-    CellsFail known fault cells
-    ⊎ After (AreCells known) (list_bytes cell_bytes) (λ _ totals.
+    CellsFail version known fault cells
+    ⊎ After (AreCells version known) (list_bytes cell_bytes) (λ _ totals.
     TotalsFail fault totals
     ⊎ After AreTotals (list_bytes total_bytes) (λ _ rest.
-    (rest ≢ []) × (fault ≡ BadRange)) totals) cells) runs) heading) version) bytes
+    (rest ≢ []) × (fault ≡ BadRange)) totals) cells) runs) heading) versioned) bytes
 
 -- Bytes have a fault: the length is missing; or it is too great, or too small; or fewer bytes follow; or the bytes of that length that follow are at fault.
 abbrev pub HasFault : List ℕ → DecodeFault → Type 0

@@ -9,16 +9,17 @@ use Rattle.dots.specs.WithinLimits.{AreDots}
 use Rattle.operations.specs.Totals.{InLimits}
 use Rattle.member_orset.specs.Members.{Holding}
 use Rattle.delta.specs.declared.frame.Frame.{Frame}
+use Rattle.delta_codec.specs.declared.limits.TheConstants.{VERSION}
 use Rattle.delta_codec.specs.Parts.{IsCell}
 
--- a frame fits the format: its maker, its number, the dots that it knows, its live dots with all that they have, each of them known, and its totals are within
+-- a frame fits the format, as it is written: its maker, its number, the dots that it knows, its live dots with all that they have, each of them known, and its totals are within
 -- their limits, and there are no more live dots, and no more runs of known ones, than there may be
 pub record FitsFormat (frame : Frame) : Type 0 where
   pub maker : IsSite frame.maker
   pub number : IsCount frame.number
   pub dots : AreDots frame.delta.members.known
   pub runs : run_count frame.delta.members.known ≤ MOST_RUNS
-  pub cells : (dot : Dot) (held : Holding) → map.get frame.delta.members.live dot ≡ Some held → IsCell (dot, held)
+  pub cells : (dot : Dot) (held : Holding) → map.get frame.delta.members.live dot ≡ Some held → IsCell VERSION (dot, held)
   pub known : (dot : Dot) (held : Holding) → map.get frame.delta.members.live dot ≡ Some held → set.contains frame.delta.members.known dot ≡ true
   pub few : map.len frame.delta.members.live ≤ MOST_LIVE
   pub totals : InLimits frame.delta.totals.entries

@@ -18,13 +18,17 @@ most_pause = 1 + most_text
 abbrev pub most_label : ℕ
 most_label = most_text + most_text
 
+-- a ring
+abbrev pub most_ring : ℕ
+most_ring = 1
+
 -- a field whose value has so many at most: its stamp has nine
 abbrev pub most_field : ℕ → ℕ
 most_field most = 9 + most
 
 -- fields, with their flags
 abbrev pub most_fields : ℕ
-most_fields = 1 + (most_field most_penalty + (most_field most_pause + most_field most_label))
+most_fields = 1 + (most_field most_penalty + (most_field most_pause + (most_field most_label + most_field most_ring)))
 
 -- a cell, whose dot and queue have eleven
 abbrev pub most_cell : ℕ

@@ -1,5 +1,5 @@
 -- The parts of a frame: how each is spelled as bytes, and which values it may have. Numbers are big-endian.
-use Rattle.std.specs.Prelude.{ℕ, ◌≤◌, ◌+◌, ◌*◌, Bool, true, false, List, [], ◌∷◌, ◌++◌, length, Option, Some, None, IfSome, is_some}
+use Rattle.std.specs.Prelude.{ℕ, ⊤, ◌≤◌, ◌+◌, ◌*◌, ◌==◌, Bool, true, false, List, [], ◌∷◌, ◌++◌, length, Option, Some, None, IfSome, is_some, if◌then◌else◌}
 use Rattle.std.specs.Int.{w16, w32, w64, to_be_bytes}
 use Rattle.std.specs.List.{All, flat_map}
 use Rattle.dots.specs.declared.call_totals.CallTotals.{CallTotals}
@@ -11,6 +11,7 @@ use Rattle.operations.specs.Totals.{Key}
 use Rattle.dots.specs.Values.{Dot, Stamp, PauseState, IsPenalty}
 use Rattle.dots.specs.WithinLimits.{IsDot, IsMember, IsPause, IsLabel, IsStamp}
 use Rattle.member_orset.specs.Members.{HasField, Holding}
+use Rattle.delta_codec.specs.declared.limits.TheConstants.{OLDEST_VERSION}
 
 -- a live dot with its member and fields
 abbrev pub CellParts : Type 0
@@ -59,18 +60,26 @@ pause_bytes pause = bit_of pause.paused ∷ text_bytes pause.reason
 abbrev pub label_bytes : Label → List ℕ
 label_bytes label = text_bytes label.name ++ text_bytes label.state
 
+-- a ring: 1 for true and 0 for false
+abbrev pub ring_bytes : Bool → List ℕ
+ring_bytes ring = byte (bit_of ring)
+
 -- a field that is set: its stamp and its value; one that isn't has no bytes
 abbrev pub field_bytes : {T : Type 0} → (T → List ℕ) → Option (Entry T) → List ℕ
 field_bytes value None = []
 field_bytes value (Some entry) = stamp_bytes entry.stamp ++ value entry.value
 
--- which fields are set: 1 for the penalty, 2 for the pause, 4 for the label, added up
+-- which fields are set: 1 for the penalty, 2 for the pause, 4 for the label, 8 for the ring, added up
 abbrev pub flags_of : DotFields → ℕ
-flags_of fields = bit_of (is_some fields.penalty) + (2 * bit_of (is_some fields.pause) + 4 * bit_of (is_some fields.label))
+flags_of fields = bit_of (is_some fields.penalty) + (2 * bit_of (is_some fields.pause) + (4 * bit_of (is_some fields.label) + 8 * bit_of (is_some fields.ring)))
+
+-- the greatest flags of a version, with which all its fields are set: the oldest has no ring
+abbrev pub most_flags : ℕ → ℕ
+most_flags version = if version == OLDEST_VERSION then 7 else 15
 
 -- fields: the flags, and then each field that is set
 abbrev pub fields_bytes : DotFields → List ℕ
-fields_bytes fields = flags_of fields ∷ (field_bytes penalty_bytes fields.penalty ++ (field_bytes pause_bytes fields.pause ++ field_bytes label_bytes fields.label))
+fields_bytes fields = flags_of fields ∷ (field_bytes penalty_bytes fields.penalty ++ (field_bytes pause_bytes fields.pause ++ (field_bytes label_bytes fields.label ++ field_bytes ring_bytes fields.ring)))
 
 -- a cell: the dot, the queue, two bytes, the interface and the fields
 abbrev pub cell_bytes : CellParts → List ℕ
@@ -95,22 +104,28 @@ pub record IsEntry {T : Type 0} (IsValue : T → Type 0) (entry : Entry T) : Typ
 abbrev pub IsField : {T : Type 0} → (T → Type 0) → Option (Entry T) → Type 0
 IsField IsValue field = IfSome field (IsEntry IsValue)
 
+-- a ring is true or false, and each may be
+abbrev pub IsRing : Bool → Type 0
+IsRing ring = ⊤
+
 -- fields are within their limits, each where it is set
 pub record AreInLimits (fields : DotFields) : Type 0 where
   pub penalty : IsField IsPenalty fields.penalty
   pub pause : IsField IsPause fields.pause
   pub label : IsField IsLabel fields.label
+  pub ring : IsField IsRing fields.ring
 
--- fields: at least one is set
-pub record AreFields (fields : DotFields) : Type 0 where
+-- fields of a version: at least one is set, and none that the version lacks
+pub record AreFields (version : ℕ) (fields : DotFields) : Type 0 where
   pub within : AreInLimits fields
   pub some : HasField fields
+  pub of_version : flags_of fields ≤ most_flags version
 
--- a cell: of a dot, a member and fields within their limits
-pub record IsCell (cell : CellParts) : Type 0 where
+-- a cell of a version: of a dot, a member and fields within their limits
+pub record IsCell (version : ℕ) (cell : CellParts) : Type 0 where
   pub dot : IsDot cell.0
   pub member : IsMember cell.1.0
-  pub fields : AreFields cell.1.1
+  pub fields : AreFields version cell.1.1
 
 -- a list of the format: each of its elements is within the limits, they stand in order, and there are few enough
 pub record IsListOf {A : Type 0} (IsGood : A → Type 0) (AreInOrder : List A → Type 0) (most : ℕ) (xs : List A) : Type 0 where

@@ -17,10 +17,10 @@ use Rattle.dots.specs.Values.{Dot, PauseState, Stamp, is_bad_byte}
 use Rattle.member_orset.specs.Members.{Holding}
 use Rattle.delta_codec.specs.declared.decode_fault.DecodeFault.{DecodeFault}
 use Rattle.delta_codec.specs.declared.decode_fault.DecodeFault.TheVariants.{Truncated, BadMagic, BadVersion, BadRange, BadOrder, BadText, TooLarge, Memory}
-use Rattle.delta_codec.specs.declared.limits.TheConstants.{LEAST_LENGTH, MOST_LENGTH, MOST_TOTALS, VERSION}
-use Rattle.delta_codec.specs.Parts.{CellParts, TotalParts}
+use Rattle.delta_codec.specs.declared.limits.TheConstants.{LEAST_LENGTH, MOST_LENGTH, MOST_TOTALS, OLDEST_VERSION, VERSION}
+use Rattle.delta_codec.specs.Parts.{CellParts, TotalParts, most_flags}
 use Rattle.delta_codec.specs.Frames.{Heading, magic}
-use Rattle.delta_codec.specs.Faults.{QueuedDot, label_flag, pause_flag, penalty_flag}
+use Rattle.delta_codec.specs.Faults.{QueuedDot, label_flag, pause_flag, penalty_flag, ring_flag}
 
 -- what is read: a part and the bytes behind it, or a fault
 abbrev pub Read : Type 0 → Type 0
@@ -89,9 +89,9 @@ calls_at bytes = tested (λ n. nat_le n MOST_CALLS) BadRange (number_at w64 byte
 unfoldable pub bit_at : List ℕ → Read ℕ
 bit_at bytes = tested (λ n. nat_lt n 2) BadRange (byte_at bytes)
 
--- the flags of fields, of which one at least is set
-unfoldable pub flags_at : List ℕ → Read ℕ
-flags_at bytes = tested (λ n. nat_le 1 n && nat_le n 7) BadRange (byte_at bytes)
+-- the flags of fields of a version, of which one at least is set
+unfoldable pub flags_at : ℕ → List ℕ → Read ℕ
+flags_at version bytes = tested (λ n. nat_le 1 n && nat_le n (most_flags version)) BadRange (byte_at bytes)
 
 -- ---- texts
 
@@ -137,6 +137,10 @@ pause_at bytes = made (λ p. record { paused = p.0 == 1; reason = p.1 }) (both (
 unfoldable pub label_at : List ℕ → Read Label
 label_at bytes = made (λ p. record { name = p.0; state = p.1 }) (both (text_at 0 bytes) (λ _. text_at 0))
 
+-- a ring: whether its bit is 1
+unfoldable pub ring_at : List ℕ → Read Bool
+ring_at bytes = made (λ n. n == 1) (bit_at bytes)
+
 -- what is set of a field: its stamp, and then its value
 unfoldable pub entry_at : {T : Type 0} → (List ℕ → Read T) → List ℕ → Read (Entry T)
 entry_at value_at bytes = made (λ p. record { stamp = p.0; value = p.1 }) (both (stamp_at bytes) (λ _. value_at))
@@ -149,13 +153,14 @@ field_at true value_at bytes = made Some (entry_at value_at bytes)
 -- the fields behind their flags
 unfoldable pub set_fields_at : ℕ → List ℕ → Read DotFields
 set_fields_at flags bytes =
-    made (λ p. record { penalty = p.0; pause = p.1.0; label = p.1.1 })
+    made (λ p. record { penalty = p.0; pause = p.1.0; label = p.1.1.0; ring = p.1.1.1 })
     (both (field_at (penalty_flag flags) penalty_at bytes) (λ _ rest.
-    both (field_at (pause_flag flags) pause_at rest) (λ _. field_at (label_flag flags) label_at)))
+    both (field_at (pause_flag flags) pause_at rest) (λ _ rest.
+    both (field_at (label_flag flags) label_at rest) (λ _. field_at (ring_flag flags) ring_at))))
 
--- the flags, and then the fields that they say
-unfoldable pub fields_at : List ℕ → Read DotFields
-fields_at bytes = made (λ p. p.1) (both (flags_at bytes) set_fields_at)
+-- the flags of fields of a version, and then the fields that they say
+unfoldable pub fields_at : ℕ → List ℕ → Read DotFields
+fields_at version bytes = made (λ p. p.1) (both (flags_at version bytes) set_fields_at)
 
 -- ---- runs, cells, totals
 
@@ -171,11 +176,11 @@ dot_at bytes = made (λ p. record { site = p.0; count = p.1 }) (both (site_at by
 unfoldable pub place_at : List ℕ → Read QueuedDot
 place_at bytes = made (λ p. record { dot = p.0; queue = p.1 }) (both (dot_at bytes) (λ _. queue_at))
 
--- a cell: dot and queue, the interface, and then the fields
-unfoldable pub cell_at : List ℕ → Read CellParts
-cell_at bytes =
+-- a cell of a version: dot and queue, the interface, and then the fields
+unfoldable pub cell_at : ℕ → List ℕ → Read CellParts
+cell_at version bytes =
     made (λ p. (p.0.dot, (record { queue = p.0.queue; interface = p.1.0 }, p.1.1)))
-    (both (place_at bytes) (λ _ rest. both (text_at 1 rest) (λ _. fields_at)))
+    (both (place_at bytes) (λ _ rest. both (text_at 1 rest) (λ _. fields_at version)))
 
 -- a total: its site, its queue, and the calls completed and abandoned, of which one is counted at least
 unfoldable pub total_at : List ℕ → Read TotalParts
@@ -228,9 +233,9 @@ pub record Elements (A K : Type 0) : Type 0 where
 abbrev pub run_elements : Elements Run Run
 run_elements = record { at = run_at; key = λ run. run; fault_of = order_fault is_apart }
 
--- cells of known dots, in the order of these
-abbrev pub cell_elements : (Dot → Bool) → Elements CellParts Dot
-cell_elements is_known = record { at = cell_at; key = λ cell. cell.0; fault_of = dot_fault is_known }
+-- cells of a version, of known dots, in the order of these
+abbrev pub cell_elements : ℕ → (Dot → Bool) → Elements CellParts Dot
+cell_elements version is_known = record { at = cell_at version; key = λ cell. cell.0; fault_of = dot_fault is_known }
 
 -- totals, in the order of their keys
 abbrev pub total_elements : Elements TotalParts Key
@@ -281,9 +286,9 @@ totals_of = fold with_total map.empty
 abbrev pub runs_at : List ℕ → Read (List Run)
 runs_at = list_at run_elements MOST_RUNS
 
--- the list of cells of known dots
-abbrev pub cells_at : (Dot → Bool) → List ℕ → Read (List CellParts)
-cells_at is_known = list_at (cell_elements is_known) MOST_LIVE
+-- the list of cells of a version, of known dots
+abbrev pub cells_at : ℕ → (Dot → Bool) → List ℕ → Read (List CellParts)
+cells_at version is_known = list_at (cell_elements version is_known) MOST_LIVE
 
 -- the list of totals
 abbrev pub totals_at : List ℕ → Read (List TotalParts)
@@ -297,10 +302,14 @@ magic_at [] = Err BadMagic
 magic_at (q ∷ []) = Err BadMagic
 magic_at (q ∷ d ∷ rest) = if (q == 81) && (d == 68) then Ok (magic, rest) else Err BadMagic
 
+-- whether a number is one of the versions that are read
+abbrev pub is_version : ℕ → Bool
+is_version n = nat_le OLDEST_VERSION n && nat_le n VERSION
+
 -- the version of the format
 unfoldable pub version_at : List ℕ → Read ℕ
 version_at [] = Err BadVersion
-version_at (n ∷ rest) = if n == VERSION then Ok (n, rest) else Err BadVersion
+version_at (n ∷ rest) = if is_version n then Ok (n, rest) else Err BadVersion
 
 -- who made the frame, and its number
 unfoldable pub heading_at : List ℕ → Read Heading
@@ -330,7 +339,7 @@ Kept = Heading × (set.FinSet dot_cmp × (map.FinMap dot_cmp Holding × Entries)
 unfoldable pub kept_at : List ℕ → Result Kept DecodeFault
 kept_at bytes =
     magic_at bytes >>= λ letters. version_at letters.1 >>= λ version. heading_at version.1 >>= λ heading.
-    made known_of (runs_at heading.1) >>= λ known. made live_of (cells_at (set.contains known.0) known.1) >>= λ live. made totals_of (totals_at live.1) >>= λ totals.
+    made known_of (runs_at heading.1) >>= λ known. made live_of (cells_at version.0 (set.contains known.0) known.1) >>= λ live. made totals_of (totals_at live.1) >>= λ totals.
     ended ((heading.0, (known.0, (live.0, totals.0))), totals.1)
 
 -- the heading, with what stands before it

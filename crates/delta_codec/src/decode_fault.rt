@@ -10,7 +10,7 @@ pub enum DecodeFault {
     /// The two letters that stand behind each frame's length are missing.
     #[error("no frame")]
     BadMagic,
-    /// The frame is of another version than `VERSION`.
+    /// The frame is of no version from `OLDEST_VERSION` to `VERSION`.
     #[error("unknown version")]
     BadVersion,
     /// A number, flags, or the frame's length is out of its range; a part reaches past the frame's end; a reason stands behind no

@@ -33,10 +33,10 @@ fn read_content(alloc: Global, bytes: &[u8]) -> Result<Frame, DecodeFault>
 {
     let mut reader = Reader::new(bytes);
     reader.magic()?;
-    reader.version()?;
+    let version = reader.version()?;
     let (maker, number) = read_heading(&mut reader)?;
     let context = read_runs(alloc, &mut reader)?;
-    let members = read_cells(alloc, context, &mut reader)?;
+    let members = read_cells(alloc, version, context, &mut reader)?;
     let totals = read_totals(alloc, &mut reader)?;
     if !reader.is_at_end() {
         return Err(DecodeFault::BadRange);
@@ -93,13 +93,15 @@ fn read_frame(alloc: Global, bytes: &[u8]) -> Result<(Frame, usize), DecodeFault
     Ok((frame, 4 + content.len()))
 }
 
-/// The frame that the bytes begin with, and how many bytes it has; bytes behind it are not looked at. A frame is answered exactly
-/// where the bytes begin with one, or else `Memory`. Each run, cell and total is kept as it is read (this project's own).
+/// The frame that the bytes begin with, in either version, and how many bytes it has; bytes behind it are not looked at. A frame is
+/// answered exactly where the bytes begin with one, or else `Memory`. Each run, cell and total is kept as it is read (this project's
+/// own).
 ///
 /// The bytes are read from left to right, and the first rule that fails names the fault. 1 `Truncated`: fewer than four bytes; then
 /// `TooLarge`: a length over 8,388,608; then `BadRange`: one under 24; then `Truncated`: fewer bytes than the length says. From
 /// there on only these are looked at. 2 `BadMagic`, then `BadVersion`. 3 `BadRange`: a part that would reach past the end, a
-/// number out of its range, a reason of what isn't a pause, totals of two zeros, a dot in no run, bytes behind the totals.
+/// number or flags out of their range in this version, a reason of what isn't a pause, totals of two zeros, a dot in no run, bytes
+/// behind the totals.
 /// 4 `TooLarge`: a count over its limit. 5 `BadText`: a text of more than 80 bytes, an interface of none, a CR, LF or NUL in a
 /// text. 6 `BadOrder`: a run, a cell or totals that don't follow the one before. 7 `Memory`.
 ///

@@ -193,11 +193,12 @@ fn keep_cell(
     }
 }
 
-// Reads a cell whose dot may stand behind the last one and is known, gives it to a builder, and answers its dot. What it reads is moved
-// once, into the set.
+// Reads a cell of this version whose dot may stand behind the last one and is known, gives it to a builder, and answers its dot. What it
+// reads is moved once, into the set.
 #[tactic(auto, unfolding(crate::specs::Reading::cell_at, crate::specs::Reading::fields_at, crate::specs::Reading::set_fields_at))]
 fn read_cell(
     builder: &mut SetBuilder,
+    version: u8,
     last: Option<Dot>,
     reader: &mut Reader<'_>,
 ) -> Result<Dot, DecodeFault>
@@ -206,28 +207,31 @@ fn read_cell(
     ensures known { builder.new.known ≡ builder.old.known }
     ensures cell { GivesWithMemory (λ dot. ((dot, builder.new.live), reader.new)) result
         (made (kept_cell builder.old.live)
-        (next_at (cell_elements (set.contains builder.old.known)) last reader.old)) }
+        (next_at (cell_elements version (set.contains builder.old.known)) last reader.old)) }
     ensures order { IfOk result (λ dot. order_fault is_dot_before last dot ≡ None) }
 {
     let (dot, queue) = read_place(reader)?;
     let interface = read_interface(reader)?;
-    let flags = read_flags(reader)?;
+    let flags = read_flags(version, reader)?;
     let penalty = read_field(flags % 2 == 1, reader)?;
     let pause = read_field(flags / 2 % 2 == 1, reader)?;
     let label = read_field(flags / 4 % 2 == 1, reader)?;
+    let ring = read_field(flags / 8 % 2 == 1, reader)?;
     see_dot(builder.context(), last, dot)?;
     let fields = Fields {
         penalty,
         pause,
         label,
+        ring,
     };
     keep_cell(builder, dot, Member { queue, interface }, fields)?;
     Ok(dot)
 }
 
-// So many cells, given to a builder.
+// So many cells of this version, given to a builder.
 fn read_counted_cells(
     builder: &mut SetBuilder,
+    version: u8,
     count: u32,
     reader: &mut Reader<'_>,
 ) -> Result<(), DecodeFault>
@@ -235,31 +239,32 @@ fn read_counted_cells(
     requires fresh { builder.old.live ≡ map.empty }
     ensures known { builder.new.known ≡ builder.old.known }
     ensures cells { GivesWithMemory (λ _. (builder.new.live, reader.new)) result
-        (made live_of
-        (elements_at (cell_elements (set.contains builder.old.known)) count None reader.old)) }
+        (made live_of (elements_at (cell_elements version (set.contains builder.old.known)) count
+        None reader.old)) }
 {
     let mut last = None;
     for _ in 0..count {
-        last = Some(read_cell(builder, last, reader)?);
+        last = Some(read_cell(builder, version, last, reader)?);
     }
     Ok(())
 }
 
-// The cells, as the set that knows the dots of a context.
+// The cells of this version, as the set that knows the dots of a context.
 #[tactic(auto, unfolding(crate::specs::Reading::list_at))]
 pub(crate) fn read_cells(
     alloc: Global,
+    version: u8,
     context: Context,
     reader: &mut Reader<'_>,
 ) -> Result<MemberSet, DecodeFault>
     ensures known { IfOk result (λ x. x.known ≡ context.dots) }
     ensures retired { IfOk result (λ x. x.retired ≡ 0) }
     ensures cells { GivesWithMemory (λ x. (x.live, reader.new)) result
-        (made live_of (cells_at (set.contains context.dots) reader.old)) }
+        (made live_of (cells_at version (set.contains context.dots) reader.old)) }
 {
     let count = read_size(MOST_LIVE, reader)?;
     let mut builder = SetBuilder::new(alloc, context);
-    read_counted_cells(&mut builder, count, reader)?;
+    read_counted_cells(&mut builder, version, count, reader)?;
     Ok(builder.finish())
 }
 

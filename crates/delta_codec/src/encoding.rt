@@ -1,9 +1,10 @@
 ghost use Rattle.std.specs.Prelude.{◌≡◌, ◌++◌, ◌≤◌, IfOk, OnOk, length};
 ghost use Rattle.dots.specs.declared.limits.TheConstants.{MOST_RUNS};
 ghost use Rattle.delta.specs.Frames.{IsInRanges, frame_of};
-ghost use Rattle.delta_codec.specs.Frames.{Spells, content_bytes, frame_bytes};
+ghost use Rattle.delta_codec.specs.Frames.{SpellsIn, content_bytes, frame_bytes};
 ghost use Rattle.delta_codec.specs.Frames.{parts_with};
 ghost use Rattle.delta_codec.specs.Written.{AreWritten};
+ghost use Rattle.delta_codec.specs.declared.limits.TheConstants.{VERSION};
 
 use crate::sizes::content_size;
 use crate::writing::{put_cell_list, put_number4, put_opening, put_run_list, put_total_list};
@@ -63,17 +64,18 @@ pub fn encode_parts(
     delta: &Delta,
 ) -> Result<Vec<u8>, Memory>
     ensures { let frame = frame_of maker number delta.now in
-        IsInRanges frame → IfOk result (λ bytes. Spells frame bytes.items) }
+        IsInRanges frame → IfOk result (λ bytes. SpellsIn VERSION frame bytes.items) }
 {
     let runs = delta.members().context().as_slice();
     encode_with(alloc, maker, number, delta, runs)
 }
 
-/// The bytes that spell a frame, for a frame within the ranges of the format: its number is from 1 to 2^40, and each queue's
-/// number is below 256. They have at most 8,388,612 bytes (`a_frame_has_a_length`). Of other frames it is only said that the call
+/// The bytes that spell a frame in version `VERSION`, for a frame within the ranges of the format: its number is from 1 to 2^40, and each
+/// queue's number is below 256. They have at most 7,618,588 bytes (`a_frame_has_a_length`). Of other frames it is only said that the call
 /// returns. The exact room is reserved first. The one fault is want of memory (this project's own).
 pub fn encode(alloc: Global, frame: &Frame) -> Result<Vec<u8>, Memory>
-    ensures { IsInRanges frame.now → IfOk result (λ bytes. Spells frame.now bytes.items) }
+    ensures { IsInRanges frame.now
+        → IfOk result (λ bytes. SpellsIn VERSION frame.now bytes.items) }
 {
     encode_parts(alloc, frame.maker, frame.number, &frame.delta)
 }

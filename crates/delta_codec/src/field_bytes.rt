@@ -2,9 +2,11 @@
 ghost use Rattle.std.specs.Prelude.{◌≡◌, ◌++◌, ◌≤◌, ℕ, List, OnOk, length};
 ghost use Rattle.dots.specs.Values.{IsPenalty};
 ghost use Rattle.dots.specs.WithinLimits.{IsLabel, IsPause};
-ghost use Rattle.delta_codec.specs.Measures.{most_label, most_pause, most_penalty};
-ghost use Rattle.delta_codec.specs.Parts.{label_bytes, pause_bytes, penalty_bytes};
+ghost use Rattle.delta_codec.specs.Measures.{most_label, most_pause, most_penalty, most_ring};
+ghost use Rattle.delta_codec.specs.Parts.{IsRing, label_bytes, pause_bytes, penalty_bytes};
+ghost use Rattle.delta_codec.specs.Parts.{ring_bytes};
 ghost use Rattle.delta_codec.specs.Reading.{ReturnsRead, Read, label_at, pause_at, penalty_at};
+ghost use Rattle.delta_codec.specs.Reading.{ring_at};
 
 use crate::fields::{read_reason, read_text};
 use crate::numbers::read_bit;
@@ -120,5 +122,30 @@ impl FieldBytes for Label {
         let name = read_text(0, reader)?;
         let state = read_text(0, reader)?;
         Ok(Label { name, state })
+    }
+}
+
+impl FieldBytes for bool {
+    ghost bytes = { ring_bytes };
+
+    ghost is_within = { IsRing };
+
+    ghost most = { most_ring };
+
+    ghost at = { ring_at };
+
+    fn size(&self) -> usize {
+        1
+    }
+
+    fn put(&self, out: &mut Vec<u8>) -> Result<(), Memory> {
+        out.push(u8::from(*self))?;
+        Ok(())
+    }
+
+    #[tactic(auto, unfolding(crate::specs::Reading::ring_at))]
+    fn read(reader: &mut Reader<'_>) -> Result<bool, DecodeFault> {
+        let ring = read_bit(reader)?;
+        Ok(ring == 1)
     }
 }

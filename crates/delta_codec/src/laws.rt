@@ -8,40 +8,48 @@ ghost use Rattle.operations.specs.FrameLimits.{FitsInFrame};
 ghost use Rattle.operations.specs.Knowledge.{Knowledge};
 ghost use Rattle.delta.specs.declared.frame.Frame.{Frame};
 ghost use Rattle.delta_codec.specs.declared.limits.TheConstants.{LEAST_LENGTH, MOST_LENGTH};
+ghost use Rattle.delta_codec.specs.declared.limits.TheConstants.{VERSION};
 ghost use Rattle.delta.specs.Frames.{IsSameFrame};
 ghost use Rattle.delta.specs.Standing.{IsDeltaOf};
 ghost use Rattle.delta_codec.specs.Decoding.{AreBytes, BeginsWithFrame, IsAtFault};
 ghost use Rattle.delta_codec.specs.Faults.{HasFault};
 ghost use Rattle.delta_codec.specs.Fitting.{FitsFormat};
-ghost use Rattle.delta_codec.specs.Frames.{AreParts, FrameParts, Spells, content_bytes};
+ghost use Rattle.delta_codec.specs.Frames.{AreParts, FrameParts, Spells, SpellsIn, content_bytes};
 ghost use Rattle.delta_codec.specs.Frames.{frame_bytes};
 
-/// Each frame has one spelling: frames of one maker and number whose deltas say the same have equal bytes.
+/// Each frame has one spelling in each version: there frames of one maker and number whose deltas say the same have equal bytes.
 pub fn each_frame_has_one_spelling()
-    ensures { (x y : Frame) (a b : List ℕ) → IsSameFrame x y → Spells x a → Spells y b → a ≡ b }
+    ensures { (version : ℕ) (x y : Frame) (a b : List ℕ)
+        → IsSameFrame x y → SpellsIn version x a → SpellsIn version y b → a ≡ b }
 {}
 
-/// Bytes that spell a frame spell each of its maker and number whose delta says the same, so a copy of a delta is spelled as the delta is.
+/// Bytes that spell a frame spell each of its maker and number whose delta says the same, in the same version; so a copy of a delta is
+/// spelled as the delta is.
 pub fn a_spelling_is_of_all_that_say_the_same()
-    ensures { (x y : Frame) (bytes : List ℕ) → Spells x bytes → IsSameFrame x y → Spells y bytes }
+    ensures any { (x y : Frame) (bytes : List ℕ)
+        → Spells x bytes → IsSameFrame x y → Spells y bytes }
+    ensures one { (version : ℕ) (x y : Frame) (bytes : List ℕ)
+        → SpellsIn version x bytes → IsSameFrame x y → SpellsIn version y bytes }
 {}
 
-/// Bytes spell at most one frame, and no spelling begins another.
+/// Bytes spell at most one frame, in one version, and no spelling begins another.
 pub fn bytes_spell_one_frame()
     ensures one { (x y : Frame) (bytes : List ℕ)
         → Spells x bytes → Spells y bytes → IsSameFrame x y }
+    ensures version { (v w : ℕ) (x y : Frame) (bytes : List ℕ)
+        → SpellsIn v x bytes → SpellsIn w y bytes → v ≡ w }
     ensures no_prefix { (x y : Frame) (bytes rest : List ℕ)
         → Spells x bytes → Spells y (bytes ++ rest) → rest ≡ [] }
 {}
 
-/// A frame is never too long, nor too short, for its length field. It has at most 7,454,748 bytes.
+/// A frame is never too long, nor too short, for its length field. It has at most 7,618,588 bytes.
 pub fn a_frame_has_a_length()
     ensures least { (parts : FrameParts)
         → AreParts parts → LEAST_LENGTH ≤ length (content_bytes parts) }
     ensures most { (parts : FrameParts)
         → AreParts parts → length (content_bytes parts) ≤ MOST_LENGTH }
     ensures whole { (parts : FrameParts)
-        → AreParts parts → length (frame_bytes parts) ≤ 7454748 }
+        → AreParts parts → length (frame_bytes parts) ≤ 7618588 }
 {}
 
 /// Bytes begin with a frame or have a fault, and never both. They have one fault at most, and it isn't `Memory`.
@@ -67,9 +75,11 @@ pub fn a_front_stays()
         → fault ≢ Truncated → HasFault bytes fault → HasFault (bytes ++ more) fault }
 {}
 
-/// A frame has a spelling exactly where it fits the format: all that it has is within its limits, and each of its live dots is known.
+/// A frame has a spelling, and so one in the version that is written, exactly where it fits the format: all that it has is within its
+/// limits, and each of its live dots is known.
 pub fn a_frame_that_fits_the_format_has_a_spelling()
-    ensures some { (frame : Frame) → FitsFormat frame → (bytes : List ℕ) × Spells frame bytes }
+    ensures some { (frame : Frame)
+        → FitsFormat frame → (bytes : List ℕ) × SpellsIn VERSION frame bytes }
     ensures only { (frame : Frame) (bytes : List ℕ) → Spells frame bytes → FitsFormat frame }
 {}
 
@@ -78,5 +88,6 @@ pub fn the_frame_of_a_knowledge_that_fits_has_a_spelling()
     ensures fits { (frame : Frame) (k : Knowledge) → FitsInFrame k → IsDeltaOf frame.delta k
         → IsSite frame.maker → IsCount frame.number → FitsFormat frame }
     ensures some { (frame : Frame) (k : Knowledge) → FitsInFrame k → IsDeltaOf frame.delta k
-        → IsSite frame.maker → IsCount frame.number → (bytes : List ℕ) × Spells frame bytes }
+        → IsSite frame.maker → IsCount frame.number
+        → (bytes : List ℕ) × SpellsIn VERSION frame bytes }
 {}

@@ -1,4 +1,5 @@
-//! Frames: how a delta is sent from one site to another, as bytes. Each frame has one spelling, and none begins another.
+//! Frames: how a delta is sent from one site to another, as bytes. Each frame has one spelling in each version of the format, and none
+//! begins another.
 #![tactic(auto)]
 
 mod decode_fault;
@@ -20,5 +21,5 @@ pub use decoding::decode;
 pub use delta::Frame;
 pub use dots::Memory;
 pub use encoding::{encode, encode_parts};
-pub use limits::{LEAST_LENGTH, MOST_LENGTH, MOST_TOTALS, VERSION};
+pub use limits::{LEAST_LENGTH, MOST_LENGTH, MOST_TOTALS, OLDEST_VERSION, VERSION};
 pub use splitter::Splitter;

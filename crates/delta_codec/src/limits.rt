@@ -1,7 +1,10 @@
 //! The limits of the format, each with its name (this project's own). Contracts and definitions cite these.
 
-/// The version of the format.
-pub const VERSION: u8 = 1;
+/// The version of the format that is written.
+pub const VERSION: u8 = 2;
+
+/// The oldest version that is read.
+pub const OLDEST_VERSION: u8 = 1;
 
 /// The least number that a frame's length field may have.
 pub const LEAST_LENGTH: usize = 24;

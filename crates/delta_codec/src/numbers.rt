@@ -3,11 +3,12 @@ ghost use Rattle.std.specs.Prelude.{◌≡◌, ◌≤◌, ◌<◌, IfOk};
 ghost use Rattle.dots.specs.declared.limits.TheConstants.{MOST_CALLS, MOST_COUNT, QUEUES};
 ghost use Rattle.dots.specs.Values.{IsCount};
 ghost use Rattle.delta_codec.specs.Faults.{IsFlags};
+ghost use Rattle.delta_codec.specs.Parts.{most_flags};
 ghost use Rattle.delta_codec.specs.Reading.{ReturnsRead, site_at, count_at, last_at, queue_at};
 ghost use Rattle.delta_codec.specs.Reading.{calls_at, bit_at, flags_at, size_at};
 
-use crate::DecodeFault;
 use crate::reader::Reader;
+use crate::{DecodeFault, OLDEST_VERSION};
 use dots::{MOST_CALLS, MOST_COUNT, QUEUES, SiteId};
 
 // A site.
@@ -87,14 +88,22 @@ pub(crate) fn read_bit(reader: &mut Reader<'_>) -> Result<u8, DecodeFault>
     Ok(number)
 }
 
-// The flags of a cell.
-#[tactic(auto, unfolding(crate::specs::Reading::flags_at))]
-pub(crate) fn read_flags(reader: &mut Reader<'_>) -> Result<u8, DecodeFault>
-    ensures value { ReturnsRead (λ x. (x, reader.new)) result (flags_at reader.old) }
-    ensures limit { IfOk result (λ x. IsFlags x) }
+// The flags with which all fields of a version are set: the oldest has no ring.
+fn flags_of_all(version: u8) -> u8
+    ensures { result ≡ most_flags version }
 {
+    if version == OLDEST_VERSION { 7 } else { 15 }
+}
+
+// The flags of a cell of this version.
+#[tactic(auto, unfolding(crate::specs::Reading::flags_at))]
+pub(crate) fn read_flags(version: u8, reader: &mut Reader<'_>) -> Result<u8, DecodeFault>
+    ensures value { ReturnsRead (λ x. (x, reader.new)) result (flags_at version reader.old) }
+    ensures limit { IfOk result (λ x. IsFlags version x) }
+{
+    let most = flags_of_all(version);
     let number = reader.byte()?;
-    if number < 1 || number > 7 {
+    if number < 1 || number > most {
         return Err(DecodeFault::BadRange);
     }
     Ok(number)

@@ -2,11 +2,10 @@ ghost use Rattle.std.specs.Prelude.{◌≡◌, ◌≤◌, IfOk, IsTrue, length, 
 ghost use Rattle.std.specs.Int.{w16, w32, w64};
 ghost use Rattle.dots.specs.declared.limits.TheConstants.{TEXT_BYTES};
 ghost use Rattle.delta_codec.specs.Frames.{magic};
-ghost use Rattle.delta_codec.specs.declared.limits.TheConstants.{VERSION};
 ghost use Rattle.delta_codec.specs.Reading.{ReturnsRead, byte_at, bytes_of, magic_at, number_at};
 ghost use Rattle.delta_codec.specs.Reading.{text_of, version_at};
 
-use crate::{DecodeFault, VERSION};
+use crate::{DecodeFault, OLDEST_VERSION, VERSION};
 use dots::Text80;
 use std::marker::Model;
 
@@ -136,19 +135,19 @@ impl<'a> Reader<'a> {
         }
     }
 
-    // The version of the format.
+    // The version of the format: one of those that are read.
     #[tactic(auto, unfolding(crate::specs::Reading::version_at))]
-    pub(crate) fn version(&mut self) -> Result<(), DecodeFault>
-        ensures { ReturnsRead (λ _. (VERSION, self.new)) result (version_at self.old) }
+    pub(crate) fn version(&mut self) -> Result<u8, DecodeFault>
+        ensures { ReturnsRead (λ x. (x, self.new)) result (version_at self.old) }
     {
         match self.left {
             [] => Err(DecodeFault::BadVersion),
             [number, rest @ ..] => {
-                if *number != VERSION {
+                if *number < OLDEST_VERSION || *number > VERSION {
                     return Err(DecodeFault::BadVersion);
                 }
                 self.left = rest;
-                Ok(())
+                Ok(*number)
             }
         }
     }

@@ -41,7 +41,11 @@ fn fields_size(fields: &Fields) -> usize
     ensures value { result ≡ length (fields_bytes fields.now) }
     ensures limit { result ≤ most_fields }
 {
-    1 + (field_size(&fields.penalty) + (field_size(&fields.pause) + field_size(&fields.label)))
+    let penalty = field_size(&fields.penalty);
+    let pause = field_size(&fields.pause);
+    let label = field_size(&fields.label);
+    let ring = field_size(&fields.ring);
+    1 + (penalty + (pause + (label + ring)))
 }
 
 // How many bytes a cell has.

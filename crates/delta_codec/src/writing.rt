@@ -1,5 +1,5 @@
 //! The parts of a frame as bytes, each written at the end of what was written before. What is written is seen to be within its limits.
-ghost use Rattle.std.specs.Prelude.{◌≡◌, ◌++◌, ◌≤◌, OnOk, length};
+ghost use Rattle.std.specs.Prelude.{◌≡◌, ◌++◌, ◌≤◌, OnOk, is_some, length};
 ghost use Rattle.std.specs.List.{All, flat_map};
 ghost use Rattle.std.specs.FinMap as map;
 ghost use Rattle.std.specs.Int.{w16, w32, w64, to_be_bytes};
@@ -9,10 +9,12 @@ ghost use Rattle.dots.specs.Values.{IsSite, IsText};
 ghost use Rattle.dots.specs.WithinLimits.{IsDot, IsStamp};
 ghost use Rattle.member_orset.specs.Members.{IsWithinLimits};
 ghost use Rattle.delta_codec.specs.Frames.{opening_bytes};
-ghost use Rattle.delta_codec.specs.Parts.{AreInLimits, IsField, byte, cell_bytes, dot_bytes};
+ghost use Rattle.delta_codec.specs.Parts.{AreInLimits, IsField, bit_of, byte, cell_bytes};
+ghost use Rattle.delta_codec.specs.Parts.{dot_bytes};
 ghost use Rattle.delta_codec.specs.Parts.{field_bytes, fields_bytes, flags_of, list_bytes};
 ghost use Rattle.delta_codec.specs.Parts.{run_bytes, stamp_bytes, text_bytes, total_bytes};
 ghost use Rattle.delta_codec.specs.Written.{IsWritten};
+ghost use Rattle.delta_codec.specs.declared.limits.TheConstants.{VERSION};
 
 use crate::field_bytes::FieldBytes;
 use crate::sizes::count_of;
@@ -85,14 +87,23 @@ fn put_field<T: FieldBytes>(out: &mut Vec<u8>, field: &Register<T>) -> Result<()
     Ok(())
 }
 
+// 1 where a field is set, and 0 where it isn't.
+fn flag<T: FieldBytes>(field: &Register<T>) -> u8
+    ensures value { result ≡ bit_of (is_some field.now) }
+    ensures most { result ≤ 1 }
+{
+    u8::from(field.stamp().is_some())
+}
+
 // Which fields are set.
 fn flags(fields: &Fields) -> u8
     ensures { result ≡ flags_of fields.now }
 {
-    let penalty = u8::from(fields.penalty.stamp().is_some());
-    let pause = u8::from(fields.pause.stamp().is_some());
-    let label = u8::from(fields.label.stamp().is_some());
-    penalty + (2 * pause + 4 * label)
+    let penalty = flag(&fields.penalty);
+    let pause = flag(&fields.pause);
+    let label = flag(&fields.label);
+    let ring = flag(&fields.ring);
+    penalty + (2 * pause + (4 * label + 8 * ring))
 }
 
 // Fields, behind their flags.
@@ -103,7 +114,8 @@ fn put_fields(out: &mut Vec<u8>, fields: &Fields) -> Result<(), Memory>
     out.push(flags(fields))?;
     put_field(out, &fields.penalty)?;
     put_field(out, &fields.pause)?;
-    put_field(out, &fields.label)
+    put_field(out, &fields.label)?;
+    put_field(out, &fields.ring)
 }
 
 // A dot.
@@ -216,11 +228,11 @@ pub(crate) fn put_total_list(out: &mut Vec<u8>, totals: &Totals) -> Result<(), M
     Ok(())
 }
 
-// The letters that begin each frame, the version, who made it, and its number.
+// The letters that begin each frame, the version that is written, who made the frame, and its number.
 pub(crate) fn put_opening(out: &mut Vec<u8>, maker: SiteId, number: u64) -> Result<(), Memory>
     ensures written { OnOk result
         (out.new.items
-        ≡ out.old.items ++ opening_bytes (record { maker = maker; number = number })) }
+        ≡ out.old.items ++ opening_bytes VERSION (record { maker = maker; number = number })) }
     ensures within { OnOk result (IsSite maker) }
 {
     out.extend_from_slice(&[b'Q', b'D', VERSION])?;

@@ -62,11 +62,16 @@ fn say_fields<W: Write>(out: &mut W, fields: &Fields) -> io::Result<()> {
             "label at {time} of site {site}: name {name:?}, state {state:?}"
         )?;
     }
+    if let (Some(stamp), Some(ring)) = (fields.ring.stamp(), fields.ring.value()) {
+        let (time, site) = (stamp.time(), stamp.site().number());
+        let ring = yes_or_no(*ring);
+        writeln!(out, "ring in use at {time} of site {site}: {ring}")?;
+    }
     Ok(())
 }
 
-fn yes_or_no(paused: bool) -> &'static str {
-    if paused { "yes" } else { "no" }
+fn yes_or_no(is_so: bool) -> &'static str {
+    if is_so { "yes" } else { "no" }
 }
 
 // Writes the rows that each queue shows.
@@ -75,9 +80,10 @@ pub(crate) fn say_rows<W: Write>(out: &mut W, members: &MemberSet) -> io::Result
         for (interface, row) in members.rows(queue) {
             let interface = interface.as_bytes().as_bstr();
             let (penalty, paused) = (row.penalty, yes_or_no(row.paused));
+            let ring = yes_or_no(row.ring);
             writeln!(
                 out,
-                "row of queue {queue}: {interface:?}, penalty {penalty}, paused {paused}, reason {:?}, name {:?}, state {:?}",
+                "row of queue {queue}: {interface:?}, penalty {penalty}, paused {paused}, reason {:?}, name {:?}, state {:?}, ring in use {ring}",
                 row.reason.as_bstr(),
                 row.name.as_bstr(),
                 row.state.as_bstr()

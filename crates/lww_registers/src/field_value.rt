@@ -43,3 +43,13 @@ impl FieldValue for Label {
         self.copy()
     }
 }
+
+impl FieldValue for bool {
+    fn same(&self, other: &bool) -> bool {
+        *self == *other
+    }
+
+    fn duplicate(&self) -> bool {
+        *self
+    }
+}

@@ -5,7 +5,7 @@ use crate::Register;
 use dots::{Label, Pause, Penalty};
 use std::marker::Model;
 
-/// What is set of a member on one dot: three registers, each joined by its own stamps (this project's own).
+/// What is set of a member on one dot: four registers, each joined by its own stamps (this project's own).
 #[derive(Drop)]
 pub struct Fields {
     /// The penalty of the member.
@@ -14,6 +14,8 @@ pub struct Fields {
     pub pause: Register<Pause>,
     /// How the member is shown.
     pub label: Register<Label>,
+    /// Whether the member is rung while its device is in use.
+    pub ring: Register<bool>,
 }
 
 impl Model for Fields {
@@ -21,9 +23,9 @@ impl Model for Fields {
 
     ghost Value = { DotFields };
 
-    ghost view = { λ f. record { penalty = f.penalty; pause = f.pause; label = f.label } };
+    ghost view = { λ f. record { penalty = f.penalty; pause = f.pause; label = f.label; ring = f.ring } };
 
-    ghost inverse = { λ f. record { penalty = f.penalty; pause = f.pause; label = f.label } };
+    ghost inverse = { λ f. record { penalty = f.penalty; pause = f.pause; label = f.label; ring = f.ring } };
 }
 
 impl Fields {
@@ -35,6 +37,7 @@ impl Fields {
             penalty: Register::none(),
             pause: Register::none(),
             label: Register::none(),
+            ring: Register::none(),
         }
     }
 
@@ -42,7 +45,10 @@ impl Fields {
     pub fn is_none(&self) -> bool
         ensures { IsTrue result ↔ (self.now ≡ no_fields) }
     {
-        self.penalty.is_none() && self.pause.is_none() && self.label.is_none()
+        self.penalty.is_none()
+            && self.pause.is_none()
+            && self.label.is_none()
+            && self.ring.is_none()
     }
 
     /// Whether both can be joined. `false` exactly where in some field both have one stamp and two values.
@@ -53,6 +59,7 @@ impl Fields {
         self.penalty.agrees(&other.penalty)
             && self.pause.agrees(&other.pause)
             && self.label.agrees(&other.label)
+            && self.ring.agrees(&other.ring)
     }
 
     /// Joins the other's fields into these: each keeps the value of its greatest stamp. The two agree.
@@ -63,6 +70,7 @@ impl Fields {
         self.penalty.join(other.penalty);
         self.pause.join(other.pause);
         self.label.join(other.label);
+        self.ring.join(other.ring);
     }
 
     /// Whether both hold the same in each field.
@@ -72,6 +80,7 @@ impl Fields {
         self.penalty.same(&other.penalty)
             && self.pause.same(&other.pause)
             && self.label.same(&other.label)
+            && self.ring.same(&other.ring)
     }
 
     /// The same fields once more.
@@ -82,6 +91,7 @@ impl Fields {
             penalty: self.penalty.copy(),
             pause: self.pause.copy(),
             label: self.label.copy(),
+            ring: self.ring.copy(),
         }
     }
 }

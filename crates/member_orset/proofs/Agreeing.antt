@@ -20,7 +20,10 @@ fields_apart x y a c = elim c [
   | inl p ↦ apart x.penalty y.penalty a.penalty p
   | inr r ↦ elim r [
     | inl p ↦ apart x.pause y.pause a.pause p
-    | inr l ↦ apart x.label y.label a.label l
+    | inr q ↦ elim q [
+      | inl l ↦ apart x.label y.label a.label l
+      | inr l ↦ apart x.ring y.ring a.ring l
+    ]
   ]
 ]
 

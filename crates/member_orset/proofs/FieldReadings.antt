@@ -15,4 +15,5 @@ joined_field x y has none = has (λ i. record {
   penalty = first_none x.penalty y.penalty (ap (λ f. f.penalty) none) i;
   pause = first_none x.pause y.pause (ap (λ f. f.pause) none) i;
   label = first_none x.label y.label (ap (λ f. f.label) none) i;
+  ring = first_none x.ring y.ring (ap (λ f. f.ring) none) i;
 })

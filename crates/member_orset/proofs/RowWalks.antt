@@ -158,7 +158,7 @@ module _ (s : PlacedState) (members : List Id) (queue place : ℕ) (l : Listed) 
   walk_next = record { indexed = walk.indexed; reached = reached_next queue index place l walk.indexed.index.rises walk.reached next end some inside upto }
 
   -- they show its row
-  pub row_next : option_map (λ f. row_of_fields f.penalty f.pause f.label) (fields_shown (fields_at s.held ids)) ≡ row_of (cells_view (cells_of s)) l.member
+  pub row_next : option_map row_of_fields (fields_shown (fields_at s.held ids)) ≡ row_of (cells_view (cells_of s)) l.member
   row_next =
       let lesser = lesser_before queue index place l walk.indexed.index.rises walk.reached next in
       row_of_group s members ids l.member walk.indexed

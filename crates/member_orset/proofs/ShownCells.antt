@@ -51,7 +51,7 @@ held_at s (id ∷ ids) a = one (maps.get s.held id) refl (held_at s ids a)
 
 -- so the cells of a member's ids show its row
 pub row_of_group : (s : PlacedState) (members ids : List Id) (m : Member) → AreIndexed s members → listed_at s.held ids ≡ group m (listed_at s.held members)
-    → option_map (λ f. row_of_fields f.penalty f.pause f.label) (fields_shown (fields_at s.held ids)) ≡ row_of (cells_view (cells_of s)) m
+    → option_map row_of_fields (fields_shown (fields_at s.held ids)) ≡ row_of (cells_view (cells_of s)) m
 row_of_group s members ids m a own =
-    ap (λ fields. option_map (λ f. row_of_fields f.penalty f.pause f.label) (fields_shown fields)) (sym (held_at s ids a.placed) ∙ ap (λ ls. fields_held (live_of (cells_of s)) (dots_listed ls)) own)
+    ap (λ fields. option_map row_of_fields (fields_shown fields)) (sym (held_at s ids a.placed) ∙ ap (λ ls. fields_held (live_of (cells_of s)) (dots_listed ls)) own)
     ∙ sym (row_shown (cells_of s) (listed_at s.held members) m (rise s.dots s.held s.spent a.placed) a.index)

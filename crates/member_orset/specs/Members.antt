@@ -1,7 +1,7 @@
 -- What contracts see of a set of members: the dots that it knows, the live ones with member and fields, and, aside of
 -- what it means, how much room it has.
 use Rattle.std.specs.Prelude.{ℕ, ◌≡◌, ◌≢◌, ◌≤◌, ◌+◌, ◌⊎◌, Bool, true, false, Option, Some, None, Result, Ok, Err, refl, if◌then◌else◌}
-use Rattle.std.specs.Option.{option_map, option_and_then}
+use Rattle.std.specs.Option.{option_map, option_map_or}
 use Rattle.std.specs.FinMap as map
 use Rattle.std.specs.FinSet as set
 use Rattle.std.specs.Ordering.{eq_by_cmp}
@@ -117,14 +117,12 @@ pub record IsWithinLimits (s : Members) : Type 0 where
   pub apart : AreIdsApart s.ids s.spent
   pub worn : s.retired ≡ retired_of LAST_GENERATION s.spent
 
--- what is read of live dots: they are the visible ones
+-- what is read of live dots: they are the visible ones, with the member and the fields that are held
 abbrev pub view_of : map.FinMap dot_cmp Holding → DotView
 view_of live = record {
   visible = set.from_list (map.keys live);
   member = λ dot. option_map (λ h. h.0) (map.get live dot);
-  penalty = λ dot. option_and_then (λ h. h.1.penalty) (map.get live dot);
-  pause = λ dot. option_and_then (λ h. h.1.pause) (map.get live dot);
-  label = λ dot. option_and_then (λ h. h.1.label) (map.get live dot);
+  fields = λ dot. option_map_or (λ h. h.1) (map.get live dot) no_fields;
 }
 
 -- what is read of a set

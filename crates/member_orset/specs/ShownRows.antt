@@ -43,6 +43,7 @@ fields_over fields = record {
   penalty = latest_of (filter_map (λ f. f.penalty) fields);
   pause = latest_of (filter_map (λ f. f.pause) fields);
   label = latest_of (filter_map (λ f. f.label) fields);
+  ring = latest_of (filter_map (λ f. f.ring) fields);
 }
 
 -- the fields that dots show, where there is one
@@ -57,7 +58,7 @@ fields_after (Some before) fields = fields_joined before fields
 
 -- what lent registers hold
 abbrev pub latest_fields : Latest → DotFields
-latest_fields l = record { penalty = l.penalty.now; pause = l.pause.now; label = l.label.now }
+latest_fields l = record { penalty = l.penalty.now; pause = l.pause.now; label = l.label.now; ring = l.ring.now }
 
 -- whether a text lies after another, if there is one
 abbrev pub is_after : Option (List ℕ) → List ℕ → Bool

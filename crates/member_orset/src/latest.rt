@@ -16,6 +16,7 @@ pub(crate) struct Latest<'a> {
     pub(crate) penalty: &'a Register<Penalty>,
     pub(crate) pause: &'a Register<Pause>,
     pub(crate) label: &'a Register<Label>,
+    pub(crate) ring: &'a Register<bool>,
 }
 
 // The register of the later stamp; of equal stamps the first.
@@ -43,6 +44,7 @@ impl<'a> Latest<'a> {
             penalty: &fields.penalty,
             pause: &fields.pause,
             label: &fields.label,
+            ring: &fields.ring,
         }
     }
 
@@ -55,14 +57,13 @@ impl<'a> Latest<'a> {
             penalty: later(self.penalty, &fields.penalty),
             pause: later(self.pause, &fields.pause),
             label: later(self.label, &fields.label),
+            ring: later(self.ring, &fields.ring),
         }
     }
 
     // The row that they show.
     pub(crate) fn row(self) -> Row<'a>
-        ensures { row_view result
-            ≡ row_of_fields self.entry.penalty.now self.entry.pause.now
-            self.entry.label.now }
+        ensures { row_view result ≡ row_of_fields (latest_fields self.entry) }
     {
         let (paused, reason) = match self.pause.value() {
             Some(pause) => (pause.paused(), pause.reason().as_bytes()),
@@ -76,12 +77,17 @@ impl<'a> Latest<'a> {
             Some(penalty) => penalty.get(),
             None => 0,
         };
+        let ring = match self.ring.value() {
+            Some(ring) => *ring,
+            None => true,
+        };
         Row {
             penalty,
             paused,
             reason,
             name,
             state,
+            ring,
         }
     }
 }

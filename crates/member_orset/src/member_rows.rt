@@ -36,7 +36,7 @@ pub(crate) fn row_over<'a, const LAST: u32>(
     ids: &[CellId],
 ) -> Option<Row<'a>>
     ensures { option_map row_view result
-        ≡ option_map (λ f. row_of_fields f.penalty f.pause f.label)
+        ≡ option_map row_of_fields
         (fields_shown (each (λ c. c.fields) (cells_at cells.now.held ids.now))) }
 {
     let latest = latest_in(cells, ids)?;

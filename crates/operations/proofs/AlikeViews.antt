@@ -10,7 +10,8 @@ use Rattle.dots.specs.Values.{Dot}
 use Rattle.dots.specs.Orders.{dot_cmp, member_cmp}
 use Rattle.operations.specs.Registers.{Entry}
 use Rattle.operations.specs.Knowledge.{latest_of}
-use Rattle.operations.specs.Rows.{DotView, ShowAlike, is_of, dots_of, member_field, row_of_fields, row_if, row_of, interface_in, interfaces_of, rows_of}
+use Rattle.operations.specs.Conditions.{DotFields}
+use Rattle.operations.specs.Rows.{DotView, ShowAlike, is_of, dots_of, member_field, member_fields, row_of_fields, row_if, row_of, interface_in, interfaces_of, rows_of}
 use Rattle.general_lemmas.specs.SetItems.{in_order}
 use Rattle.dots.proofs.DotOrder.{dots_total}
 use Rattle.general_lemmas.proofs.ItemOrder.{in_order_has}
@@ -44,11 +45,19 @@ same_member_field : {T : Type 0} (f g : Dot → Option (Entry T)) (r s : DotView
 same_member_field f g r s alike same member =
     ap latest_of (filter_map_same f g (dots_of r member) (λ dot here. same dot (own_visible r member dot here)) ∙ ap (filter_map g) (same_dots r s alike member))
 
+same_member_fields : (r s : DotView) → ShowAlike r s → (member : Member) → member_fields r member ≡ member_fields s member
+same_member_fields r s alike member = λ i. record {
+  penalty = same (λ f. f.penalty) i;
+  pause = same (λ f. f.pause) i;
+  label = same (λ f. f.label) i;
+  ring = same (λ f. f.ring) i;
+}
+  where
+    same : {T : Type 0} (field : DotFields → Option (Entry T)) → member_field (λ dot. field (r.fields dot)) r member ≡ member_field (λ dot. field (s.fields dot)) s member
+    same field = same_member_field (λ dot. field (r.fields dot)) (λ dot. field (s.fields dot)) r s alike (λ dot visible. ap field (alike.fields dot visible)) member
+
 pub same_row : (r s : DotView) → ShowAlike r s → (member : Member) → row_of r member ≡ row_of s member
-same_row r s alike member = λ i. row_if (same_dots r s alike member i) (row_of_fields
-    (same_member_field r.penalty s.penalty r s alike alike.penalty member i)
-    (same_member_field r.pause s.pause r s alike alike.pause member i)
-    (same_member_field r.label s.label r s alike alike.label member i))
+same_row r s alike member = λ i. row_if (same_dots r s alike member i) (row_of_fields (same_member_fields r s alike member i))
 
 same_interfaces : (r s : DotView) → ShowAlike r s → (queue : ℕ) → interfaces_of r queue ≡ interfaces_of s queue
 unfolding interfaces_of

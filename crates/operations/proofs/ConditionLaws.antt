@@ -9,6 +9,7 @@ fields_comm x y a = λ i. record {
   penalty = joined_comm x.penalty y.penalty a.penalty i;
   pause = joined_comm x.pause y.pause a.pause i;
   label = joined_comm x.label y.label a.label i;
+  ring = joined_comm x.ring y.ring a.ring i;
 }
 
 pub fields_assoc : (x y z : DotFields) → fields_joined (fields_joined x y) z ≡ fields_joined x (fields_joined y z)
@@ -16,6 +17,7 @@ fields_assoc x y z = λ i. record {
   penalty = joined_assoc x.penalty y.penalty z.penalty i;
   pause = joined_assoc x.pause y.pause z.pause i;
   label = joined_assoc x.label y.label z.label i;
+  ring = joined_assoc x.ring y.ring z.ring i;
 }
 
 pub fields_self : (x : DotFields) → fields_joined x x ≡ x
@@ -23,6 +25,7 @@ fields_self x = λ i. record {
   penalty = joined_self x.penalty i;
   pause = joined_self x.pause i;
   label = joined_self x.label i;
+  ring = joined_self x.ring i;
 }
 
 pub fields_agree : (x y z : DotFields) → FieldsAgree x z → FieldsAgree y z → FieldsAgree (fields_joined x y) z
@@ -30,6 +33,7 @@ fields_agree x y z a b = record {
   penalty = joined_agrees x.penalty y.penalty z.penalty a.penalty b.penalty;
   pause = joined_agrees x.pause y.pause z.pause a.pause b.pause;
   label = joined_agrees x.label y.label z.label a.label b.label;
+  ring = joined_agrees x.ring y.ring z.ring a.ring b.ring;
 }
 
 pub conditions_comm : (x y : Option Condition) → ConditionsAgree x y → condition_joined x y ≡ condition_joined y x

@@ -75,13 +75,14 @@ module _ {T : Type 0} where
   registers_least x y h = record { first = below_joined x y; second = other_below_joined x y h; least = joined_least x y }
 
 pub fields_below_self : (x : DotFields) → FieldsBelow x x
-fields_below_self x = record { penalty = below_self x.penalty; pause = below_self x.pause; label = below_self x.label }
+fields_below_self x = record { penalty = below_self x.penalty; pause = below_self x.pause; label = below_self x.label; ring = below_self x.ring }
 
 pub fields_below_through : (x y z : DotFields) → FieldsBelow x y → FieldsBelow y z → FieldsBelow x z
 fields_below_through x y z p q = record {
   penalty = below_through x.penalty y.penalty z.penalty p.penalty q.penalty;
   pause = below_through x.pause y.pause z.pause p.pause q.pause;
   label = below_through x.label y.label z.label p.label q.label;
+  ring = below_through x.ring y.ring z.ring p.ring q.ring;
 }
 
 pub fields_below_both_ways : (x y : DotFields) → FieldsBelow x y → FieldsBelow y x → x ≡ y
@@ -89,20 +90,23 @@ fields_below_both_ways x y p q = λ i. record {
   penalty = below_both_ways x.penalty y.penalty p.penalty q.penalty i;
   pause = below_both_ways x.pause y.pause p.pause q.pause i;
   label = below_both_ways x.label y.label p.label q.label i;
+  ring = below_both_ways x.ring y.ring p.ring q.ring i;
 }
 
 pub fields_least : (x y : DotFields) → FieldsAgree x y → IsLeastAbove FieldsBelow x y (fields_joined x y)
 fields_least x y a = record {
-  first = record { penalty = below_joined x.penalty y.penalty; pause = below_joined x.pause y.pause; label = below_joined x.label y.label };
+  first = record { penalty = below_joined x.penalty y.penalty; pause = below_joined x.pause y.pause; label = below_joined x.label y.label; ring = below_joined x.ring y.ring };
   second = record {
     penalty = other_below_joined x.penalty y.penalty a.penalty;
     pause = other_below_joined x.pause y.pause a.pause;
     label = other_below_joined x.label y.label a.label;
+    ring = other_below_joined x.ring y.ring a.ring;
   };
   least = λ z p q. record {
     penalty = joined_least x.penalty y.penalty z.penalty p.penalty q.penalty;
     pause = joined_least x.pause y.pause z.pause p.pause q.pause;
     label = joined_least x.label y.label z.label p.label q.label;
+    ring = joined_least x.ring y.ring z.ring p.ring q.ring;
   };
 }
 

@@ -11,7 +11,8 @@ use Rattle.dots.specs.Values.{Dot, Stamp}
 use Rattle.dots.specs.Orders.{dot_cmp, stamp_cmp}
 use Rattle.operations.specs.Registers.{Entry}
 use Rattle.operations.specs.Operations.{Operation, Field, asserted_by}
-use Rattle.operations.specs.Knowledge.{Knowledge, SameOperations, OneValue, IsFieldOf, is_dot, asserts, all_asserted, member_of, settings_of, latest_of, field_of}
+use Rattle.operations.specs.Conditions.{fields_in}
+use Rattle.operations.specs.Knowledge.{Knowledge, SameOperations, IsConsistent, OneValue, IsFieldOf, is_dot, asserts, all_asserted, member_of, settings_of, latest_of, field_of}
 use Rattle.dots.proofs.DotOrder.{dots_total, dots_exact}
 use Rattle.operations.proofs.RegisterLaws.{stamps_total, exact_stamps, joined_keeps_latest}
 use Rattle.general_lemmas.proofs.Membership.{first_in, later_in, cases_in, some_in, in_some, part_in, in_part, in_find, some_find, any_in}
@@ -107,6 +108,15 @@ setting_moves field k l dot to e h =
 pub same_field : {T : Type 0} (field : Field T) (k l : Knowledge) (dot : Dot) → SameOperations k l → OneValue field k → field_of field k dot ≡ field_of field l dot
 same_field field k l dot same one =
     same_latest (settings_of field k dot) (settings_of field l dot) (setting_moves field k l dot (λ o. (same o).0)) (setting_moves field l k dot (λ o. (same o).1)) (one dot)
+
+-- consistent knowledges of the same operations give a dot the same fields
+pub same_fields : (k l : Knowledge) (dot : Dot) → SameOperations k l → IsConsistent k → fields_in k dot ≡ fields_in l dot
+same_fields k l dot same one = λ i. record {
+  penalty = same_field _ k l dot same one.penalties i;
+  pause = same_field _ k l dot same one.pauses i;
+  label = same_field _ k l dot same one.labels i;
+  ring = same_field _ k l dot same one.rings i;
+}
 
 -- the dot of a pair that is found
 own_dot : (dot : Dot) (p : Dot × Member) → is_dot dot p.0 ≡ true → dot ≡ p.0

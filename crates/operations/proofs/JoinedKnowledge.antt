@@ -11,7 +11,7 @@ use Rattle.dots.specs.declared.member.Member.{Member}
 use Rattle.dots.specs.Values.{Dot}
 use Rattle.operations.specs.Registers.{Entry, RegistersAgree, join_of}
 use Rattle.operations.specs.Conditions.{Condition, Live, Dead, DotFields, FieldsAgree, ConditionsAgree, condition_in, condition_joined, fields_in, fields_joined}
-use Rattle.operations.specs.Operations.{Operation, Field, asserted_by, penalty_field, pause_field, label_field}
+use Rattle.operations.specs.Operations.{Operation, Field, asserted_by, penalty_field, pause_field, label_field, ring_field}
 use Rattle.operations.specs.Knowledge.{Knowledge, IsConsistent, OneValue, all_asserted, asserts, field_of, is_asserted, is_dot, is_named, known_dots, latest_of, member_of, names, settings_of}
 use Rattle.operations.specs.Counts.{site_total}
 use Rattle.dots.proofs.DotOrder.{dots_exact, dots_total}
@@ -61,7 +61,12 @@ field_both : {T : Type 0} (field : Field T) (k l : Knowledge) (dot : Dot) → fi
 field_both field k l dot = ap latest_of (settings_both field k l dot) ∙ latest_both (settings_of field k dot) (settings_of field l dot)
 
 fields_both : (k l : Knowledge) (dot : Dot) → fields_in (k ++ l) dot ≡ fields_joined (fields_in k dot) (fields_in l dot)
-fields_both k l dot = λ i. record { penalty = field_both penalty_field k l dot i; pause = field_both pause_field k l dot i; label = field_both label_field k l dot i }
+fields_both k l dot = λ i. record {
+  penalty = field_both penalty_field k l dot i;
+  pause = field_both pause_field k l dot i;
+  label = field_both label_field k l dot i;
+  ring = field_both ring_field k l dot i;
+}
 
 -- where no operation asserts a dot, none sets a field of it
 unset : {T : Type 0} (field : Field T) (k : Knowledge) (dot : Dot) → is_asserted k dot ≡ false → settings_of field k dot ≡ []
@@ -84,6 +89,7 @@ fields_right k l dot h = fields_both k l dot ∙ (λ i. record {
   penalty = join_of (no_field penalty_field k dot h i) (field_of penalty_field l dot);
   pause = join_of (no_field pause_field k dot h i) (field_of pause_field l dot);
   label = join_of (no_field label_field k dot h i) (field_of label_field l dot);
+  ring = join_of (no_field ring_field k dot h i) (field_of ring_field l dot);
 })
 
 fields_left : (k l : Knowledge) (dot : Dot) → is_asserted l dot ≡ false → fields_in (k ++ l) dot ≡ fields_in k dot
@@ -91,6 +97,7 @@ fields_left k l dot h = fields_both k l dot ∙ (λ i. record {
   penalty = left (field_of penalty_field k dot) (field_of penalty_field l dot) (no_field penalty_field l dot h) i;
   pause = left (field_of pause_field k dot) (field_of pause_field l dot) (no_field pause_field l dot h) i;
   label = left (field_of label_field k dot) (field_of label_field l dot) (no_field label_field l dot h) i;
+  ring = left (field_of ring_field k dot) (field_of ring_field l dot) (no_field ring_field l dot h) i;
 })
   where
     left : {T : Type 0} (x y : Option (Entry T)) → y ≡ None → join_of x y ≡ x
@@ -184,6 +191,7 @@ conditions_agree k l one dot =
       penalty = fields_agree penalty_field k l dot one.penalties;
       pause = fields_agree pause_field k l dot one.pauses;
       label = fields_agree label_field k l dot one.labels;
+      ring = fields_agree ring_field k l dot one.rings;
     })
 
 -- ---- totals

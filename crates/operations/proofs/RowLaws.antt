@@ -21,7 +21,7 @@ use Rattle.general_lemmas.proofs.ItemOrder.{in_order_has}
 use Rattle.general_lemmas.proofs.Membership.{some_in, in_some, in_any}
 use Rattle.general_lemmas.proofs.Filters.{filter_has}
 use Rattle.operations.proofs.VisibleLaws.{same_visible}
-use Rattle.operations.proofs.FieldLaws.{latest_in, latest_some, latest_greatest, field_is, same_field, same_member, same_stamp}
+use Rattle.operations.proofs.FieldLaws.{latest_in, latest_some, latest_greatest, field_is, same_fields, same_member, same_stamp}
 use Rattle.operations.proofs.CountLaws.{same_total, same_queue_total}
 use Rattle.general_lemmas.proofs.TruthTables.{equal_of}
 
@@ -29,9 +29,7 @@ pub same_view : (k l : Knowledge) → IsConsistent k → SameOperations k l → 
 same_view k l ok same = λ i. record {
   visible = same_visible k l same i;
   member = λ dot. same_member k l dot same ok.members i;
-  penalty = λ dot. same_field _ k l dot same ok.penalties i;
-  pause = λ dot. same_field _ k l dot same ok.pauses i;
-  label = λ dot. same_field _ k l dot same ok.labels i;
+  fields = λ dot. same_fields k l dot same ok i;
 }
 
 pub show_the_same : (k l : Knowledge) → IsConsistent k → SameOperations k l → ShowTheSame k l

@@ -15,9 +15,9 @@ use Rattle.dots.specs.Values.{Dot, Stamp}
 use Rattle.dots.specs.Orders.{dot_cmp, member_cmp, stamp_cmp}
 use Rattle.operations.specs.Registers.{Entry, join_of}
 use Rattle.dots.specs.declared.calls.Calls.{Calls}
-use Rattle.operations.specs.Operations.{Operation, Field, penalty_field, pause_field, label_field}
+use Rattle.operations.specs.Operations.{Operation, Field}
 use Rattle.operations.specs.Knowledge.{Knowledge, settings_of, field_of, latest_of, visible_dots, member_of}
-use Rattle.operations.specs.Rows.{MemberRow, dot_view, is_of, dots_of, member_field, row_of_fields, row_if, row_of}
+use Rattle.operations.specs.Rows.{MemberRow, dot_view, is_of, dots_of, member_field, member_fields, row_of_fields, row_if, row_of}
 use Rattle.operations.specs.Counts.{count_in, site_total}
 use Rattle.operations.specs.Shown.{IsComputed, HasVisibleDot, IsShown, ShowsField, HasValues, IsGreatestCount}
 use Rattle.general_lemmas.specs.SetItems.{in_order}
@@ -197,7 +197,7 @@ pub has_values : (k : Knowledge) (member : Member) (row : MemberRow) → row_of 
 has_values k member row h = of (dots_of (dot_view k) member) h
   where
     shown : MemberRow
-    shown = row_of_fields (member_field (field_of penalty_field k) (dot_view k) member) (member_field (field_of pause_field k) (dot_view k) member) (member_field (field_of label_field k) (dot_view k) member)
+    shown = row_of_fields (member_fields (dot_view k) member)
 
     one : (a b : MemberRow) → Some a ≡ Some b → b ≡ a
     one a b e = cc
@@ -207,7 +207,7 @@ has_values k member row h = of (dots_of (dot_view k) member) h
       where
         none_some : None ≡ Some row → ⊥
         none_some h = (cc)
-    of (d ∷ ds) h = subst (HasValues k member) (sym (one shown row h)) (record { penalty = refl; paused = refl; reason = refl; name = refl; state = refl })
+    of (d ∷ ds) h = subst (HasValues k member) (sym (one shown row h)) (record { penalty = refl; paused = refl; reason = refl; name = refl; state = refl; ring = refl })
 
 -- a dot of a member is visible, with that member
 of_dot : (k : Knowledge) (member : Member) (d : Dot) → Contains (dots_of (dot_view k) member) d → HasVisibleDot k member
@@ -227,7 +227,7 @@ pub row_is : (k : Knowledge) (member : Member) → IsSome (row_of (dot_view k) m
 row_is k member = (of (dots_of (dot_view k) member) refl, λ v. has_row k member v.dot v.visible v.of_member)
   where
     shown : MemberRow
-    shown = row_of_fields (member_field (field_of penalty_field k) (dot_view k) member) (member_field (field_of pause_field k) (dot_view k) member) (member_field (field_of label_field k) (dot_view k) member)
+    shown = row_of_fields (member_fields (dot_view k) member)
 
     of : (ds : List Dot) → dots_of (dot_view k) member ≡ ds → is_some (row_if (dots_of (dot_view k) member) shown) ≡ true → HasVisibleDot k member
     of [] e h = absurd (true≢false (sym h ∙ ap (λ ds. is_some (row_if ds shown)) e))

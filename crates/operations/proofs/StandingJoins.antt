@@ -10,13 +10,12 @@ use Rattle.dots.specs.declared.member.Member.{Member}
 use Rattle.dots.specs.Values.{Dot}
 use Rattle.dots.specs.Orders.{dot_cmp}
 use Rattle.operations.specs.Conditions.{Condition, DotFields, Live, Dead, Represents, condition_joined}
-use Rattle.operations.specs.Operations.{penalty_field, pause_field, label_field}
 use Rattle.operations.specs.Knowledge.{Knowledge, IsConsistent, SameOperations, asserts, names}
 use Rattle.dots.specs.CountedCalls.{is_zero, no_calls}
 use Rattle.operations.specs.Totals.{Entries, greater, join_of, key_cmp, totals_of}
 use Rattle.operations.proofs.CountLaws.{same_total}
 use Rattle.dots.proofs.DotOrder.{dots_exact, dots_total}
-use Rattle.operations.proofs.FieldLaws.{same_field, same_member}
+use Rattle.operations.proofs.FieldLaws.{same_fields, same_member}
 use Rattle.operations.proofs.JoinedKnowledge.{condition_both, known_both, total_both}
 use Rattle.operations.proofs.KnownLaws.{known_dot}
 use Rattle.operations.proofs.TotalsLaws.{by_numbers, get_joined, totals_at_joined, zero_greater, greater_zero}
@@ -73,11 +72,7 @@ pub represents_same : (c : Dot → Option Condition) (known : set.FinSet dot_cmp
     → IsConsistent k → SameOperations k l → Represents c known counts k → Represents c known counts l
 unfolding condition_by
 represents_same c known counts k l one same r = record {
-  conditions = λ dot. r.conditions dot ∙ (λ i. condition_by (same_any (names dot) k l same i) (same_member k l dot same one.members i) (record {
-    penalty = same_field penalty_field k l dot same one.penalties i;
-    pause = same_field pause_field k l dot same one.pauses i;
-    label = same_field label_field k l dot same one.labels i;
-  }));
+  conditions = λ dot. r.conditions dot ∙ (λ i. condition_by (same_any (names dot) k l same i) (same_member k l dot same one.members i) (same_fields k l dot same one i));
   dots = r.dots ∙ set.same_set dots_total dots_exact _ _ (λ dot. known_dot k dot ∙ (λ i. same_any (asserts dot) k l same i || same_any (names dot) k l same i) ∙ sym (known_dot l dot));
   totals = λ site queue. r.totals site queue ∙ by_numbers _ _ (same_total k l same site queue Completed) (same_total k l same site queue Abandoned);
   no_zeros = r.no_zeros;

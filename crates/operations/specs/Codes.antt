@@ -32,9 +32,9 @@ pause_code = code_by (Bool × List ℕ) (coded× coded_bool text_code) (λ p. (p
 abbrev pub label_code : Coded Label
 label_code = code_by (List ℕ × List ℕ) (coded× text_code text_code) (λ l. (l.name, l.state)) (λ p. record { name = p.0; state = p.1 }) (λ _. refl)
 
--- the fields of a dot are stored as the tuple of its penalty, pause and label, each a register
+-- the fields of a dot are stored as the tuple of its penalty, pause, label and ring, each a register
 abbrev pub fields_code : Coded DotFields
 fields_code =
-    code_by (Option (Entry ℕ) × (Option (Entry PauseState) × Option (Entry Label)))
-    (coded× (coded_option (entry_code coded_ℕ)) (coded× (coded_option (entry_code pause_code)) (coded_option (entry_code label_code))))
-    (λ f. (f.penalty, (f.pause, f.label))) (λ p. record { penalty = p.0; pause = p.1.0; label = p.1.1 }) (λ _. refl)
+    code_by (Option (Entry ℕ) × (Option (Entry PauseState) × (Option (Entry Label) × Option (Entry Bool))))
+    (coded× (coded_option (entry_code coded_ℕ)) (coded× (coded_option (entry_code pause_code)) (coded× (coded_option (entry_code label_code)) (coded_option (entry_code coded_bool)))))
+    (λ f. (f.penalty, (f.pause, (f.label, f.ring)))) (λ p. record { penalty = p.0; pause = p.1.0; label = p.1.1.0; ring = p.1.1.1 }) (λ _. refl)

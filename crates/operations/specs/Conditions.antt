@@ -1,5 +1,5 @@
 -- The condition of a dot: unknown, below live with its fields, below dead. A delta has one for each dot that it has heard of.
-use Rattle.std.specs.Prelude.{ℕ, ◌≡◌, ◌⊎◌, false, Option, Some, None, if◌then◌else◌}
+use Rattle.std.specs.Prelude.{ℕ, ◌≡◌, ◌⊎◌, Bool, false, Option, Some, None, if◌then◌else◌}
 use Rattle.std.specs.Option.{option_map}
 use Rattle.std.specs.FinMap as map
 use Rattle.std.specs.FinSet as set
@@ -12,20 +12,21 @@ use Rattle.dots.specs.Orders.{dot_cmp}
 use Rattle.operations.specs.Registers.{Entry, RegistersAgree, InConflict, IsBelow, join_of}
 use Rattle.dots.specs.CountedCalls.{is_zero}
 use Rattle.operations.specs.Totals.{Key, Entries, totals_of}
-use Rattle.operations.specs.Operations.{penalty_field, pause_field, label_field}
+use Rattle.operations.specs.Operations.{penalty_field, pause_field, label_field, ring_field}
 use Rattle.operations.specs.Knowledge.{Knowledge, is_named, known_dots, member_of, field_of}
 use Rattle.operations.specs.Counts.{site_total}
 
--- the fields of a live dot: penalty, pause and label, each a register, which is `None` where it was
--- never set
+-- the fields of a live dot: penalty, pause, label and ring, each a register, which is `None` where it
+-- was never set
 pub record DotFields : Type 0 where
   pub penalty : Option (Entry ℕ)
   pub pause : Option (Entry PauseState)
   pub label : Option (Entry Label)
+  pub ring : Option (Entry Bool)
 
--- the fields of a dot of which none is set: no penalty, no pause, no label
+-- the fields of a dot of which none is set: no penalty, no pause, no label, no ring
 abbrev pub no_fields : DotFields
-no_fields = record { penalty = None; pause = None; label = None }
+no_fields = record { penalty = None; pause = None; label = None; ring = None }
 
 -- what is known of a dot: it is live, with its member and fields, or dead. Of an unknown dot there is no condition.
 pub data Condition : Type 0 where
@@ -35,23 +36,29 @@ pub data Condition : Type 0 where
 -- the fields of `dot` in knowledge `k`: of each the entry of the greatest stamp that an operation
 -- which asserts the dot sets
 abbrev pub fields_in : Knowledge → Dot → DotFields
-fields_in k dot = record { penalty = field_of penalty_field k dot; pause = field_of pause_field k dot; label = field_of label_field k dot }
+fields_in k dot = record {
+  penalty = field_of penalty_field k dot;
+  pause = field_of pause_field k dot;
+  label = field_of label_field k dot;
+  ring = field_of ring_field k dot;
+}
 
 -- the condition of `dot` in knowledge `k`: dead if an operation names it, else live if one asserts
 -- it, else unknown
 abbrev pub condition_in : Knowledge → Dot → Option Condition
 condition_in k dot = if is_named k dot then Some Dead else option_map (λ member. Live member (fields_in k dot)) (member_of k dot)
 
--- fields `x` and `y` agree: where both have a penalty, pause or label under one stamp, it has one value
+-- fields `x` and `y` agree: where both have a penalty, pause, label or ring under one stamp, it has one value
 pub record FieldsAgree (x y : DotFields) : Type 0 where
   pub penalty : RegistersAgree x.penalty y.penalty
   pub pause : RegistersAgree x.pause y.pause
   pub label : RegistersAgree x.label y.label
+  pub ring : RegistersAgree x.ring y.ring
 
--- fields `x` and `y` are in conflict: both have a penalty, pause or label under one stamp, with two
--- values
+-- fields `x` and `y` are in conflict: both have a penalty, pause, label or ring under one stamp, with
+-- two values
 abbrev pub FieldsInConflict : DotFields → DotFields → Type 0
-FieldsInConflict x y = InConflict x.penalty y.penalty ⊎ InConflict x.pause y.pause ⊎ InConflict x.label y.label
+FieldsInConflict x y = InConflict x.penalty y.penalty ⊎ InConflict x.pause y.pause ⊎ InConflict x.label y.label ⊎ InConflict x.ring y.ring
 
 -- two live conditions agree where they have one member and fields that agree; all others agree
 abbrev pub ConditionsAgree : Option Condition → Option Condition → Type 0
@@ -64,7 +71,12 @@ ConditionsAgree None y = Unit {0}
 -- the join of fields `x` and `y`: of each field the entry of the greater stamp (RR-7506), of equal
 -- stamps that of `x`
 abbrev pub fields_joined : DotFields → DotFields → DotFields
-fields_joined x y = record { penalty = join_of x.penalty y.penalty; pause = join_of x.pause y.pause; label = join_of x.label y.label }
+fields_joined x y = record {
+  penalty = join_of x.penalty y.penalty;
+  pause = join_of x.pause y.pause;
+  label = join_of x.label y.label;
+  ring = join_of x.ring y.ring;
+}
 
 -- the join of two conditions: dead wins over all and live over unknown (RR-8083); two live ones
 -- give the member of the first, with the join of their fields
@@ -81,6 +93,7 @@ pub record FieldsBelow (x y : DotFields) : Type 0 where
   pub penalty : IsBelow x.penalty y.penalty
   pub pause : IsBelow x.pause y.pause
   pub label : IsBelow x.label y.label
+  pub ring : IsBelow x.ring y.ring
 
 -- the order of conditions: unknown is below all, and all are below dead; a live one is below a live
 -- one of the same member where its fields are below

@@ -1,5 +1,5 @@
--- A knowledge is a set of operations: all that a site has made or taken. It is written as a list, and read by what it
--- contains alone, so order and repetition don't matter.
+-- A knowledge is a set of operations: all that a site has made or taken. It is written as a list. Where it is consistent it is read
+-- by what it contains alone, so that order and repetition don't matter.
 use Rattle.std.specs.Prelude.{◌≡◌, ◌≢◌, ◌↔◌, Bool, not, List, [], ◌∷◌, Option, Some, None, map, Contains, if◌then◌else◌}
 use Rattle.std.specs.List.{list_any, flat_map, filter_map, find}
 use Rattle.std.specs.Option.{option_map}
@@ -10,10 +10,9 @@ use Rattle.dots.specs.declared.member.Member.{Member}
 use Rattle.dots.specs.Values.{Dot}
 use Rattle.dots.specs.Orders.{dot_cmp, stamp_cmp}
 use Rattle.operations.specs.Registers.{Entry, join_of}
-use Rattle.operations.specs.Operations.{Operation, Field, asserted_by, named_by, penalty_field, pause_field, label_field}
+use Rattle.operations.specs.Operations.{Operation, Field, asserted_by, named_by, penalty_field, pause_field, label_field, ring_field}
 
--- what a replica knows: the operations that it has made or taken, read by what they are, not by
--- their order
+-- what a replica knows: the operations that it has made or taken; where they are consistent, their order makes no difference
 abbrev pub Knowledge : Type 0
 Knowledge = List Operation
 
@@ -100,3 +99,4 @@ pub record IsConsistent (k : Knowledge) : Type 0 where
   pub penalties : OneValue penalty_field k
   pub pauses : OneValue pause_field k
   pub labels : OneValue label_field k
+  pub rings : OneValue ring_field k

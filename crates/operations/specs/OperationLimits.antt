@@ -1,5 +1,5 @@
 -- The limits of what operations have. What operations show doesn't ask for them.
-use Rattle.std.specs.Prelude.{ℕ, ◌≡◌, ◌<◌, ◌≤◌, true, List, Contains}
+use Rattle.std.specs.Prelude.{ℕ, ⊤, ◌≡◌, ◌<◌, ◌≤◌, true, List, Contains}
 use Rattle.std.specs.FinSet as set
 use Rattle.dots.specs.declared.label.Label.{Label}
 use Rattle.dots.specs.declared.limits.TheConstants.{MOST_CALLS, QUEUES}
@@ -7,14 +7,15 @@ use Rattle.dots.specs.declared.member.Member.{Member}
 use Rattle.dots.specs.Values.{Dot, Stamp, PauseState, IsSite, IsPenalty}
 use Rattle.dots.specs.WithinLimits.{IsDot, IsStamp, IsMember, IsPause, IsLabel, AreDots}
 use Rattle.dots.specs.Orders.{dot_cmp}
-use Rattle.operations.specs.Operations.{Operation, Setting, Add, Write, Remove, Count, SetPenalty, SetPause, SetLabel}
+use Rattle.operations.specs.Operations.{Operation, Setting, Add, Write, Remove, Count, SetPenalty, SetPause, SetLabel, SetRing}
 use Rattle.operations.specs.Knowledge.{Knowledge}
 
--- the value of a setting is within its limits: a penalty, a pause or a label
+-- the value of a setting is within its limits: a penalty, a pause or a label; every ring is
 abbrev pub IsSetting : Setting → Type 0
 IsSetting (SetPenalty penalty) = IsPenalty penalty
 IsSetting (SetPause pause) = IsPause pause
 IsSetting (SetLabel label) = IsLabel label
+IsSetting (SetRing ring) = ⊤
 
 -- each dot of a list, and the member that stands with it, is within its limits
 abbrev pub AreAsserted : List (Dot × Member) → Type 0

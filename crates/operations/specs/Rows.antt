@@ -9,47 +9,38 @@ use Rattle.dots.specs.declared.member.Member.{Member}
 use Rattle.dots.specs.Values.{Dot, PauseState}
 use Rattle.dots.specs.Orders.{dot_cmp, member_cmp, text_cmp}
 use Rattle.operations.specs.Registers.{Entry}
-use Rattle.operations.specs.Operations.{penalty_field, pause_field, label_field}
-use Rattle.operations.specs.Knowledge.{Knowledge, visible_dots, member_of, field_of, latest_of}
+use Rattle.operations.specs.Knowledge.{Knowledge, visible_dots, member_of, latest_of}
+use Rattle.operations.specs.Conditions.{DotFields, fields_in}
 use Rattle.general_lemmas.specs.SetItems.{in_order}
 
--- what a queue shows of a member: penalty, whether it is paused and why, member name and state
--- interface, each as it was set last
+-- what a queue shows of a member: penalty, whether it is paused and why, member name, state
+-- interface and ring in use, each as it was set last
 pub record MemberRow : Type 0 where
   pub penalty : ℕ
   pub paused : Bool
   pub reason : List ℕ
   pub name : List ℕ
   pub state : List ℕ
+  pub ring : Bool
 
 -- what is seen of dots, be it of a knowledge or of what stands for one: the visible dots, and of
 -- each its member and fields
 pub record DotView : Type 0 where
   pub visible : set.FinSet dot_cmp
   pub member : Dot → Option Member
-  pub penalty : Dot → Option (Entry ℕ)
-  pub pause : Dot → Option (Entry PauseState)
-  pub label : Dot → Option (Entry Label)
+  pub fields : Dot → DotFields
 
 -- the dot view of knowledge `k`: its visible dots, and what its operations give of a dot as its
 -- member and fields
 abbrev pub dot_view : Knowledge → DotView
-dot_view k = record {
-  visible = visible_dots k;
-  member = member_of k;
-  penalty = field_of penalty_field k;
-  pause = field_of pause_field k;
-  label = field_of label_field k;
-}
+dot_view k = record { visible = visible_dots k; member = member_of k; fields = fields_in k }
 
 -- views `r` and `s` show alike: they have the same visible dots, and of each of these the same member and fields;
 -- what they give of other dots doesn't count
 pub record ShowAlike (r s : DotView) : Type 0 where
   pub visible : r.visible ≡ s.visible
   pub member : (dot : Dot) → set.contains r.visible dot ≡ true → r.member dot ≡ s.member dot
-  pub penalty : (dot : Dot) → set.contains r.visible dot ≡ true → r.penalty dot ≡ s.penalty dot
-  pub pause : (dot : Dot) → set.contains r.visible dot ≡ true → r.pause dot ≡ s.pause dot
-  pub label : (dot : Dot) → set.contains r.visible dot ≡ true → r.label dot ≡ s.label dot
+  pub fields : (dot : Dot) → set.contains r.visible dot ≡ true → r.fields dot ≡ s.fields dot
 
 -- whether view `r` gives `dot` the member `member`
 abbrev pub is_of : DotView → Member → Dot → Bool
@@ -64,6 +55,15 @@ dots_of r member = filter (is_of r member) (in_order r.visible)
 abbrev pub member_field : {T : Type 0} → (Dot → Option (Entry T)) → DotView → Member → Option (Entry T)
 member_field field r member = latest_of (filter_map field (dots_of r member))
 
+-- the fields of `member` in view `r`: of each the entry of the greatest stamp over its visible dots
+abbrev pub member_fields : DotView → Member → DotFields
+member_fields r member = record {
+  penalty = member_field (λ dot. (r.fields dot).penalty) r member;
+  pause = member_field (λ dot. (r.fields dot).pause) r member;
+  label = member_field (λ dot. (r.fields dot).label) r member;
+  ring = member_field (λ dot. (r.fields dot).ring) r member;
+}
+
 -- the value of a register's entry, or `default` where the register is empty
 abbrev pub value_or : {T : Type 0} → T → Option (Entry T) → T
 value_or default None = default
@@ -77,11 +77,12 @@ not_paused = record { paused = false; reason = [] }
 abbrev pub no_label : Label
 no_label = record { name = []; state = [] }
 
--- a row of three fields; what was never set has its default: penalty 0, not paused, no reason, no name, no state interface
-abbrev pub row_of_fields : Option (Entry ℕ) → Option (Entry PauseState) → Option (Entry Label) → MemberRow
-row_of_fields penalty pause label =
-    let p = value_or not_paused pause in let l = value_or no_label label in
-    record { penalty = value_or 0 penalty; paused = p.paused; reason = p.reason; name = l.name; state = l.state }
+-- the row that fields show; what was never set has its default: penalty 0, not paused, no reason, no name, no state interface,
+-- ring in use
+abbrev pub row_of_fields : DotFields → MemberRow
+row_of_fields fields =
+    let p = value_or not_paused fields.pause in let l = value_or no_label fields.label in
+    record { penalty = value_or 0 fields.penalty; paused = p.paused; reason = p.reason; name = l.name; state = l.state; ring = value_or true fields.ring }
 
 -- `row` as the row of a member that has dots; `None` where the list of its dots is empty
 abbrev pub row_if : List Dot → MemberRow → Option MemberRow
@@ -91,7 +92,7 @@ row_if (dot ∷ dots) row = Some row
 -- the row of `member` in view `r`, from the latest of each field; `None` where no dot of the member
 -- is visible
 abbrev pub row_of : DotView → Member → Option MemberRow
-row_of r member = row_if (dots_of r member) (row_of_fields (member_field r.penalty r member) (member_field r.pause r member) (member_field r.label r member))
+row_of r member = row_if (dots_of r member) (row_of_fields (member_fields r member))
 
 -- the interface of `member`, where that is a member of `queue`
 abbrev pub interface_in : ℕ → Member → Option (List ℕ)

@@ -7,7 +7,7 @@ use Rattle.dots.specs.declared.member.Member.{Member}
 use Rattle.dots.specs.Values.{Dot}
 use Rattle.dots.specs.Orders.{dot_cmp, stamp_cmp}
 use Rattle.operations.specs.Registers.{Entry}
-use Rattle.operations.specs.Operations.{Operation, Field, penalty_field, pause_field, label_field}
+use Rattle.operations.specs.Operations.{Operation, Field, penalty_field, pause_field, label_field, ring_field}
 use Rattle.operations.specs.Knowledge.{Knowledge, IsFieldOf, asserts, names, settings_of, field_of, visible_dots, member_of}
 use Rattle.operations.specs.Rows.{MemberRow, dot_view, dots_of, member_field, rows_of, value_or, not_paused, no_label}
 use Rattle.operations.specs.Counts.{count_in, site_total, queue_total}
@@ -52,6 +52,7 @@ pub record HasValues (k : Knowledge) (member : Member) (row : MemberRow) : Type 
   pub reason : row.reason ≡ (value_or not_paused (member_field (field_of pause_field k) (dot_view k) member)).reason
   pub name : row.name ≡ (value_or no_label (member_field (field_of label_field k) (dot_view k) member)).name
   pub state : row.state ≡ (value_or no_label (member_field (field_of label_field k) (dot_view k) member)).state
+  pub ring : row.ring ≡ value_or true (member_field (field_of ring_field k) (dot_view k) member)
 
 -- `total` is the greatest number of the calls `calls` that an operation of knowledge `k` says that
 -- `site` has counted in `queue`, or 0

@@ -6,7 +6,7 @@ use Rattle.operations.specs.declared.row.Row.{Row}
 
 -- the row that a reader is given, with each text as the bytes that it has now
 abbrev pub row_view : Row → MemberRow
-row_view row = record { penalty = row.penalty; paused = row.paused; reason = row.reason.now; name = row.name.now; state = row.state.now }
+row_view row = record { penalty = row.penalty; paused = row.paused; reason = row.reason.now; name = row.name.now; state = row.state.now; ring = row.ring }
 
 -- an interface and its row, as a reader is given them, with each text as the bytes that it has now
 abbrev pub listed_row_view : Bor (List ℕ) × Row → List ℕ × MemberRow

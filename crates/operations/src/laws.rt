@@ -10,7 +10,7 @@ ghost use Rattle.operations.specs.Totals.{Entries, sum_below};
 ghost use Rattle.general_lemmas.specs.Joins.{IsJoin, IsOrder, IsLeastAbove};
 ghost use Rattle.operations.specs.Conditions.{Condition, Dead, ConditionsAgree, IsConditionBelow};
 ghost use Rattle.operations.specs.Conditions.{Represents, IsOne, condition_joined};
-ghost use Rattle.operations.specs.Operations.{penalty_field, pause_field, label_field};
+ghost use Rattle.operations.specs.Operations.{penalty_field, pause_field, label_field, ring_field};
 ghost use Rattle.operations.specs.Knowledge.{Knowledge, SameOperations, IsConsistent, is_named};
 ghost use Rattle.operations.specs.Knowledge.{visible_dots, member_of};
 ghost use Rattle.operations.specs.Rows.{DotView, MemberRow, ShowAlike, dot_view, row_of, rows_of};
@@ -49,9 +49,11 @@ pub fn a_member_with_a_visible_dot_has_a_row()
     ensures penalty_shown { (k : Knowledge) (member : Member) → ShowsField penalty_field k member }
     ensures pause_shown { (k : Knowledge) (member : Member) → ShowsField pause_field k member }
     ensures label_shown { (k : Knowledge) (member : Member) → ShowsField label_field k member }
+    ensures ring_shown { (k : Knowledge) (member : Member) → ShowsField ring_field k member }
     ensures penalty { (k : Knowledge) (member : Member) → ShowsLatest penalty_field k member }
     ensures pause { (k : Knowledge) (member : Member) → ShowsLatest pause_field k member }
     ensures label { (k : Knowledge) (member : Member) → ShowsLatest label_field k member }
+    ensures ring { (k : Knowledge) (member : Member) → ShowsLatest ring_field k member }
 {}
 
 /// The field of a dot that is computed is the latest setting, and is there exactly where some operation that asserts the dot
@@ -60,6 +62,7 @@ pub fn a_field_is_the_latest_setting()
     ensures penalty { (k : Knowledge) (dot : Dot) → IsComputed penalty_field k dot }
     ensures pause { (k : Knowledge) (dot : Dot) → IsComputed pause_field k dot }
     ensures label { (k : Knowledge) (dot : Dot) → IsComputed label_field k dot }
+    ensures ring { (k : Knowledge) (dot : Dot) → IsComputed ring_field k dot }
 {}
 
 /// A site's total is its greatest count, and a queue's the sum over the sites (RR-7506's grow-only counter).

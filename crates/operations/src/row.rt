@@ -11,4 +11,6 @@ pub struct Row<'a> {
     pub name: &'a [u8],
     /// The state interface; empty where none was set.
     pub state: &'a [u8],
+    /// Whether the member is rung while its device is in use; true where it was never set.
+    pub ring: bool,
 }

@@ -5,7 +5,7 @@ use Rattle.std.specs.Ordering.{is_lt}
 use Rattle.dots.specs.Values.{Dot}
 use Rattle.dots.specs.Orders.{stamp_cmp}
 use Rattle.operations.specs.Registers.{Entry, join_of}
-use Rattle.operations.specs.Operations.{Operation, Field, penalty_field, pause_field, label_field}
+use Rattle.operations.specs.Operations.{Operation, Field, penalty_field, pause_field, label_field, ring_field}
 use Rattle.operations.specs.Conditions.{DotFields, fields_in, fields_joined}
 use Rattle.operations.specs.Knowledge.{Knowledge, asserts, field_of, latest_of, settings_of}
 use Rattle.operations.proofs.ConditionLaws.{fields_assoc}
@@ -60,6 +60,7 @@ fields_asserted o k dot there = λ i. record {
   penalty = field_asserted penalty_field o k dot there i;
   pause = field_asserted pause_field o k dot there i;
   label = field_asserted label_field o k dot there i;
+  ring = field_asserted ring_field o k dot there i;
 }
 
 -- one that doesn't changes nothing
@@ -68,6 +69,7 @@ fields_passed o k dot absent = λ i. record {
   penalty = field_passed penalty_field o k dot absent i;
   pause = field_passed pause_field o k dot absent i;
   label = field_passed label_field o k dot absent i;
+  ring = field_passed ring_field o k dot absent i;
 }
 
 -- one dot more
@@ -76,6 +78,7 @@ fields_over_more k dot dots = λ i. record {
   penalty = latest_first (field_of penalty_field k dot) (filter_map (field_of penalty_field k) dots) i;
   pause = latest_first (field_of pause_field k dot) (filter_map (field_of pause_field k) dots) i;
   label = latest_first (field_of label_field k dot) (filter_map (field_of label_field k) dots) i;
+  ring = latest_first (field_of ring_field k dot) (filter_map (field_of ring_field k) dots) i;
 }
 
 -- ---- a loop's turn: x is what was joined so far, and what is left is joined to it

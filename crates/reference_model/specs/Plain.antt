@@ -4,7 +4,7 @@ use Rattle.std.specs.FinSet as set
 use Rattle.operations.specs.Knowledge.{Knowledge}
 use Rattle.operations.specs.Operations as defined
 use Rattle.reference_model.specs.declared.setting.Setting.{Setting}
-use Rattle.reference_model.specs.declared.setting.Setting.TheVariants.{Penalty, Pause, Label}
+use Rattle.reference_model.specs.declared.setting.Setting.TheVariants.{Penalty, Pause, Label, Ring}
 use Rattle.reference_model.specs.declared.operation.Operation.{Operation}
 use Rattle.reference_model.specs.declared.operation.Operation.TheVariants.{Add, Write, Remove, Count}
 
@@ -13,6 +13,7 @@ abbrev pub setting_of : Setting → defined.Setting
 setting_of (Penalty penalty) = defined.SetPenalty penalty
 setting_of (Pause pause) = defined.SetPause pause
 setting_of (Label label) = defined.SetLabel label
+setting_of (Ring ring) = defined.SetRing ring
 
 -- the operation of the definitions that a plain operation stands for
 abbrev pub operation_of : Operation → defined.Operation

@@ -14,6 +14,7 @@ pub(crate) struct Fields<'a> {
     pub penalty: Option<Entry<Penalty>>,
     pub pause: Option<Entry<&'a Pause>>,
     pub label: Option<Entry<&'a Label>>,
+    pub ring: Option<Entry<bool>>,
 }
 
 impl<'a> Fields<'a> {
@@ -25,6 +26,7 @@ impl<'a> Fields<'a> {
             penalty: None,
             pause: None,
             label: None,
+            ring: None,
         }
     }
 
@@ -36,14 +38,13 @@ impl<'a> Fields<'a> {
             penalty: later(&self.penalty, &other.penalty),
             pause: later(&self.pause, &other.pause),
             label: later(&self.label, &other.label),
+            ring: later(&self.ring, &other.ring),
         }
     }
 
     // The row that these fields show; what was never set has its default.
     pub(crate) fn row(&self) -> Row<'a>
-        ensures { row_view result
-            ≡ row_of_fields (fields_of self.now).penalty (fields_of self.now).pause
-            (fields_of self.now).label }
+        ensures { row_view result ≡ row_of_fields (fields_of self.now) }
     {
         let penalty = match &self.penalty {
             Some(entry) => entry.value.get(),
@@ -51,12 +52,17 @@ impl<'a> Fields<'a> {
         };
         let (paused, reason) = pause_shown(&self.pause);
         let (name, state) = label_shown(&self.label);
+        let ring = match &self.ring {
+            Some(entry) => entry.value,
+            None => true,
+        };
         Row {
             penalty,
             paused,
             reason,
             name,
             state,
+            ring,
         }
     }
 }

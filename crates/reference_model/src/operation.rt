@@ -18,7 +18,7 @@ use std::alloc::Global;
 /// repetition counts, but where a Write gives one dot two members, the first counts.
 #[derive(Drop)]
 pub enum Operation {
-    /// A new dot of a member, with its three fields under one stamp (RR-8083: an add makes a unique tag).
+    /// A new dot of a member, with its penalty, pause and label under one stamp (RR-8083: an add makes a unique tag).
     Add {
         /// The dot that the add makes.
         dot: Dot,
@@ -161,7 +161,7 @@ impl Operation {
         has_dot(self.named(), dot)
     }
 
-    // What this operation sets of each of the three fields.
+    // What this operation sets of each field; an add sets all but ring.
     pub(crate) fn fields(&self) -> Fields<'_>
         ensures { fields_of result ≡ fields_set (operation_of self.now) }
     {
@@ -185,6 +185,7 @@ impl Operation {
                     stamp: *stamp,
                     value: label,
                 }),
+                ring: None,
             },
             Operation::Write { setting, stamp, .. } => setting.fields(*stamp),
             Operation::Remove { .. } | Operation::Count { .. } => Fields::none(),

@@ -33,6 +33,7 @@ fn time_replaced(operations: &[Operation], setting: &Setting, dot: Dot) -> u64
         Setting::Penalty(_) => time_of(&fields.penalty),
         Setting::Pause(_) => time_of(&fields.pause),
         Setting::Label(_) => time_of(&fields.label),
+        Setting::Ring(_) => time_of(&fields.ring),
     }
 }
 

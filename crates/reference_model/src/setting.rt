@@ -1,5 +1,5 @@
 ghost use Rattle.std.specs.Prelude.{◌≡◌};
-ghost use Rattle.operations.specs.Operations.{entry_under, set_penalty, set_pause, set_label};
+ghost use Rattle.replica.specs.SetFields.{fields_written};
 ghost use Rattle.reference_model.specs.Plain.{setting_of};
 ghost use Rattle.reference_model.specs.Views.{fields_of};
 
@@ -16,16 +16,14 @@ pub enum Setting {
     Pause(Pause),
     /// The member name and the state interface.
     Label(Label),
+    /// Whether the member is rung while its device is in use.
+    Ring(bool),
 }
 
 impl Setting {
     // The fields with the one that this setting sets, under this stamp, and no other.
     pub(crate) fn fields(&self, stamp: Stamp) -> Fields<'_>
-        ensures { fields_of result ≡ record {
-          penalty = entry_under stamp (set_penalty (setting_of self.now));
-          pause = entry_under stamp (set_pause (setting_of self.now));
-          label = entry_under stamp (set_label (setting_of self.now));
-        } }
+        ensures { fields_of result ≡ fields_written stamp (setting_of self.now) }
     {
         let mut fields = Fields::none();
         match self {
@@ -47,6 +45,12 @@ impl Setting {
                     value: label,
                 });
             }
+            Setting::Ring(ring) => {
+                fields.ring = Some(Entry {
+                    stamp,
+                    value: *ring,
+                });
+            }
         }
         fields
     }
@@ -59,6 +63,7 @@ impl Setting {
             Setting::Penalty(penalty) => Setting::Penalty(*penalty),
             Setting::Pause(pause) => Setting::Pause(pause.copy()),
             Setting::Label(label) => Setting::Label(label.copy()),
+            Setting::Ring(ring) => Setting::Ring(*ring),
         }
     }
 }

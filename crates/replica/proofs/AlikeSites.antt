@@ -8,14 +8,14 @@ use Rattle.dots.specs.DotSets.{is_older}
 use Rattle.dots.specs.declared.label.Label.{Label}
 use Rattle.dots.specs.declared.member.Member.{Member}
 use Rattle.dots.specs.Values.{Dot}
-use Rattle.operations.specs.Operations.{Operation, Setting, SetPenalty, SetPause, SetLabel, Add, Write, Count}
+use Rattle.operations.specs.Operations.{Operation, Setting, Add, Write, Count}
 use Rattle.operations.specs.Knowledge.{asserted_dots, known_dots, names}
 use Rattle.operations.specs.Rows.{DotView, ShowAlike}
 use Rattle.general_lemmas.specs.SetItems.{in_order}
 use Rattle.operations.proofs.AlikeViews.{filter_map_same, listed_in, same_dots}
 use Rattle.general_lemmas.proofs.Membership.{first_in, later_in}
 use Rattle.replica.specs.declared.refusal.Refusal.TheVariants.{MembersFull, Exhausted, TotalFull}
-use Rattle.replica.specs.Changes.{Change, Meaning, AddMember, RemoveMember, SetField, CountCall, Refused, Makes, time_of, time_replaced, add_at, write_at, remove_of, is_full, is_too_long, is_exhausted, is_past_total, within_limits, in_queue, where_absent, where_present, meaning_of_setting, meaning}
+use Rattle.replica.specs.Changes.{Change, Meaning, AddMember, RemoveMember, SetField, CountCall, Refused, Makes, time_in, time_replaced, add_at, write_at, remove_of, is_full, is_too_long, is_exhausted, is_past_total, within_limits, in_queue, where_absent, where_present, meaning_of_setting, meaning}
 use Rattle.replica.specs.Promises.{AreAlike, AreAsFull, MeansTheSameAlike}
 use Rattle.replica.specs.Queues.{number_of}
 use Rattle.replica.proofs.SeenOnce.{seen_visible}
@@ -34,9 +34,7 @@ greatest_same f g [] same = refl
 greatest_same f g (x ∷ xs) same = λ i. max (same x (first_in x xs) i) (greatest_same f g xs (λ y here. same y (later_in x xs y here)) i)
 
 replaced_same : (r s : DotView) → ShowAlike r s → (setting : Setting) (dot : Dot) → set.contains r.visible dot ≡ true → time_replaced r setting dot ≡ time_replaced s setting dot
-replaced_same r s alike (SetPenalty penalty) dot h = ap time_of (alike.penalty dot h)
-replaced_same r s alike (SetPause pause) dot h = ap time_of (alike.pause dot h)
-replaced_same r s alike (SetLabel label) dot h = ap time_of (alike.label dot h)
+replaced_same r s alike setting dot h = ap (time_in setting) (alike.fields dot h)
 
 -- what is read alike is as full
 as_full : (r s : SiteView) → AreAlike r s → AreAsFull r s

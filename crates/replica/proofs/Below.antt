@@ -147,6 +147,7 @@ fields_newer_below x y z p newer = record {
   penalty = newer_below x.penalty y.penalty z.penalty p.penalty newer.penalty;
   pause = newer_below x.pause y.pause z.pause p.pause newer.pause;
   label = newer_below x.label y.label z.label p.label newer.label;
+  ring = newer_below x.ring y.ring z.ring p.ring newer.ring;
 }
 
 -- a condition agrees with one for which it leaves room
@@ -168,6 +169,7 @@ room_agrees (Some (Live n g)) (Some (Live m f)) room = by (room m f refl)
             penalty = newer_agrees g.penalty f.penalty newer.penalty;
             pause = newer_agrees g.pause f.pause newer.pause;
             label = newer_agrees g.label f.label newer.label;
+            ring = newer_agrees g.ring f.ring newer.ring;
           },
         )
 

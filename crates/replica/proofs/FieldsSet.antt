@@ -3,7 +3,7 @@ use Rattle.std.proofs.Common.{◌≡◌, ℕ, Some, None, ap}
 use Rattle.dots.specs.declared.label.Label.{Label}
 use Rattle.dots.specs.Values.{PauseState, Stamp}
 use Rattle.operations.specs.Conditions.{DotFields}
-use Rattle.operations.specs.Operations.{Setting, SetLabel, SetPause, SetPenalty}
+use Rattle.operations.specs.Operations.{Setting, SetLabel, SetPause, SetPenalty, SetRing}
 use Rattle.operations.specs.Registers.{Entry}
 use Rattle.member_orset.specs.Members.{HasField}
 use Rattle.replica.specs.SetFields.{fields_added, fields_written}
@@ -21,3 +21,4 @@ pub written_set : (stamp : Stamp) (setting : Setting) → HasField (fields_writt
 written_set stamp (SetPenalty penalty) e = no_entry (record { stamp = stamp; value = penalty }) (ap (λ (f : DotFields). f.penalty) e)
 written_set stamp (SetPause pause) e = no_entry (record { stamp = stamp; value = pause }) (ap (λ (f : DotFields). f.pause) e)
 written_set stamp (SetLabel label) e = no_entry (record { stamp = stamp; value = label }) (ap (λ (f : DotFields). f.label) e)
+written_set stamp (SetRing ring) e = no_entry (record { stamp = stamp; value = ring }) (ap (λ (f : DotFields). f.ring) e)

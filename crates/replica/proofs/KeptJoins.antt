@@ -125,6 +125,7 @@ stamps_joined site last d x e p q j =
       penalty = written_joined site last f.penalty g.penalty here.penalty there.penalty;
       pause = written_joined site last f.pause g.pause here.pause there.pause;
       label = written_joined site last f.label g.label here.label there.label;
+      ring = written_joined site last f.ring g.ring here.ring there.ring;
     }) d x e (record { each = p }) (record { each = q }) j).each
 
 -- and up to any later time
@@ -133,6 +134,7 @@ stamps_later site last more d le p dot h live = let w = p dot h live in record {
   penalty = λ entry is. omega (arith, w.penalty entry is);
   pause = λ entry is. omega (arith, w.pause entry is);
   label = λ entry is. omega (arith, w.label entry is);
+  ring = λ entry is. omega (arith, w.ring entry is);
 }
 
 -- those of a delta that says the same

@@ -1,5 +1,6 @@
 pub mod AlikeSites
 pub mod Below
+pub mod CausedMeanings
 pub mod Doing
 pub mod DotCounts
 pub mod FieldsSet
@@ -15,6 +16,7 @@ pub mod MadeLimits
 pub mod MadeOperationLaws
 pub mod NameLemmas
 pub mod NoNumbers
+pub mod OneMoreRows
 pub mod PlannedAdds
 pub mod PlannedCommands
 pub mod PlannedWrites
@@ -23,6 +25,10 @@ pub mod SameSites
 pub mod SeenDots
 pub mod SeenLists
 pub mod SeenOnce
+pub mod ShownCommands
+pub mod ShownCounts
+pub mod ShownMembers
+pub mod ShownSettings
 pub mod ShownSites
 pub mod SiteChanges
 pub mod SiteViewLaws

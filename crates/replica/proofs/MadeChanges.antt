@@ -21,7 +21,7 @@ use Rattle.operations.specs.Conditions.{Condition, DotFields, Live, Dead, condit
 use Rattle.dots.specs.CountedCalls.{same_calls}
 use Rattle.operations.specs.Counts.{count_in, site_total}
 use Rattle.operations.specs.Knowledge.{asserts, field_of, is_dot, known_dots, latest_of, member_of, names}
-use Rattle.operations.specs.Operations.{Operation, Setting, Field, Add, Write, Remove, Count, asserted_by, named_by, label_field, pause_field, penalty_field}
+use Rattle.operations.specs.Operations.{Operation, Setting, Field, Add, Write, Remove, Count, asserted_by, named_by, label_field, pause_field, penalty_field, ring_field}
 use Rattle.dots.specs.CountedCalls.{is_zero, no_calls}
 use Rattle.operations.specs.Totals.{Entries, Key, join_of, key_cmp, single, totals_of}
 use Rattle.dots.proofs.DotOrder.{dots_exact, dots_total}
@@ -79,8 +79,11 @@ known_by o ps older asserted named = set.same_set dots_total dots_exact _ _ (λ 
 abbrev pub held_by : Pairs → DotFields → Dot → Option Holding
 held_by ps fields q = option_map (λ p. (p.1, fields)) (find (λ p. is_dot q p.0) ps)
 
-module _ (o : Operation) (ps : Pairs) (older : Dots) (fields : DotFields) (asserted : asserted_by o ≡ ps) (named : named_by o ≡ older)
-    (penalty : penalty_field o ≡ fields.penalty) (pause : pause_field o ≡ fields.pause) (label : label_field o ≡ fields.label)
+-- the fields that an operation sets
+abbrev fields_set : Operation → DotFields
+fields_set o = record { penalty = penalty_field o; pause = pause_field o; label = label_field o; ring = ring_field o }
+
+module _ (o : Operation) (ps : Pairs) (older : Dots) (fields : DotFields) (asserted : asserted_by o ≡ ps) (named : named_by o ≡ older) (sets : fields_set o ≡ fields)
     (alive : (p : Dot × Member) → Contains ps p → set.contains older p.0 ≡ false) where
   -- the dots that the operation asserts or names
   abbrev all : Dots
@@ -92,11 +95,12 @@ module _ (o : Operation) (ps : Pairs) (older : Dots) (fields : DotFields) (asser
 
   -- the fields of a dot that it asserts
   fields_alone : (q : Dot) → asserts_it q ≡ true → fields_in (o ∷ []) q ≡ fields
-  fields_alone q h = λ i. record {
-    penalty = (field_asserted penalty_field o q is ∙ penalty) i;
-    pause = (field_asserted pause_field o q is ∙ pause) i;
-    label = (field_asserted label_field o q is ∙ label) i;
-  }
+  fields_alone q h = (λ i. record {
+    penalty = field_asserted penalty_field o q is i;
+    pause = field_asserted pause_field o q is i;
+    label = field_asserted label_field o q is i;
+    ring = field_asserted ring_field o q is i;
+  }) ∙ sets
     where
       is : asserts q o ≡ true
       is = ap (list_any (λ p. is_dot q p.0)) asserted ∙ h
@@ -154,16 +158,15 @@ no_entry entries empty key totals h = absurd (none_some totals (sym (ap (λ e. m
 
 -- what knows and holds what an operation asserts and names stands for it
 pub asserting : (o : Operation) (x : DeltaState) (ps : Pairs) (older : Dots) (fields : DotFields)
-    → asserted_by o ≡ ps → named_by o ≡ older
-    → penalty_field o ≡ fields.penalty → pause_field o ≡ fields.pause → label_field o ≡ fields.label
+    → asserted_by o ≡ ps → named_by o ≡ older → fields_set o ≡ fields
     → ((site queue : ℕ) (calls : Calls) → count_in site queue calls o ≡ 0)
     → ((p : Dot × Member) → Contains ps p → set.contains older p.0 ≡ false)
     → x.members.known ≡ set.union (set.from_list (each (λ p. p.0) ps)) older
     → ((q : Dot) → map.get x.members.live q ≡ held_by ps fields q)
     → x.totals.entries ≡ map.empty
     → IsDeltaOf x (o ∷ [])
-asserting o x ps older fields asserted named penalty pause label none alive known live empty = record {
-  conditions = λ q. (λ i. condition_at (live q i) (set.contains (known i) q)) ∙ condition_alone o ps older fields asserted named penalty pause label alive q;
+asserting o x ps older fields asserted named sets none alive known live empty = record {
+  conditions = λ q. (λ i. condition_at (live q i) (set.contains (known i) q)) ∙ condition_alone o ps older fields asserted named sets alive q;
   dots = known ∙ sym (known_by o ps older asserted named);
   totals = uncounted o none x.totals.entries empty;
   no_zeros = no_entry x.totals.entries empty;
@@ -191,7 +194,7 @@ pub add_delta : (x : DeltaState) (dot : Dot) (member : Member) (stamp : Stamp) (
     → x.totals.entries ≡ map.empty
     → IsDeltaOf x (Add dot member stamp penalty pause label older ∷ [])
 add_delta x dot member stamp penalty pause label older new known live empty =
-    asserting (Add dot member stamp penalty pause label older) x ((dot, member) ∷ []) older (fields_added stamp penalty pause label) refl refl refl refl refl (λ site queue calls. refl)
+    asserting (Add dot member stamp penalty pause label older) x ((dot, member) ∷ []) older (fields_added stamp penalty pause label) refl refl refl (λ site queue calls. refl)
     (λ p h. ap (λ (d : Dot × Member). set.contains older d.0) (sym (only_in (dot, member) p h)) ∙ new) known
     (λ q. live q ∙ held_one dot member (fields_added stamp penalty pause label) q) empty
 
@@ -202,13 +205,13 @@ pub write_delta : (x : DeltaState) (ps : Pairs) (setting : Setting) (stamp : Sta
     → ((q : Dot) → map.get x.members.live q ≡ held_by ps (fields_written stamp setting) q)
     → x.totals.entries ≡ map.empty
     → IsDeltaOf x (Write ps setting stamp older ∷ [])
-write_delta x ps setting stamp older = asserting (Write ps setting stamp older) x ps older (fields_written stamp setting) refl refl refl refl refl (λ site queue calls. refl)
+write_delta x ps setting stamp older = asserting (Write ps setting stamp older) x ps older (fields_written stamp setting) refl refl refl (λ site queue calls. refl)
 
 -- dead dots stand for a remove
 pub remove_delta : (x : DeltaState) (dots : Dots) → x.members.known ≡ dots → ((q : Dot) → map.get x.members.live q ≡ None) → x.totals.entries ≡ map.empty
     → IsDeltaOf x (Remove dots ∷ [])
 remove_delta x dots known none empty =
-    asserting (Remove dots) x [] dots no_fields refl refl refl refl refl (λ site queue calls. refl)
+    asserting (Remove dots) x [] dots no_fields refl refl refl (λ site queue calls. refl)
     (λ p h. absurd (nothing_in p h)) (known ∙ sym (union_comm set.empty dots ∙ union_empty dots)) none empty
 
 -- ---- a count
@@ -273,7 +276,7 @@ count_delta x site queue calls n some known none are =
     let nothing : x.members.known ≡ set.union (set.from_list []) set.empty = known ∙ sym (union_empty set.empty) in
     record {
       conditions = λ q. (λ i. condition_at (none q i) (set.contains (nothing i) q))
-          ∙ condition_alone o [] set.empty no_fields refl refl refl refl refl (λ p h. absurd (nothing_in p h)) q;
+          ∙ condition_alone o [] set.empty no_fields refl refl refl (λ p h. absurd (nothing_in p h)) q;
       dots = nothing ∙ sym (known_by o [] set.empty refl refl);
       totals = λ s q.
           ap (λ e. totals_of e s q) are ∙ ap (λ t. unwrap_or t no_calls) (get_counted site queue calls n some (record { site = s; queue = q }))

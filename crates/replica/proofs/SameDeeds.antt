@@ -1,5 +1,5 @@
 -- Sites that say the same do the same.
-use Rattle.std.proofs.Common.{◌≡◌, ◌≤◌, inl, inr, ℕ, suc, max, length, Result, refl, sym, ap, subst, ◌∙◌}
+use Rattle.std.proofs.Common.{◌≡◌, ◌<◌, ◌≤◌, inl, inr, ℕ, suc, max, length, Result, refl, sym, ap, subst, ◌∙◌}
 use Rattle.std.specs.FinSet as set
 use Rattle.dots.specs.declared.limits.TheConstants.{MOST_LIVE, MOST_RUNS}
 use Rattle.operations.specs.Conditions.{ConditionsAgree, condition_joined}
@@ -9,10 +9,10 @@ use Rattle.operations.specs.Rows.{rows_of as rows_read}
 use Rattle.operations.specs.Totals.{join_of, sum_of, totals_of}
 use Rattle.site_totals.specs.Raising.{number_of as number_of_calls}
 use Rattle.member_orset.specs.Members as sets
-use Rattle.member_orset.specs.Members.{cells_joined, condition_of, is_live, joined_dots, runs_joined}
+use Rattle.member_orset.specs.Members.{ConditionsConflict, cells_joined, condition_of, is_live, joined_dots, runs_joined}
 use Rattle.delta.specs.DeltaStates.{DeltaState, IsEmpty, IsSame}
 use Rattle.delta.specs.Frames.{IsSameFrame}
-use Rattle.delta.specs.Joining.{IsJoinOf}
+use Rattle.delta.specs.Joining.{Disagree, IsJoinOf}
 use Rattle.delta.specs.declared.frame.Frame.{Frame}
 use Rattle.delta.proofs.StandingDeltas.{one_delta}
 use Rattle.replica.specs.declared.refusal.Refusal.{Refusal}
@@ -21,7 +21,8 @@ use Rattle.replica.specs.Commands.{Follows, HasJoined}
 use Rattle.replica.specs.Deeds.{IsCutDeed, IsTakeDeed, IsWholeDeed}
 use Rattle.replica.specs.Site.{IsSameSite, SiteState, meaning_at, rows_of, sums_of, view_of}
 use Rattle.replica.specs.SiteViews.{count_used, time_used}
-use Rattle.replica.specs.Taking.{HasMemberPast, HasTotalPast, IsNotMine, MayTake, SpeaksOfStrangeQueue}
+use Rattle.replica.specs.declared.take_fault.TakeFault.{TakeFault}
+use Rattle.replica.specs.Taking.{HasMemberPast, HasTotalPast, IsNotMine, IsRefusedTake, MayHear, MayJoin, MayTake, SpeaksOfStrangeQueue}
 use Rattle.replica.proofs.SameSites.{delta_through, delta_turned, site_through, site_turned, unchanged_site}
 use Rattle.replica.proofs.StandingSites.{equal_same}
 use Rattle.replica.proofs.TakingIn.{copied_live}
@@ -100,19 +101,54 @@ module _ (s t : SiteState) (same : IsSameSite s t) where
       (subst (λ n. HasTotalPast n s.state.totals.entries d.totals.entries) same.site
       (subst (λ entries. HasTotalPast t.site entries d.totals.entries) (sym same.state.totals) past))
 
-  -- so both may take the same
+  -- what is strange to one is to the other
+  pub strange_same : (d : DeltaState) → SpeaksOfStrangeQueue (length s.names) d → SpeaksOfStrangeQueue (length t.names) d
+  strange_same d strange = subst (λ names. SpeaksOfStrangeQueue (length names) d) (sym same.names) strange
+
+  -- so both may hear the same
+  hear_same : (d : DeltaState) → MayHear s d → MayHear t d
+  hear_same d hears = record {
+    queues = λ strange. hears.queues (subst (λ names. SpeaksOfStrangeQueue (length names) d) same.names strange);
+    own = λ past. hears.own (not_mine d past);
+  }
+
+  -- and may join the same
+  join_same : (d : DeltaState) → MayJoin s d → MayJoin t d
+  join_same d joins = record {
+    hears = hear_same d joins.hears;
+    agree = λ dot. subst (λ c. ConditionsAgree c (condition_of d.members dot)) (same.state.conditions dot) (joins.agree dot);
+  }
+
+  -- and may take the same
   pub may_same : (d : DeltaState) → MayTake s d → MayTake t d
   may_same d may = record {
-    joins = record {
-      hears = record {
-        queues = λ strange. may.joins.hears.queues (subst (λ names. SpeaksOfStrangeQueue (length names) d) same.names strange);
-        own = λ past. may.joins.hears.own (not_mine d past);
-      };
-      agree = λ dot. subst (λ c. ConditionsAgree c (condition_of d.members dot)) (same.state.conditions dot) (may.joins.agree dot);
-    };
+    joins = join_same d may.joins;
     cells = subst (λ n. n ≤ MOST_LIVE) (cells_same s.state t.state d same.state) may.cells;
     runs = subst (λ n. n ≤ MOST_RUNS) (runs_same s.state t.state d same.state) may.runs;
   }
+
+  -- what disagrees with one, and may be heard, does with the other
+  pub conflict_same : (d : DeltaState) → MayHear s d × Disagree s.state d → MayHear t d × Disagree t.state d
+  conflict_same d (hears, disagree) = (
+    hear_same d hears,
+    record {
+      dot = disagree.dot;
+      conflict = subst (λ c. ConditionsConflict c (condition_of d.members disagree.dot)) (same.state.conditions disagree.dot) disagree.conflict;
+    },
+  )
+
+  -- what makes too many live dots does at both
+  pub cells_full_same : (d : DeltaState) → MayJoin s d × (MOST_LIVE < cells_joined s.state.members d.members) → MayJoin t d × (MOST_LIVE < cells_joined t.state.members d.members)
+  cells_full_same d (joins, many) = (join_same d joins, subst (λ n. MOST_LIVE < n) (cells_same s.state t.state d same.state) many)
+
+  -- and so does what makes too many runs
+  pub runs_full_same : (d : DeltaState) → MayJoin s d × (cells_joined s.state.members d.members ≤ MOST_LIVE) × (MOST_RUNS < runs_joined s.state.members d.members)
+      → MayJoin t d × (cells_joined t.state.members d.members ≤ MOST_LIVE) × (MOST_RUNS < runs_joined t.state.members d.members)
+  runs_full_same d (joins, few, many) = (
+    join_same d joins,
+    subst (λ n. n ≤ MOST_LIVE) (cells_same s.state t.state d same.state) few,
+    subst (λ n. MOST_RUNS < n) (runs_same s.state t.state d same.state) many,
+  )
 
   module _ (new after : SiteState) where
     -- what comes of one meaning is the same
@@ -189,3 +225,23 @@ module _ (s t : SiteState) (same : IsSameSite s t) where
       last_time = b.last_time ∙ same.last_time ∙ sym a.last_time;
       frames = b.frames ∙ same.frames ∙ sym a.frames;
     }
+
+-- ---- refused takes
+
+module _ (s t : SiteState) (same : IsSameSite s t) where
+  -- what one site hasn't made the other hasn't, both ways
+  pub not_mine_same : (d : DeltaState) → IsNotMine s d → IsNotMine t d
+  not_mine_same d past = not_mine t s (site_turned s t same) d past
+
+  -- a take that is refused at one site is refused for the same cause at the other
+  pub refusals_same : (d : DeltaState) (IsRefused : TakeFault → Type 0) → IsRefusedTake s d IsRefused → IsRefusedTake t d IsRefused
+  refusals_same d IsRefused refused = let turned = site_turned s t same in record {
+    no_such_queue = (λ h. strange_same s t same d (refused.no_such_queue.0 h), λ h. refused.no_such_queue.1 (strange_same t s turned d h));
+    not_mine = (
+      λ h. let was = refused.not_mine.0 h in (λ strange. was.0 (strange_same t s turned d strange), not_mine_same d was.1),
+      λ h. refused.not_mine.1 (λ strange. h.0 (strange_same s t same d strange), not_mine s t same d h.1),
+    );
+    conflict = (λ h. conflict_same s t same d (refused.conflict.0 h), λ h. refused.conflict.1 (conflict_same t s turned d h));
+    cells_full = (λ h. cells_full_same s t same d (refused.cells_full.0 h), λ h. refused.cells_full.1 (cells_full_same t s turned d h));
+    runs_full = (λ h. runs_full_same s t same d (refused.runs_full.0 h), λ h. refused.runs_full.1 (runs_full_same t s turned d h));
+  }

@@ -168,7 +168,12 @@ add_change s kept limits x member penalty pause label within count_within time_w
     held = (member, fields_added stamp penalty pause label)
 
     written : AreWrittenBy s.site (suc s.last_time) (fields_added stamp penalty pause label)
-    written = record { penalty = written_under s.site stamp (Some penalty); pause = written_under s.site stamp (Some pause); label = written_under s.site stamp (Some label) }
+    written = record {
+      penalty = written_under s.site stamp (Some penalty);
+      pause = written_under s.site stamp (Some pause);
+      label = written_under s.site stamp (Some label);
+      ring = written_under s.site stamp None;
+    }
 
     holding_is : (dot : Dot) (h : Holding) → map.get x.members.live dot ≡ Some h → (dot ≡ next) × (held ≡ h)
     holding_is dot h e = by (is_dot dot next) refl (sym (live dot ∙ map.get-insert dots_total map.empty next held dot ∙ ap (cond (is_dot dot next) (Some held)) (map.get-empty dot_cmp dot)) ∙ e)

@@ -60,7 +60,8 @@ stamps_up_to : (site last : ℕ) (d : DeltaState) → (HasStampPast site last d.
 stamps_up_to site last d none dot held live = record {
   penalty = written_up_to site last held.1.penalty (λ w. none (record { dot = dot; held = held; live = live; past = inl w }));
   pause = written_up_to site last held.1.pause (λ w. none (record { dot = dot; held = held; live = live; past = inr (inl w) }));
-  label = written_up_to site last held.1.label (λ w. none (record { dot = dot; held = held; live = live; past = inr (inr w) }));
+  label = written_up_to site last held.1.label (λ w. none (record { dot = dot; held = held; live = live; past = inr (inr (inl w)) }));
+  ring = written_up_to site last held.1.ring (λ w. none (record { dot = dot; held = held; live = live; past = inr (inr (inr w)) }));
 }
 
 -- and it is of the site's queues

@@ -1,6 +1,6 @@
 -- A write of what a site sees is a change of its own: it is later than all that it replaces.
 use Rattle.std.proofs.Common.{◌≡◌, ◌≤◌, ◌<◌, inl, inr, ℕ, suc, max, true, List, [], ◌∷◌, length, map as each, Contains, Option, Some, None, refl, sym, ap, subst, ◌∙◌, arith}
-use Rattle.std.specs.Option.{option_map, option_and_then}
+use Rattle.std.specs.Option.{option_map, option_map_or}
 use Rattle.std.specs.List.{find}
 use Rattle.std.specs.Ordering.{nat_cmp, ordering_then}
 use Rattle.std.specs.declared.cmp.Ordering.{Ordering}
@@ -13,16 +13,16 @@ use Rattle.dots.specs.declared.member.Member.{Member}
 use Rattle.dots.specs.Values.{Dot, Stamp}
 use Rattle.dots.specs.Orders.{stamp_cmp}
 use Rattle.operations.specs.Registers.{Entry}
-use Rattle.operations.specs.Conditions.{DotFields, Live}
+use Rattle.operations.specs.Conditions.{DotFields, Live, no_fields}
 use Rattle.operations.specs.Knowledge.{is_dot}
-use Rattle.operations.specs.Operations.{Setting, SetPenalty, SetPause, SetLabel, entry_under, set_penalty, set_pause, set_label}
+use Rattle.operations.specs.Operations.{Setting, SetPenalty, SetPause, SetLabel, SetRing, entry_under, set_penalty, set_pause, set_label, set_ring}
 use Rattle.general_lemmas.proofs.Membership.{any_map, cases_in, first_in, in_any, in_find, later_in, nothing_in}
 use Rattle.member_orset.specs.Members.{Holding, IsWithinLimits, condition_of}
 use Rattle.member_orset.specs.Reads.{dots_seen_below}
 use Rattle.member_orset.proofs.DotTests.{one_dot}
 use Rattle.delta.specs.DeltaStates.{DeltaState}
 use Rattle.replica.specs.SetFields.{fields_written}
-use Rattle.replica.specs.Changes.{time_of, time_replaced}
+use Rattle.replica.specs.Changes.{time_in, time_of, time_replaced}
 use Rattle.replica.specs.Changing.{FieldsNewer, IsChangeOf, IsNewer, IsOlder}
 use Rattle.replica.specs.Keeping.{AreWrittenBy, IsKept}
 use Rattle.replica.specs.Site.{SiteState, view_of}
@@ -90,24 +90,36 @@ seen_holding s queue interface p h = by (map.get s.state.members.live p.0) refl 
         one : (m : Member) → Some m ≡ Some p.1 → m ≡ p.1
         one m e = cc
 
--- fields of a later stamp than all that the setting replaces are newer
-fields_newer : (s : SiteState) (dot : Dot) (member : Member) (g : DotFields) (setting : Setting) (stamp : Stamp) → map.get s.state.members.live dot ≡ Some (member, g)
-    → time_replaced (view_of s s.state).dots setting dot < stamp.time → FieldsNewer g (fields_written stamp setting)
-fields_newer s dot member g (SetPenalty n) stamp live later = record {
-  penalty = newer_under g.penalty stamp (Some n) (subst (λ o. time_of (option_and_then (λ (h : Holding). h.1.penalty) o) < stamp.time) live later);
+-- fields that are written under a later stamp than that of what the setting replaces are newer
+fields_newer : (g : DotFields) (setting : Setting) (stamp : Stamp) → time_in setting g < stamp.time → FieldsNewer g (fields_written stamp setting)
+fields_newer g (SetPenalty n) stamp later = record {
+  penalty = newer_under g.penalty stamp (Some n) later;
   pause = newer_unset g.pause stamp;
   label = newer_unset g.label stamp;
+  ring = newer_unset g.ring stamp;
 }
-fields_newer s dot member g (SetPause p) stamp live later = record {
+fields_newer g (SetPause p) stamp later = record {
   penalty = newer_unset g.penalty stamp;
-  pause = newer_under g.pause stamp (Some p) (subst (λ o. time_of (option_and_then (λ (h : Holding). h.1.pause) o) < stamp.time) live later);
+  pause = newer_under g.pause stamp (Some p) later;
   label = newer_unset g.label stamp;
+  ring = newer_unset g.ring stamp;
 }
-fields_newer s dot member g (SetLabel l) stamp live later = record {
+fields_newer g (SetLabel l) stamp later = record {
   penalty = newer_unset g.penalty stamp;
   pause = newer_unset g.pause stamp;
-  label = newer_under g.label stamp (Some l) (subst (λ o. time_of (option_and_then (λ (h : Holding). h.1.label) o) < stamp.time) live later);
+  label = newer_under g.label stamp (Some l) later;
+  ring = newer_unset g.ring stamp;
 }
+fields_newer g (SetRing r) stamp later = record {
+  penalty = newer_unset g.penalty stamp;
+  pause = newer_unset g.pause stamp;
+  label = newer_unset g.label stamp;
+  ring = newer_under g.ring stamp (Some r) later;
+}
+
+-- what a setting replaces on a live dot is what it replaces in the dot's fields
+replaced_in : (s : SiteState) (setting : Setting) (dot : Dot) (h : Holding) → map.get s.state.members.live dot ≡ Some h → time_replaced (view_of s s.state).dots setting dot ≡ time_in setting h.1
+replaced_in s setting dot h live = ap (λ o. time_in setting (option_map_or (λ (h : Holding). h.1) o no_fields)) live
 
 -- a write is a change of its site
 pub write_change : (s : SiteState) → IsKept s → IsWithinLimits s.state.members → (x : DeltaState) (queue : Option ℕ) (interface : List ℕ) (setting : Setting)
@@ -151,6 +163,7 @@ write_change s kept limits x queue interface setting within known live entries =
       penalty = written_under s.site stamp (set_penalty setting);
       pause = written_under s.site stamp (set_pause setting);
       label = written_under s.site stamp (set_label setting);
+      ring = written_under s.site stamp (set_ring setting);
     }
 
     -- what is held of a dot is a pair's that is seen
@@ -172,7 +185,7 @@ write_change s kept limits x queue interface setting within known live entries =
           fields = g.0;
           is = ap (condition_of s.state.members) (sym w.2.0) ∙ live_condition s.state w.0.0 (w.0.1, g.0) g.1 ∙ ap (λ (h : Holding). Some (Live h.0 g.0)) w.2.1;
           newer = subst (λ (h : Holding). FieldsNewer g.0 h.1) w.2.1
-              (fields_newer s w.0.0 w.0.1 g.0 setting stamp g.1 (let most = one_of_greatest replaced seen w.0 w.1 in omega (arith, most)));
+              (fields_newer g.0 setting stamp (let most = one_of_greatest replaced seen w.0 w.1 in let is = replaced_in s setting w.0.0 (w.0.1, g.0) g.1 in omega (arith, most, is)));
         }
 
     up_to : (q : Dot) → set.contains (dots_seen_below s.state.members (each (λ p. p.0) seen)) q ≡ true → q.site ≡ s.site → q.count ≤ s.last_count

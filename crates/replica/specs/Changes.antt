@@ -9,7 +9,8 @@ use Rattle.dots.specs.Values.{Dot}
 use Rattle.operations.specs.Registers.{Entry}
 use Rattle.dots.specs.declared.calls.Calls.{Calls}
 use Rattle.dots.specs.declared.calls.Calls.TheVariants.{Completed, Abandoned}
-use Rattle.operations.specs.Operations.{Operation, Setting, Add, Write, Remove, Count, SetPenalty, SetPause, SetLabel}
+use Rattle.operations.specs.Conditions.{DotFields}
+use Rattle.operations.specs.Operations.{Operation, Setting, Add, Write, Remove, Count, SetPenalty, SetPause, SetLabel, SetRing}
 use Rattle.operations.specs.Knowledge.{known_dots}
 use Rattle.dots.specs.DotSets.{run_count}
 use Rattle.operations.specs.Rows.{DotView}
@@ -34,6 +35,7 @@ change_of (command.Add queue interface penalty paused label) = AddMember queue i
 change_of (command.Remove queue interface) = RemoveMember queue interface
 change_of (command.Pause queue interface pause) = SetField queue interface (SetPause pause)
 change_of (command.Penalty queue interface penalty) = SetField queue interface (SetPenalty penalty)
+change_of (command.RingInUse queue interface ring) = SetField queue interface (SetRing ring)
 change_of (command.Completed queue) = CountCall queue Completed
 change_of (command.Abandoned queue) = CountCall queue Abandoned
 
@@ -47,11 +49,16 @@ abbrev pub time_of : {T : Type 0} → Option (Entry T) → ℕ
 time_of None = 0
 time_of (Some entry) = entry.stamp.time
 
+-- the time of what a setting replaces in fields: that of the same field; 0 where it isn't set
+abbrev pub time_in : Setting → DotFields → ℕ
+time_in (SetPenalty penalty) fields = time_of fields.penalty
+time_in (SetPause pause) fields = time_of fields.pause
+time_in (SetLabel label) fields = time_of fields.label
+time_in (SetRing ring) fields = time_of fields.ring
+
 -- the time of what a setting replaces on a dot: the latest setting of the same field
 abbrev pub time_replaced : DotView → Setting → Dot → ℕ
-time_replaced r (SetPenalty penalty) dot = time_of (r.penalty dot)
-time_replaced r (SetPause pause) dot = time_of (r.pause dot)
-time_replaced r (SetLabel label) dot = time_of (r.label dot)
+time_replaced r setting dot = time_in setting (r.fields dot)
 
 -- an add: the site's next count and time, and an empty reason
 abbrev pub add_at : ℕ → SiteView → Member → ℕ → Bool → Label → Operation

@@ -22,6 +22,7 @@ pub record FieldsNewer (older newer : DotFields) : Type 0 where
   pub penalty : IsNewer older.penalty newer.penalty
   pub pause : IsNewer older.pause newer.pause
   pub label : IsNewer older.label newer.label
+  pub ring : IsNewer older.ring newer.ring
 
 -- a condition is that of a dot that is live with this member, and with older fields
 pub record IsOlder (condition : Option Condition) (m : Member) (f : DotFields) : Type 0 where

@@ -24,6 +24,7 @@ pub record AreWrittenBy (site time : ℕ) (fields : DotFields) : Type 0 where
   pub penalty : IsWrittenBy site time fields.penalty
   pub pause : IsWrittenBy site time fields.pause
   pub label : IsWrittenBy site time fields.label
+  pub ring : IsWrittenBy site time fields.ring
 
 -- a delta is below another: so is each condition, and no total is greater
 pub record IsBelow (d e : DeltaState) : Type 0 where

@@ -1,3 +1,4 @@
+pub mod Causes
 pub mod Changes
 pub mod Changing
 pub mod Commands
@@ -14,6 +15,7 @@ pub mod Promises
 pub mod Queues
 pub mod SetFields
 pub mod Settings
+pub mod Shows
 pub mod Site
 pub mod SiteViews
 pub mod Standing

@@ -61,9 +61,13 @@ pub record IsWrittenPast {T : Type 0} (site last : ℕ) (field : Option (Entry T
   pub own : entry.stamp.site ≡ site
   pub past : last < entry.stamp.time
 
--- one of three fields was
+-- one of a dot's fields was
 abbrev pub HasFieldPast : ℕ → ℕ → DotFields → Type 0
-HasFieldPast site last fields = IsWrittenPast site last fields.penalty ⊎ (IsWrittenPast site last fields.pause ⊎ IsWrittenPast site last fields.label)
+HasFieldPast site last fields =
+    IsWrittenPast site last fields.penalty
+    ⊎ IsWrittenPast site last fields.pause
+    ⊎ IsWrittenPast site last fields.label
+    ⊎ IsWrittenPast site last fields.ring
 
 -- some live dot has such a field
 pub record HasStampPast (site last : ℕ) (members : Members) : Type 0 where

@@ -45,6 +45,16 @@ pub enum Command {
         /// The penalty.
         penalty: Penalty,
     },
+    /// Sets whether the interface is rung while its device is in use, in the queue; without a queue, in every one that it is a
+    /// member of.
+    RingInUse {
+        /// The queue, if it is one alone.
+        queue: Option<QueueName>,
+        /// The interface.
+        interface: Interface,
+        /// Whether it is rung then.
+        ring: bool,
+    },
     /// Counts a call of the queue that was completed.
     Completed {
         /// The queue.
@@ -126,6 +136,15 @@ impl Command {
                 interface: interface.copy(),
                 penalty: *penalty,
             },
+            Command::RingInUse {
+                queue,
+                interface,
+                ring,
+            } => Command::RingInUse {
+                queue: copy_name(queue),
+                interface: interface.copy(),
+                ring: *ring,
+            },
             Command::Completed { queue } => Command::Completed {
                 queue: queue.copy(),
             },
@@ -150,7 +169,7 @@ impl Command {
                 let _ = penalty.get();
                 see_label(label);
             }
-            Command::Remove { interface, .. } => {
+            Command::Remove { interface, .. } | Command::RingInUse { interface, .. } => {
                 let _ = interface.as_bytes();
             }
             Command::Pause {
@@ -237,6 +256,18 @@ impl Command {
                     && *interface == *other_interface
                     && *penalty == *other_penalty
             }
+            (
+                Command::RingInUse {
+                    queue,
+                    interface,
+                    ring,
+                },
+                Command::RingInUse {
+                    queue: other_queue,
+                    interface: other_interface,
+                    ring: other_ring,
+                },
+            ) => *queue == *other_queue && *interface == *other_interface && *ring == *other_ring,
             (Command::Completed { queue }, Command::Completed { queue: other_queue }) => {
                 *queue == *other_queue
             }

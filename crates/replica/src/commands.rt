@@ -42,7 +42,7 @@ fn later(time: u64, other: u64) -> u64
     max(time, other)
 }
 
-// What an add sets under its stamp.
+// What an add sets under its stamp: all but ring.
 fn fields_added(stamp: Stamp, penalty: Penalty, paused: bool, label: Label) -> Fields
     ensures { result ≡ fields_added stamp penalty (record { paused = paused; reason = [] }) label }
 {
@@ -50,25 +50,27 @@ fn fields_added(stamp: Stamp, penalty: Penalty, paused: bool, label: Label) -> F
         penalty: Register::of(stamp, penalty),
         pause: Register::of(stamp, Pause::new(paused, Text80::empty())),
         label: Register::of(stamp, label),
+        ring: Register::none(),
     }
 }
 
 impl Replica {
     /// Does a command, or refuses it and changes nothing of what the site says.
     ///
-    /// An add makes a new dot of the interface in the queue, with what is set of it and an empty reason. A pause and a penalty are
-    /// written on all dots of the interface that the site sees in the queue, or, without a queue, in every one. Add, pause and
-    /// penalty also name the dead dots of the sites of their dots with lesser counts. A remove names all dots of the interface that
-    /// the site sees in the queue. A count adds one call of the queue (RR-8083 for the dots, RR-7506 for the registers and
-    /// counters). What is made is joined into the state and the buffer, and live dots keep their ids.
+    /// An add makes a new dot of the interface in the queue, with what is set of it and an empty reason. A pause, a penalty and ring
+    /// in use are written on all dots of the interface that the site sees in the queue, or, without a queue, in every one; also
+    /// where they repeat what is set. An add and these three also name the dead dots of the sites of their dots with lesser counts.
+    /// A remove names all dots of the interface that the site sees in the queue. A count adds one call of the queue (RR-8083 for the
+    /// dots, RR-7506 for the registers and counters). What is made is joined into the state and the buffer, and live dots keep
+    /// their ids.
     ///
     /// It is refused, in this order, as
     /// 1 `NoSuchQueue` where its queue isn't in the list; 2 `AlreadyThere` where the member of an add is there;
-    /// 3 `NotThere` where the site sees no dot that a remove, a pause or a penalty goes over;
+    /// 3 `NotThere` where the site sees no dot that a remove, a pause, a penalty or ring in use goes over;
     /// 4 `MembersFull` where the state or the buffer would have more than 16,384 live dots or 65,536 runs, or what is made has more
     /// than 65,536 runs by itself;
-    /// 5 `Exhausted` where an add's next count, or the next time of an add, a pause or a penalty, is past 2^40. The next time of an
-    /// add is one past the site's last; that of the others is past all that they replace too;
+    /// 5 `Exhausted` where an add's next count, or the next time of an add, a pause, a penalty or ring in use, is past 2^40. The next
+    /// time of an add is one past the site's last; that of the others is past all that they replace too;
     /// 6 `TotalFull` where the site's own total of these calls in the queue is 1,000,000,000;
     /// 7 `Memory`, which may stand in place of 4 and 5, and of what would be made, and never of the others. The order is this project's own.
     pub fn command(&mut self, command: Command) -> Result<(), Refusal>
@@ -112,6 +114,11 @@ impl Replica {
                 interface,
                 penalty,
             } => self.plan_setting(queue, &interface, Setting::Penalty(penalty)),
+            Command::RingInUse {
+                queue,
+                interface,
+                ring,
+            } => self.plan_setting(queue, &interface, Setting::Ring(ring)),
             Command::Completed { queue } => self.plan_count(&queue, Calls::Completed),
             Command::Abandoned { queue } => self.plan_count(&queue, Calls::Abandoned),
         }

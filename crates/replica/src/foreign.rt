@@ -84,6 +84,7 @@ fn has_field_past(fields: &Fields, site: SiteId, last: u64) -> bool
     is_written_past(&fields.penalty, site, last)
         || is_written_past(&fields.pause, site, last)
         || is_written_past(&fields.label, site, last)
+        || is_written_past(&fields.ring, site, last)
 }
 
 // Whether a field of some live dot was written under a stamp of this site and of a time past this one.

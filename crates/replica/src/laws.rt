@@ -1,18 +1,26 @@
 //! What the definitions of commands and steps promise, and of what stands for them. The functions have no body: their contracts are the laws.
-ghost use Rattle.std.specs.Prelude.{◌≡◌, ◌<◌, ◌≤◌, ℕ, List, Result, suc};
+ghost use Rattle.std.specs.Prelude.{◌≡◌, ◌↔◌, ◌<◌, ◌≤◌, ◌∷◌, ℕ, Bool, List, Option, Result};
+ghost use Rattle.std.specs.Prelude.{length, suc};
+ghost use Rattle.dots.specs.declared.calls.Calls.{Calls};
+ghost use Rattle.dots.specs.declared.label.Label.{Label};
 ghost use Rattle.dots.specs.declared.limits.TheConstants.{MOST_COUNT, MOST_LIVE, MOST_RUNS};
-ghost use Rattle.operations.specs.Operations.{Operation};
+ghost use Rattle.operations.specs.Operations.{Operation, Setting};
 ghost use Rattle.operations.specs.Knowledge.{Knowledge};
 ghost use Rattle.member_orset.specs.Members.{cells_joined, runs_joined};
 ghost use Rattle.delta.specs.declared.frame.Frame.{Frame};
 ghost use Rattle.delta.specs.DeltaStates.{DeltaState, IsEmpty, IsSame};
 ghost use Rattle.delta.specs.Frames.{IsInRanges, IsSameFrame, frame_of};
+ghost use Rattle.delta.specs.Joining.{Disagree};
 ghost use Rattle.delta.specs.Standing.{IsDeltaOf};
+ghost use Rattle.replica.specs.declared.command.Command.{Command};
 ghost use Rattle.replica.specs.declared.refusal.Refusal.{Refusal};
+ghost use Rattle.replica.specs.declared.take_fault.TakeFault.{TakeFault};
 ghost use Rattle.replica.specs.Promises.{ForeseesOneMore, OlderAreNamed, MakesTraces};
 ghost use Rattle.replica.specs.Promises.{MakesWithinLimits, MeansTheSame, AreAlike, AreAsFull};
 ghost use Rattle.replica.specs.Promises.{MeansTheSameAlike, RefusalsChangeNothing};
-ghost use Rattle.replica.specs.Changes.{Change, Makes, meaning};
+ghost use Rattle.replica.specs.Causes.{IsCaused};
+ghost use Rattle.replica.specs.Changes.{AddMember, Change, CountCall, Makes, Meaning};
+ghost use Rattle.replica.specs.Changes.{RemoveMember, SetField, change_of, meaning};
 ghost use Rattle.replica.specs.Commands.{Follows};
 ghost use Rattle.replica.specs.Deeds.{IsCutDeed, IsNew, IsTakeDeed, IsWholeDeed};
 ghost use Rattle.replica.specs.FrameSteps.{IsSmallSite, StepsStaySmall};
@@ -22,11 +30,14 @@ ghost use Rattle.replica.specs.MadeOperations.{IsMadeAt};
 ghost use Rattle.replica.specs.Queues.{AreQueues};
 ghost use Rattle.replica.specs.Site.{IsSameSite, IsUnchanged, SiteState, meaning_at};
 ghost use Rattle.replica.specs.Site.{rows_of, sums_of};
+ghost use Rattle.replica.specs.Shows.{KnowsNonePast, Shows, ShowsAdd, ShowsCount, ShowsRemove};
+ghost use Rattle.replica.specs.Shows.{ShowsSetting};
 ghost use Rattle.replica.specs.SiteViews.{SiteView, site_view};
 ghost use Rattle.replica.specs.Standing.{StandsFor, result_of};
 ghost use Rattle.replica.specs.Steps.{CellsFull, Cut, Do, NoNumber, Nothing, RunsFull};
 ghost use Rattle.replica.specs.Steps.{SiteKnowledge, Step, Take, Taken, Whole, new_site, step};
-ghost use Rattle.replica.specs.Taking.{HasNoneLater, MayTake};
+ghost use Rattle.replica.specs.Taking.{HasNoneLater, IsNotMine, IsRefusedFor, IsRefusedTake};
+ghost use Rattle.replica.specs.Taking.{MayHear, MayJoin, MayTake, SpeaksOfStrangeQueue};
 
 /// The visible and the known dots that a site view gives with one operation more are those of the knowledge that has it: so
 /// whether a site is full is asked of what it would know (this project's own).
@@ -156,8 +167,9 @@ pub fn what_says_the_same_is_taken_the_same()
 {}
 
 /// Sites that say the same show the same and do the same, whatever rooms and ids they have: a queue has the same rows and the same totals; a command means the same;
-/// the buffers of both are empty, or of neither; and both may take the same deltas. After the same command, a cut, a frame of all that is known, or the take of one
-/// delta, they say the same again, with the same result, and so do their frames (RR-7506: replicas in equivalent states stay so under the same updates).
+/// the buffers of both are empty, or of neither; and both may take the same deltas, and refuse the same for the same cause. After the same command, a cut, a frame of all
+/// that is known, or the take of one delta, they say the same again, with the same result, and so do their frames (RR-7506: replicas in equivalent states stay so under
+/// the same updates).
 pub fn sites_that_say_the_same_do_the_same()
     ensures rows { (s t : SiteState) (queue : ℕ) → IsSameSite s t
         → rows_of s queue ≡ rows_of t queue }
@@ -180,6 +192,23 @@ pub fn sites_that_say_the_same_do_the_same()
         → IsSameFrame frame other × IsSameSite new after }
     ensures may { (s t : SiteState) (d : DeltaState) → IsSameSite s t → MayTake s d
         → MayTake t d }
+    ensures strange { (s t : SiteState) (d : DeltaState) → IsSameSite s t
+        → SpeaksOfStrangeQueue (length s.names) d → SpeaksOfStrangeQueue (length t.names) d }
+    ensures not_mine { (s t : SiteState) (d : DeltaState) → IsSameSite s t → IsNotMine s d
+        → IsNotMine t d }
+    ensures conflict { (s t : SiteState) (d : DeltaState) → IsSameSite s t
+        → MayHear s d × Disagree s.state d → MayHear t d × Disagree t.state d }
+    ensures cells_full { (s t : SiteState) (d : DeltaState) → IsSameSite s t
+        → MayJoin s d × (MOST_LIVE < cells_joined s.state.members d.members)
+        → MayJoin t d × (MOST_LIVE < cells_joined t.state.members d.members) }
+    ensures runs_full { (s t : SiteState) (d : DeltaState) → IsSameSite s t
+        → MayJoin s d × (cells_joined s.state.members d.members ≤ MOST_LIVE)
+        × (MOST_RUNS < runs_joined s.state.members d.members)
+        → MayJoin t d × (cells_joined t.state.members d.members ≤ MOST_LIVE)
+        × (MOST_RUNS < runs_joined t.state.members d.members) }
+    ensures refusals { (s t : SiteState) (d : DeltaState)
+        (result : Result (Unit {0}) (TakeFault × Frame)) → IsSameSite s t
+        → IsRefusedTake s d (IsRefusedFor result) → IsRefusedTake t d (IsRefusedFor result) }
     ensures take { (s t new after : SiteState) (d : DeltaState) → IsSameSite s t
         → IsTakeDeed s d new → IsTakeDeed t d after → IsSameSite new after }
 {}
@@ -198,4 +227,48 @@ pub fn a_next_frame_is_in_ranges()
 pub fn what_a_site_knows_stays_small_enough_for_a_frame()
     ensures new { IsSmallSite new_site }
     ensures steps { StepsStaySmall }
+{}
+
+/// What a command that is done shows from then on, told by what its site knows before and after it: the rows of the members that it is for, or the totals of the call
+/// that it counts; all else is shown as before. An add is shown so at a site that knows none of its own dots past its last one, as in each world that events lead to
+/// (this project's own).
+pub fn a_done_command_shows()
+    ensures add { (site : ℕ) (names : List (List ℕ)) (queue interface : List ℕ) (penalty : ℕ)
+        (paused : Bool) (label : Label) (k buffer : Knowledge) (o : Operation)
+        → KnowsNonePast site k
+        → meaning site names (site_view site k) (site_view site buffer)
+        (AddMember queue interface penalty paused label) ≡ Makes o
+        → ShowsAdd names k (o ∷ k) queue interface penalty paused label }
+    ensures remove { (site : ℕ) (names : List (List ℕ)) (queue interface : List ℕ)
+        (k buffer : Knowledge) (o : Operation)
+        → meaning site names (site_view site k) (site_view site buffer)
+        (RemoveMember queue interface) ≡ Makes o
+        → ShowsRemove names k (o ∷ k) queue interface }
+    ensures set { (site : ℕ) (names : List (List ℕ)) (queue : Option (List ℕ))
+        (interface : List ℕ) (setting : Setting) (k buffer : Knowledge) (o : Operation)
+        → meaning site names (site_view site k) (site_view site buffer)
+        (SetField queue interface setting) ≡ Makes o
+        → ShowsSetting names k (o ∷ k) queue interface setting }
+    ensures count { (site : ℕ) (names : List (List ℕ)) (queue : List ℕ) (calls : Calls)
+        (k buffer : Knowledge) (o : Operation)
+        → meaning site names (site_view site k) (site_view site buffer)
+        (CountCall queue calls) ≡ Makes o
+        → ShowsCount site names k (o ∷ k) queue calls }
+    ensures command { (site : ℕ) (names : List (List ℕ)) (done : Command)
+        (k buffer : Knowledge) (o : Operation)
+        → KnowsNonePast site k
+        → meaning site names (site_view site k) (site_view site buffer) (change_of done) ≡ Makes o
+        → Shows site names done k (o ∷ k) }
+{}
+
+/// What a command means is told by its cause, over the queues, the rows and the limits. It is refused as `NoSuchQueue` exactly where it names a queue that isn't in the
+/// list; as `AlreadyThere` exactly where it adds a member that has a row; as `NotThere` exactly where it is a remove or a setting, its queue is in the list if it names
+/// one, and no member that it is for has a row. Where none of these stands it asks for an operation: it is refused as `MembersFull` exactly where that is too much for
+/// what the site knows, for its buffer or by itself; else as `Exhausted` exactly where that wants a count or a time past the greatest; else as `TotalFull` exactly where
+/// it wants a total past the greatest; and makes it exactly where nothing of this stands. A want of memory is no meaning (this project's own).
+pub fn a_command_is_refused_for_its_cause()
+    ensures { (site : ℕ) (names : List (List ℕ)) (change : Change) (k buffer : Knowledge)
+        (meant : Meaning)
+        → (meaning site names (site_view site k) (site_view site buffer) change ≡ meant)
+        ↔ IsCaused site names k buffer change meant }
 {}

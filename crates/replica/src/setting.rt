@@ -1,8 +1,8 @@
 ghost use Rattle.std.specs.Prelude.{◌≡◌, ◌≤◌};
 ghost use Rattle.member_orset.specs.Members.{dot_view_of};
-ghost use Rattle.replica.specs.Changes.{time_of, time_replaced};
+ghost use Rattle.replica.specs.Changes.{time_in, time_of, time_replaced};
 ghost use Rattle.replica.specs.SetFields.{fields_written};
-ghost use Rattle.replica.specs.Settings.{setting_of, time_in};
+ghost use Rattle.replica.specs.Settings.{setting_of};
 ghost use Rattle.replica.specs.SiteViews.{greatest};
 
 use dots::{Dot, MOST_COUNT, Pause, Penalty, Stamp};
@@ -14,6 +14,7 @@ use member_orset::MemberSet;
 pub(crate) enum Setting {
     Penalty(Penalty),
     Pause(Pause),
+    Ring(bool),
 }
 
 // The time of what a register holds; 0 where it holds nothing.
@@ -36,6 +37,7 @@ impl Setting {
         match self {
             Setting::Penalty(penalty) => fields.penalty = Register::of(stamp, *penalty),
             Setting::Pause(pause) => fields.pause = Register::of(stamp, pause.copy()),
+            Setting::Ring(ring) => fields.ring = Register::of(stamp, *ring),
         }
         fields
     }
@@ -48,6 +50,7 @@ impl Setting {
         match self {
             Setting::Penalty(_) => time_of(&fields.penalty),
             Setting::Pause(_) => time_of(&fields.pause),
+            Setting::Ring(_) => time_of(&fields.ring),
         }
     }
 

@@ -12,7 +12,8 @@ use Rattle.operations.specs.Knowledge.{Knowledge}
 use Rattle.delta.specs.declared.frame.Frame.{Frame}
 use Rattle.delta.specs.Standing.{IsDeltaOf}
 use Rattle.delta_codec.specs.Fitting.{FitsFormat}
-use Rattle.delta_codec.specs.Frames.{Spells}
+use Rattle.delta_codec.specs.Frames.{SpellsIn}
+use Rattle.delta_codec.specs.declared.limits.TheConstants.{VERSION}
 use Rattle.replica.specs.declared.command.Command.{Command}
 use Rattle.replica.specs.Changes.{change_of}
 use Rattle.replica.specs.Promises.{IsChange}
@@ -31,7 +32,7 @@ use Rattle.sites_world.specs.Worlds.{Entry, IsReached, World, happens, new_world
 use Rattle.sites_world.proofs.Lists.{place_in}
 use Rattle.script_lines.specs.ScriptLines.{IsMessage, Sense, Nothing, Message, Count, Offer, Cut, Whole, Take, Show, Unknown, lines_of, queue_in, sense_of, stream_of, tried_in}
 use Rattle.scripts.specs.Answers.{frame_text, no_entry}
-use Rattle.scripts.proofs.OneText.{HasOneDelta, HasOneSpelling, OneList, begun_front}
+use Rattle.scripts.proofs.OneText.{HasOneDelta, HasOneSpelling, OneList, begun_front, done_front}
 use Rattle.scripts.specs.Script.{Given, HaveText, IsEntryShown, LinesGive, ScriptSites, SenseGives, count_of, given_by_count, given_by_event, given_by_message, given_by_offer, given_by_reaction, not_understood, trusted_session, unknown_in, written_alone}
 
 -- the messages of a stream
@@ -47,7 +48,7 @@ pub record Laws : Type 0 where
   pub one_spelling : HasOneSpelling
   pub frames : EntriesHaveFrames
   pub fits : (frame : Frame) (k : Knowledge) → FitsInFrame k → IsDeltaOf frame.delta k → IsSite frame.maker → IsCount frame.number → FitsFormat frame
-  pub spelling : (frame : Frame) → FitsFormat frame → (bytes : List ℕ) × Spells frame bytes
+  pub spelling : (frame : Frame) → FitsFormat frame → (bytes : List ℕ) × SpellsIn VERSION frame bytes
   pub asked : (s : SessionState) (message : Fields) (command : Command) (waiting : Waiting) → reaction s message ≡ Asks (ask.Command command) waiting → IsChange (change_of command)
   pub entries : EntriesFit
   pub limits : EventsKeepLimits
@@ -151,6 +152,7 @@ module _ (laws : Laws) where
         unknown = text.1;
         is = text.2;
         begun = λ front begun. begun_front laws.messages laws.one_delta laws.one_spelling place w number lines text.0 front text.1 text.2 begun;
+        done = λ front done. done_front laws.messages laws.one_delta laws.one_spelling place w number lines text.0 front text.1 text.2 done;
       }
 
   -- nothing is known in a new world

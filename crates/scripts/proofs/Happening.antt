@@ -4,7 +4,8 @@ use Rattle.replica.specs.Site.{SiteState}
 use Rattle.replica.specs.Standing.{StandsFor}
 use Rattle.replica.specs.Steps.{SiteKnowledge}
 use Rattle.delta.specs.declared.frame.Frame.{Frame}
-use Rattle.delta_codec.specs.Frames.{Spells}
+use Rattle.delta_codec.specs.Frames.{SpellsIn}
+use Rattle.delta_codec.specs.declared.limits.TheConstants.{VERSION}
 use Rattle.ami_session.specs.Checks.{Asks, Waiting}
 use Rattle.status_report.specs.declared.asks.Ask.{Ask}
 use Rattle.sites_world.specs.declared.event.Event.{Event}
@@ -60,7 +61,7 @@ offered_none state w site queue tried text at is empty =
 
 -- an entry that is shown
 pub shown_some : (state : WorldState) (w : World) (place : ℕ) (frame : Frame) (text : List ℕ) → StandsAt state w → Some frame ≡ slice_get state.pool place
-    → (bytes : List ℕ) × Spells frame bytes × (text ≡ frame_text bytes) → IsEntryShown place (slice_get w.pool place) text
+    → (bytes : List ℕ) × SpellsIn VERSION frame bytes × (text ≡ frame_text bytes) → IsEntryShown place (slice_get w.pool place) text
 shown_some state w place frame text at is shown =
     let found = correspond_get IsFrameOf state.pool w.pool at.stands.pool place frame (sym is) in
     subst (λ entry. IsEntryShown place entry text) (sym found.1) (shown.0, (record { frame = frame; is = found.2; spells = shown.1 }), shown.2)

@@ -1,5 +1,5 @@
 -- The lines of a script have one text.
-use Rattle.std.proofs.Common.{◌≡◌, ℕ, ◌+◌, List, [], ◌∷◌, ◌++◌, append_assoc, append-nil, sym, ◌∙◌, ap, subst, inl, inr, slice_get, Option, Some, None}
+use Rattle.std.proofs.Common.{◌≡◌, ℕ, ◌+◌, List, [], ◌∷◌, ◌++◌, append_assoc, append-nil, refl, sym, ◌∙◌, ap, subst, inl, inr, slice_get, Option, Some, None}
 use mathlib.Core.List.{head-eq_of_cons-eq}
 use Rattle.ami_text.specs.MessageFields.{NameAndValue}
 use Rattle.ami_text.specs.Stream.{Ending, Rest, Reads}
@@ -8,11 +8,12 @@ use Rattle.delta.specs.DeltaStates.{DeltaState, IsSame}
 use Rattle.delta.specs.Standing.{IsDeltaOf}
 use Rattle.delta.specs.declared.frame.Frame.{Frame}
 use Rattle.delta.specs.Frames.{IsSameFrame}
-use Rattle.delta_codec.specs.Frames.{Spells}
+use Rattle.delta_codec.specs.Frames.{SpellsIn}
+use Rattle.delta_codec.specs.declared.limits.TheConstants.{VERSION}
 use Rattle.sites_world.specs.Worlds.{Entry, World}
 use Rattle.scripts.specs.Answers.{frame_text}
 use Rattle.script_lines.specs.ScriptLines.{Sense, Nothing, Message, Count, Offer, Cut, Whole, Take, Show, Unknown, sense_of, stream_of}
-use Rattle.scripts.specs.Script.{AreBegun, LinesGive, Given, SenseGives, HaveOneText, IsFront, IsEntryShown, ScriptSites, given_by_message, unknown_in, written_alone}
+use Rattle.scripts.specs.Script.{AreBegun, AreDone, LinesGive, Given, SenseGives, HaveOneText, IsFront, IsEntryShown, ScriptSites, given_by_message, unknown_in, written_alone}
 
 -- the messages of a stream
 abbrev Messages : Type 0
@@ -26,9 +27,26 @@ OneList = (bytes : List ℕ) (messages others : Messages) (ending other : Ending
 abbrev pub HasOneDelta : Type 0
 HasOneDelta = (x y : DeltaState) (k : Knowledge) → IsDeltaOf x k → IsDeltaOf y k → IsSame x y
 
--- and a frame has one spelling
+-- and a frame has one spelling in the version that is written
 abbrev pub HasOneSpelling : Type 0
-HasOneSpelling = (x y : Frame) (a b : List ℕ) → IsSameFrame x y → Spells x a → Spells y b → a ≡ b
+HasOneSpelling = (x y : Frame) (a b : List ℕ) → IsSameFrame x y → SpellsIn VERSION x a → SpellsIn VERSION y b → a ≡ b
+
+-- nothing is begun of any lines
+begun_nothing : (place : ScriptSites) (w : World) (number : ℕ) (lines : List (List ℕ)) → AreBegun place w number lines []
+begun_nothing place w number [] = refl
+begun_nothing place w number (line ∷ lines) = inl refl
+
+-- what the first of lines give was begun of them
+first_begun : (place : ScriptSites) (w : World) (number : ℕ) (first left : List (List ℕ)) (text : List ℕ) (unknown : ℕ)
+    → LinesGive place w number first text unknown → AreBegun place w number (first ++ left) text
+first_begun place w number [] left text unknown gives = subst (AreBegun place w number left) (sym gives.0) (begun_nothing place w number left)
+first_begun place w number (line ∷ first) left text unknown gives =
+    inr (gives.0, gives.3, inr (gives.1, first_begun place gives.0.after (number + 1) first left gives.1 gives.2 gives.4, gives.5))
+
+-- what was done of lines was begun of them
+done_begun : (place : ScriptSites) (w : World) (number : ℕ) (lines : List (List ℕ)) (text : List ℕ) → AreDone place w number lines text → AreBegun place w number lines text
+done_begun place w number lines text done =
+    subst (λ (all : List (List ℕ)). AreBegun place w number all text) (sym done.is) (first_begun place w number done.first done.left text done.unknown done.gives)
 
 -- an entry is shown in one way
 one_shown : HasOneDelta → HasOneSpelling → (place : ℕ) (entry : Option Entry) (text other : List ℕ) → IsEntryShown place entry text → IsEntryShown place entry other → other ≡ text
@@ -88,9 +106,15 @@ module _ (one : OneList) (delta : HasOneDelta) (spelling : HasOneSpelling) where
       let rest = begun_front place a.0.after (number + 1) lines a.1 more a.2 a.4 moved in
       (rest.0, a.5 ∙ (λ i. (sym same i).text ++ rest.1 i) ∙ sym (append_assoc given.text more rest.0) ∙ ap (λ t. t ++ rest.0) (sym is))
 
+  -- and so is what was done of them
+  pub done_front : (place : ScriptSites) (w : World) (number : ℕ) (lines : List (List ℕ)) (text front : List ℕ) (unknown : ℕ)
+      → LinesGive place w number lines text unknown → AreDone place w number lines front → IsFront front text
+  done_front place w number lines text front unknown is done = begun_front place w number lines text front unknown is (done_begun place w number lines front done)
+
   pub one_text : (place : ScriptSites) (w : World) (number : ℕ) (lines : List (List ℕ)) → HaveOneText place w number lines
   one_text place w number lines = record {
     text = λ text other unknown others a b. (text_one place w number lines text other unknown others a b).0;
     unknown = λ text other unknown others a b. (text_one place w number lines text other unknown others a b).1;
     begun = begun_front place w number lines;
+    done = done_front place w number lines;
   }

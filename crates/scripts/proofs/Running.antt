@@ -4,17 +4,27 @@ use Rattle.std.specs.Io.KnownBytes.{Appends}
 use Rattle.sites_world.specs.Worlds.{World}
 use Rattle.sites_world.specs.WorldStates.{WorldState}
 use Rattle.script_lines.specs.ScriptLines.{lines_of}
-use Rattle.scripts.specs.Script.{AreBegun, LinesGive, HasBegunText, HasWritten, ScriptSites, unknown_in}
+use Rattle.scripts.specs.Script.{AreBegun, AreDone, Given, LineGives, LinesGive, HasBegunText, HasDoneLines, HasWritten, ScriptSites, unknown_in}
 use Rattle.scripts.specs.LineSteps.{BeganLine, GaveLine, StandsAt}
 use Rattle.ami_text.proofs.Taking.{taken_grows, taken_none}
 
--- nothing is begun of any lines
-pub begun_nothing : (place : ScriptSites) (w : World) (number : ℕ) (lines : List (List ℕ)) → AreBegun place w number lines []
-begun_nothing place w number [] = refl
-begun_nothing place w number (line ∷ lines) = inl refl
+-- nothing is done of any lines
+done_nothing : (place : ScriptSites) (w : World) (number : ℕ) (lines : List (List ℕ)) → AreDone place w number lines []
+done_nothing place w number lines = record { first = []; left = lines; is = refl; unknown = 0; gives = (refl, refl) }
 
--- a script that has come so far: the sites stand for a world, a text was written, and with what the rest gives it is the script's, and
--- with what is begun of the rest it is begun
+-- a line is done, and then what was done of the others
+done_line : (place : ScriptSites) (w : World) (number : ℕ) (line : List ℕ) (lines : List (List ℕ)) (given : Given) (more : List ℕ) → LineGives place w number line given
+    → AreDone place given.after (number + 1) lines more → AreDone place w number (line ∷ lines) (given.text ++ more)
+done_line place w number line lines given more gives others = record {
+  first = line ∷ others.first;
+  left = others.left;
+  is = ap (λ (all : List (List ℕ)). line ∷ all) others.is;
+  unknown = unknown_in given + others.unknown;
+  gives = (given, more, others.unknown, gives, others.gives, refl, refl);
+}
+
+-- a script that has come so far: the sites stand for a world, a text was written, and with what the rest gives it is the script's, with
+-- what is begun of the rest it is begun, and with what is done of the rest it is done
 pub record Going (place : ScriptSites) (start : World) (script : List ℕ) (before : Option (List ℕ)) (state : WorldState) (rest : List ℕ) (number unknown : ℕ) (now : Option (List ℕ)) : Type 0 where
   pub w : World
   pub stands : StandsAt state w
@@ -22,6 +32,7 @@ pub record Going (place : ScriptSites) (start : World) (script : List ℕ) (befo
   pub taken : Appends before now text
   pub goes_on : (more : List ℕ) (others : ℕ) → LinesGive place w (number + 1) (lines_of rest) more others → LinesGive place start 1 (lines_of script) (text ++ more) (unknown + others)
   pub is_begun : (more : List ℕ) → AreBegun place w (number + 1) (lines_of rest) more → AreBegun place start 1 (lines_of script) (text ++ more)
+  pub is_done : (more : List ℕ) → AreDone place w (number + 1) (lines_of rest) more → AreDone place start 1 (lines_of script) (text ++ more)
 
 -- how many lines aren't understood, of one that is or isn't
 abbrev pub unknown_of : Bool → ℕ
@@ -37,6 +48,7 @@ going_start place start script before state stands = record {
   taken = taken_none before;
   goes_on = λ more others is. subst (λ (n : ℕ). LinesGive place start 1 (lines_of script) more n) (omega arith) is;
   is_begun = λ more is. is;
+  is_done = λ more is. is;
 }
 
 -- and goes on by a line
@@ -63,6 +75,10 @@ going_on place start script before state new rest line others number unknown lat
           let whole : AreBegun place was.w (number + 1) (line ∷ lines_of others) (by.given.text ++ more) = inr (by.given, by.gives, inr (more, is, refl)) in
           let at = subst (λ (lines : List (List ℕ)). AreBegun place was.w (number + 1) lines (by.given.text ++ more)) (sym cut) whole in
           subst (AreBegun place start 1 (lines_of script)) (sym (append_assoc was.text by.given.text more)) (was.is_begun (by.given.text ++ more) at);
+      is_done = λ more is.
+          let whole = done_line place was.w (number + 1) line (lines_of others) by.given more by.gives is in
+          let at = subst (λ (lines : List (List ℕ)). AreDone place was.w (number + 1) lines (by.given.text ++ more)) (sym cut) whole in
+          subst (AreDone place start 1 (lines_of script)) (sym (append_assoc was.text by.given.text more)) (was.is_done (by.given.text ++ more) at);
     }
 
 -- a script that has come to its end
@@ -79,10 +95,10 @@ going_end place start script before state [] number unknown now was empty =
 
 -- a script that stops before a line
 pub going_stops : (place : ScriptSites) (start : World) (script : List ℕ) (before : Option (List ℕ)) (state : WorldState) (rest : List ℕ) (number unknown : ℕ)
-    (now after : Option (List ℕ)) → Going place start script before state rest number unknown now → after ≡ now → HasBegunText place start script before after
+    (now after : Option (List ℕ)) → Going place start script before state rest number unknown now → after ≡ now → HasDoneLines place start script before after
 going_stops place start script before state rest number unknown now after was same = record {
   text = was.text ++ [];
-  is_begun = was.is_begun [] (begun_nothing place was.w (number + 1) (lines_of rest));
+  is_done = was.is_done [] (done_nothing place was.w (number + 1) (lines_of rest));
   taken = subst (λ t. Appends before t (was.text ++ [])) (sym same) (subst (Appends before now) (sym (append-nil was.text)) was.taken);
 }
 

@@ -3,7 +3,8 @@ use Rattle.std.specs.Prelude.{ℕ, ◌≡◌, ◌≤◌, ◌+◌, ◌⊎◌, Boo
 use Rattle.std.specs.Option.{option_and_then}
 use Rattle.std.specs.Io.KnownBytes.{Appends, Consumes}
 use Rattle.delta.specs.declared.frame.Frame.{Frame}
-use Rattle.delta_codec.specs.Frames.{Spells}
+use Rattle.delta_codec.specs.Frames.{SpellsIn}
+use Rattle.delta_codec.specs.declared.limits.TheConstants.{VERSION}
 use Rattle.dots.specs.declared.calls.Calls.{Calls}
 use Rattle.dots.specs.declared.calls.Calls.TheVariants.{Completed, Abandoned}
 use Rattle.operations.specs.Rows.{dot_view, rows_of}
@@ -83,11 +84,11 @@ given_by_offer place w site queue tried = record {
   understood = true;
 }
 
--- bytes spell the frame of an entry
+-- bytes spell the frame of an entry, in the version that is written
 pub record AreOfEntry (place : ℕ) (entry : Entry) (bytes : List ℕ) : Type 0 where
   pub frame : Frame
   pub is : IsFrameOf place frame entry
-  pub spells : Spells frame bytes
+  pub spells : SpellsIn VERSION frame bytes
 
 -- an entry that is shown gives the bytes that spell its frame
 abbrev pub IsEntryShown : ℕ → Option Entry → List ℕ → Type 0
@@ -144,6 +145,14 @@ AreBegun place w number (line ∷ lines) text =
     ⊎ ((given : Given) × LineGives place w number line given
     × (IsFront text given.text ⊎ ((more : List ℕ) × AreBegun place given.after (number + 1) lines more × (text ≡ given.text ++ more))))
 
+-- what was done of lines, the first of which has this number: all that the first of them give, some or none; the others are left
+pub record AreDone (place : ScriptSites) (w : World) (number : ℕ) (lines : List (List ℕ)) (text : List ℕ) : Type 0 where
+  pub first : List (List ℕ)
+  pub left : List (List ℕ)
+  pub is : lines ≡ first ++ left
+  pub unknown : ℕ
+  pub gives : LinesGive place w number first text unknown
+
 -- a device has taken the text of a script's lines, of which `unknown` aren't understood
 pub record HasWritten (place : ScriptSites) (w : World) (script : List ℕ) (before after : Option (List ℕ)) (unknown : ℕ) : Type 0 where
   pub text : List ℕ
@@ -154,6 +163,12 @@ pub record HasWritten (place : ScriptSites) (w : World) (script : List ℕ) (bef
 pub record HasBegunText (place : ScriptSites) (w : World) (script : List ℕ) (before after : Option (List ℕ)) : Type 0 where
   pub text : List ℕ
   pub is_begun : AreBegun place w 1 (lines_of script) text
+  pub taken : Appends before after text
+
+-- a device has taken what was done of a script's lines
+pub record HasDoneLines (place : ScriptSites) (w : World) (script : List ℕ) (before after : Option (List ℕ)) : Type 0 where
+  pub text : List ℕ
+  pub is_done : AreDone place w 1 (lines_of script) text
   pub taken : Appends before after text
 
 -- a script of at most 16,777,216 bytes was read, and its text was written, over sites that knew nothing
@@ -170,15 +185,24 @@ pub record IsRunInPart (place : ScriptSites) (left_before left_after taken_befor
   pub read : Consumes left_before left_after script
   pub written : HasBegunText place (new_world place.sites) script taken_before taken_after
 
--- lines have at most one text and one number of lines that aren't understood, and what was begun of them is a front of that text
+-- a script of at most 16,777,216 bytes was read, and its first lines were done, some or none
+pub record IsRunInWholeLines (place : ScriptSites) (left_before left_after taken_before taken_after : Option (List ℕ)) : Type 0 where
+  pub script : List ℕ
+  pub short : length script ≤ 16777216
+  pub read : Consumes left_before left_after script
+  pub written : HasDoneLines place (new_world place.sites) script taken_before taken_after
+
+-- lines have at most one text and one number of lines that aren't understood, and what was begun or done of them is a front of that text
 pub record HaveOneText (place : ScriptSites) (w : World) (number : ℕ) (lines : List (List ℕ)) : Type 0 where
   pub text : (text other : List ℕ) (unknown others : ℕ) → LinesGive place w number lines text unknown → LinesGive place w number lines other others → other ≡ text
   pub unknown : (text other : List ℕ) (unknown others : ℕ) → LinesGive place w number lines text unknown → LinesGive place w number lines other others → others ≡ unknown
   pub begun : (text front : List ℕ) (unknown : ℕ) → LinesGive place w number lines text unknown → AreBegun place w number lines front → IsFront front text
+  pub done : (text front : List ℕ) (unknown : ℕ) → LinesGive place w number lines text unknown → AreDone place w number lines front → IsFront front text
 
--- lines have a text, and a number of lines that aren't understood, and what was begun of them is a front of that text
+-- lines have a text, and a number of lines that aren't understood, and what was begun or done of them is a front of that text
 pub record HaveText (place : ScriptSites) (w : World) (number : ℕ) (lines : List (List ℕ)) : Type 0 where
   pub text : List ℕ
   pub unknown : ℕ
   pub is : LinesGive place w number lines text unknown
   pub begun : (front : List ℕ) → AreBegun place w number lines front → IsFront front text
+  pub done : (front : List ℕ) → AreDone place w number lines front → IsFront front text

@@ -35,6 +35,7 @@ fn read_piece<S: Source>(reader: &mut S, script: &mut Vec<u8>) -> Result<bool, S
     ensures too_long { IsErrOf result ScriptFault.TooLong → (before : Option (List ℕ))
         → Consumes before (S.left reader.old) script.old.items
         → HasGiven before (S.left reader.new) (16777216 + 1) }
+    ensures counted { S.reads_left reader.old ≤ S.reads_left reader.new + 1 }
 {
     let mut piece = [0u8; PIECE];
     let count = match reader.read(&mut piece) {
@@ -53,8 +54,8 @@ fn read_piece<S: Source>(reader: &mut S, script: &mut Vec<u8>) -> Result<bool, S
     }
 }
 
-/// All bytes of the reader, from here to its end. Faults: `Read` where the reader fails, or doesn't end within
-/// 1,000,000 reads; `TooLong` where there are more than 16,777,216 bytes; `Memory`.
+/// All bytes of the reader, from here to its end; it reads at most 1,000,000 times. Faults: `Read` where the reader fails, or
+/// doesn't end within 1,000,000 reads; `TooLong` where there are more than 16,777,216 bytes; `Memory`.
 pub fn read_script<S: Source>(alloc: Global, reader: &mut S) -> Result<Vec<u8>, ScriptFault>
     requires { S.failed reader.old ≡ false }
     ensures whole { IfOk result (λ script.
@@ -68,6 +69,7 @@ pub fn read_script<S: Source>(alloc: Global, reader: &mut S) -> Result<Vec<u8>, 
         × HasGiven (S.left reader.old) (S.left reader.new) 1000000) }
     ensures too_long { IsErrOf result ScriptFault.TooLong
         → HasGiven (S.left reader.old) (S.left reader.new) (16777216 + 1) }
+    ensures reads { S.reads_left reader.old ≤ S.reads_left reader.new + 1000000 }
 {
     let mut script = Vec::new(alloc);
     for _ in 0..MOST_READS {

@@ -1,7 +1,7 @@
 //! A whole script is read, and then run (this project's own).
-ghost use Rattle.std.specs.Prelude.{◌≡◌, ◌+◌, ◌⊎◌, true, false, IfOk, OnOk, IsErrOf};
+ghost use Rattle.std.specs.Prelude.{◌≡◌, ◌≤◌, ◌+◌, ◌⊎◌, true, false, IfOk, OnOk, IsErrOf};
 ghost use Rattle.ami_text.specs.Devices.{HasEnded, HasGiven};
-ghost use Rattle.scripts.specs.Script.{IsRunInPart, IsScriptRun};
+ghost use Rattle.scripts.specs.Script.{IsRunInPart, IsRunInWholeLines, IsScriptRun};
 ghost use Rattle.scripts.specs.LineSteps.{listed_place};
 
 use crate::devices::read_script;
@@ -13,12 +13,13 @@ use script_lines::SiteCount;
 use std::alloc::Global;
 
 /// Runs a script over new sites, `sites` in number, each with these queues: reads the reader to its end in pieces of at
-/// most 1,024 bytes, runs the lines in their order, and writes what each gives. It answers how many lines were not understood;
-/// each of them gives `line N: not understood`, N counting all lines from 1 (this project's own).
+/// most 1,024 bytes, at most 1,000,000 times, runs the lines in their order, and writes what each gives. It answers how many
+/// lines were not understood; each of them gives `line N: not understood`, N counting all lines from 1 (this project's own).
 ///
 /// Faults: `Read` where the reader fails or gives no end within 1,000,000 reads, `TooLong` where the script has more
 /// than 16,777,216 bytes, `Write` where the writer fails or takes no bytes, `Memory` where memory is wanting. After the first
-/// two nothing was written, after the others what was begun of the script's text.
+/// two nothing was written, after `Write` what was begun of the script's text, and after `Memory` nothing, or all that its first
+/// lines give.
 pub fn run_script<S: Source, W: Sink>(
     alloc: Global,
     reader: &mut S,
@@ -32,6 +33,9 @@ pub fn run_script<S: Source, W: Sink>(
     ensures works { OnOk result ((S.failed reader.new ≡ false) × (W.failed writer.new ≡ false)) }
     ensures whole { IsErrOf result ScriptFault.Write
         → HasEnded (S.ended reader.new) (S.left reader.new) }
+
+    // It reads at most 1,000,000 times.
+    ensures reads { S.reads_left reader.old ≤ S.reads_left reader.new + 1000000 }
 
     // The script's text was written; `unknown` tells how many of its lines were not understood.
     ensures text { IfOk result (λ unknown. IsScriptRun (listed_place sites list.now)
@@ -51,12 +55,14 @@ pub fn run_script<S: Source, W: Sink>(
     ensures too_long { IsErrOf result ScriptFault.TooLong
         → W.taken writer.new ≡ W.taken writer.old }
 
-    // After these the reader has ended and the text was begun; or nothing was written.
+    // After this one the text was begun.
     ensures unwritten { IsErrOf result ScriptFault.Write → IsRunInPart (listed_place sites list.now)
         (S.left reader.old) (S.left reader.new) (W.taken writer.old) (W.taken writer.new) }
+
+    // After this one nothing was written; or the reader has ended and its first lines were done.
     ensures memory { IsErrOf result ScriptFault.Memory → (W.taken writer.new ≡ W.taken writer.old)
         ⊎ (HasEnded (S.ended reader.new) (S.left reader.new)
-        × IsRunInPart (listed_place sites list.now)
+        × IsRunInWholeLines (listed_place sites list.now)
         (S.left reader.old) (S.left reader.new) (W.taken writer.old) (W.taken writer.new)) }
 {
     let text = read_script(alloc, reader)?;

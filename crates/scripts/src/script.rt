@@ -2,7 +2,8 @@
 ghost use Rattle.std.specs.Prelude.{◌≡◌, ◌≤◌, ◌⊎◌, true, false, ℕ, List, Some, length, slice_get};
 ghost use Rattle.std.specs.Prelude.{IfErr, IfOk, IsErrOf, OnOk};
 ghost use Rattle.delta.specs.Frames.{IsInRanges};
-ghost use Rattle.delta_codec.specs.Frames.{Spells};
+ghost use Rattle.delta_codec.specs.Frames.{SpellsIn};
+ghost use Rattle.delta_codec.specs.declared.limits.TheConstants.{VERSION};
 ghost use Rattle.replica.specs.Standing.{StandsFor};
 ghost use Rattle.replica.specs.Steps.{SiteKnowledge};
 ghost use Rattle.sites_world.specs.Worlds.{World as world_of_operations, new_world};
@@ -11,9 +12,10 @@ ghost use Rattle.ami_session.specs.Views.{reaction_of};
 ghost use Rattle.script_lines.specs.ScriptLines.{Message as asks_message, queue_in, sense_of};
 ghost use Rattle.script_lines.specs.ScriptLines.{tried_in};
 ghost use Rattle.scripts.specs.Answers.{frame_text};
-ghost use Rattle.scripts.specs.Script.{HasBegunText, HasWritten, IsEntryShown, count_of};
-ghost use Rattle.scripts.specs.Script.{given_by_count, given_by_event, given_by_message};
-ghost use Rattle.scripts.specs.Script.{given_by_reaction, text_of_offer, waited_reply};
+ghost use Rattle.scripts.specs.Script.{HasBegunText, HasDoneLines, HasWritten, IsEntryShown};
+ghost use Rattle.scripts.specs.Script.{count_of, given_by_count, given_by_event};
+ghost use Rattle.scripts.specs.Script.{given_by_message, given_by_reaction, text_of_offer};
+ghost use Rattle.scripts.specs.Script.{waited_reply};
 ghost use Rattle.scripts.specs.LineSteps.{BeganLine, GaveLine, IsHappening, IsOutput, IsUnknown};
 ghost use Rattle.scripts.specs.LineSteps.{StandsAt, StandsForGiven, listed_place, place_of};
 
@@ -51,7 +53,7 @@ pub struct Output {
 // The line of a frame that is shown.
 fn shown(alloc: Global, frame: &Frame) -> Result<Vec<u8>, Memory>
     ensures { IsInRanges frame.now → IfOk result (λ text. (bytes : List ℕ)
-        × Spells frame.now bytes × (text.items ≡ frame_text bytes)) }
+        × SpellsIn VERSION frame.now bytes × (text.items ≡ frame_text bytes)) }
 {
     let bytes = encode(alloc, frame)?;
     frame_text(alloc, &bytes)
@@ -275,7 +277,8 @@ impl Script {
         Ok(output.understood)
     }
 
-    // Runs the lines of a script.
+    // Runs the lines of a script and writes what each gives. It answers how many were not understood. A line for which memory is
+    // wanting writes nothing.
     pub(crate) fn run_lines<W: Sink>(
         &mut self,
         writer: &mut W,
@@ -286,9 +289,12 @@ impl Script {
         ensures ok { IfOk result (λ unknown. (w : world_of_operations)
             → StandsAt self.old.world w → HasWritten (place_of self.old) w text.now
             (W.taken writer.old) (W.taken writer.new) unknown) }
-        ensures err { IfErr result (λ _. (w : world_of_operations)
+        ensures memory { IsErrOf result ScriptFault.Memory → (w : world_of_operations)
+            → StandsAt self.old.world w → HasDoneLines (place_of self.old) w text.now
+            (W.taken writer.old) (W.taken writer.new) }
+        ensures begun { IsErrOf result ScriptFault.Write → (w : world_of_operations)
             → StandsAt self.old.world w → HasBegunText (place_of self.old) w text.now
-            (W.taken writer.old) (W.taken writer.new)) }
+            (W.taken writer.old) (W.taken writer.new) }
         ensures works { OnOk result (W.failed writer.new ≡ false) }
         ensures write { IsErrOf result ScriptFault.Write → W.failed writer.new ≡ true }
         ensures fault { IfErr result

@@ -14,7 +14,7 @@ pub enum ScriptFault {
     /// next one's.
     #[error("write failed")]
     Write,
-    /// Memory was wanting. Nothing was written, or the output of the first lines.
+    /// Memory was wanting. Nothing was written, or the whole output of the first lines.
     #[error("out of memory")]
     Memory,
 }

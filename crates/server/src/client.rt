@@ -113,5 +113,7 @@ pub(crate) fn answer_client<'x, L: SiteLedger, R: Wait + Clock + Eprint>(
     let mut writer = StdSink::new(stream).with_waits(WRITE_WAITS);
     let session = settings.session();
     let served = serve(rt, alloc, &mut reader, &mut writer, session, desk);
+    drop(reader);
+    drop(writer);
     end_session(rt, site, stream, served);
 }

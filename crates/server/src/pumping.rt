@@ -93,10 +93,12 @@ fn send_to_the_end<L: SiteLedger, R: Wait + Clock>(
     let mut again = false;
     for _ in rt.forever() {
         let Pumped { receipts, fault } = send_by(rt, alloc, &site.desk, pass, links, bell);
+        let made = !receipts.is_empty();
+        drop(receipts);
         let Some(fault) = fault else {
             return;
         };
-        again = finds_full(fault, again, !receipts.is_empty()) && site.desk.checkpoint(rt).is_ok();
+        again = finds_full(fault, again, made) && site.desk.checkpoint(rt).is_ok();
         if !again {
             if bell.has_ended() {
                 return;
@@ -139,7 +141,7 @@ fn take_again<L: SiteLedger, R: Wait>(
 {
     let _ = desk.checkpoint(rt);
     if let Some(bytes) = bytes {
-        let _ = desk.take(rt, pass, bytes);
+        drop(desk.take(rt, pass, bytes));
     }
 }
 
@@ -157,15 +159,23 @@ fn take_to_the_end<L: SiteLedger, R: Wait + Clock>(
     ensures ended { link.new.ended ≡ true }
 {
     for _ in rt.forever() {
-        let pumped = take_by(rt, alloc, &site.desk, pass, link);
-        let PumpedIn { fault, refused, .. } = pumped;
+        let PumpedIn {
+            receipts,
+            fault,
+            refused,
+        } = take_by(rt, alloc, &site.desk, pass, link);
+        drop(receipts);
         match fault {
-            None => return,
+            None => {
+                drop(refused);
+                return;
+            }
             Some(DeskFault::JournalFull) => take_again(rt, &site.desk, pass, refused),
             Some(_) => {
                 if refused.is_none() {
                     thread::sleep(rt, Duration::from_millis(PAUSE_MILLIS));
                 }
+                drop(refused);
             }
         }
     }

@@ -1,9 +1,9 @@
 //! All sites, each in a thread of its own.
-ghost use Rattle.std.specs.List.{All};
 ghost use Rattle.std.specs.Prelude.{◌≡◌, ◌⊎◌, ◌+◌, ◌<◌, ◌≤◌, ℕ, IfOk, IsErrOf, List, OnErr, OnOk, false};
 ghost use Rattle.std.specs.Prelude.{true, vec_capacity, vec_len};
 ghost use Rattle.std.specs.Io.KnownBytes.{Appends};
 ghost use Rattle.ami_text.specs.Devices.{HasTaken};
+ghost use Rattle.site_links.specs.Linking.{AreLinksOf};
 ghost use Rattle.server.specs.Listening.{listening_lines};
 ghost use Rattle.server.specs.Places.{AtEach};
 ghost use Rattle.server.specs.Promises.{IsPromisedAt};
@@ -15,7 +15,7 @@ use crate::site_fault::SiteFault;
 use crate::start::Start;
 use crate::{ServeSitesFault, ServerSettings, SessionSettings};
 use ami_text::Sink;
-use dots::SiteId;
+use dots::{Memory, SiteId};
 use replica::QueueList;
 use site_journal::Journaled;
 use site_links::{LinkEnds, SiteLinks, link_all};
@@ -63,6 +63,40 @@ struct Common<'c> {
     start: &'c Arc<Start, Global>,
 }
 
+// What a site takes into its thread beside its links, and the start once more, for where it can't begin.
+fn parts_of(
+    common: &Common<'_>,
+    site: SiteId,
+    listener: TcpListener,
+) -> Result<(SiteParts, Arc<Start, Global>), Memory>
+    ensures { IfOk result (λ made. made.0.number ≡ site) }
+{
+    let start = match Arc::try_clone(common.start) {
+        Ok(start) => start,
+        Err(_) => {
+            drop(listener);
+            return Err(Memory);
+        }
+    };
+    match Arc::try_clone(common.start) {
+        Ok(again) => {
+            let parts = SiteParts {
+                number: site,
+                listener,
+                start,
+                clients: common.clients,
+                settings: common.settings.copy(),
+            };
+            Ok((parts, again))
+        }
+        Err(_) => {
+            drop(start);
+            drop(listener);
+            Err(Memory)
+        }
+    }
+}
+
 // Starts the thread of a site.
 fn start_site<'s, 'e: 's, R: Threads + Wait + Clock + Eprint + Sync>(
     scope: &'s Scope<'s, &'e ()>,
@@ -77,14 +111,21 @@ fn start_site<'s, 'e: 's, R: Threads + Wait + Clock + Eprint + Sync>(
     ensures site { IfOk result (λ handle. handle.promise.site ≡ site) }
     ensures list { IfOk result (λ handle. handle.promise.list.value ≡ common.now.list.now) }
 {
-    let queues = common.list.copy()?;
-    let start = Arc::try_clone(common.start)?;
-    let parts = SiteParts {
-        number: site,
-        listener,
-        start: Arc::try_clone(common.start)?,
-        clients: common.clients,
-        settings: common.settings.copy(),
+    let queues = match common.list.copy() {
+        Ok(queues) => queues,
+        Err(_) => {
+            drop(listener);
+            drop(links);
+            return Err(SiteFault::Memory);
+        }
+    };
+    let (parts, start) = match parts_of(common, site, listener) {
+        Ok(both) => both,
+        Err(_) => {
+            drop(queues);
+            drop(links);
+            return Err(SiteFault::Memory);
+        }
     };
     let promise = JournalOf {
         site,
@@ -96,7 +137,10 @@ fn start_site<'s, 'e: 's, R: Threads + Wait + Clock + Eprint + Sync>(
     { run_or_fail(rt, alloc, queues, parts, links, start) };
     match scope.spawn_with(promise, run) {
         Ok(handle) => Ok(handle),
-        Err(_) => Err(SiteFault::NoThread),
+        Err(refused) => {
+            drop(refused);
+            Err(SiteFault::NoThread)
+        }
     }
 }
 
@@ -111,9 +155,7 @@ fn start_sites<'s, 'e: 's, R: Threads + Wait + Clock + Eprint + Sync>(
     sites: &mut SiteThreads,
 ) -> Result<(), SiteFault>
     requires few { vec_len listeners ≤ MOST_SERVED_SITES }
-    requires to { vec_len links.to ≡ vec_len listeners }
-    requires from { vec_len links.from ≡ vec_len listeners }
-    requires others { All (λ from. vec_len from + 1 ≡ vec_len listeners) links.from.items }
+    requires links { AreLinksOf (vec_len listeners) links }
     requires none { vec_len sites.old ≡ 0 }
     requires room { vec_len listeners ≤ vec_capacity sites.old }
     ensures number { OnOk result (vec_len sites.new ≡ vec_len listeners) }
@@ -121,18 +163,25 @@ fn start_sites<'s, 'e: 's, R: Threads + Wait + Clock + Eprint + Sync>(
         IsPromisedAt common.now.list.now (vec_len listeners) k site.promise) sites.new.items) }
 {
     let mut listeners = listeners;
-    let SiteLinks { mut to, mut from } = links;
+    let mut links = links;
     while let Some(listener) = listeners.pop() {
-        let (Some(to), Some(from)) = (to.pop(), from.pop()) else {
+        let Some(ends) = links.pop() else {
             unreachable!();
         };
         let Some(site) = SiteId::new(listeners.len() as u16) else {
             unreachable!();
         };
-        let links = LinkEnds { to, from };
-        let handle = start_site(scope, rt, alloc, common, site, listener, links)?;
-        sites.push_reserved(handle);
+        match start_site(scope, rt, alloc, common, site, listener, ends) {
+            Ok(handle) => sites.push_reserved(handle),
+            Err(fault) => {
+                drop(listeners);
+                drop(links);
+                return Err(fault);
+            }
+        }
     }
+    drop(listeners);
+    drop(links);
     Ok(())
 }
 
@@ -180,10 +229,31 @@ fn join_sites<R: Threads>(
     while let Some(site) = sites.pop() {
         match site.join(rt) {
             Ok(journal) => journals.push_reserved(journal),
-            Err(fault) => return Err(end_sites(rt, sites, fault)),
+            Err(fault) => {
+                drop(journals);
+                return Err(end_sites(rt, sites, fault));
+            }
         }
     }
+    drop(sites);
     Ok(journals)
+}
+
+// Room for the journals of so many sites, and for their threads.
+fn room_for(alloc: Global, number: usize) -> Result<(Vec<Journaled>, SiteThreads), Memory>
+    ensures no_journals { IfOk result (λ room. vec_len room.0 ≡ 0) }
+    ensures journals { IfOk result (λ room. number ≤ vec_capacity room.0) }
+    ensures none { IfOk result (λ room. vec_len room.1 ≡ 0) }
+    ensures sites { IfOk result (λ room. number ≤ vec_capacity room.1) }
+{
+    let journals = Vec::with_capacity(alloc, number)?;
+    match Vec::with_capacity(alloc, number) {
+        Ok(sites) => Ok((journals, sites)),
+        Err(_) => {
+            drop(journals);
+            Err(Memory)
+        }
+    }
 }
 
 // Starts all sites, and joins them. Where one can't be started none begins, and the others end first.
@@ -196,18 +266,23 @@ fn run_sites<'s, 'e: 's, R: Threads + Wait + Clock + Eprint + Sync>(
     links: SiteLinks,
 ) -> Result<Vec<Journaled>, SiteFault>
     requires few { vec_len listeners ≤ MOST_SERVED_SITES }
-    requires to { vec_len links.to ≡ vec_len listeners }
-    requires from { vec_len links.from ≡ vec_len listeners }
-    requires others { All (λ from. vec_len from + 1 ≡ vec_len listeners) links.from.items }
+    requires links { AreLinksOf (vec_len listeners) links }
     ensures number { IfOk result (λ journals. vec_len journals ≡ vec_len listeners) }
     ensures each { IfOk result (λ journals.
         AtEach (λ site journal. IsServedJournal site common.now.list.now journal) journals.items) }
 {
-    let journals = Vec::with_capacity(alloc, listeners.len())?;
-    let mut sites = Vec::with_capacity(alloc, listeners.len())?;
+    let (journals, mut sites) = match room_for(alloc, listeners.len()) {
+        Ok(room) => room,
+        Err(_) => {
+            drop(listeners);
+            drop(links);
+            return Err(SiteFault::Memory);
+        }
+    };
     let started = start_sites(scope, rt, alloc, common, listeners, links, &mut sites);
     if let Err(fault) = started {
         common.start.fail(rt);
+        drop(journals);
         return Err(end_sites(rt, sites, fault));
     }
     join_sites(rt, sites, journals)
@@ -227,19 +302,28 @@ fn serve_listeners<'x, R: Threads + Wait + Clock + Eprint + Sync>(
     ensures each { IfOk result (λ journals.
         AtEach (λ site journal. IsServedJournal site list.now journal) journals.items) }
 {
-    let Ok(start) = Arc::new(alloc, Start::new(listeners.len() as u32)) else {
-        return Err(SiteFault::Memory);
+    let start = match Arc::new(alloc, Start::new(listeners.len() as u32)) {
+        Ok(start) => start,
+        Err(_) => {
+            drop(listeners);
+            return Err(SiteFault::Memory);
+        }
     };
-    let links = link_all(alloc, listeners.len())?;
+    let links = match link_all(alloc, listeners.len()) {
+        Ok(links) => links,
+        Err(_) => {
+            drop(start);
+            drop(listeners);
+            return Err(SiteFault::Memory);
+        }
+    };
     let start = &start;
     thread::scope(
         thread::scope_env(),
         rt,
         move |scope| -> Result<Vec<Journaled>, SiteFault>
             requires few { vec_len listeners ≤ MOST_SERVED_SITES }
-            requires to { vec_len links.to ≡ vec_len listeners }
-            requires from { vec_len links.from ≡ vec_len listeners }
-            requires others { All (λ from. vec_len from + 1 ≡ vec_len listeners) links.from.items }
+            requires links { AreLinksOf (vec_len listeners) links }
             ensures number { IfOk result (λ journals. vec_len journals ≡ vec_len listeners) }
             ensures each { IfOk result (λ journals.
                 AtEach (λ site journal. IsServedJournal site list.entry.now journal) journals.items) }

@@ -1,5 +1,5 @@
 //! One site: its desk, its bell and its listener, and its threads in a scope of their own.
-ghost use Rattle.std.specs.Prelude.{◌≡◌, ◌+◌, ◌≤◌, IfOk, vec_len};
+ghost use Rattle.std.specs.Prelude.{◌≡◌, ◌+◌, ◌≤◌, [], IfOk, vec_capacity, vec_len};
 ghost use Rattle.site_desk.specs.Passes.{AreFresh};
 ghost use Rattle.site_journal.specs.Journals.{IsOfSite};
 ghost use Rattle.server.specs.ServedJournals.{IsServedJournal};
@@ -9,8 +9,8 @@ use crate::SessionSettings;
 use crate::site_fault::SiteFault;
 use crate::start::Start;
 use crate::tickets::Tickets;
-use crate::working::{SESSIONS, end_workers, join_workers, start_workers, tasks_of};
-use dots::SiteId;
+use crate::working::{SESSIONS, Workers, end_workers, join_workers, start_workers, tasks_of};
+use dots::{Memory, SiteId};
 use pass_desk::SiteBell;
 use replica::{QueueList, Replica};
 use site_desk::{Pass, SiteDesk, SiteLedger, close};
@@ -51,6 +51,26 @@ pub(crate) struct Site<L: SiteLedger> {
     pub settings: SessionSettings,
 }
 
+// Room for so many threads, and for the passes that come back from them.
+fn room_for<L: SiteLedger>(
+    alloc: Global,
+    number: usize,
+) -> Result<(Workers<L>, Vec<Pass<L>>), Memory>
+    ensures none { IfOk result (λ room. vec_len room.0 ≡ 0) }
+    ensures workers { IfOk result (λ room. number ≤ vec_capacity room.0) }
+    ensures empty { IfOk result (λ room. room.1.items ≡ []) }
+    ensures passes { IfOk result (λ room. number ≤ vec_capacity room.1) }
+{
+    let workers = Vec::with_capacity(alloc, number)?;
+    match Vec::with_capacity(alloc, number) {
+        Ok(passes) => Ok((workers, passes)),
+        Err(_) => {
+            drop(workers);
+            Err(Memory)
+        }
+    }
+}
+
 // Starts all threads of a site, and joins them: first those that answer, upon which the site's bell ends, and then the others. Where one
 // can't be started no site begins, and those that were started end first.
 fn run_workers<'s, 'e: 's, L: SiteLedger + Send + Sync, R: Threads + Wait + Clock + Eprint + Sync>(
@@ -65,13 +85,26 @@ fn run_workers<'s, 'e: 's, L: SiteLedger + Send + Sync, R: Threads + Wait + Cloc
     ensures number { IfOk result (λ passes. vec_len passes ≡ vec_len links.from + 5) }
     ensures order { IfOk result (λ passes. AreInOrder passes.items) }
 {
-    let tasks = tasks_of(alloc, links)?;
-    let mut back = Vec::with_capacity(alloc, tasks.len())?;
-    let mut workers = Vec::with_capacity(alloc, tasks.len())?;
+    let tasks = match tasks_of(alloc, links) {
+        Ok(tasks) => tasks,
+        Err(_) => {
+            drop(passes);
+            return Err(SiteFault::Memory);
+        }
+    };
+    let (mut workers, mut back) = match room_for(alloc, tasks.len()) {
+        Ok(room) => room,
+        Err(_) => {
+            drop(tasks);
+            drop(passes);
+            return Err(SiteFault::Memory);
+        }
+    };
     if let Err(fault) = start_workers(scope, rt, alloc, site, passes, tasks, &mut workers) {
         site.start.fail(rt);
         site.bell.end(rt);
         end_workers(rt, workers);
+        drop(back);
         return Err(fault);
     }
     site.start.one_ready(rt);
@@ -79,6 +112,7 @@ fn run_workers<'s, 'e: 's, L: SiteLedger + Send + Sync, R: Threads + Wait + Cloc
     site.bell.end(rt);
     let left = workers.len();
     join_workers(rt, &mut workers, left, &mut back);
+    drop(workers);
     Ok(back)
 }
 
@@ -118,6 +152,59 @@ fn closed<L: SiteLedger>(desk: SiteDesk<L>, passes: Vec<Pass<L>>) -> Journaled
     }
 }
 
+// Gives up all that the threads of a site have shared but its desk.
+fn desk_of<L: SiteLedger>(site: Site<L>) -> SiteDesk<L>
+    ensures { result ≡ site.desk }
+{
+    let Site {
+        desk,
+        bell,
+        tickets,
+        start,
+        listener,
+        settings,
+        ..
+    } = site;
+    drop(bell);
+    drop(tickets);
+    drop(start);
+    drop(listener);
+    drop(settings);
+    desk
+}
+
+// Runs the threads of a site at its desk, and closes that.
+fn run_desk<L: SiteLedger + Send + Sync, R: Threads + Wait + Clock + Eprint + Sync>(
+    rt: &R,
+    alloc: Global,
+    desk: SiteDesk<L>,
+    passes: Vec<Pass<L>>,
+    parts: SiteParts,
+    links: LinkEnds,
+) -> Result<Journaled, SiteFault>
+    requires passes { AreFresh (vec_len links.from + 5) passes.items }
+    requires all { desk.passes ≡ vec_len links.from + 5 }
+    ensures site { IfOk result (λ journal. IsOfSite L.site L.names journal) }
+    ensures limit { IfOk result (λ journal. journal.limit ≡ L.limit) }
+{
+    let site = Site {
+        number: parts.number,
+        desk,
+        bell: SiteBell::new(),
+        tickets: Tickets::new(parts.clients),
+        start: parts.start,
+        listener: parts.listener,
+        settings: parts.settings,
+    };
+    match run_scoped(rt, alloc, &site, passes, links) {
+        Ok(passes) => Ok(closed(desk_of(site), passes)),
+        Err(fault) => {
+            drop(site);
+            Err(fault)
+        }
+    }
+}
+
 // A site under a ledger: its desk is made, its threads are run, and it is closed.
 fn run_site<L: SiteLedger + Send + Sync, R: Threads + Wait + Clock + Eprint + Sync>(
     rt: &R,
@@ -139,21 +226,15 @@ fn run_site<L: SiteLedger + Send + Sync, R: Threads + Wait + Clock + Eprint + Sy
     ensures limit { IfOk result (λ journal. journal.limit ≡ L.limit) }
 {
     let number = links.from.len() as u32 + 5;
-    let Ok((desk, passes)) = SiteDesk::<L>::new(alloc, blank, journal, number) else {
-        return Err(SiteFault::Memory);
-    };
-    let site = Site {
-        number: parts.number,
-        desk,
-        bell: SiteBell::new(),
-        tickets: Tickets::new(parts.clients),
-        start: parts.start,
-        listener: parts.listener,
-        settings: parts.settings,
-    };
-    let passes = run_scoped(rt, alloc, &site, passes, links)?;
-    let Site { desk, .. } = site;
-    Ok(closed(desk, passes))
+    match SiteDesk::<L>::new(alloc, blank, journal, number) {
+        Ok((desk, passes)) => run_desk(rt, alloc, desk, passes, parts, links),
+        Err((_, journal)) => {
+            drop(journal);
+            drop(parts);
+            drop(links);
+            Err(SiteFault::Memory)
+        }
+    }
 }
 
 // A site that knows nothing yet, under a ledger that this call names.
@@ -168,11 +249,18 @@ fn run_new_site<R: Threads + Wait + Clock + Eprint + Sync>(
     ensures { IfOk result (λ journal. IsServedJournal parts.number list journal) }
 {
     let replica = Replica::new(alloc, parts.number, list);
-    let Ok(journal) = Journaled::new(alloc, replica, JOURNAL_STEPS) else {
-        return Err(SiteFault::Memory);
-    };
-    let blank = Blank::new(links.from.len() as u64 + 5);
-    run_site::<Brand, R>(rt, alloc, blank, journal, parts, links)
+    match Journaled::new(alloc, replica, JOURNAL_STEPS) {
+        Ok(journal) => {
+            let blank = Blank::new(links.from.len() as u64 + 5);
+            run_site::<Brand, R>(rt, alloc, blank, journal, parts, links)
+        }
+        Err((_, replica)) => {
+            drop(replica);
+            drop(parts);
+            drop(links);
+            Err(SiteFault::Memory)
+        }
+    }
 }
 
 // Runs a site. Where it can't begin, none does.
@@ -191,5 +279,6 @@ pub(crate) fn run_or_fail<R: Threads + Wait + Clock + Eprint + Sync>(
     if run.is_err() {
         start.fail(rt);
     }
+    drop(start);
     run
 }

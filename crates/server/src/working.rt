@@ -40,14 +40,22 @@ pub(crate) fn tasks_of(alloc: Global, links: LinkEnds) -> Result<Vec<Task>, Memo
 {
     let LinkEnds { to, from } = links;
     let mut from = from;
-    let mut tasks = Vec::new(alloc);
+    let mut tasks = match Vec::with_capacity(alloc, from.len() + SESSIONS + 1) {
+        Ok(tasks) => tasks,
+        Err(_) => {
+            drop(to);
+            drop(from);
+            return Err(Memory);
+        }
+    };
     for _i in 0..SESSIONS {
-        tasks.push(Task::Answer)?;
+        tasks.push_reserved(Task::Answer);
     }
-    tasks.push(Task::Send(to))?;
+    tasks.push_reserved(Task::Send(to));
     while let Some(link) = from.pop() {
-        tasks.push(Task::Take(link))?;
+        tasks.push_reserved(Task::Take(link));
     }
+    drop(from);
     Ok(tasks)
 }
 
@@ -142,9 +150,16 @@ pub(crate) fn start_workers<
         { work(rt, alloc, site, pass, task) };
         match scope.spawn_with(promise, job) {
             Ok(worker) => workers.push_reserved(worker),
-            Err(_) => return Err(SiteFault::NoThread),
+            Err(refused) => {
+                drop(refused);
+                drop(passes);
+                drop(tasks);
+                return Err(SiteFault::NoThread);
+            }
         }
     }
+    drop(passes);
+    drop(tasks);
     Ok(())
 }
 

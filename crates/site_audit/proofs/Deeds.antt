@@ -1,7 +1,8 @@
 -- What comes of the event of each deed.
 use Rattle.std.proofs.Common.{◌≡◌, inl, inr, ℕ, List, [], ◌∷◌, ◌++◌, length, slice_get, Some, None, Result, refl, sym, ap, subst, ◌∙◌}
 use Rattle.delta.specs.declared.frame.Frame.{Frame}
-use Rattle.delta_codec.specs.Frames.{Spells}
+use Rattle.delta_codec.specs.Frames.{SpellsIn}
+use Rattle.delta_codec.specs.declared.limits.TheConstants.{VERSION}
 use Rattle.delta_codec.proofs.FrameLaws.{one_frame}
 use Rattle.replica.specs.declared.command.Command.{Command}
 use Rattle.replica.specs.declared.refusal.Refusal.{Refusal}
@@ -62,7 +63,7 @@ module _ (names : List (List ℕ)) (w : World) (s : SiteKnowledge) (site : ℕ) 
   -- a frame that was made
   made_comes : (e : Event) (deed : StepDeed) (bytes : List ℕ) (frame : Frame) (done : SiteKnowledge × Outcome) → site_of e ≡ site
       → happens_at names w.pool s e ≡ framed (site_of e) (length w.pool) done → (MakesBytes names w e bytes → GivesDeed names w e deed) → made_by deed ≡ Some bytes
-      → IsSiteOf names site to done.0 → IsFramed frame done.1 → frame.maker ≡ site → Spells frame bytes → Comes names w s e deed to
+      → IsSiteOf names site to done.0 → IsFramed frame done.1 → frame.maker ≡ site → SpellsIn VERSION frame bytes → Comes names w s e deed to
   made_comes e deed bytes frame done of happening gives made stands said maker spelled =
       let entry : Entry = record { maker = site_of e; number = frame.number; carried = said.says } in
       let spelling : IsSpelling bytes entry = record { frame = frame; maker = maker ∙ sym of; number = refl; says = said.stands; spelled = spelled } in
@@ -115,7 +116,7 @@ module _ (names : List (List ℕ)) (w : World) (s : SiteKnowledge) (site : ℕ) 
   take_comes may sites reached bytes place found l =
       let d : IsTook l.old bytes l.new = l.done in
       let was = same_site_of names site from l.old s is l.before in
-      let same = one_frame d.frame found.spelling.frame bytes d.spelled found.spelling.spelled in
+      let same = one_frame d.frame found.spelling.frame bytes d.spelled found.spelling.spelled.spells in
       let deed : IsTakeDeed l.old found.spelling.frame.delta l.new = taken_same d.frame.delta found.spelling.frame.delta same.delta l.old l.new d.done in
       let later = (may names sites w site place l.old s found.entry reached knows was found.is).none_later in
       let c = take_meant l.old found.spelling.frame.delta s found.entry.carried was.stands found.spelling.says l.new deed.may deed.taken later in

@@ -33,7 +33,7 @@ use Rattle.site_audit.proofs.Deeds.{Comes, ask_comes, cut_comes, empty_comes, ta
 
 -- an entry has one spelling
 pub one_spelled : (a b : List ℕ) (entry : Entry) → IsSpelling a entry → IsSpelling b entry → a ≡ b
-one_spelled a b entry p q = one_spelling p.frame q.frame a b
+one_spelled a b entry p q = one_spelling _ p.frame q.frame a b
     (record { maker = p.maker ∙ sym q.maker; number = p.number ∙ sym q.number; delta = one_delta p.frame.delta q.frame.delta entry.carried p.says q.says }) p.spelled q.spelled
 
 -- where bytes are found once some were put there

@@ -3,7 +3,8 @@ use Rattle.std.specs.Prelude.{ℕ, ◌≡◌, ◌≢◌, ◌<◌, ◌≤◌, ◌
 use Rattle.std.specs.List.{All}
 use Rattle.delta.specs.Standing.{IsDeltaOf}
 use Rattle.delta.specs.declared.frame.Frame.{Frame}
-use Rattle.delta_codec.specs.Frames.{Spells}
+use Rattle.delta_codec.specs.Frames.{SpellsIn}
+use Rattle.delta_codec.specs.declared.limits.TheConstants.{VERSION}
 use Rattle.replica.specs.Deeds.{IsNew}
 use Rattle.replica.specs.Steps.{SiteKnowledge}
 use Rattle.site_journal.specs.declared.step.Step.{Step}
@@ -18,15 +19,16 @@ use Rattle.sites_world.specs.WorldStates.{IsSiteOf}
 
 -- ---- what an event gives
 
--- `bytes` spell the frame of `entry`: it has its maker and number, and says what the entry carries
+-- `bytes` spell the frame of `entry` in the version that is written: it has its maker and number, and
+-- says what the entry carries
 pub record IsSpelling (bytes : List ℕ) (entry : Entry) : Type 0 where
   pub frame : Frame
   pub maker : frame.maker ≡ entry.maker
   pub number : frame.number ≡ entry.number
   pub says : IsDeltaOf frame.delta entry.carried
-  pub spelled : Spells frame bytes
+  pub spelled : SpellsIn VERSION frame bytes
 
--- `bytes` spell the frame of the entry at `place` of `pool`
+-- `bytes` spell the frame of the entry at `place` of `pool`; bytes of an older version spell none
 pub record IsSpelledAt (pool : List Entry) (place : ℕ) (bytes : List ℕ) : Type 0 where
   pub entry : Entry
   pub is : slice_get pool place ≡ Some entry

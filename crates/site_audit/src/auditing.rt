@@ -93,11 +93,11 @@ fn least_left(journals: &[Journaled], at: &[usize]) -> Option<usize>
 /// replica on. In the world of operations each ask is answered as the journal has it, and each frame that is made or taken is the one
 /// that the bytes there spell; behind the last event each site knows what its replica stands for. No journals give no events. The list
 /// has one event for each step, in an order of the audit's own. No frame is decoded: one that is taken is found by its bytes among
-/// those that were made. Faults, in order: 1 `WrongSites`, exactly where the journals aren't those of the sites 0, 1, .. in order, or
-/// have two lists of queues; 2 `NotFresh`, exactly where a journal hasn't all that its site did, with the first such site; 3 `NoRun`,
-/// with a site and a position, where some list of events is stuck: it gives that site its steps before the position and not all, each
-/// lesser site all of its own, each other its first ones, and no further event gives any site its next; 4 `Memory` (this project's
-/// own).
+/// those that were made, and so not where they are of an older version. Faults, in order: 1 `WrongSites`, exactly where the journals
+/// aren't those of the sites 0, 1, .. in order, or have two lists of queues; 2 `NotFresh`, exactly where a journal hasn't all that its
+/// site did, with the first such site; 3 `NoRun`, with a site and a position, where some list of events is stuck: it gives that site its
+/// steps before the position and not all, each lesser site all of its own, each other its first ones, and no further event gives any
+/// site its next; 4 `Memory` (this project's own).
 pub fn audit(alloc: Global, journals: &[Journaled]) -> Result<Vec<Event>, AuditFault>
     ensures run { IfOk result (λ events. IsRun journals.now events.items) }
     ensures none { journals.now ≡ [] → IsOkAnd result (λ events. events.items ≡ []) }

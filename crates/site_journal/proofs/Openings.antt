@@ -13,10 +13,12 @@ opened frame bytes s =
     let parts = s.parts in
     let within = lengths parts s.within in
     record {
+      version = parts.version;
       heading = parts.heading;
       content = content_bytes parts;
       more = list_bytes run_bytes parts.runs ++ (list_bytes cell_bytes parts.cells ++ list_bytes total_bytes parts.totals);
       rest = [];
+      known = s.within.version;
       good = s.within.heading;
       least = within.0;
       most = within.1;

@@ -2,7 +2,8 @@
 use Rattle.std.specs.Prelude.{◌≡◌, ◌≢◌, List, [], ◌∷◌, ℕ, Some, None, Result, Err}
 use Rattle.delta.specs.DeltaStates.{IsEmpty}
 use Rattle.delta.specs.declared.frame.Frame.{Frame}
-use Rattle.delta_codec.specs.Frames.{Spells}
+use Rattle.delta_codec.specs.Frames.{Spells, SpellsIn}
+use Rattle.delta_codec.specs.declared.limits.TheConstants.{VERSION}
 use Rattle.replica.specs.declared.refusal.Refusal.{Refusal}
 use Rattle.replica.specs.declared.refusal.Refusal.TheVariants.{Memory}
 use Rattle.replica.specs.Changes.{change_of}
@@ -26,22 +27,24 @@ IsAsked old (asked_command command) answer new =
     (result : Result (Unit {0}) Refusal) × (answer ≡ answer_of result) × (result ≢ Err Memory) × IsDone old (meaning_at old (change_of command)) new result
 IsAsked old (Status request) answer new = (answer ≡ Report (report_of old request)) × IsSameSite old new
 
--- a frame that `bytes` spell was taken, which led a site from state `old` to `new`
+-- a frame that `bytes` spell, in either version, was taken, which led a site from state `old` to `new`
 pub record IsTook (old : SiteState) (bytes : List ℕ) (new : SiteState) : Type 0 where
   pub frame : Frame
   pub spelled : Spells frame bytes
   pub done : IsTakeDeed old frame.delta new
 
--- the buffer was put into a frame that `bytes` spell, which led a site from state `old` to `new`
+-- the buffer was put into a frame that `bytes` spell, in the version that is written, which led a
+-- site from state `old` to `new`
 pub record IsCut (old : SiteState) (bytes : List ℕ) (new : SiteState) : Type 0 where
   pub frame : Frame
-  pub spelled : Spells frame bytes
+  pub spelled : SpellsIn VERSION frame bytes
   pub done : IsCutDeed old frame new
 
--- all that a site knows was put into a frame that `bytes` spell, which led it from state `old` to `new`
+-- all that a site knows was put into a frame that `bytes` spell, in the version that is written,
+-- which led it from state `old` to `new`
 pub record IsWhole (old : SiteState) (bytes : List ℕ) (new : SiteState) : Type 0 where
   pub frame : Frame
-  pub spelled : Spells frame bytes
+  pub spelled : SpellsIn VERSION frame bytes
   pub done : IsWholeDeed old frame new
 
 -- a deed is legal at a site in state `old`, and leads it to state `new`

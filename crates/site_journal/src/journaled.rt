@@ -4,7 +4,8 @@ ghost use Rattle.dots.specs.declared.limits.TheConstants.{MOST_COUNT};
 ghost use Rattle.delta.specs.DeltaStates.{IsEmpty};
 ghost use Rattle.delta.specs.Frames.{IsInRanges, frame_of};
 ghost use Rattle.delta_codec.specs.Decoding.{HasOpening};
-ghost use Rattle.delta_codec.specs.Frames.{Spells};
+ghost use Rattle.delta_codec.specs.Frames.{Spells, SpellsIn};
+ghost use Rattle.delta_codec.specs.declared.limits.TheConstants.{VERSION};
 ghost use Rattle.replica.specs.Site as sites;
 ghost use Rattle.site_journal.specs.Keeping.{kept_by_steps};
 ghost use Rattle.site_journal.specs.Journals.{HasAdded, HasDropped, HasFaultAlone, IsAnswerTo};
@@ -58,7 +59,8 @@ fn spelled(
 ) -> Result<(Bytes, Bytes), Memory>
     requires { IsInRanges (frame_of maker number delta.now) }
     ensures same { IfOk result (λ both. both.1 ≡ both.0) }
-    ensures spelled { IfOk result (λ both. Spells (frame_of maker number delta.now) both.0) }
+    ensures spelled { IfOk result (λ both.
+        SpellsIn VERSION (frame_of maker number delta.now) both.0) }
 {
     let bytes = Bytes::new(encode_parts(alloc, maker, number, delta)?);
     let other = bytes.copy()?;
@@ -373,7 +375,7 @@ impl Journaled {
         })
     }
 
-    /// Lets the site take the frame that bytes spell, by the pass of this number, and answers a copy of the step. The bytes come back
+    /// Lets the site take the frame that bytes spell, in either version, by the pass of this number, and answers a copy of the step. The bytes come back
     /// where it doesn't. Faults, in order: 1 `JournalFull`, exactly where as many steps stand here as may, or 2^40 were done in all;
     /// 2 `Decode`, with the fault of the bytes, or `BadRange` where more follows their frame; 3 `Take`, with the fault for which the
     /// site refuses the frame; 4 `Memory`, which may also stand in place of `Take`, and of a `Decode` whose fault stands behind a

@@ -1,1 +1,2 @@
 pub mod Relayed
+pub mod LinkedSites

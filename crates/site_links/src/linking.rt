@@ -1,6 +1,8 @@
 //! The links between sites that run at once.
-ghost use Rattle.std.specs.List.{All};
-ghost use Rattle.std.specs.Prelude.{◌≡◌, ◌+◌, ◌<◌, IfOk, length, vec_len};
+ghost use Rattle.std.specs.Prelude.{◌≡◌, ◌+◌, ◌<◌, ◌++◌, ◌∷◌, [], IfNone, IfOk, IfSome, OnOk, length};
+ghost use Rattle.std.specs.Prelude.{map, vec_len};
+ghost use Rattle.site_links.specs.Linking.{AreLinksOf, IsLinkedFrom};
+ghost use Rattle.site_links.specs.Links.{Receiving, Sending};
 
 use crate::{LinkReceiver, LinkSender, pair};
 use dots::Memory;
@@ -27,6 +29,45 @@ pub struct SiteLinks {
     pub from: Vec<Vec<LinkReceiver>>,
 }
 
+impl SiteLinks {
+    /// Takes the ends of the last site that are left.
+    pub fn pop(&mut self) -> Option<LinkEnds>
+        requires { vec_len self.old.to ≡ vec_len self.old.from }
+        ensures to { IfSome result (λ ends.
+            self.old.to.items ≡ self.new.to.items ++ ends.to ∷ []) }
+        ensures from { IfSome result (λ ends.
+            self.old.from.items ≡ self.new.from.items ++ ends.from ∷ []) }
+        ensures left { IfSome result (λ ends. (vec_len self.new.to + 1 ≡ vec_len self.old.to)
+            × (vec_len self.new.from + 1 ≡ vec_len self.old.from)) }
+        ensures none { IfNone result (vec_len self.old.to ≡ 0) }
+    {
+        let Some(to) = self.to.pop() else {
+            return None;
+        };
+        let Some(from) = self.from.pop() else {
+            unreachable!();
+        };
+        Some(LinkEnds { to, from })
+    }
+}
+
+// Puts both ends of one link more behind others.
+fn add_link(
+    alloc: Global,
+    to: &mut Vec<LinkSender>,
+    from: &mut Vec<LinkReceiver>,
+) -> Result<(), Memory>
+    ensures { OnOk result ((sender : Sending) × (receiver : Receiving)
+        × (receiver.link ≡ sender.link)
+        × (to.new.items ≡ to.old.items ++ sender ∷ [])
+        × (from.new.items ≡ from.old.items ++ receiver ∷ [])) }
+{
+    let (sender, receiver) = pair(alloc, LINK_CAPACITY)?;
+    to.push(sender)?;
+    from.push(receiver)?;
+    Ok(())
+}
+
 // Links a site from each other one. The ends that send go behind those that their sites have already.
 fn link_to(
     alloc: Global,
@@ -36,13 +77,13 @@ fn link_to(
     requires there { site < length to.old }
     ensures others { IfOk result (λ from. vec_len from + 1 ≡ length to.old) }
     ensures sites { length to.new ≡ length to.old }
+    ensures linked { IfOk result (λ from. IsLinkedFrom site (length to.old) from.items
+        (map (λ ends. ends.items) to.old) (map (λ ends. ends.items) to.new)) }
 {
     let mut from = Vec::new(alloc);
     for other in 0..to.len() {
         if other != site {
-            let (sender, receiver) = pair(alloc, LINK_CAPACITY)?;
-            to[other].push(sender)?;
-            from.push(receiver)?;
+            add_link(alloc, &mut to[other], &mut from)?;
         }
     }
     Ok(from)
@@ -50,10 +91,7 @@ fn link_to(
 
 /// A link from each of `sites` sites to each other, which holds 64 items. The one fault is want of memory (this project's own).
 pub fn link_all(alloc: Global, sites: usize) -> Result<SiteLinks, Memory>
-    ensures to { IfOk result (λ links. vec_len links.to ≡ sites) }
-    ensures from { IfOk result (λ links. vec_len links.from ≡ sites) }
-    ensures others { IfOk result (λ links.
-        All (λ from. vec_len from + 1 ≡ sites) links.from.items) }
+    ensures { IfOk result (λ links. AreLinksOf sites links) }
 {
     let mut to = Vec::new(alloc);
     for _i in 0..sites {

@@ -91,6 +91,14 @@ fn some_write(numbers: &mut Numbers) -> Result<Command, RunsFault> {
     })
 }
 
+fn some_ring(numbers: &mut Numbers) -> Result<Command, RunsFault> {
+    Ok(Command::RingInUse {
+        queue: some_queues(numbers)?,
+        interface: some_interface(numbers)?,
+        ring: numbers.below(2) == 0,
+    })
+}
+
 fn some_count(numbers: &mut Numbers) -> Result<Command, RunsFault> {
     let queue = some_queue(numbers)?;
     if numbers.below(2) == 0 {
@@ -108,12 +116,13 @@ fn short_status(alloc: Global) -> Result<StatusRequest, RunsFault> {
 
 // What is asked next.
 pub(crate) fn some_ask(alloc: Global, numbers: &mut Numbers) -> Result<Ask, RunsFault> {
-    let command = match numbers.below(8) {
+    let command = match numbers.below(9) {
         0 => return Ok(Ask::Status(short_status(alloc)?)),
         1 | 2 => some_add(numbers)?,
         3 => some_remove(numbers)?,
         4 => some_pause(numbers)?,
         5 => some_write(numbers)?,
+        6 => some_ring(numbers)?,
         _ => some_count(numbers)?,
     };
     Ok(Ask::Command(command))

@@ -4,6 +4,7 @@ ghost use Rattle.std.specs.Prelude.{◌≡◌, ◌≢◌, ◌↔◌, ◌⊎◌, 
 ghost use Rattle.std.specs.Prelude.{OnOk, Some, [], length, map, slice_get, slice_index_or};
 ghost use Rattle.std.specs.Prelude.{vec_capacity, vec_len};
 ghost use Rattle.site_journal.specs.Journals.{IsOfSite};
+ghost use Rattle.site_links.specs.Linking.{AreLinksOf};
 ghost use Rattle.site_worker.specs.Gates.{IsGatedBy};
 ghost use Rattle.site_worker.specs.Promises.{ArePromised};
 ghost use Rattle.site_worker.specs.Runs.{HasAnsweredAsks, HasBegun, HasRun, HavePumped};
@@ -12,7 +13,7 @@ ghost use Rattle.status_report.specs.declared.asks.Ask.{Ask};
 
 use crate::site::run_new_site;
 use crate::{RunFault, SiteEnd, SiteWork};
-use dots::SiteId;
+use dots::{Memory, SiteId};
 use replica::QueueList;
 use site_journal::Gate;
 use site_links::{LinkEnds, SiteLinks, link_all};
@@ -75,7 +76,11 @@ fn start_site<'s, 'e: 's, R: Threads + Wait + Sync, G: Gate + Send + Drop + 's>(
     ensures gate { IfOk result (λ handle. handle.promise.gate.value ≡ work.gate) }
     ensures fault { IfErr result (λ fault. fault ≢ RunFault.BadSites) }
 {
-    let queues = list.copy()?;
+    let Ok(queues) = list.copy() else {
+        drop(work);
+        drop(links);
+        return Err(RunFault::Memory);
+    };
     let promise = EndOf {
         site,
         passes: links.from.len() + 2,
@@ -94,7 +99,10 @@ fn start_site<'s, 'e: 's, R: Threads + Wait + Sync, G: Gate + Send + Drop + 's>(
     { run_new_site(rt, alloc, site, queues, work, links) };
     match scope.spawn_with(promise, run) {
         Ok(handle) => Ok(handle),
-        Err(_) => Err(RunFault::NoThread),
+        Err(refused) => {
+            drop(refused);
+            Err(RunFault::NoThread)
+        }
     }
 }
 
@@ -109,9 +117,7 @@ fn start_sites<'s, 'e: 's, R: Threads + Wait + Sync, G: Gate + Send + Drop + 's>
     sites: &mut Sites<G>,
 ) -> Result<(), RunFault>
     requires few { vec_len works ≤ MOST_RUN_SITES }
-    requires to { vec_len links.to ≡ vec_len works }
-    requires from { vec_len links.from ≡ vec_len works }
-    requires others { All (λ from. vec_len from + 1 ≡ vec_len works) links.from.items }
+    requires links { AreLinksOf (vec_len works) links }
     requires none { vec_len sites.old ≡ 0 }
     requires room { vec_len works ≤ vec_capacity sites.old }
     ensures number { OnOk result (vec_len sites.new ≡ vec_len works) }
@@ -121,18 +127,25 @@ fn start_sites<'s, 'e: 's, R: Threads + Wait + Sync, G: Gate + Send + Drop + 's>
     ensures fault { IfErr result (λ fault. fault ≢ RunFault.BadSites) }
 {
     let mut works = works;
-    let SiteLinks { mut to, mut from } = links;
+    let mut links = links;
     while let Some(work) = works.pop() {
-        let (Some(to), Some(from)) = (to.pop(), from.pop()) else {
+        let Some(ends) = links.pop() else {
             unreachable!();
         };
         let Some(site) = SiteId::new(works.len() as u16) else {
             unreachable!();
         };
-        let links = LinkEnds { to, from };
-        let handle = start_site(scope, rt, alloc, site, list, work, links)?;
-        sites.push_reserved(handle);
+        match start_site(scope, rt, alloc, site, list, work, ends) {
+            Ok(handle) => sites.push_reserved(handle),
+            Err(fault) => {
+                drop(works);
+                drop(links);
+                return Err(fault);
+            }
+        }
     }
+    drop(works);
+    drop(links);
     Ok(())
 }
 
@@ -174,10 +187,34 @@ fn join_sites<R: Threads, G: Gate + Drop>(
     while let Some(site) = sites.pop() {
         match site.join(rt) {
             Ok(end) => ends.push_reserved(end),
-            Err(fault) => return Err(end_sites(rt, sites, fault)),
+            Err(fault) => {
+                drop(ends);
+                return Err(end_sites(rt, sites, fault));
+            }
         }
     }
+    drop(sites);
     Ok(ends)
+}
+
+// Room for the ends of so many sites, and for their threads.
+fn room_for<G: Gate + Drop>(
+    alloc: Global,
+    number: usize,
+) -> Result<(Vec<SiteEnd<G>>, Sites<G>), Memory>
+    ensures no_ends { IfOk result (λ room. vec_len room.0 ≡ 0) }
+    ensures ends { IfOk result (λ room. number ≤ vec_capacity room.0) }
+    ensures none { IfOk result (λ room. vec_len room.1 ≡ 0) }
+    ensures sites { IfOk result (λ room. number ≤ vec_capacity room.1) }
+{
+    let ends = Vec::with_capacity(alloc, number)?;
+    match Vec::with_capacity(alloc, number) {
+        Ok(sites) => Ok((ends, sites)),
+        Err(_) => {
+            drop(ends);
+            Err(Memory)
+        }
+    }
 }
 
 // Starts all sites, and joins them. Where one can't be started, the others come to their ends first.
@@ -190,9 +227,7 @@ fn run_all<'s, 'e: 's, R: Threads + Wait + Sync, G: Gate + Send + Drop + 's>(
     links: SiteLinks,
 ) -> Result<Vec<SiteEnd<G>>, RunFault>
     requires few { vec_len works ≤ MOST_RUN_SITES }
-    requires to { vec_len links.to ≡ vec_len works }
-    requires from { vec_len links.from ≡ vec_len works }
-    requires others { All (λ from. vec_len from + 1 ≡ vec_len works) links.from.items }
+    requires links { AreLinksOf (vec_len works) links }
     ensures number { IfOk result (λ ends. vec_len ends ≡ vec_len works) }
     ensures ends { IfOk result (λ ends. (site : ℕ) (end : _) → slice_get ends.items site ≡ Some end
         → HasRun site list.now (vec_len works + 1)
@@ -204,12 +239,62 @@ fn run_all<'s, 'e: 's, R: Threads + Wait + Sync, G: Gate + Send + Drop + 's>(
         end.gate) }
     ensures fault { IfErr result (λ fault. fault ≢ RunFault.BadSites) }
 {
-    let ends = Vec::with_capacity(alloc, works.len())?;
-    let mut sites = Vec::with_capacity(alloc, works.len())?;
+    let (ends, mut sites) = match room_for(alloc, works.len()) {
+        Ok(room) => room,
+        Err(_) => {
+            drop(works);
+            drop(links);
+            return Err(RunFault::Memory);
+        }
+    };
     if let Err(fault) = start_sites(scope, rt, alloc, list, works, links, &mut sites) {
+        drop(ends);
         return Err(end_sites(rt, sites, fault));
     }
     join_sites(rt, sites, ends)
+}
+
+// Runs the threads of all sites in a scope of their own.
+fn run_scoped<R: Threads + Wait + Sync, G: Gate + Send + Drop>(
+    rt: &R,
+    alloc: Global,
+    list: &QueueList,
+    works: Vec<SiteWork<G>>,
+    links: SiteLinks,
+) -> Result<Vec<SiteEnd<G>>, RunFault>
+    requires few { vec_len works ≤ MOST_RUN_SITES }
+    requires links { AreLinksOf (vec_len works) links }
+    ensures number { IfOk result (λ ends. vec_len ends ≡ vec_len works) }
+    ensures ends { IfOk result (λ ends. (site : ℕ) (end : _) → slice_get ends.items site ≡ Some end
+        → HasRun site list.now (vec_len works + 1)
+        (slice_index_or (map (λ work. work.asks.items) works.items) site []) end.journal
+        (map (λ list. list.items) end.receipts.items) end.fault) }
+    ensures gates { IfOk result (λ ends. (site : ℕ) (work : _) (end : _)
+        → slice_get works.items site ≡ Some work → slice_get ends.items site ≡ Some end
+        → IsGatedBy G.called work.gate (map (λ list. list.items) end.receipts.items) end.fault
+        end.gate) }
+    ensures fault { IfErr result (λ fault. fault ≢ RunFault.BadSites) }
+{
+    thread::scope(
+        thread::scope_env(),
+        rt,
+        move |scope| -> Result<Vec<SiteEnd<G>>, RunFault>
+            requires few { vec_len works ≤ MOST_RUN_SITES }
+            requires links { AreLinksOf (vec_len works) links }
+            ensures number { IfOk result (λ ends. vec_len ends ≡ vec_len works) }
+            ensures ends { IfOk result (λ ends. (site : ℕ) (end : _)
+                → slice_get ends.items site ≡ Some end
+                → HasRun site list.entry.now (vec_len works + 1)
+                (slice_index_or (map (λ work. work.asks.items) works.items) site []) end.journal
+                (map (λ list. list.items) end.receipts.items) end.fault) }
+            ensures gates { IfOk result (λ ends. (site : ℕ) (work : _) (end : _)
+                → slice_get works.items site ≡ Some work
+                → slice_get ends.items site ≡ Some end
+                → IsGatedBy G.called work.gate (map (λ list. list.items) end.receipts.items)
+                end.fault end.gate) }
+            ensures fault { IfErr result (λ fault. fault ≢ RunFault.BadSites) }
+        { run_all(scope, rt, alloc, list, works, links) },
+    )
 }
 
 /// Runs sites at once, one for each work, of the numbers 0, 1 and so on, all of these queues, and waits until all have come to their
@@ -253,27 +338,11 @@ pub fn run_sites<R: Threads + Wait + Sync, G: Gate + Send + Drop>(
     if works.is_empty() || works.len() > MOST_RUN_SITES {
         return Err(RunFault::BadSites);
     }
-    let links = link_all(alloc, works.len())?;
-    thread::scope(
-        thread::scope_env(),
-        rt,
-        move |scope| -> Result<Vec<SiteEnd<G>>, RunFault>
-            requires few { vec_len works ≤ MOST_RUN_SITES }
-            requires to { vec_len links.to ≡ vec_len works }
-            requires from { vec_len links.from ≡ vec_len works }
-            requires others { All (λ from. vec_len from + 1 ≡ vec_len works) links.from.items }
-            ensures number { IfOk result (λ ends. vec_len ends ≡ vec_len works) }
-            ensures ends { IfOk result (λ ends. (site : ℕ) (end : _)
-                → slice_get ends.items site ≡ Some end
-                → HasRun site list.entry.now (vec_len works + 1)
-                (slice_index_or (map (λ work. work.asks.items) works.items) site []) end.journal
-                (map (λ list. list.items) end.receipts.items) end.fault) }
-            ensures gates { IfOk result (λ ends. (site : ℕ) (work : _) (end : _)
-                → slice_get works.items site ≡ Some work
-                → slice_get ends.items site ≡ Some end
-                → IsGatedBy G.called work.gate (map (λ list. list.items) end.receipts.items)
-                end.fault end.gate) }
-            ensures fault { IfErr result (λ fault. fault ≢ RunFault.BadSites) }
-        { run_all(scope, rt, alloc, list, works, links) },
-    )
+    match link_all(alloc, works.len()) {
+        Ok(links) => run_scoped(rt, alloc, list, works, links),
+        Err(_) => {
+            drop(works);
+            Err(RunFault::Memory)
+        }
+    }
 }

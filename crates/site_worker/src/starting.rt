@@ -118,9 +118,14 @@ pub(crate) fn start_takers<'s, 'e: 's, L: SiteLedger + Send + Sync, R: Wait + Sy
         { take_all(rt, alloc, desk, pass, link) };
         match scope.spawn_with(promise, take) {
             Ok(taker) => takers.push_reserved(taker),
-            Err(_) => return Err(RunFault::NoThread),
+            Err(refused) => {
+                drop(refused);
+                drop(links);
+                return Err(RunFault::NoThread);
+            }
         }
     }
+    drop(links);
     Ok(())
 }
 
@@ -192,6 +197,73 @@ pub(crate) struct Tasks<'s> {
     pub rope: &'s Rope,
 }
 
+// Starts the thread that cuts and sends, by the second pass.
+fn start_sender<'s, 'e: 's, L: SiteLedger + Send + Sync, R: Wait + Sync>(
+    scope: &'s Scope<'s, &'e ()>,
+    rt: &'s R,
+    alloc: Global,
+    desk: &'s SiteDesk<L>,
+    pass: Pass<L>,
+    tasks: Tasks<'s>,
+    links: Vec<LinkSender>,
+) -> Result<PromisedHandle<Worked<L>, CutsOf>, RunFault>
+    requires { pass ≡ fresh_pass 1 }
+    ensures { IfErr result (λ fault. fault ≡ RunFault.NoThread) }
+{
+    let Tasks { plan, rope, .. } = tasks;
+    let send = move || -> Worked<L>
+        requires { pass ≡ fresh_pass 1 }
+        ensures done { HasDoneAll L.site L.names (fresh_pass 1) result.receipts.items result.pass }
+        ensures sent { HaveSent result.receipts.items result.fault }
+    { send_all(rt, alloc, desk, pass, links, plan, rope) };
+    match scope.spawn_with(CutsOf, send) {
+        Ok(sender) => Ok(sender),
+        Err(refused) => {
+            drop(refused);
+            Err(RunFault::NoThread)
+        }
+    }
+}
+
+// Starts the thread that asks, by the first pass.
+fn start_asker<'s, 'e: 's, L: SiteLedger + Send + Sync, R: Wait + Sync, G: Gate + Send + Drop + 's>(
+    scope: &'s Scope<'s, &'e ()>,
+    rt: &'s R,
+    alloc: Global,
+    desk: &'s SiteDesk<L>,
+    pass: Pass<L>,
+    tasks: Tasks<'s>,
+    gate: G,
+) -> Result<PromisedHandle<Asked<L, G>, AsksOf<'s, G>>, RunFault>
+    requires { pass ≡ fresh_pass 0 }
+    ensures asks { IfOk result (λ asker. asker.promise.asks.now ≡ tasks.entry.asks.now) }
+    ensures gate { IfOk result (λ asker. asker.promise.gate.value ≡ gate) }
+    ensures fault { IfErr result (λ fault. fault ≡ RunFault.NoThread) }
+{
+    let Tasks { asks, rope, .. } = tasks;
+    let promise = AsksOf {
+        asks,
+        gate: Snapshot::of(&gate),
+    };
+    let ask = move || -> Asked<L, G>
+        requires { pass ≡ fresh_pass 0 }
+        ensures worked { HasDoneAll L.site L.names (fresh_pass 0) result.worked.receipts.items
+            result.worked.pass }
+        ensures answers { AnswerFront L.site L.names asks.entry.now result.worked.receipts.items }
+        ensures all { result.worked.fault ≡ None
+            → length result.worked.receipts.items ≡ length asks.entry.now }
+        ensures gated { IsGated G.called gate (length result.worked.receipts.items)
+            result.worked.fault result.gate }
+    { ask_with(rt, alloc, desk, pass, asks, gate, rope) };
+    match scope.spawn_with(promise, ask) {
+        Ok(asker) => Ok(asker),
+        Err(refused) => {
+            drop(refused);
+            Err(RunFault::NoThread)
+        }
+    }
+}
+
 // Starts the thread that sends and the one that asks, by the first two passes, and joins them. Where one can't be started, the other is
 // ended first.
 pub(crate) fn ask_and_send<
@@ -224,43 +296,29 @@ pub(crate) fn ask_and_send<
     ensures sent { IfOk result (λ both. HaveSent both.1.receipts.items both.1.fault) }
     ensures fault { IfErr result (λ fault. fault ≡ RunFault.NoThread) }
 {
-    let Tasks { asks, plan, rope } = tasks;
     let mut passes = passes;
     let (Some(second), Some(first)) = (passes.pop(), passes.pop()) else {
         unreachable!();
     };
-    let send = move || -> Worked<L>
-        requires { second ≡ fresh_pass 1 }
-        ensures done { HasDoneAll L.site L.names (fresh_pass 1) result.receipts.items result.pass }
-        ensures sent { HaveSent result.receipts.items result.fault }
-    { send_all(rt, alloc, desk, second, links, plan, rope) };
-    let Ok(sender) = scope.spawn_with(CutsOf, send) else {
-        return Err(RunFault::NoThread);
+    drop(passes);
+    let sender = match start_sender(scope, rt, alloc, desk, second, tasks, links) {
+        Ok(sender) => sender,
+        Err(fault) => {
+            drop(first);
+            drop(gate);
+            return Err(fault);
+        }
     };
-    let promise = AsksOf {
-        asks,
-        gate: Snapshot::of(&gate),
-    };
-    let ask = move || -> Asked<L, G>
-        requires { first ≡ fresh_pass 0 }
-        ensures worked { HasDoneAll L.site L.names (fresh_pass 0) result.worked.receipts.items
-            result.worked.pass }
-        ensures answers { AnswerFront L.site L.names asks.entry.now result.worked.receipts.items }
-        ensures all { result.worked.fault ≡ None
-            → length result.worked.receipts.items ≡ length asks.entry.now }
-        ensures gated { IsGated G.called gate (length result.worked.receipts.items)
-            result.worked.fault result.gate }
-    { ask_with(rt, alloc, desk, first, asks, gate, rope) };
-    match scope.spawn_with(promise, ask) {
+    match start_asker(scope, rt, alloc, desk, first, tasks, gate) {
         Ok(asker) => {
             let asked = asker.join(rt);
             let sent = sender.join(rt);
             Ok((asked, sent))
         }
-        Err(_) => {
-            rope.let_go(rt);
+        Err(fault) => {
+            tasks.rope.let_go(rt);
             drop(sender.join(rt));
-            Err(RunFault::NoThread)
+            Err(fault)
         }
     }
 }

@@ -23,14 +23,14 @@ use Rattle.delta.specs.Standing.{IsDeltaOf}
 use Rattle.delta.proofs.ShownDeltas.{read_as}
 use Rattle.delta.proofs.StandingDeltas.{consistent_agree, own_cells}
 use Rattle.sites_world.specs.Histories.{Buffered, Carried, IsIn, Known}
-use Rattle.sites_world.specs.Holding.{HeldAgree, HoldFewCells, HoldOneDotASite, HoldWithinLimits, IsHeldIn, MayJoinFrames, MayTakeEntries, Pending, Said, State}
+use Rattle.sites_world.specs.Holding.{HeldAgree, HoldFewCells, HoldOneDotASite, HoldWithinLimits, IsHeldIn, KnowNonePast, MayJoinFrames, MayTakeEntries, Pending, Said, State}
 use Rattle.sites_world.specs.Promises.{IsVisibleDotOf, members_seen, visible_members}
 use Rattle.sites_world.specs.Worlds.{IsReached, World}
 use Rattle.sites_world.specs.WorldStates.{IsFrameOf, IsSiteOf, StandsForWorld, WorldState}
 use Rattle.sites_world.proofs.Dots.{visible_parts}
 use Rattle.sites_world.proofs.KnownTogether.{one_dot, part_of, together}
 use Rattle.sites_world.proofs.Lists.{correspond_get, place_in}
-use Rattle.sites_world.proofs.MayTake.{may_take}
+use Rattle.sites_world.proofs.MayTake.{knows_none_past, may_take}
 use Rattle.sites_world.proofs.Parts.{known_asserted, known_part}
 use Rattle.sites_world.proofs.SteppedHistories.{reached_history}
 use Rattle.sites_world.proofs.VisibleCounts.{few_visible}
@@ -112,6 +112,11 @@ may_take_entries names sites w site place state s entry reached knows of found =
     let has = reached_history names sites w reached in
     may_take names (length w.sites) site has.made s state entry.carried has.is.history (has.is.sites site s knows) (slice_get_within w.sites site s knows) of
     (has.is.pool entry (place_in w.pool place entry found))
+
+pub know_none_past : KnowNonePast
+know_none_past names sites w site s reached knows =
+    let has = reached_history names sites w reached in
+    knows_none_past names (length w.sites) site has.made s has.is.history (has.is.sites site s knows) (slice_get_within w.sites site s knows)
 
 pub may_join_frames : MayJoinFrames
 may_join_frames state site place s frame is here found =

@@ -12,7 +12,7 @@ use Rattle.dots.specs.Values.{Dot, Stamp}
 use Rattle.operations.specs.Conditions.{Dead, DotFields, Live, condition_in, fields_in}
 use Rattle.dots.specs.CountedCalls.{same_calls}
 use Rattle.operations.specs.Counts.{count_in, site_total}
-use Rattle.operations.specs.Operations.{Operation, Field, Add, Write, Remove, Count, asserted_by, label_field, pause_field, penalty_field}
+use Rattle.operations.specs.Operations.{Operation, Field, Add, Write, Remove, Count, asserted_by, label_field, pause_field, penalty_field, ring_field}
 use Rattle.operations.specs.Registers.{Entry}
 use Rattle.operations.specs.Knowledge.{Knowledge, field_of, is_named, known_dots, member_of}
 use Rattle.dots.specs.CountedCalls.{is_zero, no_calls}
@@ -27,16 +27,17 @@ use Rattle.delta.specs.DeltaStates.{DeltaState}
 use Rattle.delta.specs.Standing.{IsDeltaOf}
 use Rattle.delta.proofs.StandingDeltas.{consistent_agree}
 use Rattle.replica.specs.Site.{SiteState}
+use Rattle.replica.specs.Shows.{KnowsNonePast}
 use Rattle.replica.specs.SiteViews.{count_used, greatest, time_used}
 use Rattle.replica.specs.Steps.{SiteKnowledge}
-use Rattle.replica.specs.Taking.{HasDotPast, HasStampPast, HasStrangeMember, HasStrangeTotal, HasTotalPast, IsNotMine, IsWrittenPast, SpeaksOfStrangeQueue}
+use Rattle.replica.specs.Taking.{HasDotPast, HasFieldPast, HasStampPast, HasStrangeMember, HasStrangeTotal, HasTotalPast, IsNotMine, IsWrittenPast, SpeaksOfStrangeQueue}
 use Rattle.sites_world.specs.Histories.{IsHistory, IsOf, IsPartOf, IsSiteIn, stamp_of}
 use Rattle.sites_world.specs.Telling.{MayBeTaken}
 use Rattle.sites_world.specs.WorldStates.{IsSiteOf}
 use Rattle.sites_world.proofs.Lists.{none_some}
 use Rattle.sites_world.proofs.Dots.{is-asserted, member_in}
 use Rattle.sites_world.proofs.MadeHistories.{below_greatest, count-used, stamped_of, stamped_time}
-use Rattle.sites_world.proofs.Parts.{IsStamped, asserted_part, both_part, consistent_part, known_asserted, known_part, label_stamped, pause_stamped, penalty_stamped, set_by}
+use Rattle.sites_world.proofs.Parts.{IsStamped, asserted_part, both_part, consistent_part, known_asserted, known_part, label_stamped, pause_stamped, penalty_stamped, ring_stamped, set_by}
 
 -- ---- what a delta says, its knowledge says
 
@@ -159,10 +160,11 @@ module _ (names_of_queues : List (List ℕ)) (sites site : ℕ) (h : Knowledge) 
       fields : past.held.1 ≡ fields_in k past.dot
       fields = (live_dot d k past.dot past.held is past.live).1
 
-      by : (IsWrittenPast site (greatest (time_used site) s.known) past.held.1.penalty ⊎ (IsWrittenPast site (greatest (time_used site) s.known) past.held.1.pause ⊎ IsWrittenPast site (greatest (time_used site) s.known) past.held.1.label)) → ⊥
+      by : HasFieldPast site (greatest (time_used site) s.known) past.held.1 → ⊥
       by (inl p) = no_field_past penalty_field penalty_stamped past.dot past.held.1.penalty (ap (λ f. f.penalty) fields) p
       by (inr (inl p)) = no_field_past pause_field pause_stamped past.dot past.held.1.pause (ap (λ f. f.pause) fields) p
-      by (inr (inr p)) = no_field_past label_field label_stamped past.dot past.held.1.label (ap (λ f. f.label) fields) p
+      by (inr (inr (inl p))) = no_field_past label_field label_stamped past.dot past.held.1.label (ap (λ f. f.label) fields) p
+      by (inr (inr (inr p))) = no_field_past ring_field ring_stamped past.dot past.held.1.ring (ap (λ f. f.ring) fields) p
 
   -- no total of the site is greater than its own
   total_below : (queue : ℕ) (calls : Calls) → site_total k site queue calls ≤ site_total s.known site queue calls
@@ -260,3 +262,12 @@ may_take names_of_queues sites site h s state k made own there is part = record 
     mine d of (inl (inl p)) = no_dot_past names_of_queues sites site h s made own there k part d of (dot_past d p)
     mine d of (inl (inr p)) = no_stamp_past names_of_queues sites site h s made own there k part d of (stamp_past d p)
     mine d of (inr p) = no_total_past d of p
+
+-- a site knows no dot of its own past the last that it made
+pub knows_none_past : (names_of_queues : List (List ℕ)) (sites site : ℕ) (h : Knowledge) (s : SiteKnowledge) → IsHistory names_of_queues sites h → IsSiteIn h site s → site < sites → KnowsNonePast site s.known
+knows_none_past names_of_queues sites site h s made own there past =
+    let dot : Dot = record { site = site; count = past.count } in
+    let known = known_part s.known h dot own.known past.known_dot in
+    let used = count-used names_of_queues sites site h s made own there dot known refl in
+    let later = past.past in
+    omega (arith, used, later)

@@ -7,7 +7,7 @@ use Rattle.std.proofs.lemmas.List.Elements.{Contains-append_cases, Contains-appe
 use Rattle.dots.specs.declared.member.Member.{Member}
 use Rattle.dots.specs.Values.{Dot, Stamp}
 use Rattle.operations.specs.Registers.{Entry}
-use Rattle.operations.specs.Operations.{Operation, Field, Add, Write, Remove, Count, asserted_by, entry_under, penalty_field, pause_field, label_field, set_label, set_pause, set_penalty}
+use Rattle.operations.specs.Operations.{Operation, Field, Add, Write, Remove, Count, asserted_by, entry_under, penalty_field, pause_field, label_field, ring_field, set_label, set_pause, set_penalty, set_ring}
 use Rattle.operations.specs.Knowledge.{IsConsistent, Knowledge, OneValue, all_asserted, asserts, is_asserted, is_named, known_dots, names, settings_of}
 use Rattle.operations.proofs.KnownLaws.{known_dot}
 use Rattle.general_lemmas.proofs.Membership.{any_in, in_any, in_part, in_some, only_in, part_in}
@@ -98,6 +98,12 @@ label_stamped (Write dots setting stamp older) e h = under stamp (set_label sett
 label_stamped (Remove dots) e h = absurd (none_some e h)
 label_stamped (Count site queue calls total) e h = absurd (none_some e h)
 
+pub ring_stamped : IsStamped ring_field
+ring_stamped (Add dot member stamp penalty pause label older) e h = absurd (none_some e h)
+ring_stamped (Write dots setting stamp older) e h = under stamp (set_ring setting) e h
+ring_stamped (Remove dots) e h = absurd (none_some e h)
+ring_stamped (Count site queue calls total) e h = absurd (none_some e h)
+
 chosen : {T : Type 0} (field : Field T) (dot : Dot) → Operation → Option (Entry T)
 chosen field dot o = if asserts dot o then field o else None
 
@@ -126,6 +132,7 @@ consistent_part names_of_queues sites h k made part = record {
   penalties = one_value penalty_field penalty_stamped k stamps;
   pauses = one_value pause_field pause_stamped k stamps;
   labels = one_value label_field label_stamped k stamps;
+  rings = one_value ring_field ring_stamped k stamps;
 }
   where
     stamps : (o p : Operation) (stamp : Stamp) → Contains k o → Contains k p → stamp_of o ≡ Some stamp → stamp_of p ≡ Some stamp → o ≡ p

@@ -16,6 +16,7 @@ use Rattle.delta.specs.DeltaStates.{DeltaState}
 use Rattle.delta.specs.Joining.{AreInAgreement}
 use Rattle.delta.specs.Standing.{IsDeltaOf}
 use Rattle.delta.specs.declared.frame.Frame.{Frame}
+use Rattle.replica.specs.Shows.{KnowsNonePast}
 use Rattle.replica.specs.Site.{SiteState}
 use Rattle.replica.specs.Steps.{SiteKnowledge}
 use Rattle.replica.specs.Taking.{MayJoin}
@@ -59,6 +60,12 @@ HeldAgree = (state : WorldState) (x y : DeltaState) → IsWorld state → IsHeld
 -- a delta that is held in a world stands for operations that are all within their limits
 abbrev pub HoldWithinLimits : Type 0
 HoldWithinLimits = (state : WorldState) (d : DeltaState) → IsWorld state → IsHeldIn state d → (k : Knowledge) × IsDeltaOf d k × AreWithinLimits k
+
+-- ---- own dots
+
+-- in a world that events lead to no site knows a dot of its own past the last that it made
+abbrev pub KnowNonePast : Type 0
+KnowNonePast = (names : List (List ℕ)) (sites : ℕ) (w : World) (site : ℕ) (s : SiteKnowledge) → IsReached names sites w → slice_get w.sites site ≡ Some s → KnowsNonePast site s.known
 
 -- ---- takes
 

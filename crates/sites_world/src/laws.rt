@@ -8,7 +8,7 @@ ghost use Rattle.sites_world.specs.Conditions.{EventsLead, EventLeads};
 ghost use Rattle.sites_world.specs.Fitting.{EntriesFit, EntriesHaveFrames, FramesFit};
 ghost use Rattle.sites_world.specs.Fitting.{HoldWhatFits, WorldsAreSmall};
 ghost use Rattle.sites_world.specs.Holding.{EventsGrow, HeldAgree, HoldFewCells, HoldOneDotASite};
-ghost use Rattle.sites_world.specs.Holding.{HoldWithinLimits};
+ghost use Rattle.sites_world.specs.Holding.{HoldWithinLimits, KnowNonePast};
 ghost use Rattle.sites_world.specs.Holding.{LeadAllGrows, LeadsGrow, MayJoinFrames, MayTakeEntries};
 ghost use Rattle.sites_world.specs.Holding.{RunsGrow, TakenStaysKnown, TakenStaysSaid};
 ghost use Rattle.sites_world.specs.Outcomes.{changes_nothing};
@@ -43,6 +43,12 @@ pub fn a_world_has_a_history()
 pub fn a_dot_is_made_once()
     ensures once { HaveOneAddADot }
     ensures site { AddAtTheirSites }
+{}
+
+/// A site knows no dot of its own past the last that it made, whatever it has taken. So the dot of its next add is new, and what an add
+/// shows (`replica::laws::a_done_command_shows`) it shows at each site of each world (RR-8083: each add has a tag of its own).
+pub fn a_site_knows_none_of_its_dots_past_the_last()
+    ensures { KnowNonePast }
 {}
 
 /// Any two knowledges of one world are consistent together: each dot is of one member, and each stamp gives a field of a dot one value

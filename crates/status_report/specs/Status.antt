@@ -65,7 +65,8 @@ member_block action_id name row =
     ++ (field (codes "Penalty") (decimal row.1.penalty)
     ++ (field (codes "Paused") (decimal (if row.1.paused then 1 else 0))
     ++ (field (codes "PausedReason") row.1.reason
-    ++ end))))))))
+    ++ (field (codes "RingInUse") (decimal (if row.1.ring then 1 else 0))
+    ++ end)))))))))
 
 -- the block that closes the report, with the number of blocks between
 abbrev pub closing : List ℕ → ℕ → List ℕ

@@ -94,6 +94,7 @@ fn push_member(
     push_number(out, "Penalty", u64::from(row.penalty))?;
     push_number(out, "Paused", u64::from(row.paused))?;
     push_field(out, "PausedReason", row.reason)?;
+    push_number(out, "RingInUse", u64::from(row.ring))?;
     push_end(out)
 }
 

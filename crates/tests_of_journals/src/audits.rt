@@ -1,5 +1,6 @@
 //! Audits of journals: the list of events that they are, or why there is none.
 use crate::asks::{SALES, add, frame_of, list, request, status};
+use crate::frames::{ADDED, OLD_ADDED};
 use dots::Bytes;
 use site_audit::{AuditFault, Event, audit};
 use site_journal::Journaled;
@@ -97,6 +98,21 @@ fn a_frame_whose_number_was_changed_is_in_no_run(rt: HostRuntime) {
     let mut second = journal(&rt, alloc, 1, SALES);
     let frame = added(&rt, &mut first, b"SIP/0");
     take(&rt, &mut second, changed(&rt, frame, 15, 1, 9));
+    assert_no_run(&rt, alloc, first, second, AuditFault::NoRun(1, 0));
+}
+
+// No site of today makes the bytes of version 1, though one may take them.
+#[test]
+fn a_frame_of_an_older_version_is_a_step_and_in_no_run(rt: HostRuntime) {
+    let alloc = rt.alloc();
+    let mut first = journal(&rt, alloc, 0, SALES);
+    let mut second = journal(&rt, alloc, 1, SALES);
+    let frame = added(&rt, &mut first, b"SIP/1");
+    assert!(rt; frame.as_slice() == ADDED);
+    drop(frame);
+    let old = Vec::from_slice(alloc, OLD_ADDED).expect(&rt, "memory");
+    take(&rt, &mut second, old);
+    assert!(rt; second.len() == 1 && second.replica().rows(0).next().is_some());
     assert_no_run(&rt, alloc, first, second, AuditFault::NoRun(1, 0));
 }
 

@@ -4,7 +4,7 @@ ghost use Rattle.std.specs.Prelude.{◌≡◌};
 ghost use Rattle.site_journal.specs.Journals.{IsOfSite};
 
 use crate::asks::SALES;
-use crate::frames::{ADDED, GREATEST, NOTHING, REMOVED, TOUCHING};
+use crate::frames::{ADDED, GREATEST, NOT_RUNG, NOTHING, OLD_ADDED, REMOVED, TOUCHING};
 use site_desk::{Pass, SiteDesk, SiteLedger, close};
 use site_journal::{DecodeFault, DeskFault, Journaled, StepDeed, TakeFault};
 use std::alloc::Global;
@@ -38,7 +38,8 @@ const SPOILED: &[Spoiled] = &[
     (ADDED, 0, b"", b"\xff", DecodeFault::BadRange),
     // The magic, the version, the maker and the number.
     (ADDED, 5, b"\x45", b"", DecodeFault::BadMagic),
-    (ADDED, 6, b"\x02", b"", DecodeFault::BadVersion),
+    (ADDED, 6, b"\x00", b"", DecodeFault::BadVersion),
+    (ADDED, 6, b"\x03", b"", DecodeFault::BadVersion),
     (NOTHING, 7, b"\x40", b"", DecodeFault::BadRange),
     (NOTHING, 15, b"\x00", b"", DecodeFault::BadRange),
     // How many runs, and the first count of one.
@@ -51,10 +52,15 @@ const SPOILED: &[Spoiled] = &[
     (ADDED, 52, b"\x00", b"", DecodeFault::BadText),
     (ADDED, 52, b"\x51", b"", DecodeFault::BadText),
     (ADDED, 53, b"\x0a", b"", DecodeFault::BadText),
-    (ADDED, 58, b"\x08", b"", DecodeFault::BadRange),
-    // The time of the penalty, and whether there is a pause.
+    (ADDED, 58, b"\x10", b"", DecodeFault::BadRange),
+    // The time of the penalty, whether there is a pause, and whether there is a ring.
     (ADDED, 66, b"\x00", b"", DecodeFault::BadRange),
     (ADDED, 81, b"\x02", b"", DecodeFault::BadRange),
+    (NOT_RUNG, 68, b"\x02", b"", DecodeFault::BadRange),
+    // Version 1, which has no ring, and of which more behind the frame is no more allowed.
+    (OLD_ADDED, 58, b"\x08", b"", DecodeFault::BadRange),
+    (NOT_RUNG, 6, b"\x01", b"", DecodeFault::BadRange),
+    (OLD_ADDED, 0, b"", b"\xff", DecodeFault::BadRange),
 ];
 
 // The bytes of these parts.
@@ -116,7 +122,9 @@ fn a_front_of_a_frame_is_no_step(rt: HostRuntime) {
     let truncated = DeskFault::Decode(DecodeFault::Truncated);
     let mut own = journal(&rt, alloc, 0);
     assert!(rt; own.cut(7).is_ok());
-    for frame in [ADDED, REMOVED, NOTHING, TOUCHING, GREATEST] {
+    for frame in [
+        ADDED, OLD_ADDED, REMOVED, NOT_RUNG, NOTHING, TOUCHING, GREATEST,
+    ] {
         for len in 0..frame.len() {
             assert_refused(&rt, alloc, &mut own, &frame[..len], truncated);
         }

@@ -162,7 +162,7 @@ fn assert_member(rt: &impl Abort, set: &MemberSet) {
     }
     assert!(rt; dots.next().is_none());
     let row = set.row(&sip).expect(rt, "a row");
-    assert!(rt; row.penalty == 7 && !row.paused && row.name.is_empty());
+    assert!(rt; row.penalty == 7 && !row.paused && row.name.is_empty() && row.ring);
     assert!(rt; set.row(&member(rt, "SIP/3")).is_none());
 }
 

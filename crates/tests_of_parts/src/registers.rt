@@ -50,9 +50,12 @@ fn one_stamp_with_two_values_does_not_agree(rt: HostRuntime) {
     assert!(rt; three.agrees(&penalty(&rt, (2, 1), 3)));
     assert!(rt; three.agrees(&Register::none()));
     assert!(rt; Register::<Penalty>::none().is_none() && !three.is_none());
+    let rung = Register::of(stamp(&rt, (2, 1)), true);
+    assert!(rt; rung.agrees(&Register::of(stamp(&rt, (2, 1)), true)));
+    assert!(rt; !rung.agrees(&Register::of(stamp(&rt, (2, 1)), false)));
 }
 
-// The fields of a penalty and a label.
+// The fields of a penalty, a label and ring.
 fn labelled(rt: &impl Abort, number: u32) -> Fields {
     let label = Label {
         name: Text80::new(b"Ann").expect(rt, "a text"),
@@ -62,15 +65,17 @@ fn labelled(rt: &impl Abort, number: u32) -> Fields {
         penalty: penalty(rt, (5, 0), number),
         pause: Register::none(),
         label: Register::of(stamp(rt, (1, 0)), label),
+        ring: Register::of(stamp(rt, (2, 1)), false),
     }
 }
 
-// The fields of a penalty and a pause.
+// The fields of a penalty, a pause and ring.
 fn paused(rt: &impl Abort, number: u32) -> Fields {
     Fields {
         penalty: penalty(rt, (4, 1), number),
         pause: Register::of(stamp(rt, (4, 1)), Pause::new(true, Text80::empty())),
         label: Register::none(),
+        ring: Register::of(stamp(rt, (2, 0)), true),
     }
 }
 
@@ -92,6 +97,7 @@ fn fields_are_joined_one_by_one(rt: HostRuntime) {
     assert_penalty(&rt, &fields.penalty, 7);
     let pause = fields.pause.value().expect(&rt, "a pause");
     let label = fields.label.value().expect(&rt, "a label");
-    assert!(rt; pause.paused() && label.name.as_bytes() == b"Ann".as_slice());
+    let ring = fields.ring.value().expect(&rt, "ring");
+    assert!(rt; pause.paused() && label.name.as_bytes() == b"Ann".as_slice() && !*ring);
     assert!(rt; !labelled(&rt, 9).agrees(&fields));
 }

@@ -1,5 +1,5 @@
-//! Frames as bytes: one that is read and spelled again, whatever memory there is. What frames say, and which fault other bytes have, is
-//! shown by the cases of `cases/frames`.
+//! Frames as bytes: one that is read in version 1 and spelled again, in version 2, whatever memory there is. What frames say, and which
+//! fault other bytes have, is shown by the cases of `cases/frames`.
 use crate::told_frames::bytes_of;
 use delta_codec::{DecodeFault, Frame, decode, encode};
 use std::alloc::Global;
@@ -24,12 +24,13 @@ fn is_spelled(rt: &impl Abort, alloc: Global, frame: &Frame, bytes: &[u8]) -> bo
     }
 }
 
-// Reads the frame that bytes spell, which is the first of its site, and spells it again. Answers whether there was memory for both.
-fn is_read_and_spelled(rt: &impl Abort, alloc: Global, bytes: &[u8]) -> bool {
+// Reads the frame that bytes spell, which is the first of its site, and spells it again, which must give other ones. Answers whether there
+// was memory for both.
+fn is_read_and_spelled(rt: &impl Abort, alloc: Global, bytes: &[u8], again: &[u8]) -> bool {
     match decode(alloc, bytes) {
         Ok((frame, len)) => {
             assert!(rt; frame.number == 1 && len == bytes.len());
-            let is_spelled = is_spelled(rt, alloc, &frame, bytes);
+            let is_spelled = is_spelled(rt, alloc, &frame, again);
             drop(frame);
             is_spelled
         }
@@ -40,15 +41,17 @@ fn is_read_and_spelled(rt: &impl Abort, alloc: Global, bytes: &[u8]) -> bool {
     }
 }
 
-// Whatever memory there is, what is at fault up to the heading is told. tools/memory_tests.py runs this test with each allocation refused
-// in turn.
+// A frame without a ring has the same bytes in both versions, but for the version itself. Whatever memory there is, what is at fault up to
+// the heading is told. tools/memory_tests.py runs this test with each allocation refused in turn.
 #[test]
 fn a_frame_is_read_and_spelled_again_or_memory_is_wanted(rt: HostRuntime) {
     let bytes = bytes_of(&rt, rt.alloc(), "ADDED");
+    let mut again = bytes_of(&rt, rt.alloc(), "ADDED");
+    *again.get_mut(6).expect(&rt, "a version") = 2;
     let (_, front) = bytes.split_last().expect(&rt, "a byte");
     assert!(rt; println!(rt; "ready").is_ok());
     assert!(rt; has_fault(rt.alloc(), front, DecodeFault::Truncated));
-    let end = if is_read_and_spelled(&rt, rt.alloc(), &bytes) {
+    let end = if is_read_and_spelled(&rt, rt.alloc(), &bytes, &again) {
         "spelled"
     } else {
         "refused"

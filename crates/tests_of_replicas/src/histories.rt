@@ -24,7 +24,7 @@ const REPORTS: &[(&str, &str)] = &[
             "2",
             "Event: QueueParams|Queue: sales|Completed: 0|Abandoned: 0||\
              Event: QueueMember|Queue: sales|Name: SIP/1|Location: SIP/1|StateInterface: SIP/1|\
-             Membership: dynamic|Penalty: 0|Paused: 0|PausedReason: ||"
+             Membership: dynamic|Penalty: 0|Paused: 0|PausedReason: |RingInUse: 1||"
         ),
     ),
     (
@@ -40,7 +40,7 @@ const REPORTS: &[(&str, &str)] = &[
             "2",
             "Event: QueueParams|Queue: sales|Completed: 0|Abandoned: 0||\
              Event: QueueMember|Queue: sales|Name: SIP/1|Location: SIP/1|StateInterface: SIP/1|\
-             Membership: dynamic|Penalty: 2|Paused: 0|PausedReason: ||"
+             Membership: dynamic|Penalty: 2|Paused: 0|PausedReason: |RingInUse: 1||"
         ),
     ),
     (
@@ -49,7 +49,7 @@ const REPORTS: &[(&str, &str)] = &[
             "2",
             "Event: QueueParams|Queue: sales|Completed: 0|Abandoned: 0||\
              Event: QueueMember|Queue: sales|Name: SIP/1|Location: SIP/1|StateInterface: SIP/1|\
-             Membership: dynamic|Penalty: 9|Paused: 0|PausedReason: ||"
+             Membership: dynamic|Penalty: 9|Paused: 0|PausedReason: |RingInUse: 1||"
         ),
     ),
     (
@@ -58,7 +58,16 @@ const REPORTS: &[(&str, &str)] = &[
             "2",
             "Event: QueueParams|Queue: sales|Completed: 0|Abandoned: 0||\
              Event: QueueMember|Queue: sales|Name: SIP/1|Location: SIP/1|StateInterface: SIP/1|\
-             Membership: dynamic|Penalty: 0|Paused: 1|PausedReason: lunch||"
+             Membership: dynamic|Penalty: 0|Paused: 1|PausedReason: lunch|RingInUse: 1||"
+        ),
+    ),
+    (
+        "NOT_RUNG_SHOWN",
+        report!(
+            "2",
+            "Event: QueueParams|Queue: sales|Completed: 0|Abandoned: 0||\
+             Event: QueueMember|Queue: sales|Name: SIP/1|Location: SIP/1|StateInterface: SIP/1|\
+             Membership: dynamic|Penalty: 0|Paused: 0|PausedReason: |RingInUse: 0||"
         ),
     ),
     (
@@ -67,7 +76,7 @@ const REPORTS: &[(&str, &str)] = &[
             "2",
             "Event: QueueParams|Queue: sales|Completed: 0|Abandoned: 0||\
              Event: QueueMember|Queue: sales|Name: SIP/1|Location: SIP/1|StateInterface: SIP/1|\
-             Membership: dynamic|Penalty: 5|Paused: 1|PausedReason: lunch||"
+             Membership: dynamic|Penalty: 5|Paused: 1|PausedReason: lunch|RingInUse: 1||"
         ),
     ),
     (
@@ -76,7 +85,7 @@ const REPORTS: &[(&str, &str)] = &[
             "2",
             "Event: QueueParams|Queue: sales|Completed: 0|Abandoned: 0||\
              Event: QueueMember|Queue: sales|Name: SIP/1|Location: SIP/1|StateInterface: SIP/1|\
-             Membership: dynamic|Penalty: 4|Paused: 0|PausedReason: ||"
+             Membership: dynamic|Penalty: 4|Paused: 0|PausedReason: |RingInUse: 1||"
         ),
     ),
     (
@@ -85,13 +94,13 @@ const REPORTS: &[(&str, &str)] = &[
             "6",
             "Event: QueueParams|Queue: a|Completed: 0|Abandoned: 0||\
              Event: QueueMember|Queue: a|Name: SIP/1|Location: SIP/1|StateInterface: SIP/1|\
-             Membership: dynamic|Penalty: 0|Paused: 1|PausedReason: lunch||\
+             Membership: dynamic|Penalty: 0|Paused: 1|PausedReason: lunch|RingInUse: 1||\
              Event: QueueParams|Queue: b|Completed: 0|Abandoned: 0||\
              Event: QueueMember|Queue: b|Name: SIP/1|Location: SIP/1|StateInterface: SIP/1|\
-             Membership: dynamic|Penalty: 0|Paused: 1|PausedReason: lunch||\
+             Membership: dynamic|Penalty: 0|Paused: 1|PausedReason: lunch|RingInUse: 1||\
              Event: QueueParams|Queue: c|Completed: 0|Abandoned: 0||\
              Event: QueueMember|Queue: c|Name: SIP/1|Location: SIP/1|StateInterface: SIP/1|\
-             Membership: dynamic|Penalty: 0|Paused: 1|PausedReason: lunch||"
+             Membership: dynamic|Penalty: 0|Paused: 1|PausedReason: lunch|RingInUse: 1||"
         ),
     ),
     (
@@ -100,13 +109,13 @@ const REPORTS: &[(&str, &str)] = &[
             "6",
             "Event: QueueParams|Queue: a|Completed: 0|Abandoned: 0||\
              Event: QueueMember|Queue: a|Name: SIP/1|Location: SIP/1|StateInterface: SIP/1|\
-             Membership: dynamic|Penalty: 0|Paused: 0|PausedReason: ||\
+             Membership: dynamic|Penalty: 0|Paused: 0|PausedReason: |RingInUse: 1||\
              Event: QueueParams|Queue: b|Completed: 0|Abandoned: 0||\
              Event: QueueMember|Queue: b|Name: SIP/1|Location: SIP/1|StateInterface: SIP/1|\
-             Membership: dynamic|Penalty: 0|Paused: 0|PausedReason: ||\
+             Membership: dynamic|Penalty: 0|Paused: 0|PausedReason: |RingInUse: 1||\
              Event: QueueParams|Queue: c|Completed: 0|Abandoned: 0||\
              Event: QueueMember|Queue: c|Name: SIP/1|Location: SIP/1|StateInterface: SIP/1|\
-             Membership: dynamic|Penalty: 0|Paused: 0|PausedReason: ||"
+             Membership: dynamic|Penalty: 0|Paused: 0|PausedReason: |RingInUse: 1||"
         ),
     ),
     (
@@ -122,7 +131,7 @@ const REPORTS: &[(&str, &str)] = &[
             "2",
             "Event: QueueParams|Queue: sales|Completed: 0|Abandoned: 0||\
              Event: QueueMember|Queue: sales|Name: SIP/1|Location: SIP/1|StateInterface: SIP/1|\
-             Membership: dynamic|Penalty: 2147483647|Paused: 0|PausedReason: ||"
+             Membership: dynamic|Penalty: 2147483647|Paused: 0|PausedReason: |RingInUse: 1||"
         ),
     ),
     (
@@ -131,7 +140,7 @@ const REPORTS: &[(&str, &str)] = &[
             "2",
             "Event: QueueParams|Queue: sales|Completed: 0|Abandoned: 0||\
              Event: QueueMember|Queue: sales|Name: SIP/1|Location: SIP/1|StateInterface: SIP/1|\
-             Membership: dynamic|Penalty: 7|Paused: 0|PausedReason: ||"
+             Membership: dynamic|Penalty: 7|Paused: 0|PausedReason: |RingInUse: 1||"
         ),
     ),
     (
@@ -140,7 +149,7 @@ const REPORTS: &[(&str, &str)] = &[
             "2",
             "Event: QueueParams|Queue: support|Completed: 0|Abandoned: 0||\
              Event: QueueMember|Queue: support|Name: SIP/1|Location: SIP/1|StateInterface: SIP/1|\
-             Membership: dynamic|Penalty: 6|Paused: 0|PausedReason: ||"
+             Membership: dynamic|Penalty: 6|Paused: 0|PausedReason: |RingInUse: 1||"
         ),
     ),
     (
@@ -149,7 +158,7 @@ const REPORTS: &[(&str, &str)] = &[
             "3",
             "Event: QueueParams|Queue: sales|Completed: 0|Abandoned: 0||\
              Event: QueueMember|Queue: sales|Name: SIP/2|Location: SIP/2|StateInterface: SIP/2|\
-             Membership: dynamic|Penalty: 6|Paused: 0|PausedReason: ||\
+             Membership: dynamic|Penalty: 6|Paused: 0|PausedReason: |RingInUse: 1||\
              Event: QueueParams|Queue: support|Completed: 0|Abandoned: 0||"
         ),
     ),
@@ -167,6 +176,8 @@ const OPERATIONS: &[(&str, &str)] = &[
         "PAUSE_WITHOUT_A_REASON",
         "write 2.0 pause yes - 0.1@0/SIP/1",
     ),
+    ("RING_NO", "write 2.0 ring no 0.1@0/SIP/1"),
+    ("RING_YES", "write 3.0 ring yes 0.1@0/SIP/1"),
     ("SECOND_ADD", "add 0.2 0/SIP/1 3.0 0 0.1"),
     ("PENALTY_THREE", "write 2.0 penalty 3 0.1@0/SIP/1"),
     ("PENALTY_FOUR", "write 2.1 penalty 4 0.1@0/SIP/1"),
@@ -252,6 +263,21 @@ knows ADD_OF_FIVE PAUSE_FOR_LUNCH
 knows PAUSE_FOR_LUNCH ADD_OF_FIVE PAUSE_FOR_LUNCH ADD_OF_FIVE
 0 report - -: FIVE_AND_PAUSE_SHOWN
 
+# Ring in use comes before its add, which doesn't set it, and goes with its dot.
+queues sales
+knows RING_NO
+0 report - -: NOT_RUNG_SHOWN
+knows RING_NO ADD
+0 report - -: NOT_RUNG_SHOWN
+knows ADD RING_NO ADD
+0 report - -: NOT_RUNG_SHOWN
+knows RING_YES ADD RING_NO
+0 report - -: THERE
+knows ADD RING_NO RING_YES RING_NO
+0 report - -: THERE
+knows ADD RING_NO REMOVE SECOND_ADD
+0 report - -: THERE
+
 # A remove meets a concurrent pause and a later add.
 queues sales
 knows ADD PAUSE_WITHOUT_A_REASON REMOVE
@@ -310,7 +336,7 @@ knows ADD_SIP_2 ADD_SIP_10 ADD_AT_SUPPORT
 # A row is of one member.
 queues sales
 knows ADD_SIP_2 ADD_SIP_10 ADD_AT_SUPPORT
-0 row 1/SIP/1: 6 false '' '' ''
+0 row 1/SIP/1: 6 false '' '' '' true
 0 row 0/SIP/1: none
 
 # Totals are those of the queue.
@@ -328,7 +354,7 @@ knows ADD_SIP_2 ADD_SIP_10 ADD_AT_SUPPORT
 # A name is set after the add.
 queues sales
 knows ADD_OF_FOUR NAMED
-0 row 0/SIP/1: 4 false '' 'Ann' 'Custom:1'
+0 row 0/SIP/1: 4 false '' 'Ann' 'Custom:1' true
 ";
 
 #[test]

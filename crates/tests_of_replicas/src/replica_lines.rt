@@ -37,6 +37,11 @@ fn command(rt: &impl Abort, kind: &str, words: &mut Words<'_>) -> Command {
             interface: interface(rt, word(rt, words)),
             penalty: penalty(rt, word(rt, words)),
         },
+        "ring" => Command::RingInUse {
+            queue: queue(rt, of),
+            interface: interface(rt, word(rt, words)),
+            ring: word(rt, words) == "yes",
+        },
         _ => Command::Pause {
             queue: queue(rt, of),
             interface: interface(rt, word(rt, words)),

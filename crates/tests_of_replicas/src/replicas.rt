@@ -22,11 +22,11 @@ row 0/SIP/1: none
 # An add is taken and others of its dot or stamp are in conflict.
 site 1 sales
 comes ADDED: taken
-rows 0: [SIP/1 0 false '' '' '']
-row 0/SIP/1: 0 false '' '' ''
+rows 0: [SIP/1 0 false '' '' '' true]
+row 0/SIP/1: 0 false '' '' '' true
 comes ADDED 57=50: refused Conflict
 comes ADDED 71=1: refused Conflict
-rows 0: [SIP/1 0 false '' '' '']
+rows 0: [SIP/1 0 false '' '' '' true]
 
 # Two bytes of the first add of site 0, and what the site answers that has made it: the last count
 # of its run, the count of its live dot, the times of its penalty, pause and label, and the site of
@@ -66,6 +66,16 @@ add sales SIP/1 0: done
 completed sales: done
 last: 1 1 0
 comes ADDED 90=2 91=0: refused NotMine
+# The last time of ring in use and the next, and another value under the last.
+site 0 sales
+add sales SIP/1 0: done
+ring sales SIP/1 no: done
+last: 1 2 0
+comes NOT_RUNG: taken
+comes NOT_RUNG 66=3: refused NotMine
+comes NOT_RUNG 68=1: refused Conflict
+rows 0: [SIP/1 0 false '' '' '' false]
+last: 1 2 0
 # The next time, and the last, of another site.
 site 0 sales
 add sales SIP/1 0: done
@@ -77,6 +87,43 @@ add sales SIP/1 0: done
 completed sales: done
 last: 1 1 0
 comes ADDED 66=1 67=1: taken
+
+# An add alone leaves ring in use at yes.
+site 1 sales
+comes ADDED: taken
+rows 0: [SIP/1 0 false '' '' '' true]
+# Ring in use that was set is taken before its add, and stays.
+site 1 sales
+comes NOT_RUNG: taken
+rows 0: [SIP/1 0 false '' '' '' false]
+comes ADDED: taken
+rows 0: [SIP/1 0 false '' '' '' false]
+
+# Ring in use is set in a queue, or in every one; what is repeated is written again.
+site 0 a b
+add a SIP/1 0: done
+add b SIP/1 0: done
+row 0/SIP/1: 0 false '' '' '' true
+ring a SIP/1 no: done
+last: 2 3 0
+ring a SIP/1 no: done
+last: 2 4 0
+row 0/SIP/1: 0 false '' '' '' false
+row 1/SIP/1: 0 false '' '' '' true
+ring - SIP/1 no: done
+last: 2 5 0
+row 1/SIP/1: 0 false '' '' '' false
+ring b SIP/1 yes: done
+row 0/SIP/1: 0 false '' '' '' false
+row 1/SIP/1: 0 false '' '' '' true
+ring c SIP/1 no: refused NoSuchQueue
+ring b SIP/2 no: refused NotThere
+ring - SIP/2 no: refused NotThere
+last: 2 6 0
+# A newer add doesn't know ring in use of the older one.
+remove a SIP/1: done
+add a SIP/1 0: done
+row 0/SIP/1: 0 false '' '' '' true
 
 # Two bytes of that frame: the site that has counted, its queue, and the completed and the abandoned
 # calls.
@@ -118,18 +165,28 @@ last: 1 1 0
 # A field of the last time is written no more.
 site 0 sales
 comes GREATEST: taken
-rows 0: [SIP/1 7 false '' '' '']
-row 0/SIP/1: 7 false '' '' ''
+rows 0: [SIP/1 7 false '' '' '' true]
+row 0/SIP/1: 7 false '' '' '' true
 penalty sales SIP/1 1: refused Exhausted
 pause - SIP/1 yes lunch: refused Exhausted
-rows 0: [SIP/1 7 false '' '' '']
+rows 0: [SIP/1 7 false '' '' '' true]
 remove sales SIP/1: done
 rows 0: none
 row 0/SIP/1: none
 # An add goes by the counts and times of its own site alone.
 add sales SIP/1 0: done
-rows 0: [SIP/1 0 false '' '' '']
+rows 0: [SIP/1 0 false '' '' '' true]
 last: 1 1 0
+
+# Ring in use of the last time is written no more, and other fields are; the bytes 61 and 66 make its
+# time the last.
+site 1 sales
+comes NOT_RUNG 61=1 66=0: taken
+ring sales SIP/1 yes: refused Exhausted
+ring - SIP/1 no: refused Exhausted
+penalty sales SIP/1 1: done
+last: 0 1 0
+rows 0: [SIP/1 1 false '' '' '' false]
 
 # An add has a time of its own too, and none is left behind a write of the last time; the bytes 61 to
 # 66 make the time of the penalty the last but one.
@@ -144,13 +201,13 @@ penalty sales SIP/2 1: refused Exhausted
 remove sales SIP/1: done
 add sales SIP/1 0: refused Exhausted
 completed sales: done
-rows 0: [SIP/2 0 false '' '' '']
+rows 0: [SIP/2 0 false '' '' '' true]
 last: 1 1099511627776 0
 
 # The number of a frame may be past 32 bits.
 site 1 sales
 comes ADDED 11=1: taken
-rows 0: [SIP/1 0 false '' '' '']
+rows 0: [SIP/1 0 false '' '' '' true]
 ";
 
 #[test]

@@ -5,6 +5,10 @@ use crate::model_lines::{Names, assert_lines};
 const NAMES: Names = Names {
     operations: &[
         ("LAST_ADD", "add 1.1099511627776 0/SIP/1 1099511627776.1 7"),
+        (
+            "LAST_RING",
+            "write 1099511627776.1 ring no 1.1099511627776@0/SIP/1",
+        ),
         ("LAST_COUNT", "add 0.1099511627776 0/SIP/1 1.0 0"),
         ("LAST_TIME", "add 0.1 0/SIP/1 1099511627776.0 0"),
         ("ONE_FEWER_COMPLETED", "count 0 completed 999999999"),
@@ -37,8 +41,8 @@ queues sales
 0 take 2: taken
 1 take 0: taken
 1 take 1: taken
-0 row 0/SIP/1: 2 false '' '' ''
-1 row 0/SIP/1: 2 false '' '' ''
+0 row 0/SIP/1: 2 false '' '' '' true
+1 row 0/SIP/1: 2 false '' '' '' true
 
 # A concurrent add outlives a remove that is taken before its add.
 queues sales
@@ -51,8 +55,8 @@ queues sales
 0 take 2: taken
 1 take 1: taken
 1 take 0: taken
-0 row 0/SIP/1: 2 false '' '' ''
-1 row 0/SIP/1: 2 false '' '' ''
+0 row 0/SIP/1: 2 false '' '' '' true
+1 row 0/SIP/1: 2 false '' '' '' true
 
 # A remove is taken before its add.
 queues sales
@@ -65,7 +69,7 @@ queues sales
 1 take 0: taken
 1 row 0/SIP/1: none
 1 add sales SIP/1 9: done
-1 row 0/SIP/1: 9 false '' '' ''
+1 row 0/SIP/1: 9 false '' '' '' true
 # The times of others count for writes alone.
 1 stamp: 1.1
 
@@ -76,9 +80,9 @@ queues sales
 0 pause sales SIP/1 yes lunch: done
 0 cut: frame 2
 1 take 1: taken
-1 row 0/SIP/1: 0 true 'lunch' '' ''
+1 row 0/SIP/1: 0 true 'lunch' '' '' true
 1 take 0: taken
-1 row 0/SIP/1: 5 true 'lunch' '' ''
+1 row 0/SIP/1: 5 true 'lunch' '' '' true
 
 # A remove wins over a concurrent pause.
 queues sales
@@ -94,7 +98,7 @@ queues sales
 0 row 0/SIP/1: none
 1 row 0/SIP/1: none
 0 add sales SIP/1 0: done
-0 row 0/SIP/1: 0 false '' '' ''
+0 row 0/SIP/1: 0 false '' '' '' true
 
 # Of two penalties at one time the one of the greater site stays.
 queues sales
@@ -109,8 +113,8 @@ queues sales
 1 cut: frame 1
 0 take 2: taken
 1 take 1: taken
-0 row 0/SIP/1: 4 false '' '' ''
-1 row 0/SIP/1: 4 false '' '' ''
+0 row 0/SIP/1: 4 false '' '' '' true
+1 row 0/SIP/1: 4 false '' '' '' true
 
 # Without a queue a pause is of every queue.
 queues a b c
@@ -119,15 +123,79 @@ queues a b c
 0 add c SIP/1 0: done
 0 pause - SIP/1 yes lunch: done
 0 stamp: 4.0
-0 row 0/SIP/1: 0 true 'lunch' '' ''
-0 row 1/SIP/1: 0 true 'lunch' '' ''
-0 row 2/SIP/1: 0 true 'lunch' '' ''
+0 row 0/SIP/1: 0 true 'lunch' '' '' true
+0 row 1/SIP/1: 0 true 'lunch' '' '' true
+0 row 2/SIP/1: 0 true 'lunch' '' '' true
 0 pause - SIP/9 yes lunch: refused NotThere
 0 pause - SIP/1 no x: done
 0 stamp: 5.0
-0 row 0/SIP/1: 0 false '' '' ''
-0 row 1/SIP/1: 0 false '' '' ''
-0 row 2/SIP/1: 0 false '' '' ''
+0 row 0/SIP/1: 0 false '' '' '' true
+0 row 1/SIP/1: 0 false '' '' '' true
+0 row 2/SIP/1: 0 false '' '' '' true
+
+# Ring in use is yes until it is set, of one queue or without one of every queue.
+queues a b
+0 add a SIP/1 0: done
+0 add b SIP/1 0: done
+0 row 0/SIP/1: 0 false '' '' '' true
+0 ring a SIP/1 no: done
+0 row 0/SIP/1: 0 false '' '' '' false
+0 row 1/SIP/1: 0 false '' '' '' true
+0 ring - SIP/1 no: done
+0 stamp: 4.0
+0 row 0/SIP/1: 0 false '' '' '' false
+0 row 1/SIP/1: 0 false '' '' '' false
+0 ring b SIP/1 yes: done
+0 row 0/SIP/1: 0 false '' '' '' false
+0 row 1/SIP/1: 0 false '' '' '' true
+
+# Ring in use that is there already is written again.
+queues sales
+0 add sales SIP/1 0: done
+0 cut: frame 1
+0 ring sales SIP/1 no: done
+0 stamp: 2.0
+0 cut: frame 2
+0 ring sales SIP/1 no: done
+0 stamp: 3.0
+0 cut: frame 3
+0 cut: nothing
+
+# Ring in use is taken before its add, which doesn't set it.
+queues sales
+0 add sales SIP/1 0: done
+0 cut: frame 1
+0 ring sales SIP/1 no: done
+0 cut: frame 2
+1 take 1: taken
+1 row 0/SIP/1: 0 false '' '' '' false
+1 take 0: taken
+1 row 0/SIP/1: 0 false '' '' '' false
+
+# A newer add doesn't know ring in use of the older one.
+queues sales
+0 add sales SIP/1 0: done
+0 ring sales SIP/1 no: done
+0 remove sales SIP/1: done
+0 add sales SIP/1 0: done
+0 row 0/SIP/1: 0 false '' '' '' true
+
+# Of ring in use that two sites set at one time that of the greater site stays.
+queues sales
+0 add sales SIP/1 0: done
+0 ring sales SIP/1 no: done
+0 cut: frame 1
+1 take 0: taken
+0 ring sales SIP/1 no: done
+0 stamp: 3.0
+1 ring sales SIP/1 yes: done
+1 stamp: 3.1
+0 cut: frame 2
+1 cut: frame 1
+0 take 2: taken
+1 take 1: taken
+0 row 0/SIP/1: 0 false '' '' '' true
+1 row 0/SIP/1: 0 false '' '' '' true
 
 # Counts that are taken again count once.
 queues sales
@@ -171,7 +239,7 @@ queues sales
 1 dots 0/SIP/1: [0.1]
 1 take 0: taken
 1 take 4: taken
-1 row 0/SIP/1: 3 false '' '' ''
+1 row 0/SIP/1: 3 false '' '' '' true
 # What is taken isn't put in the buffer.
 1 cut: nothing
 
@@ -187,7 +255,7 @@ queues sales
 0 cut: frame 4
 1 take 0: taken
 1 take 2: taken
-1 row 0/SIP/1: 2 false '' '' ''
+1 row 0/SIP/1: 2 false '' '' '' true
 1 dots 0/SIP/1: [0.2]
 
 # A write of a newer add replaces the older add.
@@ -202,25 +270,37 @@ queues sales
 0 cut: frame 4
 1 take 0: taken
 1 take 3: taken
-1 row 0/SIP/1: 3 false '' '' ''
+1 row 0/SIP/1: 3 false '' '' '' true
 1 dots 0/SIP/1: [0.2]
 1 take 2: taken
-1 row 0/SIP/1: 3 false '' '' ''
+1 row 0/SIP/1: 3 false '' '' '' true
 1 dots 0/SIP/1: [0.2]
 
 # A field of the last time is written no more.
 queues sales
 frame LAST_ADD
 0 take 0: taken
-0 row 0/SIP/1: 7 false '' '' ''
+0 row 0/SIP/1: 7 false '' '' '' true
 0 penalty sales SIP/1 1: refused Exhausted
 0 pause - SIP/1 yes -: refused Exhausted
 0 remove sales SIP/1: done
 0 row 0/SIP/1: none
 0 add sales SIP/1 0: done
-0 row 0/SIP/1: 0 false '' '' ''
+0 row 0/SIP/1: 0 false '' '' '' true
 0 dots 0/SIP/1: [0.1]
 0 stamp: 1.0
+
+# An add of the last time leaves ring in use to be written, and then the last time is its own.
+queues sales
+frame LAST_ADD
+frame LAST_RING
+0 take 0: taken
+0 ring sales SIP/1 no: done
+0 stamp: 1.0
+0 take 1: taken
+0 ring sales SIP/1 yes: refused Exhausted
+0 ring - SIP/1 no: refused Exhausted
+0 row 0/SIP/1: 7 false '' '' '' false
 
 # Commands that have no queue or member are refused.
 queues sales
@@ -228,6 +308,7 @@ queues sales
 0 remove b SIP/1: refused NoSuchQueue
 0 pause b SIP/1 yes -: refused NoSuchQueue
 0 penalty b SIP/1 1: refused NoSuchQueue
+0 ring b SIP/1 no: refused NoSuchQueue
 0 completed b: refused NoSuchQueue
 0 abandoned b: refused NoSuchQueue
 0 remove sales SIP/1: refused NotThere
@@ -235,13 +316,15 @@ queues sales
 0 pause - SIP/1 yes -: refused NotThere
 0 penalty sales SIP/1 1: refused NotThere
 0 penalty - SIP/1 1: refused NotThere
+0 ring sales SIP/1 no: refused NotThere
+0 ring - SIP/1 no: refused NotThere
 # A command that is refused leaves nothing to cut.
 0 cut: nothing
 0 add sales SIP/1 1: done
 0 add sales SIP/1 2: refused AlreadyThere
-0 row 0/SIP/1: 1 false '' '' ''
+0 row 0/SIP/1: 1 false '' '' '' true
 0 penalty - SIP/1 4: done
-0 row 0/SIP/1: 4 false '' '' ''
+0 row 0/SIP/1: 4 false '' '' '' true
 0 cut: frame 1
 0 cut: nothing
 
@@ -326,9 +409,10 @@ fn a_full_site_writes_and_counts_no_more(rt: HostRuntime) {
     const STORY: &str = "\
 # A full site writes and counts no more.
 queues sales
-knows ADD_2_2 LAST_ADD ODD_3_65537
+knows ADD_2_2 LAST_ADD LAST_RING ODD_3_65537
 # Its time is the last too, but a full site is told first.
 0 penalty - SIP/1 1: refused MembersFull
+0 ring - SIP/1 yes: refused MembersFull
 0 completed sales: refused MembersFull
 0 abandoned sales: refused MembersFull
 ";

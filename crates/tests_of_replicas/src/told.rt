@@ -125,14 +125,14 @@ pub(crate) fn refused_text<T: Debug>(rt: &impl Abort, alloc: Global, cause: &T) 
     format!(in alloc; "refused {cause:?}").expect(rt, "memory")
 }
 
-// A row: its penalty, whether it is paused, why, its name and its state interface.
+// A row: its penalty, whether it is paused, why, its name, its state interface and ring in use.
 pub(crate) fn row_text(rt: &impl Abort, alloc: Global, row: Option<Row<'_>>) -> String {
     match row {
         Some(row) => {
-            let (penalty, paused) = (row.penalty, row.paused);
+            let (penalty, paused, ring) = (row.penalty, row.paused, row.ring);
             let reason = utf8(rt, row.reason);
             let (name, state) = (utf8(rt, row.name), utf8(rt, row.state));
-            format!(in alloc; "{penalty} {paused} '{reason}' '{name}' '{state}'").expect(
+            format!(in alloc; "{penalty} {paused} '{reason}' '{name}' '{state}' {ring}").expect(
                 rt, "memory",
             )
         }

@@ -15,17 +15,14 @@ pub(crate) fn calls(word: &str) -> Calls {
     }
 }
 
-// What is set: `penalty 3`, `pause yes lunch` or `label Ann Custom:1`.
+// What is set: `penalty 3`, `ring no`, `pause yes lunch` or `label Ann Custom:1`.
 pub(crate) fn setting(rt: &impl Abort, kind: &str, words: &mut Words<'_>) -> Setting {
     let first = word(rt, words);
-    if kind == "penalty" {
-        return Setting::Penalty(penalty(rt, first));
-    }
-    let second = word(rt, words);
-    if kind == "pause" {
-        Setting::Pause(Pause::new(first == "yes", text(rt, second)))
-    } else {
-        Setting::Label(label(rt, first, second))
+    match kind {
+        "penalty" => Setting::Penalty(penalty(rt, first)),
+        "ring" => Setting::Ring(first == "yes"),
+        "pause" => Setting::Pause(Pause::new(first == "yes", text(rt, word(rt, words)))),
+        _ => Setting::Label(label(rt, first, word(rt, words))),
     }
 }
 

@@ -39,7 +39,7 @@ pub const REPORT: &str =
     "Response: Success\r\nEventList: start\r\nMessage: Queue status will follow\r\n\r\n\
 Event: QueueParams\r\nQueue: sales\r\nCompleted: 0\r\nAbandoned: 0\r\n\r\n\
 Event: QueueMember\r\nQueue: sales\r\nName: SIP/1\r\nLocation: SIP/1\r\nStateInterface: SIP/1\r\nMembership: dynamic\r\n\
-Penalty: 0\r\nPaused: 0\r\nPausedReason: \r\n\r\n\
+Penalty: 0\r\nPaused: 0\r\nPausedReason: \r\nRingInUse: 1\r\n\r\n\
 Event: QueueStatusComplete\r\nEventList: Complete\r\nListItems: 2\r\n\r\n";
 
 /// A status after the add.

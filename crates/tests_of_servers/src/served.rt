@@ -76,8 +76,9 @@ Event: QueueParams\r\nQueue: sales\r\nCompleted: 0\r\nAbandoned: 0\r\n\r\n\
 Event: QueueStatusComplete\r\nEventList: Complete\r\nListItems: 1\r\n\r\n",
 );
 
-// How often a client asks: these steps, and the cuts that they ring for, are more than a thousand, and fewer than two thousand.
-const ASKS: u32 = 990;
+// How often a client asks: with the last cut and the whole these are more than a thousand steps, however few rings are heard, and with a cut for each
+// of them no more than two thousand.
+const ASKS: u32 = 999;
 
 // A session that asks so often.
 fn asks_often<R: Net<Listener = TcpListener, Stream = TcpStream>>(
@@ -111,8 +112,11 @@ fn the_first_thousand_steps_are_dropped(rt: HostRuntime) {
     );
     assert!(&rt; talked);
     let journals = ended.expect(&rt, "journals");
-    assert!(&rt; journals.len() == 1 && journals[0].start() == 1_000);
+    assert!(&rt; journals.len() == 1);
+    // A pump that finds the journal full with the session drops what little stands in it again.
+    let start = journals[0].start();
     drop(journals);
+    assert!(&rt; start >= 1_000 && start < 2_000);
 }
 
 // Why three sites aren't served where ports are taken; whether their first port is free afterwards.

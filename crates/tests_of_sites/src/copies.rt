@@ -6,7 +6,7 @@ use status_report::{Answer, Ask};
 use std::alloc::Global;
 use std::process::Abort;
 
-// A command of eight that differ, by its place.
+// A command of eleven that differ, by its place.
 fn command(rt: &impl Abort, place: u32) -> Command {
     let queue = name(rt, b"sales");
     let interface = interface(rt, b"SIP/1");
@@ -28,22 +28,37 @@ fn command(rt: &impl Abort, place: u32) -> Command {
             interface,
             penalty: penalty(rt, 7),
         },
-        5 => Command::Completed { queue },
-        6 => Command::Abandoned { queue },
+        5 => Command::RingInUse {
+            queue: None,
+            interface,
+            ring: true,
+        },
+        6 => Command::RingInUse {
+            queue: None,
+            interface,
+            ring: false,
+        },
+        7 => Command::RingInUse {
+            queue: Some(queue),
+            interface,
+            ring: true,
+        },
+        8 => Command::Completed { queue },
+        9 => Command::Abandoned { queue },
         _ => Command::Remove { queue, interface },
     }
 }
 
 // Asserts that a copy of a command is the same as the command at one place alone.
 fn assert_command(rt: &impl Abort, copy: &Command, place: u32) {
-    for at in 0..8 {
+    for at in 0..11 {
         assert!(rt; command(rt, at).same(copy) == (at == place));
     }
 }
 
 #[test]
 fn a_command_is_the_same_as_its_copy_and_as_no_other(rt: HostRuntime) {
-    for place in 0..8 {
+    for place in 0..11 {
         assert_command(&rt, &command(&rt, place).copy(), place);
     }
 }

@@ -26,7 +26,7 @@ const REPORT: &str =
     "Response: Success\r\nEventList: start\r\nMessage: Queue status will follow\r\n\r\n\
 Event: QueueParams\r\nQueue: sales\r\nCompleted: 0\r\nAbandoned: 0\r\n\r\n\
 Event: QueueMember\r\nQueue: sales\r\nName: SIP/1\r\nLocation: SIP/1\r\nStateInterface: SIP/1\r\nMembership: dynamic\r\n\
-Penalty: 0\r\nPaused: 0\r\nPausedReason: \r\n\r\n\
+Penalty: 0\r\nPaused: 0\r\nPausedReason: \r\nRingInUse: 1\r\n\r\n\
 Event: QueueStatusComplete\r\nEventList: Complete\r\nListItems: 2\r\n\r\n";
 
 // The report of a queue without members.
@@ -133,23 +133,23 @@ const WRITE: Result<(), ServeFault> = Err(ServeFault::Write);
 
 const DOWN: Result<(), ServeFault> = Err(ServeFault::DeskDown);
 
-// The greeting has 32 bytes with its end, and the replies behind it 55, 56, 352 and 56.
+// The greeting has 32 bytes with its end, and the replies behind it 55, 56, 366 and 56.
 const FAILING: &[Failing] = &[
     ((0, 46), 700, NEVER, 2, READ, (32, 32)),
     ((46, 93), 700, NEVER, 2, READ, (87, 87)),
     ((93, 114), 700, NEVER, 2, READ, (143, 143)),
-    ((114, 132), 700, NEVER, 2, READ, (495, 495)),
+    ((114, 132), 700, NEVER, 2, READ, (509, 509)),
     // Nothing is read behind the logoff.
-    ((132, 133), 700, NEVER, 2, Ok(()), (551, 551)),
+    ((132, 133), 700, NEVER, 2, Ok(()), (565, 565)),
     (NEVER, 700, (0, 1), 2, WRITE, (0, 0)),
     (NEVER, 700, (1, 2), 2, WRITE, (30, 30)),
     (NEVER, 700, (2, 3), 2, WRITE, (32, 32)),
     (NEVER, 700, (3, 4), 2, WRITE, (87, 87)),
     (NEVER, 700, (4, 5), 2, WRITE, (143, 143)),
-    (NEVER, 700, (5, 6), 2, WRITE, (495, 495)),
-    (NEVER, 700, (6, 7), 2, Ok(()), (551, 551)),
-    (NEVER, 3, (0, 186), 2, WRITE, (0, 550)),
-    (NEVER, 3, (186, 187), 2, Ok(()), (551, 551)),
+    (NEVER, 700, (5, 6), 2, WRITE, (509, 509)),
+    (NEVER, 700, (6, 7), 2, Ok(()), (565, 565)),
+    (NEVER, 3, (0, 190), 2, WRITE, (0, 564)),
+    (NEVER, 3, (190, 191), 2, Ok(()), (565, 565)),
     // A writer that takes no bytes.
     (NEVER, 0, NEVER, 2, WRITE, (0, 0)),
     (NEVER, 700, NEVER, 0, DOWN, (87, 87)),
@@ -205,7 +205,7 @@ impl<'a> Sink for CountingSink<'a> {
 // How many bytes are due once `read` of the session's were read: the greeting, and a reply for each message that has come.
 fn due(read: usize) -> usize {
     let mut written = 0;
-    for (from, bytes) in [(0, 32), (46, 87), (93, 143), (114, 495)] {
+    for (from, bytes) in [(0, 32), (46, 87), (93, 143), (114, 509)] {
         if from <= read {
             written = bytes;
         }
@@ -254,7 +254,7 @@ fn is_prompt(rt: &impl Abort, alloc: Global, most: usize, reads: u64) -> bool {
     let mut desk = desk(rt, alloc);
     let served = serve(&(), alloc, &mut reader, &mut writer, login(rt), &mut desk);
     drop(desk);
-    served == Ok(()) && reader.is_prompt && taken.get() == 551
+    served == Ok(()) && reader.is_prompt && taken.get() == 565
 }
 
 #[test]

@@ -20,6 +20,8 @@ const PAUSE: &str = "Action: QueuePause\r\nInterface: SIP/1\r\nPaused: yes\r\n";
 
 const PENALTY: &str = "Action: QueuePenalty\r\nInterface: SIP/1\r\nPenalty: 3\r\n";
 
+const RING: &str = "Action: QueueMemberRingInUse\r\nInterface: SIP/1\r\nRingInUse: no\r\n";
+
 const STATUS: &str = "Action: QueueStatus\r\nQueue: sales\r\nMember: SIP/1\r\nActionID: 4\r\n";
 
 // The message of these lines.
@@ -69,6 +71,7 @@ fn each_refusal_has_its_text(rt: HostRuntime) {
         (REMOVE, true),
         (PAUSE, false),
         (PENALTY, false),
+        (RING, false),
     ] {
         for (refusal, text) in REFUSALS {
             let text = if is_removal && *refusal == Refusal::NotThere {
@@ -85,7 +88,7 @@ fn each_refusal_has_its_text(rt: HostRuntime) {
 #[test]
 fn a_report_is_replied_as_it_is_and_done_as_a_success(rt: HostRuntime) {
     // No site answers a command so.
-    for lines in [STATUS, ADD, REMOVE, PAUSE, PENALTY] {
+    for lines in [STATUS, ADD, REMOVE, PAUSE, PENALTY, RING] {
         let report = Vec::from_slice(rt.alloc(), b"a report").expect(&rt, "memory");
         let answer = Answer::Report(Bytes::new(report));
         assert_reply(&rt, rt.alloc(), lines, answer, &["a report"]);

@@ -137,10 +137,11 @@ macro_rules! queue_block {
     };
 }
 
-// The block of a member: its queue, name, interface, state interface, penalty, whether it is paused, and why.
+// The block of a member: its queue, name, interface, state interface, penalty, whether it is paused, why, and whether it is rung while
+// its device is in use.
 macro_rules! member_block {
     ($queue:literal, $name:literal, $of:literal, $state:literal, $penalty:literal, $paused:literal,
-        $reason:literal) => {
+        $reason:literal, $ring:literal) => {
         concat!(
             "Event: QueueMember\r\nQueue: ",
             $queue,
@@ -156,6 +157,8 @@ macro_rules! member_block {
             $paused,
             "\r\nPausedReason: ",
             $reason,
+            "\r\nRingInUse: ",
+            $ring,
             "\r\n\r\n"
         )
     };

@@ -194,7 +194,7 @@ const ADDED_TWICE: &[Told] = &[
 // What a site reports where SIP/1 has penalty 2.
 const WITH_TWO: Came = Reported(&[
     QUEUE,
-    member_block!("sales", "SIP/1", "SIP/1", "SIP/1", "2", "0", ""),
+    member_block!("sales", "SIP/1", "SIP/1", "SIP/1", "2", "0", "", "1"),
 ]);
 
 // The second site takes both frames of the first one, and both show the same.

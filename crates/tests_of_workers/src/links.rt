@@ -4,6 +4,9 @@ use site_links::{LinkReceiver, LinkSender, compare, pair};
 use std::alloc::Global;
 use std::process::Abort;
 use std::sync::Wait;
+use std::sync::atomic::{AtomicU64, Ordering};
+use std::thread;
+use std::thread::Threads;
 
 // Both ends of a link that holds `capacity` items.
 fn link(rt: &impl Abort, alloc: Global, capacity: usize) -> (LinkSender, LinkReceiver)
@@ -47,6 +50,7 @@ fn a_link_ends_once_its_sender_is_gone(rt: HostRuntime) {
     drop(sender);
     receive(&rt, &mut receiver, b"a");
     assert!(rt; receiver.recv(&rt).is_none() && receiver.ended());
+    drop(receiver);
 }
 
 #[test]
@@ -55,7 +59,10 @@ fn bytes_come_back_once_the_receiver_is_gone(rt: HostRuntime) {
     drop(receiver);
     let bytes = Vec::from_slice(rt.alloc(), b"a").expect(&rt, "memory");
     let back = sender.send(&rt, bytes).err().expect(&rt, "bytes");
-    assert!(rt; back.as_slice() == b"a".as_slice() && sender.down());
+    assert!(rt; back.as_slice() == b"a".as_slice());
+    assert!(rt; sender.down());
+    drop(back);
+    drop(sender);
 }
 
 #[test]
@@ -69,4 +76,56 @@ fn as_many_items_wait_as_the_link_holds(rt: HostRuntime) {
     }
     drop(sender);
     drop(receiver);
+}
+
+// Whether a number comes to be so great within ten million turns.
+fn comes(number: &AtomicU64, wanted: u64) -> bool {
+    for _ in 0..10_000_000u32 {
+        if number.load(Ordering::SeqCst) >= wanted {
+            return true;
+        }
+        thread::yield_now();
+    }
+    false
+}
+
+// Sends three items, and tells the number of each before it is sent.
+fn send_three<R: Abort + Wait>(rt: &R, alloc: Global, sender: LinkSender, begun: &AtomicU64) {
+    let mut sender = sender;
+    for item in 0..3u8 {
+        begun.store(u64::from(item), Ordering::SeqCst);
+        send(rt, alloc, &mut sender, &[item]);
+    }
+    drop(sender);
+}
+
+// Receives three items, some turns after the second of them is sent.
+fn receive_late<R: Abort + Wait>(rt: &R, receiver: LinkReceiver, begun: &AtomicU64) {
+    let mut receiver = receiver;
+    assert!(rt; comes(begun, 1));
+    for _ in 0..65_536u32 {
+        thread::yield_now();
+    }
+    for item in 0..3u8 {
+        receive(rt, &mut receiver, &[item]);
+    }
+    assert!(rt; receiver.recv(rt).is_none());
+    drop(receiver);
+}
+
+// A link that holds one item isn't down while that is there.
+fn assert_waits<R: Abort + Threads + Wait + Sync>(rt: &R, alloc: Global) {
+    let (sender, receiver) = link(rt, alloc, 1);
+    let begun = AtomicU64::new(0);
+    let begun = &begun;
+    thread::join(
+        rt,
+        move || send_three(rt, alloc, sender, begun),
+        move || receive_late(rt, receiver, begun),
+    );
+}
+
+#[test]
+fn who_sends_on_a_full_link_waits(rt: HostRuntime) {
+    assert_waits(&rt, rt.alloc());
 }

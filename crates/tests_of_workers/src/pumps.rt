@@ -174,8 +174,12 @@ fn assert_sent<R: Abort + Wait>(rt: &R, alloc: Global, plan: &[Deed], rings: u8,
     assert!(rt; pumped.fault.is_none() && pumped.receipts.len() == usize::from(rings) + 2);
     drop(pumped);
     drop(links);
+    drop(port);
+    drop(bell);
     assert_items(rt, &mut one, items);
     assert_items(rt, &mut other, items);
+    drop(one);
+    drop(other);
 }
 
 #[test]
@@ -198,7 +202,10 @@ fn pumped<R: Abort + Wait>(rt: &R, alloc: Global, items: &[u8]) -> PumpedIn {
     drop(sender);
     let number = Cell::new(0);
     let mut port = port(alloc, &number);
-    pump_in(rt, alloc, &mut port, &mut receiver)
+    let taken = pump_in(rt, alloc, &mut port, &mut receiver);
+    drop(port);
+    drop(receiver);
+    taken
 }
 
 #[test]
@@ -213,6 +220,7 @@ fn a_take_that_is_refused_stops_the_pump(rt: HostRuntime) {
     let taken = pumped(&rt, rt.alloc(), &[1, 9, 3]);
     assert!(rt; taken.fault == Some(DeskFault::Decode(DecodeFault::BadMagic)));
     let refused = taken.refused.as_ref().expect(&rt, "bytes");
-    assert!(rt; refused.as_slice() == [9].as_slice() && taken.receipts.len() == 1);
+    assert!(rt; refused.as_slice() == [9].as_slice());
+    assert!(rt; taken.receipts.len() == 1);
     drop(taken);
 }

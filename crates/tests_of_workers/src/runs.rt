@@ -99,11 +99,11 @@ const REPORT: &str =
     "Response: Success\r\nEventList: start\r\nMessage: Queue status will follow\r\n\r\n\
 Event: QueueParams\r\nQueue: sales\r\nCompleted: 3\r\nAbandoned: 0\r\n\r\n\
 Event: QueueMember\r\nQueue: sales\r\nName: SIP/0\r\nLocation: SIP/0\r\nStateInterface: SIP/0\r\nMembership: dynamic\r\n\
-Penalty: 0\r\nPaused: 0\r\nPausedReason: \r\n\r\n\
+Penalty: 0\r\nPaused: 0\r\nPausedReason: \r\nRingInUse: 1\r\n\r\n\
 Event: QueueMember\r\nQueue: sales\r\nName: SIP/1\r\nLocation: SIP/1\r\nStateInterface: SIP/1\r\nMembership: dynamic\r\n\
-Penalty: 1\r\nPaused: 0\r\nPausedReason: \r\n\r\n\
+Penalty: 1\r\nPaused: 0\r\nPausedReason: \r\nRingInUse: 1\r\n\r\n\
 Event: QueueMember\r\nQueue: sales\r\nName: SIP/2\r\nLocation: SIP/2\r\nStateInterface: SIP/2\r\nMembership: dynamic\r\n\
-Penalty: 2\r\nPaused: 0\r\nPausedReason: \r\n\r\n\
+Penalty: 2\r\nPaused: 0\r\nPausedReason: \r\nRingInUse: 1\r\n\r\n\
 Event: QueueStatusComplete\r\nEventList: Complete\r\nListItems: 4\r\n\r\n";
 
 // A gate of a site that expects the turns 0, 1 and so on, and counts those that came so.
@@ -149,18 +149,24 @@ fn work(
     }
 }
 
-// The works of three sites, each of which adds a member with its number for a penalty, and counts a call; all deeds are in its plan.
-fn works_of_three(rt: &impl Abort, alloc: Global) -> Vec<SiteWork<TurnsGate>> {
+// The work of a site that adds this member with the site's number for a penalty, and counts a call; all deeds are in its plan.
+fn counting(rt: &impl Abort, alloc: Global, site: u8, interface: &[u8]) -> SiteWork<TurnsGate> {
+    let mut asks = Vec::new(alloc);
+    asks.push(add(rt, interface, u32::from(site)))
+        .expect(rt, "memory");
+    asks.push(Ask::Command(Command::Completed { queue: sales(rt) }))
+        .expect(rt, "memory");
     let deeds = [Deed::Lose, Deed::Twice, Deed::Hold, Deed::Deliver];
+    work(rt, alloc, site, asks, &deeds)
+}
+
+// The works of three sites, each of which adds a member and counts a call.
+fn works_of_three(rt: &impl Abort, alloc: Global) -> Vec<SiteWork<TurnsGate>> {
     let mut works = Vec::new(alloc);
-    for (site, interface) in [(0, b"SIP/0"), (1, b"SIP/1"), (2, b"SIP/2")] {
-        let mut asks = Vec::new(alloc);
-        asks.push(add(rt, interface, u32::from(site)))
-            .expect(rt, "memory");
-        asks.push(Ask::Command(Command::Completed { queue: sales(rt) }))
-            .expect(rt, "memory");
+    for site in 0..3u8 {
+        let interface = [b'S', b'I', b'P', b'/', b'0'.wrapping_add(site)];
         works
-            .push(work(rt, alloc, site, asks, &deeds))
+            .push(counting(rt, alloc, site, &interface))
             .expect(rt, "memory");
     }
     works
@@ -182,7 +188,8 @@ fn assert_takes(rt: &impl Abort, lists: &[Vec<Receipt>], others: &[u8]) {
 fn assert_end(rt: &impl Abort, end: &SiteEnd<TurnsGate>, site: u8, others: &[u8]) {
     assert!(rt; end.fault.is_none() && end.gate.site == site && end.gate.turns == 2);
     assert!(rt; end.receipts.len() == 4);
-    assert!(rt; end.receipts[0].len() == 2 && end.receipts[1].len() == 4);
+    assert!(rt; end.receipts[0].len() == 2);
+    assert!(rt; end.receipts[1].len() == 4);
     let lists = end.receipts.get(2..).expect(rt, "lists");
     assert_takes(rt, lists, others);
     assert!(rt; settle(&end.journal, end.receipts.as_slice()).is_ok());
@@ -224,8 +231,14 @@ fn assert_one_run(rt: &impl Abort, alloc: Global, journals: &[Journaled]) {
     drop(events);
 }
 
-// Three sites, and of each the others.
-const SITES: [(u8, [u8; 2]); 3] = [(0, [1, 2]), (1, [0, 2]), (2, [0, 1])];
+// Of three sites those beside this one.
+fn others_of(site: u8) -> &'static [u8] {
+    match site {
+        0 => &[1, 2],
+        1 => &[0, 2],
+        _ => &[0, 1],
+    }
+}
 
 // The journal of a site that has ended.
 fn journal_of(end: SiteEnd<TurnsGate>) -> Journaled {
@@ -241,10 +254,11 @@ fn journal_of(end: SiteEnd<TurnsGate>) -> Journaled {
 // The journals of three sites, of which each has ended as it should.
 fn ended(rt: &impl Abort, alloc: Global, ends: Vec<SiteEnd<TurnsGate>>) -> Vec<Journaled> {
     let mut journals = Vec::new(alloc);
+    let mut site = 0u8;
     for end in ends {
-        let (site, others) = SITES.get(journals.len()).expect(rt, "three sites");
-        assert_end(rt, &end, *site, others);
+        assert_end(rt, &end, site, others_of(site));
         journals.push(journal_of(end)).expect(rt, "memory");
+        site = site.wrapping_add(1);
     }
     journals
 }
@@ -296,6 +310,12 @@ fn sending(rt: &impl Abort, alloc: Global, interface: &[u8], deed: Deed) -> Site
     work(rt, alloc, 0, asks, &[deed])
 }
 
+// Asserts how many frames a site has taken that has ended, one of two.
+fn assert_taken(rt: &impl Abort, end: &SiteEnd<TurnsGate>, takes: usize) {
+    assert!(rt; end.receipts.len() == 3);
+    assert!(rt; end.receipts[2].len() == takes);
+}
+
 // Asserts how often the second of two sites takes a frame of the first, which treats its one cut so, and the first one of the second,
 // whose one cut is lost.
 fn assert_sends<R: Abort + Threads + Wait + Sync>(rt: &R, alloc: Global, deed: Deed, takes: usize) {
@@ -310,8 +330,8 @@ fn assert_sends<R: Abort + Threads + Wait + Sync>(rt: &R, alloc: Global, deed: D
     let ends = ran(rt, alloc, &list, works).expect(rt, "ends");
     drop(list);
     assert!(rt; ends.len() == 2);
-    assert!(rt; ends[0].receipts.len() == 3 && ends[1].receipts.len() == 3);
-    assert!(rt; ends[0].receipts[2].len() == 1 && ends[1].receipts[2].len() == takes);
+    assert_taken(rt, &ends[0], 1);
+    assert_taken(rt, &ends[1], takes);
     drop(ends);
 }
 
@@ -319,9 +339,10 @@ fn assert_sends<R: Abort + Threads + Wait + Sync>(rt: &R, alloc: Global, deed: D
 fn each_site_sends_by_its_own_plan(rt: HostRuntime) {
     use Deed::{Deliver, Hold, Lose, Twice};
     let alloc = rt.alloc();
-    for (deed, takes) in [(Deliver, 2), (Lose, 1), (Twice, 3), (Hold, 2)] {
-        assert_sends(&rt, alloc, deed, takes);
-    }
+    assert_sends(&rt, alloc, Deliver, 2);
+    assert_sends(&rt, alloc, Lose, 1);
+    assert_sends(&rt, alloc, Twice, 3);
+    assert_sends(&rt, alloc, Hold, 2);
 }
 
 // Asserts that a site's receipts settle its journal, which is put behind others, whatever it lacked memory for. Whether it did.
@@ -391,5 +412,6 @@ fn memory_of_a_run(rt: HostRuntime) {
         Err(RunFault::BadSites) => rt.panic("three sites"),
     };
     assert!(rt; println!(rt; "{end}").is_ok());
+    drop(list);
     drop(journals);
 }

@@ -19,18 +19,18 @@ pub returns-in_err-read_cell-clause-cells : goal.returns-in_err-read_cell-clause
 returns-in_err-read_cell-clause-cells c =
     let p = err_from_is_err_and c.from_residual.result c.from_residual.ensures.1 in
     let at = rw c.loop.invariant.known at c.in_err-read_cell.ensures.cell in
-    rw (p.1, p.2) (ends_made (cell_elements (set.contains c.args.builder.now.known)) (kept_cell c.loop.builder.live) with_cell c.loop.builder.live c.args.count c.loop.counter c.loop.last c.loop.reader c.in_err-read_cell.field-0.0 (made live_of (elements_at (cell_elements (set.contains c.args.builder.now.known)) c.args.count None c.args.reader.now)) c.loop-test.true at c.loop.invariant.cells)
+    rw (p.1, p.2) (ends_made (cell_elements c.args.version (set.contains c.args.builder.now.known)) (kept_cell c.loop.builder.live) with_cell c.loop.builder.live c.args.count c.loop.counter c.loop.last c.loop.reader c.in_err-read_cell.field-0.0 (made live_of (elements_at (cell_elements c.args.version (set.contains c.args.builder.now.known)) c.args.count None c.args.reader.now)) c.loop-test.true at c.loop.invariant.cells)
 
 pub loop-preserved : goal.loop-preserved
 loop-preserved c =
     let known = c.args.builder.now.known in
     let at = rw c.loop.invariant.known at c.in_ok-read_cell.ensures.cell in
-    let total = made live_of (elements_at (cell_elements (set.contains known)) c.args.count None c.args.reader.now) in
-    let kept = cell_kept known c.loop.builder.live c.args.count c.loop.counter c.loop.last c.loop.reader c.read_cell.new.reader c.in_ok-read_cell.field-0 c.read_cell.new.builder.live total c.loop-test.true at c.in_ok-read_cell.ensures.order c.loop.invariant.cells c.loop.invariant.behind c.loop.invariant.few in
+    let total = made live_of (elements_at (cell_elements c.args.version (set.contains known)) c.args.count None c.args.reader.now) in
+    let kept = cell_kept c.args.version known c.loop.builder.live c.args.count c.loop.counter c.loop.last c.loop.reader c.read_cell.new.reader c.in_ok-read_cell.field-0 c.read_cell.new.builder.live total c.loop-test.true at c.in_ok-read_cell.ensures.order c.loop.invariant.cells c.loop.invariant.behind c.loop.invariant.few in
     record { cells = kept.0; known = c.in_ok-read_cell.ensures.known ∙ c.loop.invariant.known; behind = kept.1; few = kept.2 }
 
 pub returns : goal.returns
 returns c = record {
   known = c.loop.invariant.known;
-  cells = is_done (cell_elements (set.contains c.args.builder.now.known)) with_cell c.loop.builder.live c.args.count c.loop.counter c.loop.last c.loop.reader (made live_of (elements_at (cell_elements (set.contains c.args.builder.now.known)) c.args.count None c.args.reader.now)) c.loop-test.false c.loop.invariant.cells;
+  cells = is_done (cell_elements c.args.version (set.contains c.args.builder.now.known)) with_cell c.loop.builder.live c.args.count c.loop.counter c.loop.last c.loop.reader (made live_of (elements_at (cell_elements c.args.version (set.contains c.args.builder.now.known)) c.args.count None c.args.reader.now)) c.loop-test.false c.loop.invariant.cells;
 }

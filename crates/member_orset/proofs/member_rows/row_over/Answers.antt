@@ -5,7 +5,7 @@ use Rattle.operations.specs.Views.{row_view}
 use Rattle.member_orset.proofs.member_rows.row_over.Goals as goal
 
 pub returns-in_err-latest : goal.returns-in_err-latest
-returns-in_err-latest g c = ap (option_map row_view) c.from_residual.ensures ∙ ap (option_map (λ f. row_of_fields f.penalty f.pause f.label)) c.in_err-latest.ensures
+returns-in_err-latest g c = ap (option_map row_view) c.from_residual.ensures ∙ ap (option_map row_of_fields) c.in_err-latest.ensures
 
 pub returns : goal.returns
-returns g c = ap Some c.row.ensures ∙ ap (option_map (λ f. row_of_fields f.penalty f.pause f.label)) c.in_ok-latest.ensures
+returns g c = ap Some c.row.ensures ∙ ap (option_map row_of_fields) c.in_ok-latest.ensures

@@ -1,4 +1,4 @@
-use Rattle.operations.specs.Operations.{penalty_field, pause_field, label_field}
+use Rattle.operations.specs.Operations.{penalty_field, pause_field, label_field, ring_field}
 use Rattle.operations.proofs.RowLaws.{shows_latest}
 use Rattle.operations.proofs.ShownLaws.{has_values, row_is, shows_field}
 use Rattle.operations.proofs.laws.a_member_with_a_visible_dot_has_a_row.Goals as goal
@@ -26,3 +26,9 @@ returns-clause-pause_shown c = shows_field pause_field
 
 pub returns-clause-label_shown : goal.returns-clause-label_shown
 returns-clause-label_shown c = shows_field label_field
+
+pub returns-clause-ring : goal.returns-clause-ring
+returns-clause-ring c = shows_latest ring_field
+
+pub returns-clause-ring_shown : goal.returns-clause-ring_shown
+returns-clause-ring_shown c = shows_field ring_field

@@ -8,9 +8,9 @@ use Rattle.server.proofs.serving.start_sites.Given as goal
 abbrev pub invariant-loop-listener : goal.invariant-loop-listener
 invariant-loop-listener g l = (vec_len l.sites + vec_len l.listeners ≡ vec_len l.fn.listeners)
     × (vec_len l.fn.listeners ≤ vec_capacity l.sites)
-    × (vec_len l.to ≡ vec_len l.listeners)
-    × (vec_len l.from ≡ vec_len l.listeners)
-    × All (λ from. vec_len from + 1 ≡ vec_len l.fn.listeners) l.from.items
+    × (vec_len l.links.to ≡ vec_len l.listeners)
+    × (vec_len l.links.from ≡ vec_len l.listeners)
+    × All (λ from. vec_len from + 1 ≡ vec_len l.fn.listeners) l.links.from.items
     × AtEach (λ k site. IsPromisedAt l.common.list.now (vec_len l.fn.listeners) k site.promise) l.sites.items
 
 abbrev pub decreases-loop-listener : goal.decreases-loop-listener

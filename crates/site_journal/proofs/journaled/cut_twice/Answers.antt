@@ -1,6 +1,6 @@
 use Rattle.std.proofs.Common.{IfSome, Some, None, sym, subst, ◌∙◌, true≢false, arith}
 use Rattle.delta.specs.DeltaStates.{IsEmpty}
-use Rattle.delta_codec.proofs.FrameLaws.{spells_same}
+use Rattle.delta_codec.proofs.FrameLaws.{spells_same_in}
 use Rattle.replica.specs.Framing.{HasCut}
 use Rattle.replica.proofs.SameSites.{site_itself}
 use Rattle.replica.proofs.StandingSites.{equal_same}
@@ -21,7 +21,7 @@ returns-clause-leads c =
     let new = c.cut.new.self in
     let frame = c.in-Ok-Some.field-0-0 in
     let made : HasCut old frame new = subst (λ x. IfSome x (λ f. HasCut old f new)) c.in-Ok-Some.field-0-is c.in-Ok-Some.ensures.frame in
-    let spelled = spells_same _ frame c.in_ok-kept.kept c.in_ok-kept.ensures.spelled (record {
+    let spelled = spells_same_in _ _ frame c.in_ok-kept.kept c.in_ok-kept.ensures.spelled (record {
       maker = c.site.ensures ∙ sym made.heading.maker;
       number = (let e = made.heading.number in let f = c.last-number.ensures.frames in omega (arith, e, f));
       delta = equal_same c.pending-2.result.now frame.delta (made.delta ∙ sym c.pending-2.ensures.value);

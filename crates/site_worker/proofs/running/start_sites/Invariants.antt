@@ -8,9 +8,9 @@ abbrev pub invariant-loop-work : goal.invariant-loop-work
 invariant-loop-work g l = ((site : ℕ) → site < vec_len l.works → slice_index_or (map (λ work. work.asks.items) l.works.items) site [] ≡ slice_index_or (map (λ work. work.asks.items) l.fn.works.items) site [])
     × (vec_len l.sites + vec_len l.works ≡ vec_len l.fn.works)
     × (vec_len l.fn.works ≤ vec_capacity l.sites)
-    × (vec_len l.to ≡ vec_len l.works)
-    × (vec_len l.from ≡ vec_len l.works)
-    × All (λ from. vec_len from + 1 ≡ vec_len l.fn.works) l.from.items
+    × (vec_len l.links.to ≡ vec_len l.works)
+    × (vec_len l.links.from ≡ vec_len l.works)
+    × All (λ from. vec_len from + 1 ≡ vec_len l.fn.works) l.links.from.items
     × ArePromised l.list (map (λ work. work.asks.items) l.fn.works.items) (map (λ work. work.gate) l.fn.works.items) (map (λ site. site.promise) l.sites.items)
     × ((site : ℕ) → site < vec_len l.works → slice_get (map (λ work. work.gate) l.works.items) site ≡ slice_get (map (λ work. work.gate) l.fn.works.items) site)
 

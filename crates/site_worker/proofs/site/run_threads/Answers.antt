@@ -1,4 +1,4 @@
-use Rattle.std.proofs.Common.{◌≡◌, [], ◌∷◌, ◌∙◌, ◌+◌, ap, arith, length, length-append, map, sym}
+use Rattle.std.proofs.Common.{◌≡◌, [], ◌∷◌, ◌∙◌, ap, arith, length, length-append, map, sym}
 use Rattle.site_worker.proofs.Workings.{all_gathered, list_behind, list_stays, none_before, none_behind}
 use Rattle.site_worker.proofs.site.run_threads.Goals as goal
 

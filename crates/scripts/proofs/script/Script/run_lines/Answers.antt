@@ -1,21 +1,28 @@
-use Rattle.std.proofs.Common.{◌≡◌, ◌+◌, ⊎_elim, Result, Ok, Err, IfErr, arith, ap, sym, ◌∙◌}
+use Rattle.std.proofs.Common.{◌≡◌, ◌+◌, Result, Err, IsErrAnd, arith, ap, sym, ◌∙◌}
 use Rattle.std.proofs.lemmas.Bool.{eqb-true}
-use Rattle.scripts.specs.declared.script_fault.ScriptFault.TheVariants.{Write, Memory}
+use Rattle.std.proofs.lemmas.Result.{err_from_is_err_and}
+use Rattle.scripts.specs.declared.script_fault.ScriptFault.{ScriptFault}
 use Rattle.scripts.proofs.Running.{going_breaks, going_end, going_on, going_stops, unknown_of}
 use Rattle.scripts.proofs.script.Script.run_lines.Goals as goal
 
-whatever : {T E : Type 0} (r : Result T E) (P : Type 0) → P → IfErr r (λ _. P)
-whatever (Ok x) P p = tt
-whatever (Err e) P p = p
+same_err : {T : Type 0} (r : Result T ScriptFault) (a b : ScriptFault) → r ≡ Err a → r ≡ Err b → a ≡ b
+same_err r a b one other = cc
 
-pub returns-in_err-give_line-clause-err : goal.returns-in_err-give_line-clause-err
-returns-in_err-give_line-clause-err g c = whatever c.from_residual.result _ (λ w at.
-    let was = c.loop-rest.invariant.going w at in
-    let here = c.loop-rest.invariant.place in
-    let fault = c.in_err-give_line.field-0.0 in
-    ⊎_elim (λ (write : fault ≡ Write). going_breaks _ w c.args.text.now _ c.loop-rest.self.world c.loop-rest.rest.now _ c.cut_line.result.1.now c.loop-rest.number c.loop-rest.unknown _ _ _ was c.cut_line.ensures.lines here (c.in_err-give_line.ensures.begun (ap Err write)))
-    (λ (memory : fault ≡ Memory). going_stops _ w c.args.text.now _ c.loop-rest.self.world c.loop-rest.rest.now c.loop-rest.number c.loop-rest.unknown _ _ was (c.in_err-give_line.ensures.memory (ap Err memory)))
-    c.in_err-give_line.ensures.fault)
+-- the fault that a `?` hands on is the one that came
+came : {T : Type 0} (r : Result T ScriptFault) (fault is : ScriptFault) → IsErrAnd r (λ told. told ≡ fault) → r ≡ Err is → fault ≡ is
+came r fault is gives by = let told = err_from_is_err_and r gives in same_err r fault is (told.1 ∙ ap Err told.2) by
+
+pub returns-in_err-give_line-clause-memory : goal.returns-in_err-give_line-clause-memory
+returns-in_err-give_line-clause-memory g c = λ is w at.
+    let memory = came c.from_residual.result c.in_err-give_line.field-0.0 _ c.from_residual.ensures.1 is in
+    going_stops _ w c.args.text.now _ c.loop-rest.self.world c.loop-rest.rest.now c.loop-rest.number c.loop-rest.unknown _ _
+    (c.loop-rest.invariant.going w at) (c.in_err-give_line.ensures.memory (ap Err memory))
+
+pub returns-in_err-give_line-clause-begun : goal.returns-in_err-give_line-clause-begun
+returns-in_err-give_line-clause-begun g c = λ is w at.
+    let write = came c.from_residual.result c.in_err-give_line.field-0.0 _ c.from_residual.ensures.1 is in
+    going_breaks _ w c.args.text.now _ c.loop-rest.self.world c.loop-rest.rest.now _ c.cut_line.result.1.now c.loop-rest.number c.loop-rest.unknown _ _ _
+    (c.loop-rest.invariant.going w at) c.cut_line.ensures.lines c.loop-rest.invariant.place (c.in_err-give_line.ensures.begun (ap Err write))
 
 pub loop-rest-preserved-then-not-branch : goal.loop-rest-preserved-then-not-branch
 loop-rest-preserved-then-not-branch g c = record {

@@ -1,0 +1,192 @@
+-- What one operation more makes of dots, of their members and fields, and of the rows of members.
+use Rattle.std.proofs.Common.{◌≡◌, inl, inr, Bool, true, false, not, ◌&&◌, ◌||◌, List, [], ◌∷◌, Contains, Option, Some, None, is_some, if◌then◌else◌, refl, sym, ap, ◌∙◌, true≢false}
+use Rattle.std.specs.List.{cons_option, filter_map, find, list_any}
+use Rattle.std.specs.Option.{option_map, option_or}
+use Rattle.std.specs.FinSet as set
+use Rattle.std.proofs.lemmas.Bool.{cases_Bool, or_from, or_parts, or_right}
+use Rattle.std.proofs.lemmas.List.Folds.{find-append}
+use Rattle.dots.specs.declared.member.Member.{Member}
+use Rattle.dots.specs.Values.{Dot}
+use Rattle.operations.specs.Conditions.{DotFields, fields_in}
+use Rattle.operations.specs.Knowledge.{Knowledge, all_asserted, asserts, field_of, is_asserted, is_dot, is_named, latest_of, member_of, names, settings_of, visible_dots}
+use Rattle.operations.specs.Operations.{Field, Operation, asserted_by, label_field, pause_field, penalty_field, ring_field}
+use Rattle.operations.specs.Registers.{Entry, join_of}
+use Rattle.operations.specs.Rows.{DotView, dot_view, dots_of, member_field, member_fields, row_if, row_of, row_of_fields}
+use Rattle.general_lemmas.proofs.Membership.{any_in, in_find, same_tests, some_find}
+use Rattle.operations.proofs.AlikeViews.{filter_map_same}
+use Rattle.operations.proofs.VisibleLaws.{visible_dot}
+use Rattle.member_orset.proofs.DotTests.{one_dot, same_itself}
+use Rattle.replica.proofs.SeenLists.{IsOwn, member_rises, of_member, same_rising, to_member}
+
+-- ---- rows of two views
+
+module _ (r s : DotView) (member : Member) where
+  -- a member has the same dots where those of either are its own in the other
+  pub same_own : ((q : Dot) → IsOwn r member q → IsOwn s member q) → ((q : Dot) → IsOwn s member q → IsOwn r member q) → dots_of r member ≡ dots_of s member
+  same_own to from =
+      same_rising (dots_of r member) (dots_of s member) (member_rises r member) (member_rises s member) (λ q.
+      same_tests (list_any (is_dot q) (dots_of r member)) (list_any (is_dot q) (dots_of s member))
+      (λ h. to_member s member q (to q (of_member r member q h)))
+      (λ h. to_member r member q (from q (of_member s member q h))))
+
+  -- and the same row, where those have the same fields too
+  pub same_row : dots_of r member ≡ dots_of s member → ((q : Dot) → Contains (dots_of r member) q → r.fields q ≡ s.fields q) → row_of r member ≡ row_of s member
+  same_row dots fields = λ i. row_if (dots i) (row_of_fields (record {
+    penalty = same (λ f. f.penalty) i;
+    pause = same (λ f. f.pause) i;
+    label = same (λ f. f.label) i;
+    ring = same (λ f. f.ring) i;
+  }))
+    where
+      same : {T : Type 0} (field : DotFields → Option (Entry T)) → member_field (λ dot. field (r.fields dot)) r member ≡ member_field (λ dot. field (s.fields dot)) s member
+      same field =
+          ap latest_of (filter_map_same (λ dot. field (r.fields dot)) (λ dot. field (s.fields dot)) (dots_of r member) (λ dot here. ap field (fields dot here)))
+          ∙ ap (λ ds. latest_of (filter_map (λ dot. field (s.fields dot)) ds)) dots
+
+module _ (r : DotView) (member : Member) where
+  -- a dot of a member is its own
+  pub own_of : (q : Dot) → Contains (dots_of r member) q → IsOwn r member q
+  own_of q here = of_member r member q (any_in (is_dot q) (dots_of r member) q here (same_itself q))
+
+  -- a member has no dots where none is its own
+  pub no_dots : ((q : Dot) → IsOwn r member q → ⊥) → dots_of r member ≡ []
+  no_dots none = by (dots_of r member) refl
+    where
+      by : (dots : List Dot) → dots_of r member ≡ dots → dots_of r member ≡ []
+      by [] e = e
+      by (q ∷ qs) e = absurd (none q (of_member r member q (ap (list_any (is_dot q)) e ∙ ap (λ b. b || list_any (is_dot q) qs) (same_itself q))))
+
+  -- where it has none, none is its own
+  pub none_own : dots_of r member ≡ [] → (q : Dot) → IsOwn r member q → ⊥
+  none_own none q own = true≢false (sym (to_member r member q own) ∙ ap (list_any (is_dot q)) none)
+
+  -- and it has no row
+  pub no_row : dots_of r member ≡ [] → row_of r member ≡ None
+  no_row none = ap (λ dots. row_if dots (row_of_fields (member_fields r member))) none
+
+  -- where it has one dot, its row shows the fields of that
+  pub lone_row : (dot : Dot) → dots_of r member ≡ dot ∷ [] → row_of r member ≡ Some (row_of_fields (r.fields dot))
+  lone_row dot lone = λ i. row_if (lone i) (row_of_fields (record {
+    penalty = of_one (λ f. f.penalty) i;
+    pause = of_one (λ f. f.pause) i;
+    label = of_one (λ f. f.label) i;
+    ring = of_one (λ f. f.ring) i;
+  }))
+    where
+      alone : {T : Type 0} (x : Option (Entry T)) → latest_of (cons_option x []) ≡ x
+      alone None = refl
+      alone (Some e) = refl
+
+      of_one : {T : Type 0} (field : DotFields → Option (Entry T)) → member_field (λ q. field (r.fields q)) r member ≡ field (r.fields dot)
+      of_one field = ap (λ dots. latest_of (filter_map (λ q. field (r.fields q)) dots)) lone ∙ alone (field (r.fields dot))
+
+-- ---- one dot
+
+-- a visible dot is asserted, and not named
+pub visible_parts : (k : Knowledge) (q : Dot) → set.contains (visible_dots k) q ≡ true → (is_asserted k q ≡ true) × (is_named k q ≡ false)
+visible_parts k q h = by (is_asserted k q) (is_named k q) (sym (visible_dot k q) ∙ h)
+  where
+    by : (a n : Bool) → (a && not n) ≡ true → (a ≡ true) × (n ≡ false)
+    by true true h = absurd (true≢false (sym h))
+    by true false h = (refl, refl)
+    by false n h = absurd (true≢false (sym h))
+
+-- and what is so is visible
+pub visible_from : (k : Knowledge) (q : Dot) → is_asserted k q ≡ true → is_named k q ≡ false → set.contains (visible_dots k) q ≡ true
+visible_from k q asserted unnamed = visible_dot k q ∙ (λ i. asserted i && not (unnamed i))
+
+-- a member is one
+pub one_member : (a b : Member) → Some a ≡ Some b → a ≡ b
+one_member a b e = cc
+
+module _ (o : Operation) (k : Knowledge) (q : Dot) where
+  -- the test for the dot among those that are asserted
+  abbrev is_at : Dot × Member → Bool
+  is_at = λ p. is_dot q p.0
+
+  -- its member is the one with which the operation asserts it, or else as it was
+  member_more : member_of (o ∷ k) q ≡ option_or (option_map (λ p. p.1) (find is_at (asserted_by o))) (member_of k q)
+  member_more =
+      ap (option_map (λ p. p.1)) (find-append is_at (asserted_by o) (all_asserted k)) ∙ of_either (find is_at (asserted_by o)) (find is_at (all_asserted k))
+    where
+      of_either : (x y : Option (Dot × Member)) → option_map (λ p. p.1) (option_or x y) ≡ option_or (option_map (λ p. p.1) x) (option_map (λ p. p.1) y)
+      of_either None y = refl
+      of_either (Some p) y = refl
+
+  -- where the operation doesn't assert it, it has the member that it had
+  pub member_passed : asserts q o ≡ false → member_of (o ∷ k) q ≡ member_of k q
+  member_passed h = member_more ∙ by (find is_at (asserted_by o)) refl
+    where
+      by : (x : Option (Dot × Member)) → find is_at (asserted_by o) ≡ x → option_or (option_map (λ p. p.1) x) (member_of k q) ≡ member_of k q
+      by None e = refl
+      by (Some p) e = absurd (true≢false (sym (ap is_some e) ∙ some_find is_at (asserted_by o) ∙ h))
+
+  -- and so it has where all that the operation asserts have the members that they had
+  pub member_kept : ((p : Dot × Member) → Contains (asserted_by o) p → member_of k p.0 ≡ Some p.1) → member_of (o ∷ k) q ≡ member_of k q
+  member_kept same = member_more ∙ by (find is_at (asserted_by o)) refl
+    where
+      by : (x : Option (Dot × Member)) → find is_at (asserted_by o) ≡ x → option_or (option_map (λ p. p.1) x) (member_of k q) ≡ member_of k q
+      by None e = refl
+      by (Some p) e = let found = in_find is_at (asserted_by o) p e in sym (same p found.0) ∙ ap (member_of k) (sym (one_dot q p.0 found.1))
+
+  -- a field of it is the later one of what the operation sets and what it was
+  field_more : {T : Type 0} (field : Field T) → field_of field (o ∷ k) q ≡ join_of (if asserts q o then field o else None) (field_of field k q)
+  field_more {T} field = by (if asserts q o then field o else None)
+    where
+      by : (x : Option (Entry T)) → latest_of (cons_option x (settings_of field k q)) ≡ join_of x (latest_of (settings_of field k q))
+      by None = refl
+      by (Some e) = refl
+
+  -- where the operation doesn't assert it, as it was
+  field_passed : {T : Type 0} (field : Field T) → asserts q o ≡ false → field_of field (o ∷ k) q ≡ field_of field k q
+  field_passed field h = field_more field ∙ ap (λ (b : Bool). join_of (if b then field o else None) (field_of field k q)) h
+
+  -- and where it does
+  pub field_said : {T : Type 0} (field : Field T) → asserts q o ≡ true → field_of field (o ∷ k) q ≡ join_of (field o) (field_of field k q)
+  field_said field h = field_more field ∙ ap (λ (b : Bool). join_of (if b then field o else None) (field_of field k q)) h
+
+  -- where the operation doesn't assert it, all its fields are as they were
+  pub fields_passed : asserts q o ≡ false → fields_in (o ∷ k) q ≡ fields_in k q
+  fields_passed h = λ i. record {
+    penalty = field_passed penalty_field h i;
+    pause = field_passed pause_field h i;
+    label = field_passed label_field h i;
+    ring = field_passed ring_field h i;
+  }
+
+-- a dot that no operation asserts has no field
+pub no_field : {T : Type 0} (field : Field T) (k : Knowledge) (q : Dot) → is_asserted k q ≡ false → field_of field k q ≡ None
+no_field field [] q h = refl
+no_field field (o ∷ k) q h = let parts = or_parts (asserts q o) (is_asserted k q) h in field_passed o k q field parts.0 ∙ no_field field k q parts.1
+
+-- ---- a member that the operation isn't about
+
+module _ (o : Operation) (k : Knowledge) (member : Member) where
+  -- A member has the row that it had where the operation asserts no dot that is its own, be it before or after, and names none that was.
+  pub row_passed : ((q : Dot) → asserts q o ≡ true → IsOwn (dot_view (o ∷ k)) member q → ⊥) → ((q : Dot) → asserts q o ≡ true → IsOwn (dot_view k) member q → ⊥)
+      → ((q : Dot) → IsOwn (dot_view k) member q → names q o ≡ false) → row_of (dot_view (o ∷ k)) member ≡ row_of (dot_view k) member
+  row_passed after before spares =
+      same_row (dot_view (o ∷ k)) (dot_view k) member (same_own (dot_view (o ∷ k)) (dot_view k) member (λ q own. was q own (passed_after q own)) (λ q own. is q own (passed_before q own)))
+      (λ q here. fields_passed o k q (passed_after q (own_of (dot_view (o ∷ k)) member q here)))
+    where
+      passed_after : (q : Dot) → IsOwn (dot_view (o ∷ k)) member q → asserts q o ≡ false
+      passed_after q own = elim (cases_Bool (asserts q o)) [ inl t ↦ absurd (after q t own) | inr f ↦ f ]
+
+      passed_before : (q : Dot) → IsOwn (dot_view k) member q → asserts q o ≡ false
+      passed_before q own = elim (cases_Bool (asserts q o)) [ inl t ↦ absurd (before q t own) | inr f ↦ f ]
+
+      was : (q : Dot) → IsOwn (dot_view (o ∷ k)) member q → asserts q o ≡ false → IsOwn (dot_view k) member q
+      was q own passed =
+          let parts = visible_parts (o ∷ k) q own.visible in
+          record {
+            visible = visible_from k q (ap (λ b. b || is_asserted k q) (sym passed) ∙ parts.0) (or_parts (names q o) (is_named k q) parts.1).1;
+            member = sym (member_passed o k q passed) ∙ own.member;
+          }
+
+      is : (q : Dot) → IsOwn (dot_view k) member q → asserts q o ≡ false → IsOwn (dot_view (o ∷ k)) member q
+      is q own passed =
+          let parts = visible_parts k q own.visible in
+          record {
+            visible = visible_from (o ∷ k) q (or_right (asserts q o) (is_asserted k q) parts.0) (or_from (names q o) (is_named k q) (spares q own) parts.1);
+            member = member_passed o k q passed ∙ own.member;
+          }
