@@ -651,15 +651,16 @@ def serves_on(server):
         raise Failed(f"a server one of whose allocations was refused serves no client: {why}") from None
 
 
-def comes_through(server):
-    """Whether one session comes to its end."""
-    with contextlib.suppress(OSError, Failed):
+def why_it_ends(server):
+    """Why a session doesn't come to its end; nothing where it does."""
+    try:
         with server.logged_in() as it:
             it.ask("QueueAdd", Queue="sales", Interface="SIP/1")
             it.ask("QueueStatus")
             it.leave()
-            return True
-    return False
+    except (OSError, Failed) as why:
+        return repr(why)
+    return ""
 
 
 def run_refused(more):
@@ -670,8 +671,9 @@ def run_refused(more):
         if not server.wait_until_it_listens():
             server.process.wait(PATIENCE)
         ends = time.monotonic() + PATIENCE
-        while server.process.poll() is None and not comes_through(server):
-            need(time.monotonic() < ends, "a server one of whose allocations was refused neither ends nor serves a client")
+        # A client that connects in the moment in which the server ends may never be told so: that the server has ended is looked at behind it.
+        while (why := why_it_ends(server)) and server.process.poll() is None:
+            need(time.monotonic() < ends, f"a server with {more} neither ends nor serves a client: {why}")
             time.sleep(0.02)
         return server, server.process.poll()
     except BaseException:
