@@ -6,7 +6,7 @@ use Rattle.std.proofs.lemmas.Bool.{cases_eq, cases_lt}
 use Rattle.std.proofs.lemmas.Bool.Decides.{nat_tests}
 use Rattle.std.proofs.lemmas.List.{get_or-map, get_or-set_other, get_or-set_same, get_or_past, length-map, map-append, map-set}
 use Rattle.std.proofs.lemmas.Option.{none-some, same_Some, slice_get_within}
-use Rattle.site_links.specs.Linking.{AreLinked, IsLinkedFrom, ends_of, place_of}
+use Rattle.site_links.specs.Linking.{AreLinked, IsLinkedFrom, IsNewLink, ends_of, place_of}
 use Rattle.site_links.specs.Links.{Receiving, Sending}
 
 -- ---- places
@@ -74,7 +74,7 @@ linked_own own reached from old new is was = record {
 
 -- it was linked from one site more
 pub linked_one : (own other : ℕ) (from all : List Receiving) (old mid new : List (List Sending)) (sender : Sending) (receiver : Receiving)
-    → other ≢ own → other < length mid → length from ≡ place_of own other → receiver.link ≡ sender.link → all ≡ from ++ receiver ∷ []
+    → other ≢ own → other < length mid → length from ≡ place_of own other → IsNewLink sender receiver → all ≡ from ++ receiver ∷ []
     → new ≡ set mid other (ends_of mid other ++ sender ∷ [])
     → IsLinkedFrom own other from old mid → IsLinkedFrom own (other + 1) all old new
 linked_one own other from all old mid new sender receiver apart low next one more put was =
@@ -104,7 +104,7 @@ linked_one own other from all old mid new sender receiver apart low next one mor
 -- the same of ends that lie in something else
 pub linked_at : {A : Type 0} (f : A → List Sending) (own other : ℕ) (from all : List Receiving) (old : List (List Sending)) (to new : List A) (x v : A) (sender : Sending)
     (receiver : Receiving)
-    → other ≢ own → other < length to → length from ≡ place_of own other → receiver.link ≡ sender.link → all ≡ from ++ receiver ∷ []
+    → other ≢ own → other < length to → length from ≡ place_of own other → IsNewLink sender receiver → all ≡ from ++ receiver ∷ []
     → f v ≡ f (slice_index_or to other x) ++ sender ∷ [] → new ≡ set to other v
     → IsLinkedFrom own other from old (map f to) → IsLinkedFrom own (other + 1) all old (map f new)
 linked_at f own other from all old to new x v sender receiver apart low next one more grown put was =
@@ -137,12 +137,12 @@ sent_before own site other sender old new row linked count before apart at = ⊎
 -- the ends of the last site that was linked
 linked_last : (own site : ℕ) (sender : Sending) (receiver : Receiving) (old new : List (List Sending)) (row : List Receiving) → IsLinkedFrom own (length new) row old new
     → length (ends_of old site) ≡ place_of site own → site ≢ own
-    → slice_get (ends_of new site) (place_of site own) ≡ Some sender → slice_get row (place_of own site) ≡ Some receiver → receiver.link ≡ sender.link
+    → slice_get (ends_of new site) (place_of site own) ≡ Some sender → slice_get row (place_of own site) ≡ Some receiver → IsNewLink sender receiver
 linked_last own site sender receiver old new row linked count apart sends receives =
     let e = linked.linked site apart (within new site (place_of site own) sender sends) in
     let its : sender ≡ e.0 = same_Some sender e.0 (sym sends ∙ ap (λ l. slice_get l (place_of site own)) e.3 ∙ ap (slice_get (ends_of old site ++ e.0 ∷ [])) (sym count) ∙ got_last (ends_of old site) e.0) in
     let other : receiver ≡ e.1 = same_Some receiver e.1 (sym receives ∙ e.4) in
-    ap (λ (r : Receiving). r.link) other ∙ e.2 ∙ ap (λ (s : Sending). s.link) (sym its)
+    subst (λ s. IsNewLink s receiver) (sym its) (subst (IsNewLink e.0) (sym other) e.2)
 
 -- one site more is linked from all others
 pub linked_more : (own : ℕ) (old new : List (List Sending)) (from all : List (List Receiving)) (row : List Receiving) → own ≡ length from → all ≡ from ++ row ∷ []

@@ -14,7 +14,7 @@ mod sender;
 
 pub use comparing::compare;
 pub use dots::Memory;
-pub use limits::{MOST_CAPACITY, MOST_ITEMS};
+pub use limits::{LINK_CAPACITY, MOST_CAPACITY, MOST_ITEMS};
 pub use linking::{LinkEnds, SiteLinks, link_all};
 pub use pairing::pair;
 pub use receiver::LinkReceiver;

@@ -1,15 +1,12 @@
 //! The links between sites that run at once.
 ghost use Rattle.std.specs.Prelude.{◌≡◌, ◌+◌, ◌<◌, ◌++◌, ◌∷◌, [], IfNone, IfOk, IfSome, OnOk, length};
 ghost use Rattle.std.specs.Prelude.{map, vec_len};
-ghost use Rattle.site_links.specs.Linking.{AreLinksOf, IsLinkedFrom};
+ghost use Rattle.site_links.specs.Linking.{AreLinksOf, IsLinkedFrom, IsNewLink};
 ghost use Rattle.site_links.specs.Links.{Receiving, Sending};
 
-use crate::{LinkReceiver, LinkSender, pair};
+use crate::{LINK_CAPACITY, LinkReceiver, LinkSender, pair};
 use dots::Memory;
 use std::alloc::Global;
-
-// How many items a link holds that were sent and not yet received.
-const LINK_CAPACITY: usize = 64;
 
 /// The ends of links that one site has, each by the numbers of the other sites.
 #[derive(Drop)]
@@ -51,14 +48,14 @@ impl SiteLinks {
     }
 }
 
-// Puts both ends of one link more behind others.
+// Puts both ends of one new link more behind others.
 fn add_link(
     alloc: Global,
     to: &mut Vec<LinkSender>,
     from: &mut Vec<LinkReceiver>,
 ) -> Result<(), Memory>
     ensures { OnOk result ((sender : Sending) × (receiver : Receiving)
-        × (receiver.link ≡ sender.link)
+        × IsNewLink sender receiver
         × (to.new.items ≡ to.old.items ++ sender ∷ [])
         × (from.new.items ≡ from.old.items ++ receiver ∷ [])) }
 {
@@ -89,7 +86,7 @@ fn link_to(
     Ok(from)
 }
 
-/// A link from each of `sites` sites to each other, which holds 64 items. The one fault is want of memory (this project's own).
+/// A new link from each of `sites` sites to each other, which holds 64 items. The one fault is want of memory (this project's own).
 pub fn link_all(alloc: Global, sites: usize) -> Result<SiteLinks, Memory>
     ensures { IfOk result (λ links. AreLinksOf sites links) }
 {
