@@ -1,13 +1,18 @@
 -- What holds of the elements of a list and of their places, where one comes or goes.
-use Rattle.std.proofs.Common.{◌≡◌, ℕ, List, [], ◌∷◌, ◌++◌, length, length-append, slice_index_or, sym, ap, subst, ⊎_elim, arith}
+use Rattle.std.proofs.Common.{◌≡◌, ℕ, List, [], ◌∷◌, ◌++◌, Some, length, length-append, slice_get, slice_index_or, sym, ap, subst, ⊎_elim, arith}
 use Rattle.std.proofs.Math.ListN.{get_or-append}
 use Rattle.std.proofs.Math.Seq.{get_or-append_seam}
 use Rattle.std.proofs.lemmas.Bool.{cases_lt}
+use Rattle.std.proofs.lemmas.Option.{slice_get-get_or}
 use Rattle.server.specs.Places.{AtEach}
 
 -- it holds where there is none
 pub each_none : {E : Type 0} (H : ℕ → E → Type 0) (xs : List E) → xs ≡ [] → AtEach H xs
 each_none H xs is k none low = absurd (let e = ap length is in omega (arith, low, e))
+
+-- each element is that of its place
+pub each_itself : {E : Type 0} (xs : List E) → AtEach (λ k x. slice_get xs k ≡ Some x) xs
+each_itself xs k none low = slice_get-get_or xs k none low
 
 -- one more
 pub each_push : {E : Type 0} (H : ℕ → E → Type 0) (xs all : List E) (x : E) → all ≡ xs ++ x ∷ [] → AtEach H xs → H (length xs) x → AtEach H all

@@ -1,4 +1,5 @@
 //! All sites, each in a thread of its own.
+ghost use Rattle.std.specs.List.{All};
 ghost use Rattle.std.specs.Prelude.{◌≡◌, ◌⊎◌, ◌+◌, ◌<◌, ◌≤◌, ℕ, IfOk, IsErrOf, List, OnErr, OnOk, false};
 ghost use Rattle.std.specs.Prelude.{true, vec_capacity, vec_len};
 ghost use Rattle.std.specs.Io.KnownBytes.{Appends};
@@ -6,7 +7,7 @@ ghost use Rattle.ami_text.specs.Devices.{HasTaken};
 ghost use Rattle.site_links.specs.Linking.{AreLinksOf};
 ghost use Rattle.server.specs.Listening.{listening_lines};
 ghost use Rattle.server.specs.Places.{AtEach};
-ghost use Rattle.server.specs.Promises.{IsPromisedAt};
+ghost use Rattle.server.specs.Promises.{HasItsEnds, IsPromisedAt};
 ghost use Rattle.server.specs.ServedJournals.{IsServedJournal};
 
 use crate::listening::{listen, tell_listening};
@@ -33,11 +34,12 @@ pub const MOST_SERVED_SITES: u16 = 8;
 /// The last port that site 0 may have, so that there is one for each of eight sites.
 pub const LAST_PORT: u16 = 65_528;
 
-// The journal of this site, of these queues; or a fault keeps it from that.
+// The journal of this site, which has these ends of links, of these queues; or a fault keeps it from that.
 #[derive(Drop)]
 pub(crate) struct JournalOf {
     site: SiteId,
     list: Snapshot<QueueList>,
+    ends: Snapshot<LinkEnds>,
 }
 
 impl Promise<Result<Journaled, SiteFault>> for JournalOf {
@@ -110,6 +112,7 @@ fn start_site<'s, 'e: 's, R: Threads + Wait + Clock + Eprint + Sync>(
     requires { vec_len links.from ≤ 7 }
     ensures site { IfOk result (λ handle. handle.promise.site ≡ site) }
     ensures list { IfOk result (λ handle. handle.promise.list.value ≡ common.now.list.now) }
+    ensures ends { IfOk result (λ handle. handle.promise.ends.value ≡ links) }
 {
     let queues = match common.list.copy() {
         Ok(queues) => queues,
@@ -130,6 +133,7 @@ fn start_site<'s, 'e: 's, R: Threads + Wait + Clock + Eprint + Sync>(
     let promise = JournalOf {
         site,
         list: Snapshot::of(common.list),
+        ends: Snapshot::of(&links),
     };
     let run = move || -> Result<Journaled, SiteFault>
         requires { vec_len links.from ≤ 7 }
@@ -144,7 +148,7 @@ fn start_site<'s, 'e: 's, R: Threads + Wait + Clock + Eprint + Sync>(
     }
 }
 
-// Starts a thread for each listener, from the last down, until one can't be started.
+// Starts a thread for each listener, with the ends of links of its number, from the last down, until one can't be started.
 fn start_sites<'s, 'e: 's, R: Threads + Wait + Clock + Eprint + Sync>(
     scope: &'s Scope<'s, &'e ()>,
     rt: &'s R,
@@ -161,6 +165,7 @@ fn start_sites<'s, 'e: 's, R: Threads + Wait + Clock + Eprint + Sync>(
     ensures number { OnOk result (vec_len sites.new ≡ vec_len listeners) }
     ensures promised { OnOk result (AtEach (λ k site.
         IsPromisedAt common.now.list.now (vec_len listeners) k site.promise) sites.new.items) }
+    ensures ends { OnOk result (All (λ site. HasItsEnds links site.promise) sites.new.items) }
 {
     let mut listeners = listeners;
     let mut links = links;
