@@ -11,7 +11,8 @@ session_fault feed.LineTooLong = LineTooLong
 session_fault feed.TooManyFields = TooManyFields
 session_fault feed.Memory = Memory
 
--- a device of a call that may fail with this fault: it works where the call succeeded, and has failed where this is the call's fault
+-- a device of a call that may fail with this fault: it works where the call succeeded, and has failed exactly where this is the call's fault
 pub record FailsWith {T : Type 0} (fault : ServeFault) (result : Result T ServeFault) (failed : Bool) : Type 0 where
   pub works : OnOk result (failed ≡ false)
   pub fails : result ≡ Err fault → failed ≡ true
+  pub tells : failed ≡ true → result ≡ Err fault

@@ -4,7 +4,7 @@
 //! ask, and writes the replies, whatever the devices do.
 #![tactic(auto)]
 
-ghost use Rattle.std.specs.Prelude.{◌≡◌, ◌≤◌, ◌+◌, true, false, IfErr, OnOk, IsErrOf};
+ghost use Rattle.std.specs.Prelude.{◌≡◌, ◌≤◌, ◌+◌, ◌↔◌, true, false, IfErr, OnOk, IsErrOf};
 ghost use Rattle.ami_text.specs.Devices.{HasGiven, HasGivenUpTo};
 ghost use Rattle.serve.specs.Desks.{HasWorked};
 ghost use Rattle.serve.specs.Sessions.{HasCarried, IsLeftBy, IsServed};
@@ -59,10 +59,10 @@ pub fn serve<R, S: Source, W: Sink, D: Desk<R>>(
         (W.taken writer.old) (W.taken writer.new)
         (IsLeftBy D.answers D.refuses session desk.old desk.new fault)) }
 
-    // Each of these faults stands only where its cause does; those of the stream and of the desk
-    // say theirs above.
-    ensures read { IsErrOf result ServeFault.Read → S.failed reader.new ≡ true }
-    ensures write { IsErrOf result ServeFault.Write → W.failed writer.new ≡ true }
+    // The first two faults stand exactly where their device has failed, the third only where its
+    // cause does; those of the stream and of the desk say theirs above.
+    ensures read { IsErrOf result ServeFault.Read ↔ (S.failed reader.new ≡ true) }
+    ensures write { IsErrOf result ServeFault.Write ↔ (W.failed writer.new ≡ true) }
     ensures turns { IsErrOf result ServeFault.Turns → (S.ended reader.new ≡ false)
         × HasGiven (S.left reader.old) (S.left reader.new) 1000000 }
 
