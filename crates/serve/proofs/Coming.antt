@@ -129,7 +129,9 @@ not_both o fault none some = cc
 pub fault_next : (fault : FeedFault) (told : ServeFault) (was : FeedState) (old held stream : List ℕ) → told ≡ session_fault fault → was.fault ≡ None
     → (IsStreamFault (Some fault) → (was.fault ≡ Some fault) ⊎ HasFault fault was.held) → Gives stream [] was.held → IsWanted old stream → StandsFirst (Err told) old held stream
 fault_next stream_fault.LineTooLong told was old held stream is works shows gives wants =
-    subst (λ f. StandsFirst (Err f) old held stream) (sym is) (was.held, gives, ⊎_elim (λ failed. absurd (not_both was.fault stream_fault.LineTooLong works failed)) (λ has. has) (shows tt))
+    subst (λ f. StandsFirst (Err f) old held stream) (sym is)
+    ((was.held, gives, ⊎_elim (λ failed. absurd (not_both was.fault stream_fault.LineTooLong works failed)) (λ has. has) (shows tt)), wants)
 fault_next stream_fault.TooManyFields told was old held stream is works shows gives wants =
-    subst (λ f. StandsFirst (Err f) old held stream) (sym is) (was.held, gives, ⊎_elim (λ failed. absurd (not_both was.fault stream_fault.TooManyFields works failed)) (λ has. has) (shows tt))
+    subst (λ f. StandsFirst (Err f) old held stream) (sym is)
+    ((was.held, gives, ⊎_elim (λ failed. absurd (not_both was.fault stream_fault.TooManyFields works failed)) (λ has. has) (shows tt)), wants)
 fault_next stream_fault.Memory told was old held stream is works shows gives wants = subst (λ f. StandsFirst (Err f) old held stream) (sym is) wants

@@ -155,19 +155,31 @@ reads_on given now after old new held reads left H K c come = record {
   holds = record { first = c.bytes; piece = come.bytes; is = refl; before = c.holds; more = come.holds; many = come.many; few = come.few };
 }
 
+-- what came of a stream in which no message stands was wanted
+rest_wanted : (held piece rest : List ℕ) → Reads (held ++ piece) [] (Rest rest) → IsWanted held (held ++ piece)
+rest_wanted held piece rest reads = inr (record { before = piece; piece = []; is = sym (append-nil (held ++ piece)); short = omega arith; rest = rest; reads = reads })
+
 -- the stream has no further message, and an ending
 ended_by : {D : Type 0} (Answers : D → Ask → Answer → D → Type 0) (s now : SessionState) (d e : D) (held : List ℕ) (reads left : ℕ) (K : List ℕ → Type 0) (bytes text : List ℕ) (ending : Ending)
-    → PiecesJoin → ((stream : List ℕ) → K stream → Reads stream [] ending)
+    → PiecesJoin → ((piece : List ℕ) → K (held ++ piece) → Reads (held ++ piece) [] ending × IsWanted held (held ++ piece))
     → ReadOn held reads left (Going Answers s d e now held reads) K bytes text → AreAnswered Answers s d e ending bytes text
 ended_by Answers s now d e held reads left K bytes text ending join so x =
     let going = x.before in
-    let all = join x.first x.piece held going.messages [] ending going.gives (so (held ++ x.piece) x.more) in
+    let came = so x.piece x.more in
+    let all = join x.first x.piece held going.messages [] ending going.gives came.0 in
     record {
       messages = going.messages;
       reads = subst (λ ms. Reads bytes ms ending) (append-nil going.messages) (subst (λ t. Reads t (going.messages ++ []) ending) (sym x.is) all);
       goes_on = going.goes_on;
       has_text = going.has_text;
+      in_piece = subst (λ t. EndsInPiece going.messages t) (sym x.is) (piece_wanted x.first x.piece held going.messages join going.gives going.in_piece came.1);
     }
+
+-- the stream has no further message, and is whole
+ended_whole : {D : Type 0} (Answers : D → Ask → Answer → D → Type 0) (s now : SessionState) (d e : D) (held rest : List ℕ) (reads left : ℕ) (bytes text : List ℕ) → PiecesJoin
+    → ReadOn held reads left (Going Answers s d e now held reads) (λ stream. Reads stream [] (Rest rest)) bytes text → AreAnswered Answers s d e (Rest rest) bytes text
+ended_whole Answers s now d e held rest reads left bytes text join x =
+    ended_by Answers s now d e held reads left (λ stream. Reads stream [] (Rest rest)) bytes text (Rest rest) join (λ piece more. (more, rest_wanted held piece rest more)) x
 
 -- there is no memory for more of it
 unfinished : {D : Type 0} (Answers : D → Ask → Answer → D → Type 0) (s now : SessionState) (d e : D) (held : List ℕ) (reads left : ℕ) (bytes text : List ℕ)
@@ -193,7 +205,7 @@ pub served_at_end : {D : Type 0} (Answers : D → Ask → Answer → D → Type 
 served_at_end Answers s now d e given before after old new held rest reads left ended join is c come =
     carries_so given after old new _ _
     (λ bytes text x.
-    let all = ended_by Answers s now d e held reads left (StandsFirst (Ok None) held rest) bytes text (Rest rest) join (λ stream more. more) x in
+    let all = ended_whole Answers s now d e held rest reads left bytes text join x in
     record { messages = all.messages; rest = rest; gives = all.reads.0; has_text = all.has_text; at_end = inr (all.reads.1, is) })
     (reads_on given before after old new held reads left _ _ c come)
 
@@ -203,16 +215,16 @@ pub reading_breaks : {D : Type 0} (Answers : D → Ask → Answer → D → Type
     → HasCarried given before old new (Going Answers s d e now held reads) → HasCome before after held reads left (StandsFirst (Err fault) held rest)
     → HasCarried given after old new (IsLeftBy Answers Refuses s d e fault)
 reading_breaks Answers Refuses Read s now d e given before after old new held rest reads left join stays c come =
-    carries_so given after old new _ _ (λ bytes text x. (rest, ended_by Answers s now d e held reads left (StandsFirst (Err Read) held rest) bytes text _ join (λ stream more. more) x))
+    carries_so given after old new _ _ (λ bytes text x. (rest, ended_whole Answers s now d e held rest reads left bytes text join x))
     (reads_on given before after old new held reads left _ _ c come)
 reading_breaks Answers Refuses Turns s now d e given before after old new held rest reads left join stays c come =
-    carries_so given after old new _ _ (λ bytes text x. (rest, ended_by Answers s now d e held reads left (StandsFirst (Err Turns) held rest) bytes text _ join (λ stream more. more) x))
+    carries_so given after old new _ _ (λ bytes text x. (rest, ended_whole Answers s now d e held rest reads left bytes text join x))
     (reads_on given before after old new held reads left _ _ c come)
 reading_breaks Answers Refuses LineTooLong s now d e given before after old new held rest reads left join stays c come =
-    carries_so given after old new _ _ (λ bytes text x. ended_by Answers s now d e held reads left (StandsFirst (Err LineTooLong) held rest) bytes text _ join (λ stream more. more) x)
+    carries_so given after old new _ _ (λ bytes text x. ended_by Answers s now d e held reads left (StandsFirst (Err LineTooLong) held rest) bytes text _ join (λ piece more. more) x)
     (reads_on given before after old new held reads left _ _ c come)
 reading_breaks Answers Refuses TooManyFields s now d e given before after old new held rest reads left join stays c come =
-    carries_so given after old new _ _ (λ bytes text x. ended_by Answers s now d e held reads left (StandsFirst (Err TooManyFields) held rest) bytes text _ join (λ stream more. more) x)
+    carries_so given after old new _ _ (λ bytes text x. ended_by Answers s now d e held reads left (StandsFirst (Err TooManyFields) held rest) bytes text _ join (λ piece more. more) x)
     (reads_on given before after old new held reads left _ _ c come)
 reading_breaks Answers Refuses Memory s now d e given before after old new held rest reads left join stays c come =
     carries_so given after old new _ _ (λ bytes text x. unfinished Answers s now d e held reads left bytes text join stays x)

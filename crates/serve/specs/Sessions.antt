@@ -57,12 +57,14 @@ pub record IsServed {D : Type 0} (Answers : D → Ask → Answer → D → Type 
   pub has_text : HasText Answers s d e messages text
   pub at_end : IsEndedByLast s messages bytes ⊎ (IsRest rest × HasEnded ended left)
 
--- all messages of the bytes are answered, none of them has ended the session, and nothing but this ending stands behind them
+-- all messages of the bytes are answered, none of them has ended the session, nothing but this ending stands behind them, and no more was
+-- read than shows it
 pub record AreAnswered {D : Type 0} (Answers : D → Ask → Answer → D → Type 0) (s : SessionState) (d e : D) (ending : Ending) (bytes text : List ℕ) : Type 0 where
   pub messages : List Fields
   pub reads : Reads bytes messages ending
   pub goes_on : is_over s messages ≡ false
   pub has_text : HasText Answers s d e messages text
+  pub in_piece : EndsInPiece messages bytes
 
 -- all messages before the last are answered, none of them has ended the session, no more was read than the last needs, and of what is
 -- written upon it there is a part

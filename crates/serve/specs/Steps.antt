@@ -52,14 +52,15 @@ pub record WantsPiece (held stream : List ℕ) : Type 0 where
 abbrev pub IsWanted : List ℕ → List ℕ → Type 0
 IsWanted held stream = (stream ≡ held) ⊎ WantsPiece held stream
 
--- what stands first in the stream that what was held begins, and what is held behind it: a message, nothing more, or a fault
+-- what stands first in the stream that what was held begins, and what is held behind it: a message, nothing more, or a fault; of a message and a
+-- fault no more came than was wanted
 abbrev pub StandsFirst : Result (Option Fields) ServeFault → List ℕ → List ℕ → List ℕ → Type 0
 StandsFirst (Ok (Some message)) old new stream = Gives stream (message ∷ []) new × IsWanted old stream
 StandsFirst (Ok None) old new stream = Reads stream [] (Rest new)
 StandsFirst (Err Read) old new stream = Reads stream [] (Rest new)
 StandsFirst (Err Turns) old new stream = Reads stream [] (Rest new)
-StandsFirst (Err LineTooLong) old new stream = Reads stream [] (Fault feed.LineTooLong)
-StandsFirst (Err TooManyFields) old new stream = Reads stream [] (Fault feed.TooManyFields)
+StandsFirst (Err LineTooLong) old new stream = Reads stream [] (Fault feed.LineTooLong) × IsWanted old stream
+StandsFirst (Err TooManyFields) old new stream = Reads stream [] (Fault feed.TooManyFields) × IsWanted old stream
 StandsFirst (Err Memory) old new stream = IsWanted old stream
 StandsFirst (Err Write) old new stream = ⊥
 StandsFirst (Err DeskDown) old new stream = ⊥

@@ -35,9 +35,10 @@ use std::alloc::Global;
 ///
 /// Faults, as each comes: `Read` where the reader failed; `Write` where the writer failed, or took
 /// none of bytes that aren't empty; `LineTooLong` and `TooManyFields` where the client's stream has
-/// them, once the messages before are answered; `DeskDown` where the desk gave no answer; `Turns`
-/// where 1,000,000 reads gave no end; `Memory`, of the session itself. What was written is then a
-/// front of the session's text, and but for `Write` it ends behind its greeting or a whole reply.
+/// them, once the messages before are answered, and nothing is read behind the piece that shows
+/// them; `DeskDown` where the desk gave no answer; `Turns` where 1,000,000 reads gave no end;
+/// `Memory`, of the session itself. What was written is then a front of the session's text, and but
+/// for `Write` it ends behind its greeting or a whole reply.
 pub fn serve<R, S: Source, W: Sink, D: Desk<R>>(
     rt: &R,
     alloc: Global,
