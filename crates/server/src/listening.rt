@@ -1,6 +1,6 @@
 //! The listeners of all sites, and what is told of them.
-ghost use Rattle.std.specs.Prelude.{◌≡◌, ◌⊎◌, ◌+◌, ◌<◌, ◌≤◌, ℕ, IfErr, IfOk, IsErrOf, OnErr, OnOk};
-ghost use Rattle.std.specs.Prelude.{false, string_bytes, true, vec_len};
+ghost use Rattle.std.specs.Prelude.{◌≡◌, ◌⊎◌, ◌↔◌, ◌+◌, ◌<◌, ◌≤◌, ℕ, IfErr, IfOk, IsErrOf, OnErr};
+ghost use Rattle.std.specs.Prelude.{OnOk, false, string_bytes, true, vec_len};
 ghost use Rattle.std.specs.Io.KnownBytes.{Appends};
 ghost use Rattle.ami_text.specs.Devices.{HasTaken};
 ghost use Rattle.server.specs.Listening.{listening_line, listening_lines};
@@ -58,7 +58,7 @@ pub(crate) fn tell_listening<W: Sink>(
         (listening_lines address port sites)) }
     ensures begun { OnErr result (HasTaken (W.taken log.old) (W.taken log.new)
         (listening_lines address port sites)) }
-    ensures write { IsErrOf result ServeSitesFault.Write → W.failed log.new ≡ true }
+    ensures write { IsErrOf result ServeSitesFault.Write ↔ (W.failed log.new ≡ true) }
     ensures works { OnOk result (W.failed log.new ≡ false) }
     ensures fault { IfErr result (λ fault.
         (fault ≡ ServeSitesFault.Write) ⊎ (fault ≡ ServeSitesFault.Memory)) }

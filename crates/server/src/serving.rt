@@ -1,7 +1,7 @@
 //! All sites, each in a thread of its own.
 ghost use Rattle.std.specs.List.{All};
-ghost use Rattle.std.specs.Prelude.{◌≡◌, ◌⊎◌, ◌+◌, ◌<◌, ◌≤◌, ℕ, IfOk, IsErrOf, List, OnErr, OnOk, false};
-ghost use Rattle.std.specs.Prelude.{true, vec_capacity, vec_len};
+ghost use Rattle.std.specs.Prelude.{◌≡◌, ◌⊎◌, ◌↔◌, ◌+◌, ◌<◌, ◌≤◌, ℕ, IfOk, IsErrOf, List, OnErr};
+ghost use Rattle.std.specs.Prelude.{OnOk, false, true, vec_capacity, vec_len};
 ghost use Rattle.std.specs.Io.KnownBytes.{Appends};
 ghost use Rattle.ami_text.specs.Devices.{HasTaken};
 ghost use Rattle.site_links.specs.Linking.{AreLinksOf};
@@ -388,7 +388,7 @@ pub fn serve_sites<
         (listening_lines settings.now.address settings.now.port settings.now.sites) }
     ensures begun { OnErr result (HasTaken (W.taken log.old) (W.taken log.new)
         (listening_lines settings.now.address settings.now.port settings.now.sites)) }
-    ensures write { IsErrOf result ServeSitesFault.Write → W.failed log.new ≡ true }
+    ensures write { IsErrOf result ServeSitesFault.Write ↔ (W.failed log.new ≡ true) }
     ensures works { OnOk result (W.failed log.new ≡ false) }
 {
     let ServerSettings {
