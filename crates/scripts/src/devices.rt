@@ -1,6 +1,6 @@
 //! A script is read whole before any of its lines is run.
-ghost use Rattle.std.specs.Prelude.{◌≡◌, ◌≢◌, ◌≤◌, ◌<◌, ◌+◌, ◌⊎◌, ℕ, List, Option, Ok, true, false};
-ghost use Rattle.std.specs.Prelude.{vec_len, IfOk, IfErr, OnOk, IsErrOf};
+ghost use Rattle.std.specs.Prelude.{◌≡◌, ◌≢◌, ◌≤◌, ◌<◌, ◌↔◌, ◌+◌, ◌⊎◌, ℕ, List, Option, Ok, true};
+ghost use Rattle.std.specs.Prelude.{false, vec_len, IfOk, IfErr, OnOk, IsErrOf};
 ghost use Rattle.std.specs.Io.KnownBytes.{Consumes};
 ghost use Rattle.ami_text.specs.Devices.{HasEnded, HasGiven};
 
@@ -31,7 +31,7 @@ fn read_piece<S: Source>(reader: &mut S, script: &mut Vec<u8>) -> Result<bool, S
     ensures works { OnOk result (S.failed reader.new ≡ false) }
     ensures short { OnOk result (vec_len script.new ≤ 16777216) }
     ensures fault { IfErr result (λ fault. fault ≢ ScriptFault.Write) }
-    ensures read { IsErrOf result ScriptFault.Read → S.failed reader.new ≡ true }
+    ensures read { IsErrOf result ScriptFault.Read ↔ (S.failed reader.new ≡ true) }
     ensures too_long { IsErrOf result ScriptFault.TooLong → (before : Option (List ℕ))
         → Consumes before (S.left reader.old) script.old.items
         → HasGiven before (S.left reader.new) (16777216 + 1) }
@@ -67,6 +67,7 @@ pub fn read_script<S: Source>(alloc: Global, reader: &mut S) -> Result<Vec<u8>, 
     ensures read { IsErrOf result ScriptFault.Read → (S.failed reader.new ≡ true)
         ⊎ ((S.ended reader.new ≡ false)
         × HasGiven (S.left reader.old) (S.left reader.new) 1000000) }
+    ensures fails { S.failed reader.new ≡ true → IsErrOf result ScriptFault.Read }
     ensures too_long { IsErrOf result ScriptFault.TooLong
         → HasGiven (S.left reader.old) (S.left reader.new) (16777216 + 1) }
     ensures reads { S.reads_left reader.old ≤ S.reads_left reader.new + 1000000 }

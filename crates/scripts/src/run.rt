@@ -1,5 +1,5 @@
 //! A whole script is read, and then run (this project's own).
-ghost use Rattle.std.specs.Prelude.{◌≡◌, ◌≤◌, ◌+◌, ◌⊎◌, true, false, IfOk, OnOk, IsErrOf};
+ghost use Rattle.std.specs.Prelude.{◌≡◌, ◌≤◌, ◌+◌, ◌⊎◌, ◌↔◌, true, false, IfOk, OnOk, IsErrOf};
 ghost use Rattle.ami_text.specs.Devices.{HasEnded, HasGiven};
 ghost use Rattle.scripts.specs.Script.{IsRunInPart, IsRunInWholeLines, IsScriptRun};
 ghost use Rattle.scripts.specs.LineSteps.{listed_place};
@@ -42,13 +42,14 @@ pub fn run_script<S: Source, W: Sink>(
         (S.left reader.old) (S.left reader.new)
         (W.taken writer.old) (W.taken writer.new) unknown) }
 
-    // Each of these faults stands only where its cause does.
+    // Each of these faults stands only where its cause does; where a device has failed its own does.
     ensures read { IsErrOf result ScriptFault.Read → (S.failed reader.new ≡ true)
         ⊎ ((S.ended reader.new ≡ false)
         × HasGiven (S.left reader.old) (S.left reader.new) 1000000) }
+    ensures fails { S.failed reader.new ≡ true → IsErrOf result ScriptFault.Read }
     ensures length { IsErrOf result ScriptFault.TooLong
         → HasGiven (S.left reader.old) (S.left reader.new) (16777216 + 1) }
-    ensures write { IsErrOf result ScriptFault.Write → W.failed writer.new ≡ true }
+    ensures write { IsErrOf result ScriptFault.Write ↔ (W.failed writer.new ≡ true) }
 
     // After these two nothing was written.
     ensures unread { IsErrOf result ScriptFault.Read → W.taken writer.new ≡ W.taken writer.old }

@@ -1,6 +1,6 @@
 //! The sites of a script, and its lines, which are run over them one after another (this project's own).
-ghost use Rattle.std.specs.Prelude.{◌≡◌, ◌≤◌, ◌⊎◌, true, false, ℕ, List, Some, length, slice_get};
-ghost use Rattle.std.specs.Prelude.{IfErr, IfOk, IsErrOf, OnOk};
+ghost use Rattle.std.specs.Prelude.{◌≡◌, ◌≤◌, ◌⊎◌, ◌↔◌, true, false, ℕ, List, Some, length};
+ghost use Rattle.std.specs.Prelude.{IfErr, IfOk, IsErrOf, OnOk, slice_get};
 ghost use Rattle.delta.specs.Frames.{IsInRanges};
 ghost use Rattle.delta_codec.specs.Frames.{SpellsIn};
 ghost use Rattle.delta_codec.specs.declared.limits.TheConstants.{VERSION};
@@ -268,7 +268,7 @@ impl Script {
         ensures begun { IsErrOf result ScriptFault.Write → (w : world_of_operations)
             → StandsAt self.old.world w → BeganLine (place_of self.old) w number line.now
             (W.taken writer.old) (W.taken writer.new) }
-        ensures write { IsErrOf result ScriptFault.Write → W.failed writer.new ≡ true }
+        ensures write { IsErrOf result ScriptFault.Write ↔ (W.failed writer.new ≡ true) }
         ensures fault { IfErr result
             (λ fault. (fault ≡ ScriptFault.Write) ⊎ (fault ≡ ScriptFault.Memory)) }
     {
@@ -296,7 +296,7 @@ impl Script {
             → StandsAt self.old.world w → HasBegunText (place_of self.old) w text.now
             (W.taken writer.old) (W.taken writer.new) }
         ensures works { OnOk result (W.failed writer.new ≡ false) }
-        ensures write { IsErrOf result ScriptFault.Write → W.failed writer.new ≡ true }
+        ensures write { IsErrOf result ScriptFault.Write ↔ (W.failed writer.new ≡ true) }
         ensures fault { IfErr result
             (λ fault. (fault ≡ ScriptFault.Write) ⊎ (fault ≡ ScriptFault.Memory)) }
     {
