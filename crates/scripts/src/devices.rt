@@ -2,7 +2,7 @@
 ghost use Rattle.std.specs.Prelude.{◌≡◌, ◌≢◌, ◌≤◌, ◌<◌, ◌↔◌, ◌+◌, ◌⊎◌, ℕ, List, Option, Ok, true};
 ghost use Rattle.std.specs.Prelude.{false, vec_len, IfOk, IfErr, OnOk, IsErrOf};
 ghost use Rattle.std.specs.Io.KnownBytes.{Consumes};
-ghost use Rattle.ami_text.specs.Devices.{HasEnded, HasGiven};
+ghost use Rattle.ami_text.specs.Devices.{HasEnded, HasGiven, HasGivenUpTo};
 
 use crate::script_fault::ScriptFault;
 use ami_text::Source;
@@ -35,6 +35,9 @@ fn read_piece<S: Source>(reader: &mut S, script: &mut Vec<u8>) -> Result<bool, S
     ensures too_long { IsErrOf result ScriptFault.TooLong → (before : Option (List ℕ))
         → Consumes before (S.left reader.old) script.old.items
         → HasGiven before (S.left reader.new) (16777216 + 1) }
+    ensures few { (IsErrOf result ScriptFault.TooLong → ⊥) → (before : Option (List ℕ))
+        → Consumes before (S.left reader.old) script.old.items
+        → HasGivenUpTo before (S.left reader.new) 16777216 }
     ensures counted { S.reads_left reader.old ≤ S.reads_left reader.new + 1 }
 {
     let mut piece = [0u8; PIECE];
@@ -70,6 +73,8 @@ pub fn read_script<S: Source>(alloc: Global, reader: &mut S) -> Result<Vec<u8>, 
     ensures fails { S.failed reader.new ≡ true → IsErrOf result ScriptFault.Read }
     ensures too_long { IsErrOf result ScriptFault.TooLong
         → HasGiven (S.left reader.old) (S.left reader.new) (16777216 + 1) }
+    ensures few { (IsErrOf result ScriptFault.TooLong → ⊥)
+        → HasGivenUpTo (S.left reader.old) (S.left reader.new) 16777216 }
     ensures reads { S.reads_left reader.old ≤ S.reads_left reader.new + 1000000 }
 {
     let mut script = Vec::new(alloc);

@@ -1,6 +1,6 @@
 //! A whole script is read, and then run (this project's own).
 ghost use Rattle.std.specs.Prelude.{◌≡◌, ◌≤◌, ◌+◌, ◌⊎◌, ◌↔◌, true, false, IfOk, OnOk, IsErrOf};
-ghost use Rattle.ami_text.specs.Devices.{HasEnded, HasGiven};
+ghost use Rattle.ami_text.specs.Devices.{HasEnded, HasGiven, HasGivenUpTo};
 ghost use Rattle.scripts.specs.Script.{IsRunInPart, IsRunInWholeLines, IsScriptRun};
 ghost use Rattle.scripts.specs.LineSteps.{listed_place};
 
@@ -49,6 +49,8 @@ pub fn run_script<S: Source, W: Sink>(
     ensures fails { S.failed reader.new ≡ true → IsErrOf result ScriptFault.Read }
     ensures length { IsErrOf result ScriptFault.TooLong
         → HasGiven (S.left reader.old) (S.left reader.new) (16777216 + 1) }
+    ensures few { (IsErrOf result ScriptFault.TooLong → ⊥)
+        → HasGivenUpTo (S.left reader.old) (S.left reader.new) 16777216 }
     ensures write { IsErrOf result ScriptFault.Write ↔ (W.failed writer.new ≡ true) }
 
     // After these two nothing was written.
