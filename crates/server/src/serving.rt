@@ -71,7 +71,9 @@ fn parts_of(
     site: SiteId,
     listener: TcpListener,
 ) -> Result<(SiteParts, Arc<Start, Global>), Memory>
-    ensures { IfOk result (λ made. made.0.number ≡ site) }
+    ensures site { IfOk result (λ made. made.0.number ≡ site) }
+    ensures clients { IfOk result (λ made. made.0.clients ≡ common.now.clients) }
+    ensures settings { IfOk result (λ made. made.0.settings ≡ common.now.settings.now) }
 {
     let start = match Arc::try_clone(common.start) {
         Ok(start) => start,
