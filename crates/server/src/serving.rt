@@ -195,6 +195,7 @@ fn start_sites<'s, 'e: 's, R: Threads + Wait + Clock + Eprint + Sync>(
 // The first in order of a fault and that of a site that has ended, if it has one.
 fn first_fault(fault: SiteFault, ended: Result<Journaled, SiteFault>) -> SiteFault
     ensures other { IsErrOf ended SiteFault.NoThread → result ≡ SiteFault.NoThread }
+    ensures same { (IsErrOf ended SiteFault.NoThread → ⊥) → result ≡ fault }
     ensures either { (result ≡ fault) ⊎ (result ≡ SiteFault.NoThread) }
 {
     match ended {
