@@ -1,4 +1,4 @@
-ghost use Rattle.std.specs.Prelude.{◌≡◌, ◌+◌, ℕ, false, true};
+ghost use Rattle.std.specs.Prelude.{◌≡◌, ◌+◌, ℕ, false, is_none, true};
 
 use std::sync::{Mutex, Wait};
 
@@ -25,7 +25,9 @@ fn take_one(left: &mut u32) -> bool
 
 impl Tickets {
     // So many; without end where there is no number.
-    pub fn new(clients: Option<u32>) -> Tickets {
+    pub fn new(clients: Option<u32>) -> Tickets
+        ensures { result.is_endless ≡ is_none clients }
+    {
         Tickets {
             is_endless: clients.is_none(),
             left: Mutex::new(clients.unwrap_or(0)),
@@ -33,7 +35,9 @@ impl Tickets {
     }
 
     // Takes one, if there is one, and tells whether there was.
-    pub fn take<R: Wait>(&self, rt: &R) -> bool {
+    pub fn take<R: Wait>(&self, rt: &R) -> bool
+        ensures { self.now.is_endless ≡ true → result ≡ true }
+    {
         if self.is_endless {
             return true;
         }
