@@ -117,18 +117,18 @@ parts_found bytes n h = rw add-one (parts_cut bytes n h)
 pub blank_found : (bytes : List ℕ) (n : ℕ) → IsFirstAt 32 bytes n → (before_blank bytes ≡ take n bytes) × (behind_blank bytes ≡ Some (drop (n + 1) bytes))
 blank_found bytes n h = rw add-one (blank_cut bytes n h)
 
--- a feed that holds the stream of the fields but for the rest goes on to the next bar
-pub fed_more : (fields held rest new after : List ℕ) (n : ℕ) → held ++ stream_of rest ≡ stream_of fields → IsFirstAt 124 rest n
-    → new ≡ held ++ take n rest ++ codes "\r\n" → after ≡ take (length rest - (n + 1)) (drop (n + 1) rest) → new ++ stream_of after ≡ stream_of fields
-fed_more fields held rest new after n whole first is_new is_after =
+-- what is written of the stream of the fields, all but for the rest, goes on to the next bar
+pub stream_goes_on : (fields written rest new after : List ℕ) (n : ℕ) → written ++ stream_of rest ≡ stream_of fields → IsFirstAt 124 rest n
+    → new ≡ written ++ take n rest ++ codes "\r\n" → after ≡ take (length rest - (n + 1)) (drop (n + 1) rest) → new ++ stream_of after ≡ stream_of fields
+stream_goes_on fields written rest new after n whole first is_new is_after =
     let tail = stream_of (drop (n + 1) rest) in
     (λ i. is_new i ++ stream_of ((is_after ∙ take_rest rest (n + 1)) i))
-    ∙ append_assoc (held ++ take n rest) (codes "\r\n") tail ∙ append_assoc held (take n rest) (codes "\r\n" ++ tail)
-    ∙ ap (λ t. held ++ t) (sym (stream_found rest n first)) ∙ whole
+    ∙ append_assoc (written ++ take n rest) (codes "\r\n") tail ∙ append_assoc written (take n rest) (codes "\r\n" ++ tail)
+    ∙ ap (λ t. written ++ t) (sym (stream_found rest n first)) ∙ whole
 
 -- and behind the last one to the end
-pub fed_last : (fields held rest new last : List ℕ) → held ++ stream_of rest ≡ stream_of fields → IsNowhere 124 rest
-    → new ≡ held ++ rest ++ codes "\r\n" → last ≡ new ++ codes "\r\n" → last ≡ stream_of fields
-fed_last fields held rest new last whole none is_new is_last =
-    is_last ∙ ap (λ t. t ++ codes "\r\n") is_new ∙ append_assoc (held ++ rest) (codes "\r\n") (codes "\r\n") ∙ append_assoc held rest (codes "\r\n\r\n")
-    ∙ ap (λ t. held ++ t) (sym (stream_last rest none)) ∙ whole
+pub stream_ends : (fields written rest new last : List ℕ) → written ++ stream_of rest ≡ stream_of fields → IsNowhere 124 rest
+    → new ≡ written ++ rest ++ codes "\r\n" → last ≡ new ++ codes "\r\n" → last ≡ stream_of fields
+stream_ends fields written rest new last whole none is_new is_last =
+    is_last ∙ ap (λ t. t ++ codes "\r\n") is_new ∙ append_assoc (written ++ rest) (codes "\r\n") (codes "\r\n") ∙ append_assoc written rest (codes "\r\n\r\n")
+    ∙ ap (λ t. written ++ t) (sym (stream_last rest none)) ∙ whole

@@ -6,33 +6,44 @@ ghost use Rattle.ami_text.specs.Stream.{Gives, IsRest};
 ghost use Rattle.script_lines.specs.ScriptLines.{IsMessage, stream_of};
 
 use ami_text::laws::stream_has_one_outcome;
-use ami_text::{Feed, FeedFault, Message};
+use ami_text::{Feed, FeedFault, Message, push_end};
 use bstr::ByteSlice;
 use dots::Memory;
 use std::alloc::Global;
 
-// Feeds one line, with CR and LF behind it.
-fn feed_line(feed: &mut Feed, line: &[u8]) -> Result<(), Memory>
-    requires { feed.old.fault ≡ None }
-    ensures { OnOk result (feed.new
-        ≡ record { held = feed.old.held ++ line.now ++ codes "\r\n"; fault = None }) }
+// For how many bytes a stream has room at first beyond those of its fields: most need no more.
+const MORE_ROOM: usize = 16;
+
+// Writes one line at the end, with CR and LF behind it.
+fn push_line(stream: &mut Vec<u8>, line: &[u8]) -> Result<(), Memory>
+    ensures { OnOk result (stream.new.items ≡ stream.old.items ++ line.now ++ codes "\r\n") }
 {
-    feed.feed(line)?;
-    feed.feed(b"\r\n")
+    stream.extend_from_slice(line)?;
+    stream.extend_from_slice(b"\r\n")
 }
 
-// A feed that holds the stream of `fields`: a line for each part between bars, and an empty line behind them.
+// The stream of `fields`: a line for each part between bars, and an empty line behind them.
+fn stream_of(alloc: Global, fields: &[u8]) -> Result<Vec<u8>, Memory>
+    ensures { IfOk result (λ stream. stream.items ≡ stream_of fields.now) }
+{
+    let mut stream = Vec::with_capacity(alloc, fields.len() + MORE_ROOM)?;
+    let mut rest = fields;
+    'lines: while let Some(bar) = rest.find_byte(b'|') {
+        push_line(&mut stream, &rest[..bar])?;
+        rest = &rest[bar + 1..];
+    }
+    push_line(&mut stream, rest)?;
+    push_end(&mut stream)?;
+    Ok(stream)
+}
+
+// A feed that holds the stream of `fields`, which is fed at once.
 fn feed_of(alloc: Global, fields: &[u8]) -> Result<Feed, Memory>
     ensures { IfOk result (λ feed. feed ≡ record { held = stream_of fields.now; fault = None }) }
 {
+    let stream = stream_of(alloc, fields)?;
     let mut feed = Feed::new(alloc);
-    let mut rest = fields;
-    'lines: while let Some(bar) = rest.find_byte(b'|') {
-        feed_line(&mut feed, &rest[..bar])?;
-        rest = &rest[bar + 1..];
-    }
-    feed_line(&mut feed, rest)?;
-    feed.feed(b"\r\n")?;
+    feed.feed(&stream)?;
     Ok(feed)
 }
 
