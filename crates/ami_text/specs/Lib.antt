@@ -1,5 +1,4 @@
 pub mod Devices
-pub mod Field
 pub mod MessageFields
 pub mod Numbers
 pub mod Found

@@ -1,7 +1,6 @@
-ghost use Rattle.std.specs.Prelude.{◌≡◌, ℕ, List, [], ◌∷◌, ◌++◌, map, All, IfOk, OnOk};
+ghost use Rattle.std.specs.Prelude.{◌≡◌, ℕ, List, [], ◌∷◌, ◌++◌, All, IfOk, OnOk};
 ghost use Rattle.std.specs.Option.{option_copied};
 ghost use Rattle.ami_text.specs.MessageFields.{fields_of, first_value, value_of};
-ghost use Rattle.ami_text.specs.Field.{pair_of};
 ghost use Rattle.ami_text.specs.Lines.{HasNoLf, lines_text};
 
 use crate::Memory;
@@ -21,21 +20,20 @@ pub struct Message {
 }
 
 impl Model for Message {
-    ghost use Rattle.std.specs.Prelude.{ℕ, List, map};
-    ghost use Rattle.ami_text.specs.Field.{pair_of};
+    ghost use Rattle.std.specs.Prelude.{ℕ, List};
 
     ghost Value = { List (List ℕ × List ℕ) };
 
-    ghost view = { λ m. map pair_of m.fields.items };
+    ghost view = { λ m. m.fields.items };
 }
 
 // The value of the first field of this name.
 fn first_value<'a>(fields: &'a [Field], name: &[u8]) -> Option<&'a [u8]>
-    ensures { option_copied result ≡ first_value name.now (map pair_of fields.now) }
+    ensures { option_copied result ≡ first_value name.now fields.now }
 {
     for field in fields {
-        if field.name.eq_ignore_ascii_case(name) {
-            return Some(field.value.as_slice());
+        if field.name().eq_ignore_ascii_case(name) {
+            return Some(field.value());
         }
     }
     None
@@ -43,8 +41,8 @@ fn first_value<'a>(fields: &'a [Field], name: &[u8]) -> Option<&'a [u8]>
 
 // Adds the field that a line is; a line without a colon is none.
 fn push_line(alloc: Global, fields: &mut Vec<Field>, line: &[u8]) -> Result<(), Memory>
-    ensures { OnOk result (map pair_of fields.new.items
-        ≡ map pair_of fields.old.items ++ fields_of (line.now ∷ [])) }
+    ensures { OnOk result (fields.new.items
+        ≡ fields.old.items ++ fields_of (line.now ∷ [])) }
 {
     if let Some((name, value)) = name_and_value(content(line)) {
         fields.push(Field::new(alloc, name, value)?)?;
