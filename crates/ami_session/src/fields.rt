@@ -47,10 +47,11 @@ fn penalty_in(message: &Message) -> Option<Penalty>
     penalty_of(message.get(b"Penalty").unwrap_or(b"0"))
 }
 
-/// What a QueueAdd asks that lacks no field. `Err` names the first field, in the order Queue, Interface, Penalty, Paused, MemberName,
-/// StateInterface, that can't be read. An absent penalty is 0, an absent Paused is no.
-pub fn queue_add(message: &Message) -> Result<Command, Unreadable>
-    requires { absent_in (row_of Action.QueueAdd) message.now ≡ None }
+/// What a QueueAdd asks that lacks no field, and whose Paused says yes where `paused`. `Err` names the first field, in the order Queue,
+/// Interface, Penalty, Paused, MemberName, StateInterface, that can't be read. An absent penalty is 0, an absent Paused is no.
+pub fn queue_add(message: &Message, paused: bool) -> Result<Command, Unreadable>
+    requires none_absent { absent_in (row_of Action.QueueAdd) message.now ≡ None }
+    requires paused { paused ≡ says_yes (codes "Paused") message.now }
     ensures { MatchResult result
         (λ command. AsksBy (row_of Action.QueueAdd) message.now (Ask.Command command))
         (λ name. unread_in (row_of Action.QueueAdd) message.now ≡ Some name.now) }
@@ -74,7 +75,7 @@ pub fn queue_add(message: &Message) -> Result<Command, Unreadable>
         queue,
         interface,
         penalty,
-        paused: says_yes(message, "Paused"),
+        paused,
         label: Label { name, state },
     })
 }
@@ -108,10 +109,12 @@ fn optional_queue(value: Option<&[u8]>) -> Option<Option<QueueName>>
     }
 }
 
-/// What a QueuePause asks that lacks no field: without a Queue of every queue that the interface is a member of. `Err` names the
-/// first field, in the order Interface, Queue, Reason, that can't be read; a reason is read whatever Paused says.
-pub fn queue_pause(message: &Message) -> Result<Command, Unreadable>
-    requires { absent_in (row_of Action.QueuePause) message.now ≡ None }
+/// What a QueuePause asks that lacks no field, and whose Paused says yes where `paused`: without a Queue of every queue that the
+/// interface is a member of. `Err` names the first field, in the order Interface, Queue, Reason, that can't be read; a reason is read
+/// whatever Paused says.
+pub fn queue_pause(message: &Message, paused: bool) -> Result<Command, Unreadable>
+    requires none_absent { absent_in (row_of Action.QueuePause) message.now ≡ None }
+    requires paused { paused ≡ says_yes (codes "Paused") message.now }
     ensures { MatchResult result
         (λ command. AsksBy (row_of Action.QueuePause) message.now (Ask.Command command))
         (λ name. unread_in (row_of Action.QueuePause) message.now ≡ Some name.now) }
@@ -128,7 +131,7 @@ pub fn queue_pause(message: &Message) -> Result<Command, Unreadable>
     Ok(Command::Pause {
         queue,
         interface,
-        pause: Pause::new(says_yes(message, "Paused"), reason),
+        pause: Pause::new(paused, reason),
     })
 }
 

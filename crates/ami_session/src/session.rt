@@ -1,6 +1,6 @@
 ghost use Rattle.std.specs.Prelude.{◌≡◌, Some, None, true, false, codes, IfOk, OnOk, OnErr};
 ghost use Rattle.std.specs.Prelude.{MatchResult};
-ghost use Rattle.ami_session.specs.Actions.{AsksBy, absent_in, row_of, unread_in};
+ghost use Rattle.ami_session.specs.Actions.{AsksBy, absent_in, row_of, says_yes, unread_in};
 ghost use Rattle.ami_session.specs.FieldValues.{id_of};
 ghost use Rattle.ami_session.specs.Replies.{reply};
 ghost use Rattle.ami_session.specs.Checks.{accepts, Replies, Ends, login_reaction, named_reaction};
@@ -76,17 +76,18 @@ fn goodbye(alloc: Global, id: &Bytes) -> Result<Act, Memory>
 }
 
 // What an action asks, or the field that can't be read.
-fn ask_of(action: Action, message: &Message, id: Bytes) -> Result<Ask, Unreadable>
+fn ask_of(action: Action, message: &Message, paused: bool, id: Bytes) -> Result<Ask, Unreadable>
     requires id { id ≡ id_of message.now }
+    requires paused { paused ≡ says_yes (codes "Paused") message.now }
     requires none_absent { absent_in (row_of action) message.now ≡ None }
     ensures { MatchResult result
         (λ ask. AsksBy (row_of action) message.now ask)
         (λ name. unread_in (row_of action) message.now ≡ Some name.now) }
 {
     match action {
-        Action::QueueAdd => queue_add(message).map(Ask::Command),
+        Action::QueueAdd => queue_add(message, paused).map(Ask::Command),
         Action::QueueRemove => queue_remove(message).map(Ask::Command),
-        Action::QueuePause => queue_pause(message).map(Ask::Command),
+        Action::QueuePause => queue_pause(message, paused).map(Ask::Command),
         Action::QueuePenalty => queue_penalty(message).map(Ask::Command),
         Action::QueueMemberRingInUse => queue_member_ring_in_use(message).map(Ask::Command),
         Action::QueueStatus => queue_status(message, id).map(Ask::Status),
@@ -102,8 +103,9 @@ fn asked(alloc: Global, action: Action, message: &Message, id: Bytes) -> Result<
         let bytes = field_error(alloc, &id, "'", name, "' not specified.")?;
         return Ok(Act::Reply(bytes));
     }
-    match ask_of(action, message, id.copy()?) {
-        Ok(ask) => Ok(Act::Ask(ask, Pending::new(action, says_yes(message, "Paused"), id))),
+    let paused = says_yes(message, "Paused");
+    match ask_of(action, message, paused, id.copy()?) {
+        Ok(ask) => Ok(Act::Ask(ask, Pending::new(action, paused, id))),
         Err(name) => {
             let bytes = field_error(alloc, &id, "Field not valid: ", name, "")?;
             Ok(Act::Reply(bytes))

@@ -27,5 +27,5 @@ returns c =
           ∙ skip _ _ _ (text_read (value_of (codes "StateInterface") m) _ state));
       asked = λ k.
           Command (Add (name_is (text_at (codes "Queue") m) _ queue k) (name_is (text_at (codes "Interface") m) _ interface k)
-          (penalty_is (unwrap_or (value_of (codes "Penalty") m) (codes "0")) _ penalty k) (c.says_yes.ensures k) (record { name = text_is (text_at (codes "MemberName") m) _ name k; state = text_is (text_at (codes "StateInterface") m) _ state k }));
+          (penalty_is (unwrap_or (value_of (codes "Penalty") m) (codes "0")) _ penalty k) (c.requires.paused k) (record { name = text_is (text_at (codes "MemberName") m) _ name k; state = text_is (text_at (codes "StateInterface") m) _ state k }));
     }

@@ -22,8 +22,8 @@ returns c =
     let reason : text_of (text_at (codes "Reason") m) ≡ Some c.in-Some-text_of.reason = ap text_of (sym c.text_at-2.ensures) ∙ sym c.text_of.ensures ∙ c.in-Some-text_of.is in
     let queue : is_unread Name (value_of (codes "Queue") m) ≡ false = ap (is_unread Name) (sym c.get.ensures) ∙ c.in-Some-optional_queue.ensures.0 in
     let pause : c.new.result ≡ pause_in m =
-    made c.new.result c.says_yes.result c.in-Some-text_of.reason c.new.ensures.paused c.new.ensures.reason c.new.ensures.dropped
-    ∙ (λ k. record { paused = c.says_yes.ensures k; reason = if c.says_yes.ensures k then text_is (text_at (codes "Reason") m) _ reason k else [] })
+    made c.new.result c.args.paused c.in-Some-text_of.reason c.new.ensures.paused c.new.ensures.reason c.new.ensures.dropped
+    ∙ (λ k. record { paused = c.requires.paused k; reason = if c.requires.paused k then text_is (text_at (codes "Reason") m) _ reason k else [] })
     in
     record {
       readable =
