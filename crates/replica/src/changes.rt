@@ -37,13 +37,13 @@ pub(crate) fn added(
     alloc: Global,
     members: &MemberSet,
     dot: Dot,
-    member: &Member,
-    fields: &Fields,
+    member: Member,
+    fields: Fields,
 ) -> Result<Delta, ContextFault>
-    requires { HasField fields.now }
+    requires { HasField fields }
     ensures parts { IfOk result (λ change. HasParts change
         (dots_seen_below members.now (dot ∷ []))
-        (one_held dot (member.now, fields.now)) map.empty) }
+        (one_held dot (member, fields)) map.empty) }
     ensures full { (result ≡ Err ContextFault.RunsFull)
         ↔ (MOST_RUNS < run_count (dots_seen_below members.now (dot ∷ []))) }
 {
@@ -52,7 +52,7 @@ pub(crate) fn added(
         Err(fault) => return Err(fault),
     };
     let mut builder = SetBuilder::new(alloc, seen);
-    if builder.cell(dot, member, fields).is_err() {
+    if builder.put(dot, member, fields).is_err() {
         return Err(ContextFault::Memory);
     }
     Ok(of_members(alloc, builder))

@@ -174,7 +174,7 @@ impl Replica {
             return Err(self.refuse_add());
         };
         let fields = fields_added(stamp, penalty, paused, label);
-        match added(self.alloc, self.state.members(), dot, &member, &fields) {
+        match added(self.alloc, self.state.members(), dot, member, fields) {
             Ok(change) => Ok(Planned {
                 change,
                 count: self.count + 1,
