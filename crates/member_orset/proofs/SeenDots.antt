@@ -9,7 +9,7 @@ use Rattle.std.proofs.lemmas.Bool.Decides.{nat_tests}
 use Rattle.std.proofs.lemmas.List.Elements.{All-head, All-tail, All-weaker}
 use Rattle.std.proofs.lemmas.List.Folds.{list_any_none}
 use Rattle.std.proofs.Math.Bool.{and-false, and-true, or-false, or_comm}
-use Rattle.dots.specs.Values.{Dot, IsSite}
+use Rattle.dots.specs.Values.{Dot}
 use Rattle.dots.specs.Orders.{dot_cmp}
 use Rattle.dots.specs.DotSets.{IsRunsOf, Run, dots_between, in_run, next_dot, run_count, is_older}
 use Rattle.dots.proofs.DotOrder.{dots_total, dots_exact, same_dot}
@@ -179,19 +179,22 @@ from_one dots site none = sets.same_set dots_total dots_exact _ _ (λ q.
 pub none_of_site : (known : Dots) (live : Dot → Bool) (given : List Dot) (site : ℕ) (dots : Dots) → AreToName known live given site 0 dots → part_before dots site 0 ≡ part_before dots (site + 1) 0
 none_of_site known live given site dots name = sym (from_one dots site name.not_zero) ∙ next_site dots site 0 name.none_past
 
-nothing_first : (t c : ℕ) → (nat_lt t 0 || (nat_eq t 0 && nat_lt c 0)) ≡ false
-nothing_first t c = grind (arith, nat_tests)
+none_first : (t c s : ℕ) → s ≤ t → (nat_lt t s || (nat_eq t s && nat_lt c 0)) ≡ false
+none_first t c s h = grind (arith, nat_tests)
 
-pub no_part : (dots : Dots) → sets.empty ≡ part_before dots 0 0
-no_part dots = sets.same_set dots_total dots_exact _ _ (λ q.
-    sets.contains-empty dot_cmp q ∙ sym (contains_part dots 0 0 q ∙ ap (λ b. sets.contains dots q && b) (nothing_first q.site q.count) ∙ and-false (sets.contains dots q)))
+-- before the least site there is nothing
+pub no_part : (dots : Dots) (site : ℕ) → ((q : Dot) → sets.contains dots q ≡ true → site ≤ q.site) → sets.empty ≡ part_before dots site 0
+no_part dots site from = sets.same_set dots_total dots_exact _ _ (λ q.
+    sets.contains-empty dot_cmp q
+    ∙ sym (contains_part dots site 0 q ∙ under (sets.contains dots q) _ false (λ t. none_first q.site q.count site (from q t)) ∙ and-false (sets.contains dots q)))
 
-all_sites : (t c : ℕ) → t < 64 → (nat_lt t 64 || (nat_eq t 64 && nat_lt c 0)) ≡ true
-all_sites t c h = grind (arith, nat_tests)
+all_first : (t c s : ℕ) → t < s → (nat_lt t s || (nat_eq t s && nat_lt c 0)) ≡ true
+all_first t c s h = grind (arith, nat_tests)
 
-pub whole_part : (dots : Dots) → ((q : Dot) → sets.contains dots q ≡ true → q.site < 64) → part_before dots 64 0 ≡ dots
-whole_part dots few = sets.same_set dots_total dots_exact _ _ (λ q.
-    contains_part dots 64 0 q ∙ under (sets.contains dots q) _ true (λ t. all_sites q.site q.count (few q t)) ∙ and-true (sets.contains dots q))
+-- and past the greatest one there is nothing more
+pub whole_part : (dots : Dots) (site : ℕ) → ((q : Dot) → sets.contains dots q ≡ true → q.site < site) → part_before dots site 0 ≡ dots
+whole_part dots site below = sets.same_set dots_total dots_exact _ _ (λ q.
+    contains_part dots site 0 q ∙ under (sets.contains dots q) _ true (λ t. all_first q.site q.count site (below q t)) ∙ and-true (sets.contains dots q))
 
 -- whether a dot was seen
 contains_seen : (known : Dots) (live : Dot → Bool) (given : List Dot) (q : Dot)
@@ -284,14 +287,14 @@ module _ (known : Dots) (live : Dot → Bool) (given : List Dot) (site last : �
   }
 
 -- what was seen is of sites of given dots
-pub seen_sites : (known : Dots) (live : Dot → Bool) (given : List Dot) → All (λ d. IsSite d.site) given → (q : Dot) → sets.contains (seen_dots known live given) q ≡ true → q.site < 64
-seen_sites known live given sites q h = elim (cases_Bool (is_given given q)) [
-  | inl t ↦ let f = any_has (λ d. IsSite d.site) (eq_by_cmp dot_cmp q) given sites t in subst (λ (d : Dot). d.site < 64) (sym (one_dot q f.0 f.2)) f.1
+pub seen_sites : (P : ℕ → Type 0) (known : Dots) (live : Dot → Bool) (given : List Dot) → All (λ d. P d.site) given → (q : Dot) → sets.contains (seen_dots known live given) q ≡ true → P q.site
+seen_sites P known live given sites q h = elim (cases_Bool (is_given given q)) [
+  | inl t ↦ let f = any_has (λ d. P d.site) (eq_by_cmp dot_cmp q) given sites t in subst (λ (d : Dot). P d.site) (sym (one_dot q f.0 f.2)) f.1
   | inr n ↦
       let all = ap (λ b. b || (sets.contains known q && (not (live q) && is_older given q))) (sym n) ∙ sym (contains_seen known live given q) ∙ h in
       let older = (and_parts (not (live q)) (is_older given q) (and_parts (sets.contains known q) (not (live q) && is_older given q) all).1).1 in
-      let f = any_has (λ d. IsSite d.site) (λ g. nat_eq g.site q.site && nat_lt q.count g.count) given sites older in
+      let f = any_has (λ d. P d.site) (λ g. nat_eq g.site q.site && nat_lt q.count g.count) given sites older in
       let same = and_parts (nat_eq f.0.site q.site) (nat_lt q.count f.0.count) f.2 in
       let e : f.0.site ≡ q.site = grind (arith, nat_tests) in
-      subst (λ n. n < 64) e f.1
+      subst P e f.1
 ]

@@ -2,7 +2,6 @@
 ghost use Rattle.std.specs.Prelude.{◌≡◌, ◌<◌, ◌≤◌, ◌↔◌, IfOk, IsTrue};
 ghost use Rattle.std.specs.List.{All};
 ghost use Rattle.std.specs.FinMap as map;
-ghost use Rattle.dots.specs.Values.{IsSite};
 ghost use Rattle.dots.specs.Orders.{dot_cmp};
 ghost use Rattle.dots.specs.DotSets.{run_count};
 ghost use Rattle.member_orset.specs.PlacedLists.{AreRising, is_placed};
@@ -16,11 +15,27 @@ use causal_context::{Context, ContextFault};
 use dots::{Dot, MOST_COUNT, MOST_RUNS, SITES, SiteId};
 use std::alloc::Global;
 
+// Between which numbers the sites of the given dots lie: from the first on, and before the second.
+fn sites_of(given: &[Dot]) -> (u16, u16)
+    ensures first { All (λ d. result.0 ≤ d.site) given.now }
+    ensures end { All (λ d. d.site < result.1) given.now }
+    ensures limit { result.1 ≤ SITES }
+{
+    let mut first = SITES;
+    let mut end: u16 = 0;
+    for dot in given {
+        let site = dot.site();
+        let number = site.number();
+        first = first.min(number);
+        end = end.max(number + 1);
+    }
+    (first, end)
+}
+
 // The greatest count of the given dots of a site: 0 where none is of it.
 fn greatest_of(given: &[Dot], site: SiteId) -> u64
     ensures greatest { IsGreatest given.now site result }
     ensures limit { result ≤ MOST_COUNT }
-    ensures sites { All (λ d. IsSite d.site) given.now }
 {
     let mut greatest: u64 = 0;
     for dot in given {
@@ -49,7 +64,8 @@ pub(crate) fn gather(
 {
     let runs = context.as_slice();
     let mut gathered = Gathered::none(alloc);
-    for number in 0..SITES {
+    let (first, end) = sites_of(given);
+    for number in first..end {
         let Some(site) = SiteId::new(number) else {
             return gathered.finish();
         };

@@ -1,7 +1,5 @@
 -- All sites up to the one at hand are gathered.
-use Rattle.std.proofs.Common.{◌≤◌, ◌<◌, ◌*◌, ◌^◌}
-use Rattle.std.specs.List.{All}
-use Rattle.dots.specs.Values.{IsSite}
+use Rattle.std.proofs.Common.{◌≤◌, ◌*◌, ◌^◌}
 use Rattle.member_orset.specs.PlacedLists.{is_placed}
 use Rattle.member_orset.specs.Reads.{seen_dots}
 use Rattle.member_orset.specs.Gathering.{IsGathered, part_before}
@@ -11,5 +9,4 @@ abbrev pub invariant-loop-number : goal.invariant-loop-number
 invariant-loop-number l = record {
   few : l.gathered.runs ≤ l.number * 2 ^ 41;
   gathered : IsGathered l.gathered (part_before (seen_dots l.context.dots (is_placed l.dots) l.given) l.number 0);
-  sites : 0 < l.number → All (λ d. IsSite d.site) l.given;
 }

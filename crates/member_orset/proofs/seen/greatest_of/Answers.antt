@@ -2,7 +2,7 @@ use Rattle.std.proofs.Common.{ℕ, ◌≡◌, ◌+◌, ◌≤◌, true, take, sy
 use Rattle.std.proofs.lemmas.Bool.{cases_lt}
 use Rattle.std.proofs.lemmas.List.{take_all}
 use Rattle.std.proofs.lemmas.List.Elements.{All-more, All-same, All-weaker}
-use Rattle.dots.specs.Values.{Dot, IsSite}
+use Rattle.dots.specs.Values.{Dot}
 use Rattle.member_orset.specs.Gathering.{is_given}
 use Rattle.member_orset.proofs.Pieces.{differs, agrees, given_before, given_now}
 use Rattle.member_orset.proofs.seen.greatest_of.Goals as goal
@@ -25,7 +25,6 @@ loop-dot-preserved-then-ne c =
       limit = c.loop-dot.invariant.limit;
       least = All-more (Least site) given i x c.loop-dot-test.true c.loop-dot.invariant.least (subst (Least site) c.dot-item.is (λ s. absurd (other (is ∙ s))));
       most = All-more (Most site c.loop-dot.greatest) given i x c.loop-dot-test.true c.loop-dot.invariant.most (subst (Most site c.loop-dot.greatest) c.dot-item.is (λ s. absurd (other (is ∙ s))));
-      sites = All-more (λ d. IsSite d.site) given i x c.loop-dot-test.true c.loop-dot.invariant.sites (subst (λ (d : Dot). IsSite d.site) c.dot-item.is (subst IsSite is c.site.ensures.limit));
       reached = λ h. given_before given i x _ c.loop-dot-test.true (c.loop-dot.invariant.reached h);
     }
 
@@ -46,7 +45,6 @@ loop-dot-preserved c =
       most = All-more (Most site greatest) given i x c.loop-dot-test.true
           (All-weaker (Most site c.loop-dot.greatest) (Most site greatest) (λ d p s. let q = p s in omega arith) (take i given) c.loop-dot.invariant.most)
           (subst (Most site greatest) c.dot-item.is (λ s. omega arith));
-      sites = All-more (λ d. IsSite d.site) given i x c.loop-dot-test.true c.loop-dot.invariant.sites (subst (λ (d : Dot). IsSite d.site) c.dot-item.is (subst IsSite is c.site.ensures.limit));
       reached = λ h. elim (cases_lt c.loop-dot.greatest x.count) [
         | inl l ↦ let e : x.count ≡ greatest = omega arith in
             subst (λ (q : Dot). is_given (take (i + 1) given) q ≡ true) (λ k. record { site = same k; count = e k }) (given_now given i x c.loop-dot-test.true c.dot-item.is)
@@ -64,7 +62,3 @@ returns-clause-greatest c =
       most = All-same (Most c.args.site c.loop-dot.greatest) given (take c.loop-dot.dot-index given) (sym all) c.loop-dot.invariant.most;
       reached = λ h. ap (λ ds. is_given ds (record { site = c.args.site; count = c.loop-dot.greatest })) (sym all) ∙ c.loop-dot.invariant.reached h;
     }
-
-pub returns-clause-sites : goal.returns-clause-sites
-returns-clause-sites c =
-    All-same (λ (d : Dot). IsSite d.site) c.args.given.now (take c.loop-dot.dot-index c.args.given.now) (sym (take_all c.loop-dot.dot-index c.args.given.now c.loop-dot-test.false)) c.loop-dot.invariant.sites

@@ -1,6 +1,5 @@
 use Rattle.std.proofs.Common.{◌≡◌, ◌≤◌, ◌<◌, ◌^◌, true, take}
 use Rattle.std.specs.List.{All}
-use Rattle.dots.specs.Values.{IsSite}
 use Rattle.member_orset.specs.Gathering.{is_given}
 use Rattle.member_orset.proofs.seen.greatest_of.Given as goal
 
@@ -9,6 +8,5 @@ invariant-loop-dot l = record {
   limit : l.greatest ≤ 2 ^ 40;
   least : All (λ d. d.site ≡ l.site → 1 ≤ d.count) (take l.dot-index l.given);
   most : All (λ d. d.site ≡ l.site → d.count ≤ l.greatest) (take l.dot-index l.given);
-  sites : All (λ d. IsSite d.site) (take l.dot-index l.given);
   reached : 0 < l.greatest → is_given (take l.dot-index l.given) (record { site = l.site; count = l.greatest }) ≡ true;
 }
