@@ -3,7 +3,6 @@ use Rattle.std.proofs.Common.{sym, ap, subst, ◌∙◌}
 use Rattle.std.specs.FinMap as map
 use Rattle.std.specs.FinSet as set
 use Rattle.operations.specs.Conditions.{ConditionsAgree, condition_joined}
-use Rattle.operations.specs.Totals.{Entries}
 use Rattle.operations.specs.Totals as totals
 use Rattle.operations.proofs.ConditionLaws.{conditions_agree, conditions_assoc, conditions_comm, conditions_self, unknown_is_neutral}
 use Rattle.operations.proofs.TotalsLaws.{joined_assoc, joined_comm, joined_empty, joined_self}

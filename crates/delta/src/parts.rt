@@ -1,6 +1,5 @@
 //! The parts of deltas, where one of them says nothing: then nothing is walked, whatever the other has.
-ghost use Rattle.std.specs.Prelude.{◌≡◌, ◌≢◌, ◌↔◌, ◌≤◌, Err, IsOk, IsTrue, OnErr, OnOk};
-ghost use Rattle.std.specs.FinMap as map;
+ghost use Rattle.std.specs.Prelude.{◌≡◌, ◌≢◌, ◌↔◌, ◌≤◌, Err, IsOk, IsTrue, OnOk};
 ghost use Rattle.std.specs.FinSet as set;
 ghost use Rattle.operations.specs.Totals.{join_of};
 ghost use Rattle.member_orset.specs.Members.{IsJoinOf, IsPrepared, IsUnchanged, IsWithinLimits};

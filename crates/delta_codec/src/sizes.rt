@@ -7,7 +7,6 @@ ghost use Rattle.delta_codec.specs.declared.limits.TheConstants.{MOST_LENGTH, MO
 ghost use Rattle.delta_codec.specs.Frames.{Heading, content_bytes, parts_with};
 ghost use Rattle.delta_codec.specs.Measures.{most_cell, most_field, most_fields, most_text};
 ghost use Rattle.delta_codec.specs.Parts.{cell_bytes, field_bytes, fields_bytes, text_bytes};
-ghost use Rattle.delta_codec.specs.Parts.{total_bytes};
 
 use crate::field_bytes::FieldBytes;
 use causal_context::Run;

@@ -1,9 +1,8 @@
 -- The running totals of calls in a knowledge (RR-7506's grow-only counter).
-use Rattle.std.specs.Prelude.{ℕ, ◌==◌, ◌&&◌, max, Bool, true, false, [], ◌∷◌, if◌then◌else◌}
+use Rattle.std.specs.Prelude.{ℕ, ◌==◌, ◌&&◌, max, [], ◌∷◌, if◌then◌else◌}
 use Rattle.dots.specs.declared.limits.TheConstants.{SITES}
 use Rattle.dots.specs.declared.calls.Calls.{Calls}
 use Rattle.dots.specs.CountedCalls.{same_calls}
-use Rattle.dots.specs.declared.calls.Calls.TheVariants.{Completed, Abandoned}
 use Rattle.operations.specs.Operations.{Operation, Add, Write, Remove, Count}
 use Rattle.operations.specs.Knowledge.{Knowledge}
 use Rattle.operations.specs.Totals.{sum_below}

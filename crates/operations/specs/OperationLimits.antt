@@ -1,5 +1,5 @@
 -- The limits of what operations have. What operations show doesn't ask for them.
-use Rattle.std.specs.Prelude.{ℕ, ⊤, ◌≡◌, ◌<◌, ◌≤◌, true, List, Contains}
+use Rattle.std.specs.Prelude.{ℕ, ⊤, ◌<◌, ◌≤◌, List, Contains}
 use Rattle.std.specs.FinSet as set
 use Rattle.dots.specs.declared.label.Label.{Label}
 use Rattle.dots.specs.declared.limits.TheConstants.{MOST_CALLS, QUEUES}

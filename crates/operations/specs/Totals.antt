@@ -1,6 +1,6 @@
 -- Running totals of calls (RR-7506's grow-only counter, one entry for each site): whose they are, what their
 -- join is, and what is read of them.
-use Rattle.std.specs.Prelude.{ℕ, zero, suc, ◌≡◌, ◌+◌, ◌≤◌, ◌<◌, ◌==◌, ◌&&◌, ◌++◌, max, Bool, Some, is_none, map as each, if◌then◌else◌, refl}
+use Rattle.std.specs.Prelude.{ℕ, zero, suc, ◌≡◌, ◌+◌, ◌≤◌, ◌<◌, ◌++◌, max, Some, is_none, map as each, if◌then◌else◌, refl}
 use Rattle.std.specs.Option.{unwrap_or}
 use Rattle.std.specs.List.{count_by}
 use Rattle.std.specs.declared.cmp.Ordering.{Ordering}

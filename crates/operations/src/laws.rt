@@ -12,7 +12,7 @@ ghost use Rattle.operations.specs.Conditions.{Condition, Dead, ConditionsAgree, 
 ghost use Rattle.operations.specs.Conditions.{Represents, IsOne, condition_joined};
 ghost use Rattle.operations.specs.Operations.{penalty_field, pause_field, label_field, ring_field};
 ghost use Rattle.operations.specs.Knowledge.{Knowledge, SameOperations, IsConsistent, is_named};
-ghost use Rattle.operations.specs.Knowledge.{visible_dots, member_of};
+ghost use Rattle.operations.specs.Knowledge.{visible_dots};
 ghost use Rattle.operations.specs.Rows.{DotView, MemberRow, ShowAlike, dot_view, row_of, rows_of};
 ghost use Rattle.operations.specs.Counts.{site_total, queue_total};
 ghost use Rattle.operations.specs.Shown.{IsVisible, IsComputed, HasVisibleDot, HasValues, ShowsField};

@@ -1,4 +1,4 @@
-ghost use Rattle.std.specs.Prelude.{◌≡◌, ◌≤◌, IfOk, length, option_map};
+ghost use Rattle.std.specs.Prelude.{◌≡◌, ◌≤◌, IfOk, option_map};
 ghost use Rattle.dots.specs.declared.calls.Calls.TheVariants.{Completed, Abandoned};
 ghost use Rattle.operations.specs.Counts.{queue_total};
 ghost use Rattle.operations.specs.Rows.{dot_view, row_of, rows_of as rows_read};

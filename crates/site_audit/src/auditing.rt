@@ -1,5 +1,5 @@
 //! An audit of the journals of all sites.
-ghost use Rattle.std.specs.Prelude.{◌≡◌, ◌↔◌, ◌<◌, ◌≤◌, ◌^◌, ℕ, [], List, Err, IfNone, IfOk, IfSome, IsOkAnd};
+ghost use Rattle.std.specs.Prelude.{◌≡◌, ◌↔◌, ◌<◌, ◌≤◌, ℕ, [], List, Err, IfNone, IfOk, IfSome, IsOkAnd};
 ghost use Rattle.std.specs.Prelude.{IsTrue, None, Some, length, slice_get};
 ghost use Rattle.site_journal.specs.Journals.{IsJournal, JournalState};
 ghost use Rattle.replica.specs.Deeds.{IsNew};

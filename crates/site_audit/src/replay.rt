@@ -1,5 +1,5 @@
 //! The search for one list of events: each site in turn gets its next step, until none can go on.
-ghost use Rattle.std.specs.Prelude.{◌≡◌, ◌+◌, ◌<◌, ◌≤◌, ◌^◌, ◌||◌, ℕ, IfOk, OnOk, true, false};
+ghost use Rattle.std.specs.Prelude.{◌≡◌, ◌+◌, ◌<◌, ◌≤◌, ◌^◌, ℕ, IfOk, OnOk, true, false};
 ghost use Rattle.std.specs.Prelude.{length, slice_index};
 ghost use Rattle.site_audit.specs.Replays.{CannotGoOn, HasPlayed, HasPut, IsUnplayed, IsReplay};
 ghost use Rattle.site_audit.specs.Replays.{event_for, found_in};

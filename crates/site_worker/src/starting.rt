@@ -1,5 +1,5 @@
 //! The threads of a site: they are started, and joined again.
-ghost use Rattle.std.specs.Prelude.{◌≡◌, ◌≢◌, ℕ, ◌+◌, ◌<◌, ◌≤◌, [], None, IfErr, IfOk, OnOk, length};
+ghost use Rattle.std.specs.Prelude.{◌≡◌, ℕ, ◌+◌, ◌<◌, ◌≤◌, None, IfErr, IfOk, OnOk, length};
 ghost use Rattle.std.specs.Prelude.{map, slice_index_or, vec_capacity, vec_len};
 ghost use Rattle.site_desk.specs.Passes.{AreFresh, fresh_pass};
 ghost use Rattle.site_desk.specs.Ports.{HasDoneAll};

@@ -15,7 +15,7 @@ use Rattle.replica.specs.Site.{IsUnchanged, SiteState}
 use Rattle.replica.specs.SiteViews.{site_view}
 use Rattle.replica.specs.Standing.{StandsFor, result_of}
 use Rattle.replica.specs.Steps as steps
-use Rattle.replica.specs.Steps.{Framed, SiteKnowledge, Take, after_meaning, step}
+use Rattle.replica.specs.Steps.{SiteKnowledge, Take, after_meaning, step}
 use Rattle.replica.specs.Taking.{IsMeantFault, IsNotMine, SpeaksOfStrangeQueue}
 use Rattle.replica.proofs.StandingSites.{unchanged_stands}
 use Rattle.replica.proofs.StepLaws.{refusals_change_nothing}

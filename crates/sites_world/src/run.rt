@@ -1,7 +1,6 @@
 //! Events, one by one: what each does at its site, and what comes of it.
 ghost use Rattle.std.specs.Prelude.{◌≡◌, ◌<◌, ◌≤◌, ◌+◌, ◌++◌, ℕ, List, [], ◌∷◌, Err, Ok, Some};
-ghost use Rattle.std.specs.Prelude.{IfOk, true};
-ghost use Rattle.std.specs.Prelude.{length, option_map, slice_get, vec_len, vec_capacity};
+ghost use Rattle.std.specs.Prelude.{length, option_map, slice_get, true, vec_len, vec_capacity};
 ghost use Rattle.dots.specs.declared.limits.TheConstants.{MOST_COUNT};
 ghost use Rattle.operations.specs.Knowledge.{Knowledge};
 ghost use Rattle.delta.specs.Standing.{IsDeltaOf};
