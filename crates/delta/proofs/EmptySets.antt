@@ -7,7 +7,7 @@ use Rattle.dots.specs.Values.{Dot}
 use Rattle.dots.specs.Orders.{dot_cmp}
 use Rattle.dots.specs.DotSets.{run_count}
 use Rattle.operations.specs.Conditions.{Condition, Live, Dead, ConditionsAgree, condition_joined}
-use Rattle.operations.proofs.ConditionLaws.{unknown_is_neutral}
+use Rattle.operations.proofs.ConditionLaws.{agrees_with_none, unknown_is_neutral}
 use Rattle.dots.proofs.DotOrder.{dots_exact}
 use Rattle.dots.proofs.KeySets.{len_of_keys}
 use Rattle.dots.proofs.Unions.{union_empty}
@@ -66,12 +66,7 @@ module _ (t : Members) (within : IsWithinLimits t) (nothing : t.known ≡ set.em
 
     -- it agrees with every other
     pub agrees : CanBeJoined s t
-    agrees q = subst (ConditionsAgree (condition_of s q)) (sym (unknown q)) (with_none (condition_of s q))
-      where
-        with_none : (x : Option Condition) → ConditionsAgree x None
-        with_none None = tt
-        with_none (Some Dead) = tt
-        with_none (Some (Live m f)) = tt
+    agrees q = subst (ConditionsAgree (condition_of s q)) (sym (unknown q)) (agrees_with_none (condition_of s q))
 
     few_cells : MOST_LIVE < cells_joined s t → ⊥
     few_cells many = omega (arith, many, as_many, limits.cells)

@@ -22,7 +22,7 @@ use Rattle.operations.specs.OperationLimits.{AreWithinLimits, IsWithinLimits}
 use Rattle.operations.specs.Operations.{Operation, Field, SetPenalty, SetPause, SetLabel, SetRing, Add, Write, Remove, Count, penalty_field, pause_field, label_field, ring_field}
 use Rattle.operations.specs.Registers.{Entry}
 use Rattle.operations.specs.Totals.{IsTotal, Key}
-use Rattle.operations.proofs.FieldLaws.{latest_in, latest_some}
+use Rattle.operations.proofs.FieldLaws.{chosen, latest_in, latest_some}
 use Rattle.operations.proofs.JoinedKnowledge.{member_some}
 use Rattle.operations.proofs.KnownLaws.{known_dot}
 use Rattle.operations.proofs.TotalsLaws.{counted_of}
@@ -39,13 +39,8 @@ use Rattle.delta_codec.proofs.CellLaws.{flags_few}
 
 -- ---- fields
 
--- what an operation sets of a field where it asserts the dot
-chosen : {T : Type 0} → Field T → Dot → Operation → Option (Entry T)
-chosen field dot o = if asserts dot o then field o else None
-
 -- what was chosen, the operation gives
 chosen_gives : {T : Type 0} (field : Field T) (dot : Dot) (o : Operation) (e : Entry T) → chosen field dot o ≡ Some e → field o ≡ Some e
-unfolding chosen
 chosen_gives {T} field dot o e h = by (asserts dot o) h
   where
     by : (b : Bool) → (if b then field o else None) ≡ Some e → field o ≡ Some e
@@ -55,7 +50,6 @@ chosen_gives {T} field dot o e h = by (asserts dot o) h
 -- each value of a field is one that an operation gives
 field_within : {T : Type 0} (IsValue : T → Type 0) (field : Field T) (k : Knowledge) (dot : Dot) → ((o : Operation) (e : Entry T) → Contains k o → field o ≡ Some e → IsEntry IsValue e)
     → IsField IsValue (field_of field k dot)
-unfolding chosen
 field_within {T} IsValue field k dot given = by (field_of field k dot) refl
   where
     by : (o : Option (Entry T)) → field_of field k dot ≡ o → IfSome o (IsEntry IsValue)
@@ -113,7 +107,6 @@ fields_within k dot within = record {
 
 -- a field that an operation gives of a dot that it asserts is set
 is_set : {T : Type 0} (field : Field T) (k : Knowledge) (dot : Dot) (o : Operation) (e : Entry T) → Contains k o → asserts dot o ≡ true → field o ≡ Some e → field_of field k dot ≡ None → ⊥
-unfolding chosen
 is_set {T} field k dot o e here asserted gives none =
     not_some (subst IsSome none (latest_some (settings_of field k dot) e (some_in (chosen field dot) k o e here (ap (λ b. if b then field o else None) asserted ∙ gives))))
   where

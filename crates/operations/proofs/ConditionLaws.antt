@@ -36,6 +36,12 @@ fields_agree x y z a b = record {
   ring = joined_agrees x.ring y.ring z.ring a.ring b.ring;
 }
 
+-- a condition agrees with that of a dot of which nothing is said
+pub agrees_with_none : (x : Option Condition) → ConditionsAgree x None
+agrees_with_none None = tt
+agrees_with_none (Some Dead) = tt
+agrees_with_none (Some (Live m f)) = tt
+
 pub conditions_comm : (x y : Option Condition) → ConditionsAgree x y → condition_joined x y ≡ condition_joined y x
 conditions_comm (Some (Live m f)) (Some (Live n g)) a = λ i. Some (Live (a.0 i) (fields_comm f g a.1 i))
 conditions_comm (Some (Live m f)) (Some Dead) a = refl

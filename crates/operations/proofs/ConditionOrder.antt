@@ -12,7 +12,8 @@ use Rattle.general_lemmas.specs.Joins.{IsOrder, IsLeastAbove}
 use Rattle.operations.specs.Conditions.{DotFields, Condition, Live, Dead, FieldsAgree, ConditionsAgree, FieldsBelow, IsConditionBelow, fields_joined, condition_joined}
 use Rattle.operations.proofs.RegisterLaws.{stamps_total, exact_stamps}
 
-not_less : (a : Stamp) → stamp_cmp a a ≡ Less → ⊥
+-- no stamp is less than itself
+pub not_less : (a : Stamp) → stamp_cmp a a ≡ Less → ⊥
 not_less a h = let tied = tied_itself stamps_total a in absurd (cc)
 
 module _ {T : Type 0} where

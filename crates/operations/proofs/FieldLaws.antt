@@ -97,13 +97,13 @@ same_latest {T} xs ys to from one = by (latest_of xs) (latest_of ys) refl refl
         let values : e.value ≡ f.value = one e f (latest_in xs e q) (from f (latest_in ys f r)) stamps in
         q ∙ (λ i. Some (record { stamp = stamps i; value = values i })) ∙ sym r
 
-chosen_of : {T : Type 0} (field : Field T) (dot : Dot) → Operation → Option (Entry T)
-chosen_of field dot o = if asserts dot o then field o else None
+-- what an operation that asserts a dot sets of a field
+abbrev pub chosen : {T : Type 0} → Field T → Dot → Operation → Option (Entry T)
+chosen field dot o = if asserts dot o then field o else None
 
 setting_moves : {T : Type 0} (field : Field T) (k l : Knowledge) (dot : Dot) → ((o : Operation) → Contains k o → Contains l o) → (e : Entry T) → Contains (settings_of field k dot) e → Contains (settings_of field l dot) e
-unfolding chosen_of
 setting_moves field k l dot to e h =
-    let o = in_some (chosen_of field dot) k e h in some_in (chosen_of field dot) l o.0 e (to o.0 o.1) o.2
+    let o = in_some (chosen field dot) k e h in some_in (chosen field dot) l o.0 e (to o.0 o.1) o.2
 
 pub same_field : {T : Type 0} (field : Field T) (k l : Knowledge) (dot : Dot) → SameOperations k l → OneValue field k → field_of field k dot ≡ field_of field l dot
 same_field field k l dot same one =

@@ -11,11 +11,11 @@ use Rattle.dots.specs.declared.member.Member.{Member}
 use Rattle.dots.specs.Values.{Dot}
 use Rattle.operations.specs.Registers.{Entry, RegistersAgree, join_of}
 use Rattle.operations.specs.Conditions.{Condition, Live, Dead, DotFields, FieldsAgree, ConditionsAgree, condition_in, condition_joined, fields_in, fields_joined}
-use Rattle.operations.specs.Operations.{Operation, Field, asserted_by, penalty_field, pause_field, label_field, ring_field}
+use Rattle.operations.specs.Operations.{Field, asserted_by, penalty_field, pause_field, label_field, ring_field}
 use Rattle.operations.specs.Knowledge.{Knowledge, IsConsistent, OneValue, all_asserted, asserts, field_of, is_asserted, is_dot, is_named, known_dots, latest_of, member_of, names, settings_of}
 use Rattle.operations.specs.Counts.{site_total}
 use Rattle.dots.proofs.DotOrder.{dots_exact, dots_total}
-use Rattle.operations.proofs.FieldLaws.{found_pair, latest_in}
+use Rattle.operations.proofs.FieldLaws.{chosen, found_pair, latest_in}
 use Rattle.operations.proofs.KnownLaws.{known_dot}
 use Rattle.general_lemmas.proofs.Membership.{any_flat_map, some_find}
 use Rattle.operations.proofs.RegisterLaws.{joined_assoc}
@@ -49,15 +49,10 @@ latest_both : {T : Type 0} (xs ys : List (Entry T)) → latest_of (xs ++ ys) ≡
 latest_both [] ys = refl
 latest_both (x ∷ xs) ys = ap (join_of (Some x)) (latest_both xs ys) ∙ sym (joined_assoc (Some x) (latest_of xs) (latest_of ys))
 
--- what an operation that asserts a dot sets of a field
-chosen : {T : Type 0} → Field T → Dot → Operation → Option (Entry T)
-chosen field dot o = if asserts dot o then field o else None
-
 settings_both : {T : Type 0} (field : Field T) (k l : Knowledge) (dot : Dot) → settings_of field (k ++ l) dot ≡ settings_of field k dot ++ settings_of field l dot
-unfolding chosen
 settings_both field k l dot = filter_map-append (chosen field dot) k l
 
-field_both : {T : Type 0} (field : Field T) (k l : Knowledge) (dot : Dot) → field_of field (k ++ l) dot ≡ join_of (field_of field k dot) (field_of field l dot)
+pub field_both : {T : Type 0} (field : Field T) (k l : Knowledge) (dot : Dot) → field_of field (k ++ l) dot ≡ join_of (field_of field k dot) (field_of field l dot)
 field_both field k l dot = ap latest_of (settings_both field k l dot) ∙ latest_both (settings_of field k dot) (settings_of field l dot)
 
 fields_both : (k l : Knowledge) (dot : Dot) → fields_in (k ++ l) dot ≡ fields_joined (fields_in k dot) (fields_in l dot)
@@ -77,14 +72,14 @@ unset {T} field (o ∷ k) dot h = by (asserts dot o) (unset field k dot) h
     by true rest h = absurd (true≢false h)
     by false rest h = rest h
 
-no_field : {T : Type 0} (field : Field T) (k : Knowledge) (dot : Dot) → is_asserted k dot ≡ false → field_of field k dot ≡ None
+pub no_field : {T : Type 0} (field : Field T) (k : Knowledge) (dot : Dot) → is_asserted k dot ≡ false → field_of field k dot ≡ None
 no_field field k dot h = ap latest_of (unset field k dot h)
 
-joined_none : {T : Type 0} (x : Option (Entry T)) → join_of x None ≡ x
+pub joined_none : {T : Type 0} (x : Option (Entry T)) → join_of x None ≡ x
 joined_none None = refl
 joined_none (Some a) = refl
 
-fields_right : (k l : Knowledge) (dot : Dot) → is_asserted k dot ≡ false → fields_in (k ++ l) dot ≡ fields_in l dot
+pub fields_right : (k l : Knowledge) (dot : Dot) → is_asserted k dot ≡ false → fields_in (k ++ l) dot ≡ fields_in l dot
 fields_right k l dot h = fields_both k l dot ∙ (λ i. record {
   penalty = join_of (no_field penalty_field k dot h i) (field_of penalty_field l dot);
   pause = join_of (no_field pause_field k dot h i) (field_of pause_field l dot);
@@ -105,7 +100,7 @@ fields_left k l dot h = fields_both k l dot ∙ (λ i. record {
 
 -- ---- members
 
-member_both : (k l : Knowledge) (dot : Dot) → member_of (k ++ l) dot ≡ option_or (member_of k dot) (member_of l dot)
+pub member_both : (k l : Knowledge) (dot : Dot) → member_of (k ++ l) dot ≡ option_or (member_of k dot) (member_of l dot)
 member_both k l dot =
     ap (λ ps. option_map (λ p. p.1) (find (λ p. is_dot dot p.0) ps)) (flat_map-append asserted_by k l)
     ∙ ap (option_map (λ p. p.1)) (find-append (λ p. is_dot dot p.0) (all_asserted k) (all_asserted l))
@@ -132,7 +127,7 @@ no_member k dot h = sym (member_some k dot) ∙ ap is_some h
 -- ---- conditions
 
 -- the condition of a dot by whether it is named, its member and its fields
-abbrev condition_by : Bool → Option Member → DotFields → Option Condition
+abbrev pub condition_by : Bool → Option Member → DotFields → Option Condition
 condition_by named member fields = if named then Some Dead else option_map (λ m. Live m fields) member
 
 joined_by : (n n' : Bool) (m m' : Option Member) (f f' both : DotFields)
@@ -163,7 +158,7 @@ fields_agree field k l dot one a b e f stamps =
     stamps
 
 -- the member of a dot stands with it among the dots that are asserted
-member_in : (k : Knowledge) (dot : Dot) (m : Member) → member_of k dot ≡ Some m → Contains (all_asserted k) (dot, m)
+pub member_in : (k : Knowledge) (dot : Dot) (m : Member) → member_of k dot ≡ Some m → Contains (all_asserted k) (dot, m)
 member_in k dot m h = by (find (λ p. is_dot dot p.0) (all_asserted k)) refl h
   where
     by : (o : Option (Dot × Member)) → find (λ p. is_dot dot p.0) (all_asserted k) ≡ o → option_map (λ p. p.1) o ≡ Some m → Contains (all_asserted k) (dot, m)

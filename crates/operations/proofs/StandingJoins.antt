@@ -1,22 +1,22 @@
 -- What stands for two knowledges together, for none, and for knowledges of the same operations.
-use Rattle.std.proofs.Common.{◌≡◌, Bool, false, ◌||◌, cond, [], ◌++◌, Option, Some, None, is_some, if◌then◌else◌, refl, sym, ap, ◌∙◌, arith}
-use Rattle.std.specs.Option.{option_map, unwrap_or}
+use Rattle.std.proofs.Common.{◌≡◌, false, ◌||◌, cond, [], ◌++◌, Option, Some, None, is_some, refl, sym, ap, ◌∙◌, arith}
+use Rattle.std.specs.Option.{unwrap_or}
 use Rattle.std.specs.FinMap as map
 use Rattle.std.specs.FinSet as set
 use Rattle.std.proofs.lemmas.Bool.Decides.{nat_tests}
+use Rattle.std.proofs.lemmas.Option.{none-some}
 use Rattle.dots.specs.declared.call_totals.CallTotals.{CallTotals}
 use Rattle.dots.specs.declared.calls.Calls.TheVariants.{Completed, Abandoned}
-use Rattle.dots.specs.declared.member.Member.{Member}
 use Rattle.dots.specs.Values.{Dot}
 use Rattle.dots.specs.Orders.{dot_cmp}
-use Rattle.operations.specs.Conditions.{Condition, DotFields, Live, Dead, Represents, condition_joined}
+use Rattle.operations.specs.Conditions.{Condition, Represents, condition_joined}
 use Rattle.operations.specs.Knowledge.{Knowledge, IsConsistent, SameOperations, asserts, names}
 use Rattle.dots.specs.CountedCalls.{is_zero, no_calls}
 use Rattle.operations.specs.Totals.{Entries, greater, join_of, key_cmp, totals_of}
 use Rattle.operations.proofs.CountLaws.{same_total}
 use Rattle.dots.proofs.DotOrder.{dots_exact, dots_total}
 use Rattle.operations.proofs.FieldLaws.{same_fields, same_member}
-use Rattle.operations.proofs.JoinedKnowledge.{condition_both, known_both, total_both}
+use Rattle.operations.proofs.JoinedKnowledge.{condition_both, condition_by, known_both, total_both}
 use Rattle.operations.proofs.KnownLaws.{known_dot}
 use Rattle.operations.proofs.TotalsLaws.{by_numbers, get_joined, totals_at_joined, zero_greater, greater_zero}
 use Rattle.operations.proofs.VisibleLaws.{same_any}
@@ -57,20 +57,12 @@ represents_none = record {
   conditions = λ dot. refl;
   dots = set.same_set dots_total dots_exact _ _ (λ dot. set.contains-empty dot_cmp dot ∙ sym (known_dot [] dot));
   totals = λ site queue. ap (λ o. unwrap_or o no_calls) (map.get-empty key_cmp (record { site = site; queue = queue }));
-  no_zeros = λ key p e. absurd (none_some p (sym (map.get-empty key_cmp key) ∙ e));
+  no_zeros = λ key p e. absurd (none-some p (sym (map.get-empty key_cmp key) ∙ e));
 }
-  where
-    none_some : (p : CallTotals) → None ≡ Some p → ⊥
-    none_some p h = (cc)
-
--- the condition of a dot by whether it is named, its member and its fields
-condition_by : Bool → Option Member → DotFields → Option Condition
-condition_by named member fields = if named then Some Dead else option_map (λ m. Live m fields) member
 
 -- what stands for a consistent knowledge stands for each with the same operations
 pub represents_same : (c : Dot → Option Condition) (known : set.FinSet dot_cmp) (counts : Entries) (k l : Knowledge)
     → IsConsistent k → SameOperations k l → Represents c known counts k → Represents c known counts l
-unfolding condition_by
 represents_same c known counts k l one same r = record {
   conditions = λ dot. r.conditions dot ∙ (λ i. condition_by (same_any (names dot) k l same i) (same_member k l dot same one.members i) (same_fields k l dot same one i));
   dots = r.dots ∙ set.same_set dots_total dots_exact _ _ (λ dot. known_dot k dot ∙ (λ i. same_any (asserts dot) k l same i || same_any (names dot) k l same i) ∙ sym (known_dot l dot));

@@ -7,6 +7,7 @@ use Rattle.std.specs.Ordering.{nat_cmp, eq_by_cmp}
 use Rattle.std.specs.Cmp.{IsTotalOrder}
 use Rattle.std.specs.FinMap as map
 use Rattle.std.proofs.lemmas.Cmp.{nat_cmp_total, on_total, then_total}
+use Rattle.std.proofs.lemmas.Option.{none-some}
 use Rattle.std.proofs.lemmas.Bool.Decides.{nat_tests}
 use Rattle.std.proofs.lemmas.Map.Lookups.{exact_unsigned, exact_pairs}
 use Rattle.dots.specs.declared.limits.TheConstants.{MOST_CALLS}
@@ -183,16 +184,13 @@ either_limits key (Some r) (Some q) f g p e = subst (IsTotal key) (ap (λ o. unw
 pub single_limits : (key : Key) (totals : CallTotals) → (is_zero totals ≡ false → IsTotal key totals) → InLimits (single key totals)
 single_limits key totals h q p e =
     elim (is_zero totals) as (λ z. is_zero totals ≡ z → IsTotal q p) [
-      | true ↦ λ zero. absurd (none_some p (ap (λ z. cond z None (cond (is_key q key) (Some totals) None)) (sym zero) ∙ sym (get_single key totals q) ∙ e))
+      | true ↦ λ zero. absurd (none-some p (ap (λ z. cond z None (cond (is_key q key) (Some totals) None)) (sym zero) ∙ sym (get_single key totals q) ∙ e))
       | false ↦ λ counted. elim (is_key q key) as (λ b. is_key q key ≡ b → IsTotal q p) [
         | true ↦ λ same. subst (λ k. IsTotal k p) (sym (one_key q key same))
             (subst (IsTotal key) (ap (λ o. unwrap_or o totals) (ap (λ b. cond b (Some totals) None) (sym same) ∙ sym (get_single_some key totals q counted) ∙ e)) (h counted))
-        | false ↦ λ other. absurd (none_some p (ap (λ b. cond b (Some totals) None) (sym other) ∙ sym (get_single_some key totals q counted) ∙ e))
+        | false ↦ λ other. absurd (none-some p (ap (λ b. cond b (Some totals) None) (sym other) ∙ sym (get_single_some key totals q counted) ∙ e))
       ] refl
     ] refl
-  where
-    none_some : (p : CallTotals) → None ≡ Some p → ⊥
-    none_some p h = (cc)
 
 -- totals that are counted are not two zeros
 pub counted_not_zero : (key : Key) (totals : CallTotals) → IsTotal key totals → is_zero totals ≡ false
@@ -237,17 +235,15 @@ sum_below_more f n = rw add-one refl
 
 -- ---- what totals read
 
+-- none are not some
+not_counted : (p : CallTotals) → p ≡ no_calls → 0 < p.completed + p.abandoned → ⊥
+not_counted p e h = omega (arith, ap (λ (p : CallTotals). p.completed + p.abandoned) e)
+
 -- no entry reads as two zeros
 kept_entry : (key : Key) (a b : Option CallTotals) → ((p : CallTotals) → a ≡ Some p → IsTotal key p) → ((p : CallTotals) → b ≡ Some p → IsTotal key p) → unwrap_or a no_calls ≡ unwrap_or b no_calls → a ≡ b
 kept_entry key None None f g e = refl
 kept_entry key None (Some q) f g e = absurd (not_counted q (sym e) (g q refl).counted)
-  where
-    not_counted : (p : CallTotals) → p ≡ no_calls → 0 < p.completed + p.abandoned → ⊥
-    not_counted p e h = omega (arith, ap (λ (p : CallTotals). p.completed + p.abandoned) e)
 kept_entry key (Some p) None f g e = absurd (not_counted p e (f p refl).counted)
-  where
-    not_counted : (p : CallTotals) → p ≡ no_calls → 0 < p.completed + p.abandoned → ⊥
-    not_counted p e h = omega (arith, ap (λ (p : CallTotals). p.completed + p.abandoned) e)
 kept_entry key (Some p) (Some q) f g e = ap Some e
 
 -- totals within the limits that read alike are one
@@ -264,7 +260,4 @@ totals_at_limit x h key = totals_limit key (map.get x key) (h key)
 
 -- nothing is within the limits
 pub empty_limits : InLimits map.empty
-empty_limits key totals e = absurd (none_some totals (sym (map.get-empty key_cmp key) ∙ e))
-  where
-    none_some : (p : CallTotals) → None ≡ Some p → ⊥
-    none_some p h = (cc)
+empty_limits key totals e = absurd (none-some totals (sym (map.get-empty key_cmp key) ∙ e))

@@ -49,15 +49,16 @@ named_known o k dot h = known_dot (o ∷ k) dot ∙ ap (λ b. is_asserted (o ∷
 none_known : (k : Knowledge) (dot : Dot) → known_dots k ≡ set.empty → set.contains (known_dots k) dot ≡ true → ⊥
 none_known k dot e h = true≢false (sym h ∙ ap (λ s. set.contains s dot) e ∙ set.contains-empty dot_cmp dot)
 
-same_itself : (calls : Calls) → same_calls calls calls ≡ true
-same_itself Completed = refl
-same_itself Abandoned = refl
+-- calls are of their own kind
+pub same_kind : (calls : Calls) → same_calls calls calls ≡ true
+same_kind Completed = refl
+same_kind Abandoned = refl
 
 own_number : (n : ℕ) → (n == n) ≡ true
 own_number n = grind (arith, nat_tests)
 
 counts_itself : (site queue : ℕ) (calls : Calls) (total : ℕ) → count_in site queue calls (Count site queue calls total) ≡ total
-counts_itself site queue calls total = λ i. if own_number site i && (own_number queue i && same_itself calls i) then total else 0
+counts_itself site queue calls total = λ i. if own_number site i && (own_number queue i && same_kind calls i) then total else 0
 
 nothing_read : (site queue : ℕ) → totals_of map.empty site queue ≡ no_calls
 nothing_read site queue = ap (λ o. unwrap_or o no_calls) (map.get-empty key_cmp (record { site = site; queue = queue }))

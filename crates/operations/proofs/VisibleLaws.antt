@@ -31,13 +31,21 @@ both false b h = absurd (true≢false (sym h))
 joins : (a b : Bool) → a ≡ true → b ≡ false → (a && not b) ≡ true
 joins a b p q = (λ i. p i && not (q i))
 
+-- a visible dot is asserted, and not named
+pub visible_parts : (k : Knowledge) (dot : Dot) → set.contains (visible_dots k) dot ≡ true → (is_asserted k dot ≡ true) × (is_named k dot ≡ false)
+visible_parts k dot h = both (is_asserted k dot) (is_named k dot) (sym (visible_dot k dot) ∙ h)
+
+-- and what is so is visible
+pub visible_from : (k : Knowledge) (dot : Dot) → is_asserted k dot ≡ true → is_named k dot ≡ false → set.contains (visible_dots k) dot ≡ true
+visible_from k dot asserted unnamed = visible_dot k dot ∙ joins (is_asserted k dot) (is_named k dot) asserted unnamed
+
 -- a dot is visible exactly where some operation asserts it and none names it
 pub visible_is : (k : Knowledge) (dot : Dot) → (set.contains (visible_dots k) dot ≡ true) ↔ IsVisible k dot
 visible_is k dot = (to, from)
   where
     to : set.contains (visible_dots k) dot ≡ true → IsVisible k dot
     to h =
-        let is = both (is_asserted k dot) (is_named k dot) (sym (visible_dot k dot) ∙ h) in
+        let is = visible_parts k dot h in
         record {
           asserted = in_any (asserts dot) k is.0;
           unnamed = λ o here. false_from_ne_true (names dot o) (λ named. true≢false (sym (any_in (names dot) k o here named) ∙ is.1));
@@ -45,8 +53,7 @@ visible_is k dot = (to, from)
 
     from : IsVisible k dot → set.contains (visible_dots k) dot ≡ true
     from v =
-        visible_dot k dot ∙ joins (is_asserted k dot) (is_named k dot)
-        (any_in (asserts dot) k v.asserted.0 v.asserted.1 v.asserted.2)
+        visible_from k dot (any_in (asserts dot) k v.asserted.0 v.asserted.1 v.asserted.2)
         (false_from_ne_true (is_named k dot) (λ h. let o = in_any (names dot) k h in true≢false (sym o.2 ∙ v.unnamed o.0 o.1)))
 
 -- what some operation names stays named, whatever comes before and after

@@ -4,18 +4,17 @@ use Rattle.std.specs.Option.{unwrap_or}
 use Rattle.std.specs.FinMap as map
 use Rattle.std.specs.FinSet as set
 use Rattle.std.specs.declared.cmp.Ordering.TheVariants.{Less}
-use Rattle.std.proofs.lemmas.Cmp.{tied_itself}
 use Rattle.dots.specs.declared.call_totals.CallTotals.{CallTotals}
 use Rattle.dots.specs.declared.calls.Calls.{Calls}
 use Rattle.dots.specs.declared.calls.Calls.TheVariants.{Completed, Abandoned}
-use Rattle.dots.specs.Values.{Dot, Stamp}
+use Rattle.dots.specs.Values.{Dot}
 use Rattle.dots.specs.Orders.{stamp_cmp}
 use Rattle.operations.specs.Registers as registers
 use Rattle.operations.specs.Registers.{Entry}
 use Rattle.operations.specs.Conditions.{Condition, ConditionsAgree, Dead, DotFields, FieldsBelow, IsConditionBelow, Live}
 use Rattle.dots.specs.CountedCalls.{no_calls}
 use Rattle.operations.specs.Totals.{greater, key_cmp, totals_of}
-use Rattle.operations.proofs.ConditionOrder.{condition_below_self, condition_below_through, conditions_least}
+use Rattle.operations.proofs.ConditionOrder.{condition_below_self, condition_below_through, conditions_least, not_less}
 use Rattle.operations.proofs.RegisterLaws.{stamps_total}
 use Rattle.operations.proofs.TotalsLaws.{totals_at_joined}
 use Rattle.site_totals.specs.Raising.{number_of}
@@ -121,10 +120,6 @@ pub same_below : (d e f g : DeltaState) → IsBelow d e → deltas.IsUnchanged d
 same_below d e f g p a b = below_through f d g (unchanged_below d f a).1 (below_through d e g p (unchanged_below e g b).0)
 
 -- ---- what is new to a delta
-
--- no stamp is less than itself
-not_less : (a : Stamp) → stamp_cmp a a ≡ Less → ⊥
-not_less a h = let tied = tied_itself stamps_total a in absurd (cc)
 
 -- a register agrees with a newer one
 newer_agrees : {T : Type 0} (x y : Option (Entry T)) → IsNewer x y → registers.RegistersAgree x y

@@ -1,8 +1,8 @@
 -- How many dots and runs a set has at most.
-use Rattle.std.proofs.Common.{◌≡◌, ℕ, suc, ◌+◌, ◌-◌, ◌≤◌, ◌<◌, Bool, true, false, not, cond, ◌&&◌, ◌||◌, List, [], ◌∷◌, ◌++◌, length, take, inl, inr, refl, sym, ap, ◌∙◌, arith, true≢false, length-append}
+use Rattle.std.proofs.Common.{◌≡◌, ℕ, suc, ◌+◌, ◌-◌, ◌≤◌, ◌<◌, Bool, true, false, not, cond, ◌&&◌, ◌||◌, List, [], ◌∷◌, ◌++◌, length, take, inl, inr, sym, ap, ◌∙◌, arith, true≢false, length-append}
 use Rattle.std.specs.List.{AllByRecursion, list_any}
 use Rattle.std.specs.FinSet as set
-use Rattle.std.proofs.lemmas.Bool.{and_parts, cases_Bool}
+use Rattle.std.proofs.lemmas.Bool.{and_parts, cases_Bool, or_right}
 use Rattle.std.proofs.lemmas.List.{length-take}
 use Rattle.std.proofs.lemmas.Map.Keys.{IsDistinct-head, IsDistinct-tail}
 use Rattle.dots.specs.declared.limits.TheConstants.{MOST_LIVE, MOST_RUNS}
@@ -31,10 +31,6 @@ not_itself x q (y ∷ ys) a h = elim (cases_Bool (is_dot q x)) [
   ]
 ]
 
-or_later : (a b : Bool) → b ≡ true → (a || b) ≡ true
-or_later true b e = refl
-or_later false b e = e
-
 -- of dots of which none comes twice a set that has them has at least as many
 pub once_few : (s : Dots) (dots : List Dot) → AreOnce dots → ((q : Dot) → list_any (is_dot q) dots ≡ true → set.contains s q ≡ true) → length dots ≤ set.len s
 once_few s [] once has = omega arith
@@ -48,7 +44,7 @@ once_few s (x ∷ xs) once has =
     later : (q : Dot) → list_any (is_dot q) xs ≡ true → set.contains (set.remove s x) q ≡ true
     later q h =
         set.contains-remove dots_total s x q
-        ∙ (λ i. not (not_itself x q xs (IsDistinct-head is_dot x xs once) h i) && has q (or_later (is_dot q x) (list_any (is_dot q) xs) h) i)
+        ∙ (λ i. not (not_itself x q xs (IsDistinct-head is_dot x xs once) h i) && has q (or_right (is_dot q x) (list_any (is_dot q) xs) h) i)
 
 -- a set has at most as many runs as dots
 pub runs_few : (s : Dots) → run_count s ≤ set.len s

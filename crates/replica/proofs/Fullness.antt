@@ -20,7 +20,7 @@ use Rattle.dots.specs.declared.calls.Calls.{Calls}
 use Rattle.dots.specs.declared.label.Label.{Label}
 use Rattle.operations.specs.Operations.{Operation, Setting, Add, Write, Count}
 use Rattle.dots.proofs.DotOrder.{dots_exact, dots_total}
-use Rattle.operations.proofs.JoinedKnowledge.{member_some}
+use Rattle.operations.proofs.JoinedKnowledge.{condition_by, member_some}
 use Rattle.operations.proofs.KnownLaws.{known_dot}
 use Rattle.operations.proofs.VisibleLaws.{asserted_dot}
 use Rattle.dots.proofs.KeySets.{len_of_keys}
@@ -36,7 +36,7 @@ use Rattle.member_orset.specs.Members.{Holding, IsWithinLimits, both_joined, cel
 use Rattle.member_orset.specs.Reads.{dots_seen_below, seen_dots}
 use Rattle.delta.specs.DeltaStates.{DeltaState}
 use Rattle.delta.specs.Standing.{IsDeltaOf}
-use Rattle.replica.proofs.MadeChanges.{condition_by, known_by}
+use Rattle.replica.proofs.MadeChanges.{known_by}
 use Rattle.replica.specs.Changes.{is_full, is_too_long}
 use Rattle.replica.specs.Site.{SiteState, view_of}
 use Rattle.replica.specs.SiteViews.{is_dead, is_past_limits, known_with, older_dots, visible_with}

@@ -1,5 +1,5 @@
 -- The greatest number of a list's elements.
-use Rattle.std.proofs.Common.{◌≡◌, ℕ, ◌+◌, ◌<◌, max, List, [], ◌∷◌, ◌++◌, length, get_or, take, map as each, refl, sym, ap, ◌∙◌, arith}
+use Rattle.std.proofs.Common.{◌≡◌, ℕ, ◌+◌, ◌<◌, ◌≤◌, max, nat_eq, true, if◌then◌else◌, List, [], ◌∷◌, ◌++◌, length, get_or, take, map as each, refl, sym, ap, ◌∙◌, arith}
 use Rattle.std.proofs.lemmas.List.{take_more}
 use Rattle.std.specs.Ordering.{nat_cmp, ord_max}
 use Rattle.std.proofs.lemmas.Bool.Decides.{nat_tests}
@@ -24,3 +24,10 @@ greatest_firsts f (p ∷ ps) = ap (max (f p.0)) (greatest_firsts f ps)
 -- the greater of two, as the program takes it
 pub greater_of : (a b : ℕ) → ord_max nat_cmp a b ≡ max a b
 greater_of a b = grind (arith, nat_tests)
+
+-- a number of a site's own is the greater of it and one that isn't above it
+pub own_latest : (site n last : ℕ) → last ≤ n → n ≡ max (if nat_eq site site then n else 0) last
+own_latest site n last le = let same : nat_eq site site ≡ true = itself site in sym (ap (λ b. max (if b then n else 0) last) same ∙ omega arith)
+  where
+    itself : (n : ℕ) → nat_eq n n ≡ true
+    itself n = grind (arith, nat_tests)

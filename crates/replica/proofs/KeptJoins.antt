@@ -5,6 +5,7 @@ use Rattle.std.specs.FinMap as map
 use Rattle.std.specs.FinSet as set
 use Rattle.std.specs.Ordering.{is_lt}
 use Rattle.std.proofs.lemmas.Bool.Decides.{nat_tests}
+use Rattle.std.proofs.lemmas.Option.{none-some}
 use Rattle.dots.specs.declared.call_totals.CallTotals.{CallTotals}
 use Rattle.dots.specs.declared.member.Member.{Member}
 use Rattle.dots.specs.Values.{Dot}
@@ -100,11 +101,8 @@ queues_unchanged n old new p same = record {
 pub queues_empty : (n : ℕ) (d : DeltaState) → IsEmpty d → AreInQueues n d
 queues_empty n d empty = record {
   members = λ dot h live. absurd (none_live d empty dot h live);
-  totals = λ key totals is. absurd (none_some totals (sym (map.get-empty key_cmp key) ∙ ap (λ t. map.get t key) (sym empty.totals) ∙ is));
+  totals = λ key totals is. absurd (none-some totals (sym (map.get-empty key_cmp key) ∙ ap (λ t. map.get t key) (sym empty.totals) ∙ is));
 }
-  where
-    none_some : (p : CallTotals) → None ≡ Some p → ⊥
-    none_some p h = (cc)
 
 -- ---- own stamps
 

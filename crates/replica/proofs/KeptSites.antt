@@ -9,12 +9,12 @@ use Rattle.site_totals.specs.Raising.{number_of}
 use Rattle.member_orset.specs.Members.{condition_of}
 use Rattle.delta.specs.DeltaStates.{DeltaState, IsEmpty, IsSame, IsUnchanged}
 use Rattle.delta.specs.Joining.{IsJoinOf}
-use Rattle.delta.proofs.Sameness.{says_the_same}
 use Rattle.replica.specs.Changing.{IsChangeOf, KnowsNext}
 use Rattle.replica.specs.Keeping.{AreInQueues, HasOwnDots, HasOwnStamps, IsBelow, IsKept}
 use Rattle.replica.specs.Site.{SiteState}
 use Rattle.replica.proofs.Below.{below_agrees, empty_below, joined_keeps_below, new_agrees, same_below}
 use Rattle.replica.proofs.KeptJoins.{dots_empty, dots_joined, dots_joined_next, dots_unchanged, queues_empty, queues_joined, queues_unchanged, stamps_empty, stamps_joined, stamps_later, stamps_unchanged}
+use Rattle.replica.proofs.TakingIn.{copied_live}
 
 -- a new replica keeps it
 pub new_kept : (it : SiteState) → IsEmpty it.state → IsEmpty it.pending → it.last_count ≡ 0 → it.last_time ≡ 0 → it.frames ≡ 0 → IsKept it
@@ -31,18 +31,15 @@ new_kept it state pending count time frames = record {
 }
 
 -- what the same deltas keep
-live_same : (d e : DeltaState) → IsSame d e → d.members.live ≡ e.members.live
-live_same d e same = sym (says_the_same d.members e.members same.conditions same.known).live
-
 dots_same : (site last : ℕ) (d e : DeltaState) → IsSame d e → HasOwnDots site last d → HasOwnDots site last e
 dots_same site last d e same own count some = ap (λ k. set.contains k (record { site = site; count = count })) (sym same.known) ∙ own count some
 
 stamps_same : (site last : ℕ) (d e : DeltaState) → IsSame d e → HasOwnStamps site last d → HasOwnStamps site last e
-stamps_same site last d e same own dot h live = own dot h (ap (λ m. map.get m dot) (live_same d e same) ∙ live)
+stamps_same site last d e same own dot h live = own dot h (ap (λ m. map.get m dot) (copied_live d e same) ∙ live)
 
 queues_same : (n : ℕ) (d e : DeltaState) → IsSame d e → AreInQueues n d → AreInQueues n e
 queues_same n d e same within = record {
-  members = λ dot h live. within.members dot h (ap (λ m. map.get m dot) (live_same d e same) ∙ live);
+  members = λ dot h live. within.members dot h (ap (λ m. map.get m dot) (copied_live d e same) ∙ live);
   totals = λ key totals here. within.totals key totals (ap (λ m. map.get m key) same.totals ∙ here);
 }
 

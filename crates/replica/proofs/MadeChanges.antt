@@ -8,6 +8,7 @@ use Rattle.std.specs.Ordering.{is_eq, nat_cmp}
 use Rattle.std.specs.FinMap as map
 use Rattle.std.specs.FinSet as set
 use Rattle.std.proofs.lemmas.Bool.Decides.{nat_tests}
+use Rattle.std.proofs.lemmas.Option.{none-some}
 use Rattle.std.proofs.Math.Bool.{or-false}
 use Rattle.dots.specs.declared.call_totals.CallTotals.{CallTotals}
 use Rattle.dots.specs.declared.calls.Calls.{Calls}
@@ -17,7 +18,7 @@ use Rattle.dots.specs.declared.member.Member.{Member}
 use Rattle.dots.specs.Values.{Dot, Stamp, PauseState}
 use Rattle.dots.specs.Orders.{dot_cmp}
 use Rattle.operations.specs.Registers.{Entry}
-use Rattle.operations.specs.Conditions.{Condition, DotFields, Live, Dead, condition_in, fields_in, no_fields}
+use Rattle.operations.specs.Conditions.{DotFields, Live, condition_in, fields_in, no_fields}
 use Rattle.dots.specs.CountedCalls.{same_calls}
 use Rattle.operations.specs.Counts.{count_in, site_total}
 use Rattle.operations.specs.Knowledge.{asserts, field_of, is_dot, known_dots, latest_of, member_of, names}
@@ -25,6 +26,7 @@ use Rattle.operations.specs.Operations.{Operation, Setting, Field, Add, Write, R
 use Rattle.dots.specs.CountedCalls.{is_zero, no_calls}
 use Rattle.operations.specs.Totals.{Entries, Key, join_of, key_cmp, single, totals_of}
 use Rattle.dots.proofs.DotOrder.{dots_exact, dots_total}
+use Rattle.operations.proofs.JoinedKnowledge.{condition_by}
 use Rattle.operations.proofs.KnownLaws.{known_dot}
 use Rattle.general_lemmas.proofs.Membership.{any_map, in_any, nothing_in, only_in, some_find}
 use Rattle.operations.proofs.TotalsLaws.{by_numbers, get_single_some, is_key, joined_empty, joined_comm}
@@ -47,10 +49,6 @@ Dots = set.FinSet dot_cmp
 
 -- ---- conditions
 
--- the condition of a dot by whether it is named, its member and its fields
-abbrev pub condition_by : Bool → Option Member → DotFields → Option Condition
-condition_by named member fields = if named then Some Dead else option_map (λ m. Live m fields) member
-
 -- what one operation alone sets of a field
 field_alone : {T : Type 0} (field : Field T) (o : Operation) (dot : Dot) → field_of field (o ∷ []) dot ≡ (if asserts dot o then field o else None)
 field_alone {T} field o dot = by (if asserts dot o then field o else None)
@@ -60,7 +58,7 @@ field_alone {T} field o dot = by (if asserts dot o then field o else None)
     by (Some e) = refl
 
 -- and what it sets of it on a dot that it asserts
-field_asserted : {T : Type 0} (field : Field T) (o : Operation) (dot : Dot) → asserts dot o ≡ true → field_of field (o ∷ []) dot ≡ field o
+pub field_asserted : {T : Type 0} (field : Field T) (o : Operation) (dot : Dot) → asserts dot o ≡ true → field_of field (o ∷ []) dot ≡ field o
 field_asserted field o dot h = field_alone field o dot ∙ ap (λ b. if b then field o else None) h
 
 -- the dots that one operation alone knows
@@ -149,10 +147,7 @@ uncounted o none entries empty site queue =
 
 -- no totals have no entry of two zeros
 no_entry : (entries : Entries) → entries ≡ map.empty → (key : Key) (totals : CallTotals) → map.get entries key ≡ Some totals → is_zero totals ≡ false
-no_entry entries empty key totals h = absurd (none_some totals (sym (ap (λ e. map.get e key) empty ∙ map.get-empty key_cmp key) ∙ h))
-  where
-    none_some : (p : CallTotals) → None ≡ Some p → ⊥
-    none_some p h = (cc)
+no_entry entries empty key totals h = absurd (none-some totals (sym (ap (λ e. map.get e key) empty ∙ map.get-empty key_cmp key) ∙ h))
 
 -- ---- what stands for one operation
 

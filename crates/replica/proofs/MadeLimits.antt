@@ -1,11 +1,13 @@
 -- What a command makes is within the limits of operations.
-use Rattle.std.proofs.Common.{◌≡◌, ℕ, suc, ◌<◌, ◌≤◌, max, Bool, true, false, ◌&&◌, ◌||◌, not, nat_lt, unwrap_or, bytes_eq, inl, inr, List, [], ◌∷◌, Contains, Option, Some, None, map as each, refl, sym, ap, subst, ◌∙◌, arith, true≢false, if◌then◌else◌}
+use Rattle.std.proofs.Common.{◌≡◌, ℕ, suc, ◌<◌, ◌≤◌, max, Bool, true, false, ◌&&◌, ◌||◌, not, nat_lt, unwrap_or, bytes_eq, inl, inr, List, [], ◌∷◌, Contains, Option, Some, None, map as each, refl, sym, ap, subst, ◌∙◌, arith, if◌then◌else◌}
 use Rattle.std.specs.FinSet as set
 use Rattle.std.specs.Cmp.Lexicographic.{pointwise}
 use Rattle.std.specs.Option.{option_and_then}
 use Rattle.std.specs.Prelude.{nat_eq}
 use Rattle.std.specs.Ordering.{is_eq}
 use Rattle.std.proofs.lemmas.Cmp.{tied_itself}
+use Rattle.std.proofs.lemmas.Bool.{or_parts}
+use Rattle.std.proofs.lemmas.Option.{same_Some}
 use Rattle.std.proofs.lemmas.Bool.Decides.{nat_tests}
 use Rattle.std.proofs.lemmas.List.Quantifiers.{position-Some}
 use Rattle.dots.specs.declared.limits.TheConstants.{MOST_CALLS, QUEUES}
@@ -63,14 +65,6 @@ queue-is : (names : List (List ℕ)) → AreQueues names → (queue : List ℕ) 
 queue-is names are queue q h = let there = position-Some (pointwise nat_eq queue) names q [] h in omega (arith, there.0, are.few)
 
 -- numbers that are left
-first_false : (a b : Bool) → (a || b) ≡ false → a ≡ false
-first_false true b h = h
-first_false false b h = refl
-
-second_false : (a b : Bool) → (a || b) ≡ false → b ≡ false
-second_false true b h = absurd (true≢false h)
-second_false false b h = h
-
 count_is : (n : ℕ) → is_used_up (suc n) ≡ false → IsCount (suc n)
 count_is n h = (omega arith, grind (arith, nat_tests))
 
@@ -113,14 +107,11 @@ pub is_with : (interface : List ℕ) (o : Option Member) (d dot : Dot) (member :
 is_with interface None d dot member h = absurd (cc)
 is_with interface (Some m) d dot member h = by (bytes_eq m.interface interface) refl h
   where
-    held : (x y : Dot × Member) → Some x ≡ Some y → x ≡ y
-    held x y e = ap (λ o. unwrap_or o x) e
-
     shown : Bool → Option (Dot × Member)
     shown b = if b then Some (d, m) else None
 
     by : (b : Bool) → bytes_eq m.interface interface ≡ b → shown b ≡ Some (dot, member) → bytes_eq member.interface interface ≡ true
-    by true e same = subst (λ n. bytes_eq n.interface interface ≡ true) (ap (λ p. p.1) (held (d, m) (dot, member) same)) e
+    by true e same = subst (λ n. bytes_eq n.interface interface ≡ true) (ap (λ p. p.1) (same_Some (d, m) (dot, member) same)) e
     by false e same = absurd (cc)
 
 pub shown_with : (interface : List ℕ) (d : Dot) (member : Member) → bytes_eq member.interface interface ≡ true → (o : Option Member) → o ≡ Some member
@@ -133,14 +124,11 @@ pub with_is : (interface : List ℕ) (o : Option Member) (d dot : Dot) (member :
 with_is interface None d dot member h = absurd (cc)
 with_is interface (Some m) d dot member h = by (bytes_eq m.interface interface) h
   where
-    held : (x y : Dot × Member) → Some x ≡ Some y → x ≡ y
-    held x y e = ap (λ o. unwrap_or o x) e
-
     shown : Bool → Option (Dot × Member)
     shown b = if b then Some (d, m) else None
 
     by : (b : Bool) → shown b ≡ Some (dot, member) → (d ≡ dot) × (Some m ≡ Some member)
-    by true e = let same = held (d, m) (dot, member) e in (ap (λ p. p.0) same, ap (λ p. Some p.1) same)
+    by true e = let same = same_Some (d, m) (dot, member) e in (ap (λ p. p.0) same, ap (λ p. Some p.1) same)
     by false e = absurd (cc)
 
 seen_are : (k : Knowledge) → AreWithinLimits k → (queue : Option ℕ) (interface : List ℕ) → ((q : ℕ) → queue ≡ Some q → q < QUEUES) → IsName interface → AreAsserted (dots_seen (dot_view k) queue interface)
@@ -189,9 +177,9 @@ makes_within_limits site names (AddMember queue interface penalty paused label) 
     let add = add_at site r member penalty paused label in
     let m = made r (site_view site buffer) add o (where_absent_made (dots_seen r.dots (Some q.0) interface) (within_limits r (site_view site buffer) add) o q.2) in
     subst IsWithinLimits m.same (record {
-      dot_is = record { site = at; count = count_is r.last_count (first_false _ _ m.numbers) };
+      dot_is = record { site = at; count = count_is r.last_count (or_parts _ _ m.numbers).0 };
       member_is = record { queue = queue-is names are queue q.0 q.1; interface = is.0 };
-      stamp_is = record { site = at; time = count_is r.last_time (second_false _ _ m.numbers) };
+      stamp_is = record { site = at; time = count_is r.last_time (or_parts _ _ m.numbers).1 };
       penalty_is = is.1.0;
       pause_is = record { reason = record { short = omega arith; clean = refl }; none = λ _. refl };
       label_is = is.1.1;

@@ -1,11 +1,6 @@
 -- Whether a site is full with an operation for which no number is left, and with which it can't be made: full goes before used up.
 use Rattle.std.proofs.Common.{◌≡◌, ◌≤◌, ◌<◌, ◌⊎◌, inl, inr, ℕ, zero, suc, ◌+◌, Bool, true, false, ◌||◌, List, [], ◌∷◌, length, map as each, Contains, Option, Some, None, is_some, refl, sym, ap, subst, ◌∙◌, arith, nat_lt, get_or, true≢false, max}
-use Rattle.std.specs.List.{list_any}
 use Rattle.std.proofs.Math.Bool.{or-true}
-use Rattle.std.specs.Ordering.{is_eq}
-use Rattle.std.proofs.lemmas.Cmp.{tied_itself}
-use Rattle.operations.specs.Knowledge.{is_dot}
-use Rattle.general_lemmas.proofs.Membership.{any_in}
 use Rattle.std.specs.Prelude.{nat_le}
 use Rattle.std.proofs.lemmas.Bool.{and_parts, false_from_ne_true}
 use Rattle.std.proofs.lemmas.Bool.Decides.{nat_tests}
@@ -35,6 +30,7 @@ use Rattle.replica.specs.Site.{SiteState, view_of}
 use Rattle.replica.specs.SiteViews.{dots_seen, greatest, older_dots}
 use Rattle.replica.proofs.Doing.{exhausted_means, full_means}
 use Rattle.replica.proofs.Fullness.{contains_older, full_add, full_write, older_dead, older_live, older_new, run_count_past, seen_older, too_long_add, too_long_write}
+use Rattle.replica.proofs.SeenLists.{listed}
 use Rattle.replica.proofs.SeenOnce.{seen_live, seen_once}
 
 -- what is known is below something that is known
@@ -184,10 +180,7 @@ module _ (s : SiteState) (kept : IsKept s) (queue : Option ℕ) (interface : Lis
   first_seen first here =
       ap (λ k. set.contains k first) (seen_older s s.state its_dots)
       ∙ set.contains-union dots_total (set.from_list its_dots) (older_dots (view_of s s.state) its_dots) first
-      ∙ ap (λ b. b || set.contains (older_dots (view_of s s.state) its_dots) first) (set.contains-from_list dots_total its_dots first ∙ among its_dots first here)
-    where
-      among : (ds : List Dot) (d : Dot) → Contains ds d → list_any (is_dot d) ds ≡ true
-      among ds d h = any_in (is_dot d) ds d h (ap is_eq (tied_itself dots_total d))
+      ∙ ap (λ b. b || set.contains (older_dots (view_of s s.state) its_dots) first) (set.contains-from_list dots_total its_dots first ∙ listed its_dots first here)
 
   -- whether a delta is full with it
   full_written : (d : DeltaState) → ((p : Dot × Member) → Contains pairs p → set.contains d.members.known p.0 ≡ true → map.contains_key d.members.live p.0 ≡ true)

@@ -1,21 +1,21 @@
 -- What one operation more makes of dots, of their members and fields, and of the rows of members.
-use Rattle.std.proofs.Common.{◌≡◌, inl, inr, Bool, true, false, not, ◌&&◌, ◌||◌, List, [], ◌∷◌, Contains, Option, Some, None, is_some, if◌then◌else◌, refl, sym, ap, ◌∙◌, true≢false}
-use Rattle.std.specs.List.{cons_option, filter_map, find, list_any}
-use Rattle.std.specs.Option.{option_map, option_or}
-use Rattle.std.specs.FinSet as set
+use Rattle.std.proofs.Common.{◌≡◌, inl, inr, true, false, ◌||◌, List, [], ◌∷◌, Contains, Option, Some, None, is_some, append-nil, refl, sym, ap, subst, ◌∙◌, true≢false}
+use Rattle.std.specs.List.{cons_option, filter_map, list_any}
+use Rattle.std.specs.Option.{option_or}
 use Rattle.std.proofs.lemmas.Bool.{cases_Bool, or_from, or_parts, or_right}
-use Rattle.std.proofs.lemmas.List.Folds.{find-append}
 use Rattle.dots.specs.declared.member.Member.{Member}
 use Rattle.dots.specs.Values.{Dot}
 use Rattle.operations.specs.Conditions.{DotFields, fields_in}
-use Rattle.operations.specs.Knowledge.{Knowledge, all_asserted, asserts, field_of, is_asserted, is_dot, is_named, latest_of, member_of, names, settings_of, visible_dots}
-use Rattle.operations.specs.Operations.{Field, Operation, asserted_by, label_field, pause_field, penalty_field, ring_field}
+use Rattle.operations.specs.Knowledge.{Knowledge, asserts, field_of, is_asserted, is_dot, is_named, latest_of, member_of, names}
+use Rattle.operations.specs.Operations.{Field, Operation, asserted_by}
 use Rattle.operations.specs.Registers.{Entry, join_of}
 use Rattle.operations.specs.Rows.{DotView, dot_view, dots_of, member_field, member_fields, row_if, row_of, row_of_fields}
-use Rattle.general_lemmas.proofs.Membership.{any_in, in_find, same_tests, some_find}
+use Rattle.general_lemmas.proofs.Membership.{any_in, same_tests}
 use Rattle.operations.proofs.AlikeViews.{filter_map_same}
-use Rattle.operations.proofs.VisibleLaws.{visible_dot}
-use Rattle.member_orset.proofs.DotTests.{one_dot, same_itself}
+use Rattle.operations.proofs.JoinedKnowledge.{field_both, fields_right, member_both, member_in, member_some}
+use Rattle.operations.proofs.VisibleLaws.{visible_from, visible_parts}
+use Rattle.member_orset.proofs.DotTests.{same_itself}
+use Rattle.replica.proofs.MadeChanges.{field_asserted}
 use Rattle.replica.proofs.SeenLists.{IsOwn, member_rises, of_member, same_rising, to_member}
 
 -- ---- rows of two views
@@ -82,82 +82,30 @@ module _ (r : DotView) (member : Member) where
 
 -- ---- one dot
 
--- a visible dot is asserted, and not named
-pub visible_parts : (k : Knowledge) (q : Dot) → set.contains (visible_dots k) q ≡ true → (is_asserted k q ≡ true) × (is_named k q ≡ false)
-visible_parts k q h = by (is_asserted k q) (is_named k q) (sym (visible_dot k q) ∙ h)
-  where
-    by : (a n : Bool) → (a && not n) ≡ true → (a ≡ true) × (n ≡ false)
-    by true true h = absurd (true≢false (sym h))
-    by true false h = (refl, refl)
-    by false n h = absurd (true≢false (sym h))
-
--- and what is so is visible
-pub visible_from : (k : Knowledge) (q : Dot) → is_asserted k q ≡ true → is_named k q ≡ false → set.contains (visible_dots k) q ≡ true
-visible_from k q asserted unnamed = visible_dot k q ∙ (λ i. asserted i && not (unnamed i))
-
--- a member is one
-pub one_member : (a b : Member) → Some a ≡ Some b → a ≡ b
-one_member a b e = cc
-
 module _ (o : Operation) (k : Knowledge) (q : Dot) where
-  -- the test for the dot among those that are asserted
-  abbrev is_at : Dot × Member → Bool
-  is_at = λ p. is_dot q p.0
-
-  -- its member is the one with which the operation asserts it, or else as it was
-  member_more : member_of (o ∷ k) q ≡ option_or (option_map (λ p. p.1) (find is_at (asserted_by o))) (member_of k q)
-  member_more =
-      ap (option_map (λ p. p.1)) (find-append is_at (asserted_by o) (all_asserted k)) ∙ of_either (find is_at (asserted_by o)) (find is_at (all_asserted k))
-    where
-      of_either : (x y : Option (Dot × Member)) → option_map (λ p. p.1) (option_or x y) ≡ option_or (option_map (λ p. p.1) x) (option_map (λ p. p.1) y)
-      of_either None y = refl
-      of_either (Some p) y = refl
-
   -- where the operation doesn't assert it, it has the member that it had
   pub member_passed : asserts q o ≡ false → member_of (o ∷ k) q ≡ member_of k q
-  member_passed h = member_more ∙ by (find is_at (asserted_by o)) refl
+  member_passed h = member_both (o ∷ []) k q ∙ by (member_of (o ∷ []) q) (member_some (o ∷ []) q ∙ ap (λ b. b || false) h)
     where
-      by : (x : Option (Dot × Member)) → find is_at (asserted_by o) ≡ x → option_or (option_map (λ p. p.1) x) (member_of k q) ≡ member_of k q
-      by None e = refl
-      by (Some p) e = absurd (true≢false (sym (ap is_some e) ∙ some_find is_at (asserted_by o) ∙ h))
+      by : (x : Option Member) → is_some x ≡ false → option_or x (member_of k q) ≡ member_of k q
+      by None none = refl
+      by (Some m) none = absurd (true≢false none)
 
   -- and so it has where all that the operation asserts have the members that they had
   pub member_kept : ((p : Dot × Member) → Contains (asserted_by o) p → member_of k p.0 ≡ Some p.1) → member_of (o ∷ k) q ≡ member_of k q
-  member_kept same = member_more ∙ by (find is_at (asserted_by o)) refl
+  member_kept same = member_both (o ∷ []) k q ∙ by (member_of (o ∷ []) q) refl
     where
-      by : (x : Option (Dot × Member)) → find is_at (asserted_by o) ≡ x → option_or (option_map (λ p. p.1) x) (member_of k q) ≡ member_of k q
+      by : (x : Option Member) → member_of (o ∷ []) q ≡ x → option_or x (member_of k q) ≡ member_of k q
       by None e = refl
-      by (Some p) e = let found = in_find is_at (asserted_by o) p e in sym (same p found.0) ∙ ap (member_of k) (sym (one_dot q p.0 found.1))
+      by (Some m) e = sym (same (q, m) (subst (λ ps. Contains ps (q, m)) (append-nil (asserted_by o)) (member_in (o ∷ []) q m e)))
 
-  -- a field of it is the later one of what the operation sets and what it was
-  field_more : {T : Type 0} (field : Field T) → field_of field (o ∷ k) q ≡ join_of (if asserts q o then field o else None) (field_of field k q)
-  field_more {T} field = by (if asserts q o then field o else None)
-    where
-      by : (x : Option (Entry T)) → latest_of (cons_option x (settings_of field k q)) ≡ join_of x (latest_of (settings_of field k q))
-      by None = refl
-      by (Some e) = refl
-
-  -- where the operation doesn't assert it, as it was
-  field_passed : {T : Type 0} (field : Field T) → asserts q o ≡ false → field_of field (o ∷ k) q ≡ field_of field k q
-  field_passed field h = field_more field ∙ ap (λ (b : Bool). join_of (if b then field o else None) (field_of field k q)) h
-
-  -- and where it does
+  -- where it asserts it, a field is the later one of what the operation sets and what it was
   pub field_said : {T : Type 0} (field : Field T) → asserts q o ≡ true → field_of field (o ∷ k) q ≡ join_of (field o) (field_of field k q)
-  field_said field h = field_more field ∙ ap (λ (b : Bool). join_of (if b then field o else None) (field_of field k q)) h
+  field_said field h = field_both field (o ∷ []) k q ∙ ap (λ x. join_of x (field_of field k q)) (field_asserted field o q h)
 
   -- where the operation doesn't assert it, all its fields are as they were
   pub fields_passed : asserts q o ≡ false → fields_in (o ∷ k) q ≡ fields_in k q
-  fields_passed h = λ i. record {
-    penalty = field_passed penalty_field h i;
-    pause = field_passed pause_field h i;
-    label = field_passed label_field h i;
-    ring = field_passed ring_field h i;
-  }
-
--- a dot that no operation asserts has no field
-pub no_field : {T : Type 0} (field : Field T) (k : Knowledge) (q : Dot) → is_asserted k q ≡ false → field_of field k q ≡ None
-no_field field [] q h = refl
-no_field field (o ∷ k) q h = let parts = or_parts (asserts q o) (is_asserted k q) h in field_passed o k q field parts.0 ∙ no_field field k q parts.1
+  fields_passed h = fields_right (o ∷ []) k q (ap (λ b. b || false) h)
 
 -- ---- a member that the operation isn't about
 

@@ -1,5 +1,5 @@
 -- What is planned for an add is what it means.
-use Rattle.std.proofs.Common.{◌≡◌, ◌≢◌, ◌≤◌, ◌<◌, inl, inr, ℕ, suc, max, Bool, true, false, ◌||◌, List, [], ◌∷◌, length, map as each, Contains, Some, refl, sym, ap, subst, ◌∙◌, arith, nat_lt, nat_eq, if◌then◌else◌}
+use Rattle.std.proofs.Common.{◌≡◌, ◌≢◌, ◌≤◌, ◌<◌, inl, inr, ℕ, suc, Bool, true, false, ◌||◌, List, [], ◌∷◌, length, map as each, Contains, Some, refl, sym, ap, subst, ◌∙◌, arith, nat_lt}
 use Rattle.std.proofs.lemmas.Bool.Decides.{nat_tests}
 use Rattle.std.specs.Option.{is_some, option_map, option_map_or}
 use Rattle.std.specs.Ordering.{eq_by_cmp, is_eq}
@@ -37,6 +37,7 @@ use Rattle.replica.specs.Site.{SiteState, meaning_at, view_of}
 use Rattle.replica.specs.SiteViews.{dots_seen, older_dots}
 use Rattle.replica.proofs.Doing.{full_means, limits_want}
 use Rattle.replica.proofs.Fullness.{older_new, seen_older, visible_live}
+use Rattle.replica.proofs.GreatestTimes.{own_latest}
 use Rattle.replica.specs.Writing.{HasParts, one_held}
 use Rattle.replica.proofs.MadeChanges.{add_delta, known_by}
 use Rattle.replica.proofs.SiteChanges.{add_change}
@@ -163,15 +164,9 @@ module _ (s : SiteState) (kept : IsKept s) (limits : IsWithinLimits s.state.memb
           (older_new s s.state next) (parts.known ∙ seen_older s s.state (next ∷ [])) parts.live parts.totals;
       not_exhausted = λ i. not_used_up (suc s.last_count) count_is i || not_used_up (suc s.last_time) time_is i;
       not_past_total = refl;
-      counted = count ∙ own s.site (suc s.last_count) s.last_count (omega arith);
-      timed = time ∙ own s.site (suc s.last_time) s.last_time (omega arith);
+      counted = count ∙ own_latest s.site (suc s.last_count) s.last_count (omega arith);
+      timed = time ∙ own_latest s.site (suc s.last_time) s.last_time (omega arith);
       change = subst (λ n. IsChangeOf s n planned.time planned.change) (sym count) (subst (λ t. IsChangeOf s (suc s.last_count) t planned.change) (sym time)
           (add_change s kept limits planned.change member penalty (record { paused = paused; reason = [] }) label within count_is.1 time_is.1 parts.known parts.live parts.totals));
       limits = parts.limits;
     }
-      where
-        own : (site n last : ℕ) → last ≤ n → n ≡ max (if nat_eq site site then n else 0) last
-        own site n last le = let same : nat_eq site site ≡ true = itself site in sym (ap (λ b. max (if b then n else 0) last) same ∙ omega arith)
-          where
-            itself : (n : ℕ) → nat_eq n n ≡ true
-            itself n = grind (arith, nat_tests)

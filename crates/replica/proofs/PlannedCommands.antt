@@ -9,8 +9,6 @@ use Rattle.operations.specs.Operations.{Operation, Count}
 use Rattle.operations.specs.Totals.{join_of, single, totals_of}
 use Rattle.site_totals.specs.Raising.{alone, number_of as number_of_calls}
 use Rattle.member_orset.specs.Members.{IsWithinLimits}
-use Rattle.delta.specs.DeltaStates as deltas
-use Rattle.delta.specs.DeltaStates.{DeltaState}
 use Rattle.replica.specs.declared.refusal.Refusal.{Refusal}
 use Rattle.replica.specs.declared.refusal.Refusal.TheVariants.{TotalFull}
 use Rattle.replica.specs.Changes.{CountCall, Meaning, Refused, count_at, in_queue, within_limits}
@@ -28,6 +26,7 @@ use Rattle.replica.proofs.Doing.{limits_want, made_done, memory_done, refused_do
 use Rattle.replica.proofs.Fullness.{full_count, too_long_count}
 use Rattle.replica.specs.Writing.{HasParts, none_held}
 use Rattle.replica.proofs.MadeChanges.{count_delta}
+use Rattle.replica.proofs.TakenSites.{unchanged_self}
 
 module _ (s : SiteState) (kept : IsKept s) (limits : IsWithinLimits s.state.members) (limits_pending : IsWithinLimits s.pending.members) where
   -- ---- counts
@@ -93,10 +92,7 @@ plan_done old new meant planned result kept limits limits_pending plan made =
 
 -- a site says the same as itself
 pub itself : (s : SiteState) → IsUnchanged s s
-itself s = record { site = refl; names = refl; state = delta s.state; pending = delta s.pending; last_count = refl; last_time = refl; frames = refl }
-  where
-    delta : (d : DeltaState) → deltas.IsUnchanged d d
-    delta d = record { members = record { known = refl; live = refl; ids = refl; spent = refl; retired = refl }; totals = refl }
+itself s = record { site = refl; names = refl; state = unchanged_self s.state; pending = unchanged_self s.pending; last_count = refl; last_time = refl; frames = refl }
 
 -- where nothing was planned the site stays, and what was told is what was meant
 pub refusal_done : (old : SiteState) (meant : Meaning) (refusal : Refusal) → IsUnplanned meant refusal → IsDone old meant old (Err refusal)

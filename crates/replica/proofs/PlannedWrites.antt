@@ -1,5 +1,5 @@
 -- What is planned for a remove and for a write is what they mean.
-use Rattle.std.proofs.Common.{◌≡◌, ◌≢◌, ◌≤◌, ◌<◌, inl, inr, ℕ, suc, max, Bool, true, false, List, [], ◌∷◌, length, map as each, Contains, Option, Some, refl, sym, ap, subst, ◌∙◌, arith, nat_lt, nat_eq, ◌==◌, true≢false, if◌then◌else◌}
+use Rattle.std.proofs.Common.{◌≡◌, ◌≢◌, ◌≤◌, ◌<◌, inl, inr, ℕ, suc, max, Bool, true, false, List, [], ◌∷◌, length, map as each, Contains, Option, Some, refl, sym, ap, subst, ◌∙◌, arith, nat_lt, ◌==◌, true≢false}
 use Rattle.std.proofs.lemmas.Bool.Decides.{nat_tests}
 use Rattle.std.specs.FinMap as map
 use Rattle.std.specs.FinSet as set
@@ -26,6 +26,7 @@ use Rattle.replica.specs.SiteViews.{dots_seen, greatest, older_dots}
 use Rattle.replica.specs.Writing.{HasParts, none_held, written_to}
 use Rattle.replica.proofs.Doing.{full_means, limits_want}
 use Rattle.replica.proofs.Fullness.{older_live, seen_older}
+use Rattle.replica.proofs.GreatestTimes.{own_latest}
 use Rattle.replica.proofs.MadeChanges.{held_by, known_by, remove_delta, write_delta}
 use Rattle.replica.proofs.PlannedAdds.{not_used_up, used_up}
 use Rattle.replica.proofs.SeenLists.{held_seen, seen_all_live, seen_rise}
@@ -148,7 +149,7 @@ module _ (s : SiteState) (kept : IsKept s) (limits : IsWithinLimits s.state.memb
             not_exhausted = not_used_up next_time time_is;
             not_past_total = refl;
             counted = count ∙ omega arith;
-            timed = time ∙ own s.site next_time s.last_time (later s.last_time (greatest (λ d. time_replaced (view_of s s.state).dots setting d.0) seen));
+            timed = time ∙ own_latest s.site next_time s.last_time (later s.last_time (greatest (λ d. time_replaced (view_of s s.state).dots setting d.0) seen));
             change = subst (λ n. IsChangeOf s n planned.time planned.change) (sym count) (subst (λ t. IsChangeOf s s.last_count t planned.change) (sym time)
                 (write_change s kept limits planned.change queue interface setting time_is.1 parts.known held parts.totals));
             limits = parts.limits;
@@ -156,12 +157,6 @@ module _ (s : SiteState) (kept : IsKept s) (limits : IsWithinLimits s.state.memb
         where
           later : (m n : ℕ) → m ≤ suc (max m n)
           later m n = omega arith
-
-          own : (site n last : ℕ) → last ≤ n → n ≡ max (if nat_eq site site then n else 0) last
-          own site n last le = let same : nat_eq site site ≡ true = itself site in sym (ap (λ b. max (if b then n else 0) last) same ∙ omega arith)
-            where
-              itself : (n : ℕ) → nat_eq n n ≡ true
-              itself n = grind (arith, nat_tests)
 
 -- what a remove means, by the dots of the member
 pub remove_means : (s : SiteState) → IsKept s → (queue interface : List ℕ) (number : ℕ) → number_of s.names queue ≡ Some number

@@ -9,7 +9,7 @@ use Rattle.std.specs.Ordering.{eq_by_cmp, is_eq, is_lt}
 use Rattle.std.specs.FinMap as map
 use Rattle.std.specs.FinMap.Entries.{below_all}
 use Rattle.std.specs.FinSet as set
-use Rattle.std.proofs.lemmas.Bool.{and_parts, cases_Bool, cases_lt}
+use Rattle.std.proofs.lemmas.Bool.{and_parts, cases_Bool, cases_lt, or_right}
 use Rattle.std.proofs.lemmas.Cmp.{tied_itself}
 use Rattle.std.proofs.lemmas.List.Elements.{Contains-get_or}
 use Rattle.std.proofs.lemmas.List.Folds.{list_any-append}
@@ -99,7 +99,7 @@ element : (dots : List Dot) (q : Dot) → list_any (is_dot q) dots ≡ true → 
 element dots q h = let p = in_any (is_dot q) dots h in subst (Contains dots) (sym (one_dot q p.0 p.2)) p.1
 
 -- and an element is one of it
-listed : (dots : List Dot) (q : Dot) → Contains dots q → list_any (is_dot q) dots ≡ true
+pub listed : (dots : List Dot) (q : Dot) → Contains dots q → list_any (is_dot q) dots ≡ true
 listed dots q h = any_in (is_dot q) dots q h (same_itself q)
 
 module _ (r : DotView) where
@@ -173,12 +173,8 @@ once_append : (xs ys : List Dot) → AreOnce xs → AreOnce ys → ((q : Dot) �
 once_append [] ys once other apart = other
 once_append (x ∷ xs) ys once other apart =
     IsDistinct-cons is_dot x (xs ++ ys) (both xs (IsDistinct-head is_dot x xs once))
-    (once_append xs ys (IsDistinct-tail is_dot x xs once) other (λ q h. apart q (or_later (is_dot q x) (list_any (is_dot q) xs) h)))
+    (once_append xs ys (IsDistinct-tail is_dot x xs once) other (λ q h. apart q (or_right (is_dot q x) (list_any (is_dot q) xs) h)))
   where
-    or_later : (a b : Bool) → b ≡ true → (a || b) ≡ true
-    or_later true b e = refl
-    or_later false b e = e
-
     both : (zs : List Dot) → AllByRecursion (λ y. is_dot x y ≡ false) zs → AllByRecursion (λ y. is_dot x y ≡ false) (zs ++ ys)
     both [] h = differs x ys (apart x (ap (λ b. b || list_any (is_dot x) xs) (same_itself x)))
     both (z ∷ zs) h = (h.0, both zs h.1)

@@ -11,6 +11,7 @@ use Rattle.dots.specs.declared.member.Member.{Member}
 use Rattle.dots.specs.CountedCalls.{same_calls}
 use Rattle.dots.specs.Orders.{dot_cmp}
 use Rattle.operations.specs.Counts.{queue_total, site_total}
+use Rattle.operations.proofs.TraceLaws.{same_kind}
 use Rattle.operations.specs.Knowledge.{Knowledge}
 use Rattle.operations.specs.Operations.{Count, Operation}
 use Rattle.operations.specs.Totals.{sum_below}
@@ -31,11 +32,7 @@ none_counted n = omega arith
 one_counted : (n : ℕ) → max (suc n) n ≡ suc n
 one_counted n = omega arith
 
--- calls are of their own kind, and of no other
-same_kind : (calls : Calls) → same_calls calls calls ≡ true
-same_kind Completed = refl
-same_kind Abandoned = refl
-
+-- calls are of no kind but their own
 one_kind : (c d : Calls) → same_calls c d ≡ true → c ≡ d
 one_kind Completed Completed h = refl
 one_kind Completed Abandoned h = absurd (true≢false (sym h))

@@ -1,21 +1,24 @@
 -- What is shown of an add and of a remove: the member's row, or none, and all else as it was.
-use Rattle.std.proofs.Common.{◌≡◌, ◌≢◌, inl, inr, ℕ, suc, Bool, true, false, cond, ◌&&◌, ◌||◌, List, [], ◌∷◌, Option, Some, None, map as each, refl, sym, ap, subst, ◌∙◌, arith, true≢false}
+use Rattle.std.proofs.Common.{◌≡◌, ◌≢◌, inl, inr, ℕ, suc, Bool, true, false, cond, ◌&&◌, ◌||◌, List, [], ◌∷◌, Some, None, map as each, refl, sym, ap, subst, ◌∙◌, arith, true≢false}
 use Rattle.std.specs.Prelude.{IsSome}
 use Rattle.std.specs.List.{find, list_any}
 use Rattle.std.specs.Option.{option_map}
 use Rattle.std.specs.FinSet as set
 use Rattle.std.proofs.lemmas.Bool.{cases_Bool, false_from_ne_true, or_parts}
+use Rattle.std.proofs.lemmas.Option.{same_Some}
 use Rattle.dots.specs.declared.label.Label.{Label}
 use Rattle.dots.specs.declared.member.Member.{Member}
 use Rattle.dots.specs.DotSets.{is_older}
 use Rattle.dots.specs.Values.{Dot}
 use Rattle.dots.proofs.DotOrder.{dots_total}
 use Rattle.general_lemmas.proofs.Membership.{in_any, only_in, same_tests}
+use Rattle.operations.proofs.JoinedKnowledge.{joined_none, no_field}
+use Rattle.operations.proofs.VisibleLaws.{visible_from, visible_parts}
 use Rattle.operations.specs.Conditions.{fields_in}
 use Rattle.operations.specs.Counts.{site_total}
 use Rattle.operations.specs.Knowledge.{Knowledge, all_asserted, asserts, field_of, is_asserted, is_dot, is_named, known_dots, member_of, names}
 use Rattle.operations.specs.Operations.{Field, Operation, asserted_by, label_field, pause_field, penalty_field, ring_field}
-use Rattle.operations.specs.Registers.{Entry, join_of}
+use Rattle.operations.specs.Registers.{join_of}
 use Rattle.operations.specs.Rows.{DotView, MemberRow, dot_view, dots_of, member_fields, row_if, row_of, row_of_fields}
 use Rattle.operations.proofs.KnownLaws.{known_dot}
 use Rattle.member_orset.proofs.DotTests.{one_dot, same_itself}
@@ -25,7 +28,7 @@ use Rattle.replica.specs.SetFields.{fields_added}
 use Rattle.replica.specs.Shows.{KnowsNonePast, ShowsAdd, ShowsRemove, member_at, row_added, row_in}
 use Rattle.replica.specs.SiteViews.{SiteView, count_used, dots_seen, greatest, site_view, time_used}
 use Rattle.replica.proofs.MadeLimits.{in_queue_made, made, where_absent_made, where_present_made}
-use Rattle.replica.proofs.OneMoreRows.{field_said, lone_row, member_passed, no_dots, no_field, no_row, none_own, one_member, row_passed, visible_from, visible_parts}
+use Rattle.replica.proofs.OneMoreRows.{field_said, lone_row, member_passed, no_dots, no_row, none_own, row_passed}
 use Rattle.replica.proofs.SeenLists.{IsOwn, member_rises, of_member, same_rising, to_member}
 use Rattle.replica.proofs.SeenOnce.{dots_paired, paired}
 use Rattle.replica.proofs.ShownCounts.{none_counted}
@@ -82,7 +85,7 @@ module _ (k : Knowledge) (queue : ℕ) (interface : List ℕ) where
       row_passed removed k other (λ q h. absurd (true≢false (sym h))) (λ q h. absurd (true≢false (sym h))) (λ q own.
       removed_names q
       ∙ false_from_ne_true (list_any (is_dot q) (dots_of (dot_view k) gone)) (λ h.
-      apart (one_member other gone (sym own.member ∙ (of_member (dot_view k) gone q h).member))))
+      apart (same_Some other gone (sym own.member ∙ (of_member (dot_view k) gone q h).member))))
 
 -- what is shown of a remove
 pub remove_shown : (site : ℕ) (names : List (List ℕ)) (queue interface : List ℕ) (k : Knowledge) (buffer : SiteView) (o : Operation)
@@ -157,11 +160,7 @@ module _ (site : ℕ) (k : Knowledge) (queue : ℕ) (interface : List ℕ) (pena
     -- the fields of it are those that were added
     new_field : {T : Type 0} (field : Field T) → field_of field (added ∷ k) new_dot ≡ field added
     new_field {T} field =
-        field_said added k new_dot field asserts_new ∙ ap (join_of (field added)) (no_field field k new_dot fresh.0) ∙ with_none (field added)
-      where
-        with_none : (x : Option (Entry T)) → join_of x None ≡ x
-        with_none None = refl
-        with_none (Some e) = refl
+        field_said added k new_dot field asserts_new ∙ ap (join_of (field added)) (no_field field k new_dot fresh.0) ∙ joined_none (field added)
 
     new_fields : fields_in (added ∷ k) new_dot ≡ fields_added (record { time = suc (greatest (time_used site) k); site = site }) penalty (record { paused = paused; reason = [] }) label
     new_fields = λ i. record {
@@ -194,7 +193,7 @@ module _ (site : ℕ) (k : Knowledge) (queue : ℕ) (interface : List ℕ) (pena
 
     add_others : (other : Member) → other ≢ new_member → row_in (added ∷ k) other ≡ row_in k other
     add_others other apart =
-        row_passed added k other (λ q h own. apart (one_member other new_member (sym own.member ∙ new_is q h))) (fresh_own other) (λ q own.
+        row_passed added k other (λ q h own. apart (same_Some other new_member (sym own.member ∙ new_is q h))) (fresh_own other) (λ q own.
         names_older q (visible_parts k q own.visible).1)
 
 -- what is shown of an add, at a site that knows none of its dots past its last

@@ -6,6 +6,7 @@ use Rattle.std.specs.Option.{option_map}
 use Rattle.std.specs.Ordering.{is_lt, ordering_reverse}
 use Rattle.std.specs.FinSet as set
 use Rattle.std.proofs.lemmas.Bool.{cases_Bool, or_from, or_parts, or_right}
+use Rattle.std.proofs.lemmas.Option.{same_Some}
 use Rattle.std.proofs.lemmas.Slice.Eq.{bytes_eq-Decides}
 use Rattle.dots.specs.declared.member.Member.{Member}
 use Rattle.dots.specs.DotSets.{is_older}
@@ -14,6 +15,7 @@ use Rattle.dots.specs.Values.{Dot, Stamp}
 use Rattle.general_lemmas.specs.SetItems.{in_order}
 use Rattle.general_lemmas.proofs.Filters.{filter_in}
 use Rattle.general_lemmas.proofs.Membership.{any_in, first_in, in_any, in_some, later_in, nothing_in, some_in}
+use Rattle.operations.proofs.VisibleLaws.{visible_from, visible_parts}
 use Rattle.operations.specs.Conditions.{DotFields, fields_in}
 use Rattle.operations.specs.Counts.{site_total}
 use Rattle.operations.specs.Knowledge.{Knowledge, asserts, field_of, is_asserted, is_dot, is_named, latest_of, member_of, names}
@@ -29,7 +31,7 @@ use Rattle.replica.specs.Queues.{number_of}
 use Rattle.replica.specs.Shows.{IsSetOn, ShowsSetting, member_at, row_in, row_with}
 use Rattle.replica.specs.SiteViews.{SiteView, dots_seen, greatest, older_dots, site_view, time_used, with_interface}
 use Rattle.replica.proofs.MadeLimits.{in_queue_made, is_with, made, map_in, shown_with, where_present_made}
-use Rattle.replica.proofs.OneMoreRows.{field_said, member_kept, no_row, one_member, own_of, row_passed, same_own, visible_from, visible_parts}
+use Rattle.replica.proofs.OneMoreRows.{field_said, member_kept, no_row, own_of, row_passed, same_own}
 use Rattle.replica.proofs.SeenLists.{IsOwn, paired_with, seen_member}
 use Rattle.replica.proofs.SeenOnce.{seen_visible}
 use Rattle.replica.proofs.ShownCounts.{none_counted}
@@ -289,7 +291,7 @@ module _ (site : ℕ) (k : Knowledge) (queue : Option ℕ) (interface : List ℕ
   not_other : (other : Member) → (IsAt queue interface other → ⊥) → (q : Dot) → asserts q written ≡ true → member_of k q ≡ Some other → ⊥
   not_other other apart q h is =
       let p = asserted_pair q h in
-      let same = one_member p.0 other (sym (seen_member (dot_view k) queue interface (q, p.0) p.1) ∙ is) in
+      let same = same_Some p.0 other (sym (seen_member (dot_view k) queue interface (q, p.0) p.1) ∙ is) in
       apart (subst (IsAt queue interface) same (seen_at (dot_view k) queue interface (q, p.0) p.1))
 
   set_others : (other : Member) → (IsAt queue interface other → ⊥) → row_in (written ∷ k) other ≡ row_in k other

@@ -6,7 +6,7 @@ use Rattle.std.specs.FinSet as set
 use Rattle.std.proofs.lemmas.Bool.Decides.{nat_tests}
 use Rattle.std.proofs.lemmas.List.Elements.{Contains-append_cases, Contains-append_left, Contains-append_right}
 use Rattle.dots.specs.declared.limits.TheConstants.{MOST_LIVE, MOST_RUNS}
-use Rattle.operations.specs.Conditions.{Condition, ConditionsAgree, Dead, Live}
+use Rattle.operations.specs.Conditions.{ConditionsAgree}
 use Rattle.dots.specs.DotSets.{run_count}
 use Rattle.operations.specs.Knowledge.{Knowledge, known_dots, visible_dots}
 use Rattle.operations.specs.Operations.{Operation}
@@ -31,6 +31,7 @@ use Rattle.replica.specs.Standing.{StandsFor}
 use Rattle.replica.specs.Steps as steps
 use Rattle.replica.specs.Steps.{Outcome, SiteKnowledge, Taken}
 use Rattle.replica.specs.Taking.{HasDotPast, HasNoneLater, HasStampPast, HasTakenDelta, IsMeantFault, IsNotMine, IsRefusedTake, IsWrittenPast, MayHear, MayTake, SpeaksOfStrangeQueue, take_fault_of}
+use Rattle.operations.proofs.ConditionLaws.{agrees_with_none}
 use Rattle.replica.proofs.Below.{below_joined, below_through, unchanged_condition}
 use Rattle.replica.proofs.KeptJoins.{dots_joined, queues_joined, stamps_joined}
 use Rattle.replica.proofs.StandingSites.{equal_same, taken_stands}
@@ -91,12 +92,6 @@ taken_kept s d state kept hears agree j = record {
 
 -- ---- what was prepared agrees
 
--- a condition agrees with one of which nothing is said
-agrees_none : (c : Option Condition) → ConditionsAgree c None
-agrees_none None = tt
-agrees_none (Some Dead) = tt
-agrees_none (Some (Live m f)) = tt
-
 -- what a delta has prepared agrees with it, also where nothing is known
 pub prepared_agrees : (state d : DeltaState) → IsWithinLimits d.members → IsPrepared state d → AreInAgreement state d
 prepared_agrees state d limits ready dot = by (map.get d.members.live dot) (set.contains d.members.known dot) refl refl
@@ -107,7 +102,7 @@ prepared_agrees state d limits ready dot = by (map.get d.members.live dot) (set.
     by : (o : Option Holding) (known : Bool) → map.get d.members.live dot ≡ o → set.contains d.members.known dot ≡ known → ConditionsAgree (condition_of state.members dot) (condition_of d.members dot)
     by o true e f = agree f
     by (Some held) false e f = agree (limits.held dot held e).known
-    by None false e f = subst (ConditionsAgree (condition_of state.members dot)) (sym (λ i. condition_at (e i) (f i))) (agrees_none (condition_of state.members dot))
+    by None false e f = subst (ConditionsAgree (condition_of state.members dot)) (sym (λ i. condition_at (e i) (f i))) (agrees_with_none (condition_of state.members dot))
 
 -- what agrees with a delta that says the same agrees with the one before
 pub agrees_before : (old same d : DeltaState) → deltas.IsUnchanged old same → AreInAgreement same d → AreInAgreement old d

@@ -1,8 +1,5 @@
 -- What a knowledge asserts, and of which member its dots are.
-use Rattle.std.proofs.Common.{◌≡◌, ◌<◌, nat_eq, nat_lt, Bool, true, false, not, ◌&&◌, List, Contains, Option, Some, None, is_some, refl, sym, ap, subst, ◌∙◌, true≢false, arith}
-use Rattle.std.specs.FinSet as set
-use Rattle.std.specs.List.{find}
-use Rattle.std.specs.Option.{option_map}
+use Rattle.std.proofs.Common.{◌≡◌, ◌<◌, nat_eq, nat_lt, true, false, ◌&&◌, List, Contains, Option, Some, None, is_some, refl, sym, ap, subst, ◌∙◌, true≢false, arith}
 use Rattle.std.specs.Ordering.{is_eq}
 use Rattle.std.proofs.lemmas.Cmp.{tied_itself}
 use Rattle.std.proofs.lemmas.Bool.Decides.{nat_tests}
@@ -11,14 +8,11 @@ use Rattle.dots.specs.Values.{Dot}
 use Rattle.dots.specs.DotSets.{is_older}
 use Rattle.dots.specs.Orders.{dot_cmp}
 use Rattle.operations.specs.Operations.{Operation, asserted_by}
-use Rattle.operations.specs.Knowledge.{Knowledge, all_asserted, asserts, is_asserted, is_dot, is_named, member_of, visible_dots}
+use Rattle.operations.specs.Knowledge.{Knowledge, all_asserted, asserts, is_asserted, is_dot, member_of}
 use Rattle.dots.proofs.DotOrder.{dots_exact, dots_total}
-use Rattle.operations.proofs.FieldLaws.{found_pair}
-use Rattle.operations.proofs.JoinedKnowledge.{member_some}
+use Rattle.operations.proofs.JoinedKnowledge.{member_in, member_some}
 use Rattle.general_lemmas.proofs.Membership.{any_in, in_any, in_part, part_in}
 use Rattle.general_lemmas.proofs.TruthTables.{equal_of}
-use Rattle.operations.proofs.VisibleLaws.{visible_dot}
-use Rattle.sites_world.proofs.Lists.{none_some, one_some}
 
 -- ---- what is asserted
 
@@ -41,14 +35,6 @@ pair_of k dot is =
 
 -- ---- members
 
--- the member that is told of a dot stands with it
-pub member_in : (k : Knowledge) (dot : Dot) (m : Member) → member_of k dot ≡ Some m → Contains (all_asserted k) (dot, m)
-member_in k dot m is = by (find (λ p. is_dot dot p.0) (all_asserted k)) refl is
-  where
-    by : (o : Option (Dot × Member)) → find (λ p. is_dot dot p.0) (all_asserted k) ≡ o → option_map (λ p. p.1) o ≡ Some m → Contains (all_asserted k) (dot, m)
-    by None e h = absurd (none_some m h)
-    by (Some p) e h = subst (λ n. Contains (all_asserted k) (dot, n)) (one_some p.1 m h) (found_pair k dot p e)
-
 -- where a dot is of one member, that is the one that is told
 pub member_is : (k : Knowledge) (dot : Dot) (m : Member) → Contains (all_asserted k) (dot, m)
     → ((n : Member) → Contains (all_asserted k) (dot, n) → n ≡ m) → member_of k dot ≡ Some m
@@ -57,19 +43,6 @@ member_is k dot m here one = by (member_of k dot) refl (member_some k dot ∙ is
     by : (o : Option Member) → member_of k dot ≡ o → is_some o ≡ true → member_of k dot ≡ Some m
     by None e some = absurd (true≢false (sym some))
     by (Some n) e some = e ∙ ap Some (one n (member_in k dot n e))
-
--- ---- visible dots
-
-pub visible_parts : (k : Knowledge) (dot : Dot) → set.contains (visible_dots k) dot ≡ true → (is_asserted k dot ≡ true) × (is_named k dot ≡ false)
-visible_parts k dot is = by (is_asserted k dot) (is_named k dot) refl refl (sym (visible_dot k dot) ∙ is)
-  where
-    by : (a n : Bool) → is_asserted k dot ≡ a → is_named k dot ≡ n → (a && not n) ≡ true → (is_asserted k dot ≡ true) × (is_named k dot ≡ false)
-    by true true e f h = absurd (true≢false (sym h))
-    by true false e f h = (e, f)
-    by false n e f h = absurd (true≢false (sym h))
-
-pub visible_of : (k : Knowledge) (dot : Dot) → is_asserted k dot ≡ true → is_named k dot ≡ false → set.contains (visible_dots k) dot ≡ true
-visible_of k dot a n = visible_dot k dot ∙ (λ i. a i && not (n i))
 
 -- ---- older dots
 

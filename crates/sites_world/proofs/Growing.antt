@@ -17,7 +17,7 @@ use Rattle.sites_world.specs.declared.event.Event.TheVariants as event
 use Rattle.sites_world.specs.Histories.{IsPartOf}
 use Rattle.sites_world.specs.Holding.{EventsGrow, HasGrown, RunsGrow, TakenStaysKnown}
 use Rattle.sites_world.specs.Worlds.{Entry, Happening, World, happens, happens_at, happens_where, run, site_of, taken}
-use Rattle.sites_world.proofs.Lists.{get_set_other, get_set_same, one_some}
+use Rattle.sites_world.proofs.Lists.{get_set_other, get_set_same, one_some, same_place}
 use Rattle.sites_world.proofs.OutcomeLaws.{frame_by, take_by}
 use Rattle.sites_world.proofs.Parts.{second_part}
 use Rattle.sites_world.proofs.TakenEntries.{taken_gives}
@@ -105,14 +105,11 @@ grown_at : (w : World) (at : ℕ) (s : SiteKnowledge) (h : Happening) → slice_
     → HasGrown w (record { sites = slice_set w.sites at h.site; pool = w.pool ++ h.added })
 grown_at w at s h is more = record {
   count = length-set w.sites at h.site;
-  known = λ site u was. by site u was (same_place site);
+  known = λ site u was. by site u was (same_place at site);
   added = h.added;
   pool = refl;
 }
   where
-    same_place : (site : ℕ) → (site ≡ at) ⊎ (site ≡ at → ⊥)
-    same_place site = grind arith
-
     by : (site : ℕ) (u : SiteKnowledge) → slice_get w.sites site ≡ Some u → ((site ≡ at) ⊎ (site ≡ at → ⊥))
         → (t : SiteKnowledge) × (slice_get (slice_set w.sites at h.site) site ≡ Some t) × IsPartOf u.known t.known × (u.frames ≤ t.frames)
     by site u was (inl same) =

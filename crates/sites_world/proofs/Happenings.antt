@@ -1,7 +1,7 @@
 -- What has happened at a site, and at the sites of a world.
 use Rattle.std.specs.Option.{option_map}
 use Rattle.delta.specs.Frames.{IsInRanges}
-use Rattle.std.proofs.lemmas.Bool.{and_parts}
+use Rattle.std.proofs.lemmas.Bool.{and_from, and_parts}
 use Rattle.std.proofs.Common.{◌≡◌, ◌<◌, ◌≤◌, ◌+◌, inl, inr, ℕ, Bool, true, false, List, [], ◌∷◌, ◌++◌, append-nil, length, slice_get, slice_set, Some, None, refl, sym, ap, subst, ◌∙◌, if◌then◌else◌, arith, ◌&&◌, is_some, true≢false, Option, IfSome}
 use Rattle.std.proofs.lemmas.List.{length-append, length-replicate}
 use Rattle.std.proofs.lemmas.Option.{slice_get_within}
@@ -173,9 +173,6 @@ outcomes_push (p ∷ os) o = by (is_done p) (outcomes_push os o)
 abbrev Goes : List (List ℕ) → List Event → List Outcome → Event → Outcome → World → Type 0
 Goes names es os e o v = are_there names v es os ≡ true → (is_done o ≡ false → is_there (run names v (done_of es os)).0 e ≡ true) → are_there names v (es ++ e ∷ []) (os ++ o ∷ []) ≡ true
 
-both : (a b : Bool) → a ≡ true → b ≡ true → (a && b) ≡ true
-both a b p q = (λ i. p i && q i)
-
 -- where memory was wanting for one event more there are its site and its entry too
 there_push : (names_of_queues : List (List ℕ)) (w : World) (es : List Event) (os : List Outcome) (e : Event) (o : Outcome) → length os ≡ length es → are_there names_of_queues w es os ≡ true
     → (is_done o ≡ false → is_there (run names_of_queues w (done_of es os)).0 e ≡ true) → are_there names_of_queues w (es ++ e ∷ []) (os ++ o ∷ []) ≡ true
@@ -183,7 +180,7 @@ there_push names_of_queues w [] [] e o same all last = by (is_done o) refl
   where
     by : (b : Bool) → is_done o ≡ b → (if b then true else is_there w e && true) ≡ true
     by true is = refl
-    by false is = both (is_there w e) true (last is) refl
+    by false is = and_from (is_there w e) true (last is) refl
 there_push names_of_queues w [] (p ∷ os) e o same all last = absurd (omega (arith, same))
 there_push names_of_queues w (f ∷ es) [] e o same all last = absurd (omega (arith, same))
 there_push names_of_queues w (f ∷ es) (p ∷ os) e o same all last =
@@ -194,7 +191,7 @@ there_push names_of_queues w (f ∷ es) (p ∷ os) e o same all last =
         → (is_done o ≡ false → is_there (run names_of_queues w (if b then f ∷ done_of es os else done_of es os)).0 e ≡ true)
         → (if b then are_there names_of_queues (happens names_of_queues w f).0 (es ++ e ∷ []) (os ++ o ∷ []) else is_there w f && are_there names_of_queues w (es ++ e ∷ []) (os ++ o ∷ [])) ≡ true
     by true after_it before_it so_far at_last = after_it so_far at_last
-    by false after_it before_it so_far at_last = let parts = and_parts (is_there w f) _ so_far in both (is_there w f) _ parts.0 (before_it parts.1 at_last)
+    by false after_it before_it so_far at_last = let parts = and_parts (is_there w f) _ so_far in and_from (is_there w f) _ parts.0 (before_it parts.1 at_last)
 
 module _ (names_of_queues : List (List ℕ)) (sites : ℕ) (w : World) where
   -- a world that was reached leads to others that are

@@ -10,6 +10,7 @@ use Rattle.dots.specs.Values.{Dot}
 use Rattle.dots.specs.Orders.{member_cmp}
 use Rattle.operations.specs.Knowledge.{Knowledge, member_of, visible_dots}
 use Rattle.operations.specs.Rows.{DotView, ShowAlike, dot_view, dots_of, is_of}
+use Rattle.operations.proofs.VisibleLaws.{visible_parts}
 use Rattle.general_lemmas.specs.SetItems.{in_order}
 use Rattle.operations.proofs.AlikeViews.{filter_map_same, own_visible, same_dots}
 use Rattle.general_lemmas.proofs.Counting.{of_item}
@@ -27,7 +28,6 @@ use Rattle.sites_world.specs.Holding.{HeldAgree, HoldFewCells, HoldOneDotASite, 
 use Rattle.sites_world.specs.Promises.{IsVisibleDotOf, members_seen, visible_members}
 use Rattle.sites_world.specs.Worlds.{IsReached, World}
 use Rattle.sites_world.specs.WorldStates.{IsFrameOf, IsSiteOf, StandsForWorld, WorldState}
-use Rattle.sites_world.proofs.Dots.{visible_parts}
 use Rattle.sites_world.proofs.KnownTogether.{one_dot, part_of, together}
 use Rattle.sites_world.proofs.Lists.{correspond_get, place_in}
 use Rattle.sites_world.proofs.MayTake.{knows_none_past, may_take}

@@ -5,11 +5,13 @@ use Rattle.dots.specs.Values.{Dot}
 use Rattle.operations.specs.Operations.{Operation, asserted_by}
 use Rattle.operations.specs.Knowledge.{IsConsistent, Knowledge, names}
 use Rattle.general_lemmas.proofs.Membership.{any_in, in_part, part_in}
+use Rattle.operations.proofs.JoinedKnowledge.{member_in}
+use Rattle.operations.proofs.VisibleLaws.{visible_parts}
 use Rattle.sites_world.specs.declared.event.Event.{Event}
 use Rattle.sites_world.specs.Histories.{HasHistory, IsHistory, IsHistoryOf, IsIn, IsOf, IsPartOf, Makes, Buffered, Carried, Known}
 use Rattle.sites_world.specs.Promises.{IsVisibleDotOf, RunsInParts}
 use Rattle.sites_world.specs.Worlds.{World, happens}
-use Rattle.sites_world.proofs.Dots.{is-asserted, member_in, visible_parts}
+use Rattle.sites_world.proofs.Dots.{is-asserted}
 use Rattle.sites_world.proofs.GrownHistories.{makes_pair}
 use Rattle.sites_world.proofs.Parts.{asserted_part, both_part, consistent_part, known_asserted, part_through}
 

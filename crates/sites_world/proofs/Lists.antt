@@ -23,6 +23,10 @@ at_least a b not_less = elim cases [ inl less ↦ absurd (not_less less) | inr p
 
 -- ---- places
 
+-- a place is this one, or another
+pub same_place : (at place : ℕ) → (place ≡ at) ⊎ (place ≡ at → ⊥)
+same_place at place = grind arith
+
 -- the element at a place is in the list
 pub place_in : {X : Type 0} (xs : List X) (i : ℕ) (x : X) → slice_get xs i ≡ Some x → Contains xs x
 place_in xs i x h =

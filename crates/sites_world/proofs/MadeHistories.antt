@@ -1,7 +1,7 @@
 -- What a site makes of what it knows may be the next operation of the history.
-use Rattle.std.proofs.Common.{◌≡◌, ◌<◌, ◌≤◌, inl, inr, ℕ, suc, Bool, true, false, ◌&&◌, List, [], ◌∷◌, Contains, Some, refl, sym, ap, subst, ◌∙◌, true≢false, map as each, if◌then◌else◌, nat_eq, arith}
+use Rattle.std.proofs.Common.{◌≡◌, ◌<◌, ◌≤◌, inl, inr, ℕ, suc, Bool, true, false, List, [], ◌∷◌, Contains, Some, refl, sym, ap, subst, ◌∙◌, true≢false, map as each, if◌then◌else◌, nat_eq, arith}
 use Rattle.std.specs.FinSet as set
-use Rattle.std.proofs.lemmas.Bool.{and_parts}
+use Rattle.std.proofs.lemmas.Bool.{and_from, and_parts}
 use Rattle.std.proofs.lemmas.Bool.Decides.{nat_tests}
 use Rattle.dots.specs.declared.label.Label.{Label}
 use Rattle.dots.specs.declared.member.Member.{Member}
@@ -11,13 +11,15 @@ use Rattle.dots.specs.DotSets.{is_older}
 use Rattle.operations.specs.Operations.{Operation, Setting, Add, Write, Remove, Count, asserted_by}
 use Rattle.operations.specs.Knowledge.{Knowledge, all_asserted, is_named, known_dots, member_of, names}
 use Rattle.general_lemmas.proofs.Membership.{any_in, cases_in, first_in, in_part, nothing_in, only_in, part_in}
+use Rattle.operations.proofs.JoinedKnowledge.{member_in}
+use Rattle.operations.proofs.VisibleLaws.{visible_from, visible_parts}
 use Rattle.replica.specs.SiteViews.{count_used, greatest, time_used}
 use Rattle.replica.specs.Steps.{SiteKnowledge}
 use Rattle.replica.specs.MadeOperations.{IsAddAt, IsMadeAt, IsWriteAt}
 use Rattle.sites_world.specs.Histories.{IsHistory, IsOf, IsSiteIn, Makes, stamp_of}
 use Rattle.replica.proofs.MadeLimits.{map_in}
 use Rattle.sites_world.proofs.Lists.{none_some, one_some}
-use Rattle.sites_world.proofs.Dots.{is-asserted, member_in, member_is, older_than, visible_of, visible_parts}
+use Rattle.sites_world.proofs.Dots.{is-asserted, member_is, older_than}
 use Rattle.sites_world.proofs.Parts.{asserted_part, known_asserted, known_named, known_part, named_part}
 use Rattle.sites_world.proofs.GrownHistories.{IsNewDot, IsNext, makes_pair}
 
@@ -63,9 +65,6 @@ makes_count site (Remove dots) dot p is = absurd p
 makes_count site (Count s queue calls total) dot p is = absurd p
 
 -- what two tests pass, each passes
-both_true : (a b : Bool) → a ≡ true → b ≡ true → (a && b) ≡ true
-both_true a b p q = (λ i. p i && q i)
-
 module _ (names_of_queues : List (List ℕ)) (sites site : ℕ) (h : Knowledge) (s : SiteKnowledge) (made : IsHistory names_of_queues sites h) (own : IsSiteIn h site s) (there : site < sites) where
   -- a stamp of the site that is later than all that it has used is new
   stamp_new : (o p : Operation) (time : ℕ) (stamp : Stamp) → Contains h p → stamp_of p ≡ Some stamp → stamp.site ≡ site → greatest (time_used site) s.known < time → stamp.time ≡ time → ⊥
@@ -133,7 +132,7 @@ module _ (names_of_queues : List (List ℕ)) (sites site : ℕ) (h : Knowledge) 
 
         by : (b : Bool) → is_named s.known earlier ≡ b → is_named s.known earlier ≡ true
         by true e = e
-        by false e = absurd (a.absent earlier (visible_of s.known earlier (is-asserted s.known earlier member there_too) e) member_told)
+        by false e = absurd (a.absent earlier (visible_from s.known earlier (is-asserted s.known earlier member there_too) e) member_told)
 
     -- an add may be the next
     pub add_next : IsNext names_of_queues sites h o
@@ -152,7 +151,7 @@ module _ (names_of_queues : List (List ℕ)) (sites site : ℕ) (h : Knowledge) 
           let at : earlier.site ≡ dot.site = same ∙ ap (λ x. x.site) (sym dots_are) in
           let lesser : earlier.count < dot.count = let counts = ap (λ x. x.count) dots_are in omega (arith, less, counts) in
           let named = earlier_named earlier (subst (λ n. Contains (all_asserted h) (earlier, n)) (ap (λ p. p.1) (sym pair)) before) at in
-          a.older_are earlier ∙ both_true _ _ named (older_than (dot ∷ []) dot earlier (first_in dot []) at lesser);
+          a.older_are earlier ∙ and_from _ _ named (older_than (dot ∷ []) dot earlier (first_in dot []) at lesser);
     }
 
   module _ (dots : List (Dot × Member)) (setting : Setting) (stamp : Stamp) (older : set.FinSet dot_cmp) (w : IsWriteAt site s.known dots stamp older) where
@@ -178,7 +177,7 @@ module _ (names_of_queues : List (List ℕ)) (sites site : ℕ) (h : Knowledge) 
       made_once = λ d makes known. makes;
       counts = tt;
       older = λ d earlier m here before same less.
-          w.older_are earlier ∙ both_true _ _ (written_older d earlier m here before same less) (older_than (each (λ p. p.0) dots) d earlier (first_of dots d m here) same less);
+          w.older_are earlier ∙ and_from _ _ (written_older d earlier m here before same less) (older_than (each (λ p. p.0) dots) d earlier (first_of dots d m here) same less);
     }
 
   -- what a site makes may be the next

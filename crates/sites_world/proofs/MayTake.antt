@@ -19,6 +19,7 @@ use Rattle.dots.specs.CountedCalls.{is_zero, no_calls}
 use Rattle.operations.specs.Totals.{totals_of}
 use Rattle.operations.proofs.FieldLaws.{field_is}
 use Rattle.general_lemmas.proofs.Membership.{first_in, later_in, part_in}
+use Rattle.operations.proofs.JoinedKnowledge.{member_in}
 use Rattle.operations.proofs.ShownLaws.{is_greatest}
 use Rattle.site_totals.specs.Raising.{number_of}
 use Rattle.member_orset.specs.Members.{Holding, condition_at}
@@ -35,7 +36,7 @@ use Rattle.sites_world.specs.Histories.{IsHistory, IsOf, IsPartOf, IsSiteIn, sta
 use Rattle.sites_world.specs.Telling.{MayBeTaken}
 use Rattle.sites_world.specs.WorldStates.{IsSiteOf}
 use Rattle.sites_world.proofs.Lists.{none_some}
-use Rattle.sites_world.proofs.Dots.{is-asserted, member_in}
+use Rattle.sites_world.proofs.Dots.{is-asserted}
 use Rattle.sites_world.proofs.MadeHistories.{below_greatest, count-used, stamped_of, stamped_time}
 use Rattle.sites_world.proofs.Parts.{IsStamped, asserted_part, both_part, consistent_part, known_asserted, known_part, label_stamped, pause_stamped, penalty_stamped, ring_stamped, set_by}
 

@@ -11,6 +11,7 @@ use Rattle.operations.specs.Operations.{Operation, Field, Add, Write, Remove, Co
 use Rattle.operations.specs.Knowledge.{IsConsistent, Knowledge, OneValue, all_asserted, asserts, is_asserted, is_named, known_dots, names, settings_of}
 use Rattle.operations.proofs.KnownLaws.{known_dot}
 use Rattle.general_lemmas.proofs.Membership.{any_in, in_any, in_part, in_some, only_in, part_in}
+use Rattle.operations.proofs.FieldLaws.{chosen}
 use Rattle.sites_world.specs.Histories.{IsHistory, IsPartOf, stamp_of}
 use Rattle.sites_world.proofs.Lists.{none_some, one_some}
 
@@ -104,12 +105,8 @@ ring_stamped (Write dots setting stamp older) e h = under stamp (set_ring settin
 ring_stamped (Remove dots) e h = absurd (none_some e h)
 ring_stamped (Count site queue calls total) e h = absurd (none_some e h)
 
-chosen : {T : Type 0} (field : Field T) (dot : Dot) → Operation → Option (Entry T)
-chosen field dot o = if asserts dot o then field o else None
-
 -- an entry is set by an operation of the knowledge
 pub set_by : {T : Type 0} (field : Field T) (k : Knowledge) (dot : Dot) (e : Entry T) → Contains (settings_of field k dot) e → (o : Operation) × Contains k o × (field o ≡ Some e)
-unfolding chosen
 set_by {T} field k dot e here = let o = in_some (chosen field dot) k e here in (o.0, o.1, by (asserts dot o.0) o.2)
   where
     by : {x : Option (Entry T)} (b : Bool) → (if b then x else None) ≡ Some e → x ≡ Some e

@@ -29,7 +29,7 @@ use Rattle.sites_world.specs.Histories.{Buffered, Carried, IsIn, Known}
 use Rattle.sites_world.specs.WorldStates.{IsFrameOf}
 use Rattle.sites_world.specs.Worlds.{Entry, Happening, World, entries_of, framed, happens, happens_at, happens_where, new_world, run, site_of, taken}
 use Rattle.sites_world.proofs.Held.{held_in}
-use Rattle.sites_world.proofs.Lists.{get_replicate, get_set_other, get_set_same, correspond_get, one_some, place_in}
+use Rattle.sites_world.proofs.Lists.{get_replicate, get_set_other, get_set_same, correspond_get, one_some, place_in, same_place}
 
 -- ---- at one site
 
@@ -80,13 +80,10 @@ put_small : (sites : ℕ) (w : World) (at : ℕ) (h : Happening) → at < length
     → IsSmallWorld sites (record { sites = slice_set w.sites at h.site; pool = w.pool ++ h.added })
 put_small sites w at h there all now = record {
   count = length-set w.sites at h.site ∙ all.count;
-  known = λ site s here. by site s here (same_place site);
+  known = λ site s here. by site s here (same_place at site);
   pool = λ entry here. elim (Contains-append_cases w.pool h.added entry here) [ inl was ↦ all.pool entry was | inr new ↦ now.added entry new ];
 }
   where
-    same_place : (site : ℕ) → (site ≡ at) ⊎ (site ≡ at → ⊥)
-    same_place site = grind arith
-
     by : (site : ℕ) (s : SiteKnowledge) → slice_get (slice_set w.sites at h.site) site ≡ Some s → ((site ≡ at) ⊎ (site ≡ at → ⊥)) → IsSmallSite s
     by site s here (inl same) =
         subst IsSmallSite (one_some h.site s (sym (get_set_same w.sites at h.site there) ∙ ap (slice_get (slice_set w.sites at h.site)) (sym same) ∙ here)) now.site

@@ -17,9 +17,9 @@ use Rattle.dots.proofs.DotOrder.{dots_exact, dots_total}
 use Rattle.operations.proofs.JoinedKnowledge.{member_some}
 use Rattle.dots.proofs.MemberOrder.{exact_members, members_total}
 use Rattle.general_lemmas.proofs.Membership.{any_in, cases_in, first_in, in_any, later_in, nothing_in, some_in}
+use Rattle.operations.proofs.VisibleLaws.{visible_parts}
 use Rattle.general_lemmas.proofs.TruthTables.{equal_of}
 use Rattle.sites_world.specs.Promises.{IsVisibleDotOf, members_seen, visible_members}
-use Rattle.sites_world.proofs.Dots.{visible_parts}
 
 -- sets of dots
 abbrev Dots : Type 0

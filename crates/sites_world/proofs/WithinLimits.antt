@@ -27,7 +27,7 @@ use Rattle.sites_world.specs.Promises.{EventsKeepLimits, WorldsAreWithinLimits}
 use Rattle.sites_world.specs.WithinLimits.{HasValuesWithinLimits, KnowsWithinLimits}
 use Rattle.sites_world.specs.Worlds.{Entry, Happening, World, answered, framed, happens, happens_at, happens_where, new_world, run, site_of, taken}
 use Rattle.sites_world.proofs.Growing.{event_grows}
-use Rattle.sites_world.proofs.Lists.{get_replicate, get_set_other, get_set_same, one_some, place_in}
+use Rattle.sites_world.proofs.Lists.{get_replicate, get_set_other, get_set_same, one_some, place_in, same_place}
 use Rattle.sites_world.proofs.OutcomeLaws.{frame_by, take_by}
 
 -- ---- at one site
@@ -114,9 +114,6 @@ put_within : (w : World) (at : ℕ) (h : Happening) → at < length w.sites → 
     → KnowsWithinLimits (record { sites = slice_set w.sites at h.site; pool = w.pool ++ h.added })
 put_within w at h there all now k is = by is
   where
-    same_place : (site : ℕ) → (site ≡ at) ⊎ (site ≡ at → ⊥)
-    same_place site = grind arith
-
     site_within : (site : ℕ) (s : SiteKnowledge) → slice_get (slice_set w.sites at h.site) site ≡ Some s → ((site ≡ at) ⊎ (site ≡ at → ⊥)) → IsSiteWithin s
     site_within site s here (inl same) =
         subst IsSiteWithin (one_some h.site s (sym (get_set_same w.sites at h.site there) ∙ ap (slice_get (slice_set w.sites at h.site)) (sym same) ∙ here)) now.site
@@ -125,8 +122,8 @@ put_within w at h there all now k is = by is
         record { known = all s.known (Known site s was refl); buffer = all s.buffer (Buffered site s was refl) }
 
     by : IsIn (record { sites = slice_set w.sites at h.site; pool = w.pool ++ h.added }) k → AreWithinLimits k
-    by (Known site s here same) = subst AreWithinLimits (sym same) (site_within site s here (same_place site)).known
-    by (Buffered site s here same) = subst AreWithinLimits (sym same) (site_within site s here (same_place site)).buffer
+    by (Known site s here same) = subst AreWithinLimits (sym same) (site_within site s here (same_place at site)).known
+    by (Buffered site s here same) = subst AreWithinLimits (sym same) (site_within site s here (same_place at site)).buffer
     by (Carried entry here same) = subst AreWithinLimits (sym same) (elim (Contains-append_cases w.pool h.added entry here) [
       | inl was ↦ all entry.carried (Carried entry was refl)
       | inr new ↦ now.added entry new
