@@ -69,7 +69,8 @@ impl Delta {
 
     /// Its set of members. It takes no memory, like all that only reads and has no fault.
     pub fn members(&self) -> &MemberSet
-        ensures { result.now ≡ self.now.members }
+        ensures value { result.now ≡ self.now.members }
+        ensures limits { IsWithinLimits result.now }
     {
         &self.members
     }

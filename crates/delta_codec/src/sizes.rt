@@ -57,10 +57,10 @@ fn cell_size(dot: Dot, member: &Member, fields: &Fields) -> usize
 
 // How many bytes the cells of a set have.
 fn cells_size(members: &MemberSet) -> usize
+    requires { map.len members.now.live ≤ MOST_LIVE }
     ensures value { result ≡ length (flat_map cell_bytes (map.entries members.now.live)) }
     ensures limit { result ≤ most_cell * MOST_LIVE }
 {
-    let _ = members.cells(); // so that it is known how many there are
     let mut size = 0;
     for (dot, cell) in members.iter() {
         size += cell_size(dot, cell.member, cell.fields);

@@ -22,7 +22,7 @@ overflow_add-size c =
     let x : CellParts = (c.in-Some.dot, cell_read c.in-Some.cell) in
     let all = map.entries c.args.members.now.live in
     let more = limit_more x c.loop-dot.dot-iterator c.next.new.self c.loop-dot.size c.cell_size-size.result (most_cell * length all) c.in-Some.ensures.steps c.cell_size-size.ensures.limit c.loop-dot.invariant.limit in
-    omega (arith, more, map.len-entries c.args.members.now.live, c.cells.ensures.limits.cells)
+    omega (arith, more, map.len-entries c.args.members.now.live, c.requires)
 
 pub returns-clause-limit : goal.returns-clause-limit
-returns-clause-limit c = omega (arith, c.loop-dot.invariant.limit, map.len-entries c.args.members.now.live, c.cells.ensures.limits.cells)
+returns-clause-limit c = omega (arith, c.loop-dot.invariant.limit, map.len-entries c.args.members.now.live, c.requires)

@@ -6,14 +6,14 @@ pub returns-then-has_member_past : goal.returns-then-has_member_past
 returns-then-has_member_past c =
     let s = c.args.replica.now in
     let last = c.last-count.ensures in
-    let member = member_test c.has_member_past.result _ _ _ s.site s.last_count s.last_time _ c.args.delta.now.members c.site-site.ensures last.count last.time c.members.ensures c.has_member_past.ensures in
+    let member = member_test c.has_member_past.result _ _ _ s.site s.last_count s.last_time _ c.args.delta.now.members c.site-site.ensures last.count last.time c.members.ensures.value c.has_member_past.ensures in
     first_holds c.has_member_past.result (member.0 c.if-has_member_past.true) c.if-has_member_past.true
 
 pub returns-else-has_member_past : goal.returns-else-has_member_past
 returns-else-has_member_past c =
     let s = c.args.replica.now in
     let last = c.last-count.ensures in
-    let member = member_test c.has_member_past.result _ _ _ s.site s.last_count s.last_time _ c.args.delta.now.members c.site-site.ensures last.count last.time c.members.ensures c.has_member_past.ensures in
+    let member = member_test c.has_member_past.result _ _ _ s.site s.last_count s.last_time _ c.args.delta.now.members c.site-site.ensures last.count last.time c.members.ensures.value c.has_member_past.ensures in
     let own = ap (λ t. t.entries) (c.totals-else-has_member_past.ensures ∙ ap (λ d. d.totals) c.state.ensures.value) in
     let entries = ap (λ t. t.entries) c.totals.ensures in
     second_tells c.has_total_past.result (failed c.has_member_past.result member c.if-has_member_past.false)

@@ -25,13 +25,13 @@ pub returns-then-contains : goal.returns-then-contains
 returns-then-contains c = inr
     (subst (λ s. meaning_at s (AddMember c.args.queue.now c.args.interface c.args.penalty c.args.paused c.args.label) ≡ Refused AlreadyThere) c.self.view_is
     (add_there _ c.self.invariant.kept c.self.invariant.state_limits c.args.queue.now c.args.interface c.args.penalty c.args.paused c.args.label c.in-Some.number (sym c.position.ensures.number ∙ c.in-Some.is)
-    (subst (λ m. IsPresent m (record { queue = c.in-Some.number; interface = c.args.interface })) c.members.ensures (c.contains.ensures.0 c.if-contains.true))))
+    (subst (λ m. IsPresent m (record { queue = c.in-Some.number; interface = c.args.interface })) c.members.ensures.value (c.contains.ensures.0 c.if-contains.true))))
 
 pub returns-in_default-new : goal.returns-in_default-new
 returns-in_default-new c =
     subst (λ s. IsUnplanned (meaning_at s (AddMember c.args.queue.now c.args.interface c.args.penalty c.args.paused c.args.label)) c.refuse_add.result) c.self.view_is
     (add_told _ c.self.invariant.kept c.self.invariant.state_limits c.args.queue.now c.args.interface c.args.penalty c.args.paused c.args.label c.in-Some.number (sym c.position.ensures.number ∙ c.in-Some.is)
-    (λ present. absurd (true≢false (sym (c.contains.ensures.1 (subst (λ m. IsPresent m (record { queue = c.in-Some.number; interface = c.args.interface })) (sym c.members.ensures) present)) ∙ c.if-contains.false)))
+    (λ present. absurd (true≢false (sym (c.contains.ensures.1 (subst (λ m. IsPresent m (record { queue = c.in-Some.number; interface = c.args.interface })) (sym c.members.ensures.value) present)) ∙ c.if-contains.false)))
     c.refuse_add.result (subst (λ s. IsToldOfAdds s c.refuse_add.result) (sym c.self.view_is) c.refuse_add.ensures)
     (ap (λ b. b || is_used_up (suc c.self.inside.time)) (used_up c.self.inside.count (λ is. absurd (let some = c.in_default-new.ensures.within.1 (subst IsCount (sym (one c.self.inside.count)) is) in cc)))))
 
@@ -39,7 +39,7 @@ pub returns-in_default-new-2 : goal.returns-in_default-new-2
 returns-in_default-new-2 c =
     subst (λ s. IsUnplanned (meaning_at s (AddMember c.args.queue.now c.args.interface c.args.penalty c.args.paused c.args.label)) c.refuse_add-in_default-new-2.result) c.self.view_is
     (add_told _ c.self.invariant.kept c.self.invariant.state_limits c.args.queue.now c.args.interface c.args.penalty c.args.paused c.args.label c.in-Some.number (sym c.position.ensures.number ∙ c.in-Some.is)
-    (λ present. absurd (true≢false (sym (c.contains.ensures.1 (subst (λ m. IsPresent m (record { queue = c.in-Some.number; interface = c.args.interface })) (sym c.members.ensures) present)) ∙ c.if-contains.false)))
+    (λ present. absurd (true≢false (sym (c.contains.ensures.1 (subst (λ m. IsPresent m (record { queue = c.in-Some.number; interface = c.args.interface })) (sym c.members.ensures.value) present)) ∙ c.if-contains.false)))
     c.refuse_add-in_default-new-2.result (subst (λ s. IsToldOfAdds s c.refuse_add-in_default-new-2.result) (sym c.self.view_is) c.refuse_add-in_default-new-2.ensures)
     (ap (λ b. is_used_up (suc c.self.inside.count) || b) (used_up c.self.inside.time (λ is. absurd (let some = c.in_default-new-2.ensures.within.1 (subst IsCount (sym (one c.self.inside.time)) is) in cc)))
     ∙ or-true (is_used_up (suc c.self.inside.count))))
@@ -54,12 +54,12 @@ returns-in-Ok c =
     subst (λ s. IsPlan s (meaning_at s (AddMember c.args.queue.now c.args.interface c.args.penalty c.args.paused c.args.label))
     (record { change = c.in-Ok.change; count = c.self.inside.count + 1; time = c.self.inside.time + 1 })) c.self.view_is
     (add_plan _ c.self.invariant.kept c.self.invariant.state_limits c.args.queue.now c.args.interface c.args.penalty c.args.paused c.args.label c.in-Some.number (sym c.position.ensures.number ∙ c.in-Some.is)
-    (λ present. absurd (true≢false (sym (c.contains.ensures.1 (subst (λ m. IsPresent m (record { queue = c.in-Some.number; interface = c.args.interface })) (sym c.members.ensures) present)) ∙ c.if-contains.false)))
+    (λ present. absurd (true≢false (sym (c.contains.ensures.1 (subst (λ m. IsPresent m (record { queue = c.in-Some.number; interface = c.args.interface })) (sym c.members.ensures.value) present)) ∙ c.if-contains.false)))
     (record { change = c.in-Ok.change; count = c.self.inside.count + 1; time = c.self.inside.time + 1 }) (slice_get_within c.self.inside.list c.in-Some.number _ c.in-Some.ensures.value)
     (subst IsCount (one c.self.inside.count) (c.in-Some-new.ensures.within.0 refl)) (subst IsCount (one c.self.inside.time) (c.in-Some-new-2.ensures.within.0 refl))
     (one c.self.inside.count) (one c.self.inside.time)
     (record {
-      known = c.in-Ok.ensures.parts.known ∙ (λ i. dots_seen_below (c.members-2.ensures i) (dot_is i ∷ []));
+      known = c.in-Ok.ensures.parts.known ∙ (λ i. dots_seen_below (c.members-2.ensures.value i) (dot_is i ∷ []));
       live = λ q. c.in-Ok.ensures.parts.live q
           ∙ (λ i. one_held (dot_is i) (record { queue = c.in-Some.number; interface = c.args.interface }, (c.fields_added-fields.ensures ∙ ap (λ s. fields_added s c.args.penalty pause c.args.label) stamp_is) i) q);
       totals = c.in-Ok.ensures.parts.totals;
@@ -73,18 +73,18 @@ returns-in-Err c = by c.in-Err.fault refl
     dot_is i = record { site = c.in-Some-new.ensures.value.0 i; count = (c.in-Some-new.ensures.value.1 ∙ one c.self.inside.count) i }
 
     many : c.in-Err.fault ≡ RunsFull → MOST_RUNS < run_count (dots_seen_below c.self.inside.state.members (record { site = c.self.inside.site; count = suc c.self.inside.count } ∷ []))
-    many is = subst (λ k. MOST_RUNS < run_count k) (λ i. dots_seen_below (c.members-2.ensures i) (dot_is i ∷ [])) (c.added.ensures.full.0 (c.in-Err.is ∙ ap Err is))
+    many is = subst (λ k. MOST_RUNS < run_count k) (λ i. dots_seen_below (c.members-2.ensures.value i) (dot_is i ∷ [])) (c.added.ensures.full.0 (c.in-Err.is ∙ ap Err is))
 
     by : (fault : ContextFault) → c.in-Err.fault ≡ fault → IsUnplanned (meaning_at c.args.self.now (AddMember c.args.queue.now c.args.interface c.args.penalty c.args.paused c.args.label)) c.refusal_of_runs.result
     by NoMemory is = inl (
       c.refusal_of_runs.ensures.memory is,
       subst (λ s. MayWantMemory (meaning_at s (AddMember c.args.queue.now c.args.interface c.args.penalty c.args.paused c.args.label))) c.self.view_is
           (add_wants _ c.self.invariant.kept c.self.invariant.state_limits c.args.queue.now c.args.interface c.args.penalty c.args.paused c.args.label c.in-Some.number (sym c.position.ensures.number ∙ c.in-Some.is)
-          (λ present. absurd (true≢false (sym (c.contains.ensures.1 (subst (λ m. IsPresent m (record { queue = c.in-Some.number; interface = c.args.interface })) (sym c.members.ensures) present)) ∙ c.if-contains.false)))),
+          (λ present. absurd (true≢false (sym (c.contains.ensures.1 (subst (λ m. IsPresent m (record { queue = c.in-Some.number; interface = c.args.interface })) (sym c.members.ensures.value) present)) ∙ c.if-contains.false)))),
     )
     by RunsFull is = inr
         (subst (λ s. meaning_at s (AddMember c.args.queue.now c.args.interface c.args.penalty c.args.paused c.args.label) ≡ Refused MembersFull) c.self.view_is
         (add_long _ c.self.invariant.kept c.self.invariant.state_limits c.args.queue.now c.args.interface c.args.penalty c.args.paused c.args.label c.in-Some.number (sym c.position.ensures.number ∙ c.in-Some.is)
-        (λ present. absurd (true≢false (sym (c.contains.ensures.1 (subst (λ m. IsPresent m (record { queue = c.in-Some.number; interface = c.args.interface })) (sym c.members.ensures) present)) ∙ c.if-contains.false)))
+        (λ present. absurd (true≢false (sym (c.contains.ensures.1 (subst (λ m. IsPresent m (record { queue = c.in-Some.number; interface = c.args.interface })) (sym c.members.ensures.value) present)) ∙ c.if-contains.false)))
         (many is))
         ∙ ap Refused (sym (c.refusal_of_runs.ensures.full is)))

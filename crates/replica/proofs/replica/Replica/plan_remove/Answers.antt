@@ -13,13 +13,13 @@ use Rattle.replica.proofs.replica.Replica.plan_remove.Goals as goal
 
 pub removed-requires : goal.removed-requires
 removed-requires c =
-    let are = c.deref.ensures.value ∙ c.in-Ok.ensures.list ∙ ap (λ m. each (λ p. p.0) (dots_seen (dot_view_of m) (Some c.in-Some.number) c.args.interface.now)) c.members-members.ensures in
+    let are = c.deref.ensures.value ∙ c.in-Ok.ensures.list ∙ ap (λ m. each (λ p. p.0) (dots_seen (dot_view_of m) (Some c.in-Some.number) c.args.interface.now)) c.members-members.ensures.value in
     subst (λ (dots : List Dot). length dots ≤ MOST_LIVE) (sym are) (seen_few _ c.self.invariant.kept c.self.invariant.state_limits (Some c.in-Some.number) c.args.interface.now)
 
 -- some dots were seen where memory for them was wanting
 pub returns-in_default-seen_dots : goal.returns-in_default-seen_dots
 returns-in_default-seen_dots c =
-    let some = subst (λ m. dots_seen (dot_view_of m) (Some c.in-Some.number) c.args.interface.now ≢ []) c.members-members.ensures c.in_default-seen_dots.ensures.some in
+    let some = subst (λ m. dots_seen (dot_view_of m) (Some c.in-Some.number) c.args.interface.now ≢ []) c.members-members.ensures.value c.in_default-seen_dots.ensures.some in
     inl (
       refl,
       subst (λ s. MayWantMemory (meaning_at s (RemoveMember c.args.queue.now c.args.interface.now))) c.self.view_is
@@ -30,7 +30,7 @@ returns-in_default-seen_dots c =
 -- and where memory for the change was
 pub returns : goal.returns
 returns c =
-    let are = c.deref.ensures.value ∙ c.in-Ok.ensures.list ∙ ap (λ m. each (λ p. p.0) (dots_seen (dot_view_of m) (Some c.in-Some.number) c.args.interface.now)) c.members-members.ensures in
+    let are = c.deref.ensures.value ∙ c.in-Ok.ensures.list ∙ ap (λ m. each (λ p. p.0) (dots_seen (dot_view_of m) (Some c.in-Some.number) c.args.interface.now)) c.members-members.ensures.value in
     inl (
       refl,
       subst (λ s. MayWantMemory (meaning_at s (RemoveMember c.args.queue.now c.args.interface.now))) c.self.view_is
@@ -41,7 +41,7 @@ returns c =
 
 pub returns-in-Ok-removed : goal.returns-in-Ok-removed
 returns-in-Ok-removed c =
-    let are = c.deref.ensures.value ∙ c.in-Ok.ensures.list ∙ ap (λ m. each (λ p. p.0) (dots_seen (dot_view_of m) (Some c.in-Some.number) c.args.interface.now)) c.members-members.ensures in
+    let are = c.deref.ensures.value ∙ c.in-Ok.ensures.list ∙ ap (λ m. each (λ p. p.0) (dots_seen (dot_view_of m) (Some c.in-Some.number) c.args.interface.now)) c.members-members.ensures.value in
     subst (λ s. IsPlan s (meaning_at s (RemoveMember c.args.queue.now c.args.interface.now)) (record { change = c.in-Ok-removed.change; count = c.self.inside.count; time = c.self.inside.time })) c.self.view_is
     (remove_plan _ c.self.invariant.kept c.self.invariant.state_limits (Some c.in-Some.number) c.args.interface.now _ (record { change = c.in-Ok-removed.change; count = c.self.inside.count; time = c.self.inside.time })
     (remove_means _ c.self.invariant.kept c.args.queue.now c.args.interface.now c.in-Some.number (sym c.position.ensures.number ∙ c.in-Some.is))

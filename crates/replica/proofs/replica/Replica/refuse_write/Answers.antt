@@ -14,7 +14,7 @@ pub returns-in-Err : goal.returns-in-Err
 returns-in-Err c = by c.in-Err.fault refl
   where
     many : c.in-Err.fault ≡ RunsFull → MOST_RUNS < run_count (dots_seen_below c.self.inside.state.members c.args.dots.now)
-    many is = subst (λ m. MOST_RUNS < run_count (dots_seen_below m c.args.dots.now)) c.members.ensures (c.seen_below.ensures.full.0 (c.in-Err.is ∙ ap Err is))
+    many is = subst (λ m. MOST_RUNS < run_count (dots_seen_below m c.args.dots.now)) c.members.ensures.value (c.seen_below.ensures.full.0 (c.in-Err.is ∙ ap Err is))
 
     by : (fault : ContextFault) → c.in-Err.fault ≡ fault → IsToldOfWrites c.args.self.now c.args.dots.now c.refusal_of_runs.result
     by NoMemory is = subst (IsToldOfWrites c.args.self.now c.args.dots.now) (sym (c.refusal_of_runs.ensures.memory is)) (writes_memory c.args.self.now c.args.dots.now)
@@ -24,7 +24,7 @@ returns-in-Err c = by c.in-Err.fault refl
 -- src/exhausted.rt:55:13
 pub returns-then-is_full_with : goal.returns-then-is_full_with
 returns-then-is_full_with c = subst (λ s. IsToldOfWrites s c.args.dots.now MembersFull) c.self.view_is
-    (writes_full _ c.self.invariant.kept c.args.dots.now c.in-Ok.seen.dots (c.in-Ok.ensures.ok ∙ ap (λ m. dots_seen_below m c.args.dots.now) c.members.ensures)
+    (writes_full _ c.self.invariant.kept c.args.dots.now c.in-Ok.seen.dots (c.in-Ok.ensures.ok ∙ ap (λ m. dots_seen_below m c.args.dots.now) c.members.ensures.value)
     (record { site = c.site-site.result; count = c.count-count.result })
     (first_in c.args.dots.now c.index-dots-0.result _ c.index-dots-0.is (λ i. record { site = c.site-site.ensures.value i; count = c.count-count.ensures.value i }) c.requires.some)
     (λ many. absurd (let no = c.in-Ok.ensures.full.1 (subst (λ k. MOST_RUNS < run_count k) c.in-Ok.ensures.ok many) in cc))
@@ -33,7 +33,7 @@ returns-then-is_full_with c = subst (λ s. IsToldOfWrites s c.args.dots.now Memb
 -- src/exhausted.rt:58:13
 pub returns-then-is_full_with-2 : goal.returns-then-is_full_with-2
 returns-then-is_full_with-2 c = subst (λ s. IsToldOfWrites s c.args.dots.now MembersFull) c.self.view_is
-    (writes_full_pending _ c.self.invariant.kept c.args.dots.now c.in-Ok.seen.dots (c.in-Ok.ensures.ok ∙ ap (λ m. dots_seen_below m c.args.dots.now) c.members.ensures)
+    (writes_full_pending _ c.self.invariant.kept c.args.dots.now c.in-Ok.seen.dots (c.in-Ok.ensures.ok ∙ ap (λ m. dots_seen_below m c.args.dots.now) c.members.ensures.value)
     (record { site = c.site-site.result; count = c.count-count.result })
     (first_in c.args.dots.now c.index-dots-0.result _ c.index-dots-0.is (λ i. record { site = c.site-site.ensures.value i; count = c.count-count.ensures.value i }) c.requires.some)
     (λ many. absurd (let no = c.in-Ok.ensures.full.1 (subst (λ k. MOST_RUNS < run_count k) c.in-Ok.ensures.ok many) in cc))
@@ -42,7 +42,7 @@ returns-then-is_full_with-2 c = subst (λ s. IsToldOfWrites s c.args.dots.now Me
 -- src/exhausted.rt:44:5
 pub returns : goal.returns
 returns c = subst (λ s. IsToldOfWrites s c.args.dots.now Exhausted) c.self.view_is
-    (writes_exhausted _ c.self.invariant.kept c.args.dots.now c.in-Ok.seen.dots (c.in-Ok.ensures.ok ∙ ap (λ m. dots_seen_below m c.args.dots.now) c.members.ensures)
+    (writes_exhausted _ c.self.invariant.kept c.args.dots.now c.in-Ok.seen.dots (c.in-Ok.ensures.ok ∙ ap (λ m. dots_seen_below m c.args.dots.now) c.members.ensures.value)
     (record { site = c.site-site.result; count = c.count-count.result })
     (first_in c.args.dots.now c.index-dots-0.result _ c.index-dots-0.is (λ i. record { site = c.site-site.ensures.value i; count = c.count-count.ensures.value i }) c.requires.some)
     (λ many. absurd (let no = c.in-Ok.ensures.full.1 (subst (λ k. MOST_RUNS < run_count k) c.in-Ok.ensures.ok many) in cc))
