@@ -113,6 +113,7 @@ impl Replica {
     pub fn state(&self) -> &Delta
         ensures value { result.now ≡ self.now.state }
         ensures kept { IsKept self.now }
+        ensures queues { AreQueues self.now.names }
     {
         &self.state
     }
@@ -122,6 +123,7 @@ impl Replica {
     pub fn pending(&self) -> &Delta
         ensures value { result.now ≡ self.now.pending }
         ensures kept { IsKept self.now }
+        ensures queues { AreQueues self.now.names }
     {
         &self.pending
     }

@@ -77,7 +77,6 @@ fn cut_twice(alloc: Global, replica: &mut Replica) -> Result<(Option<Bytes>, Opt
     if replica.pending().is_empty() {
         return Ok((None, None));
     }
-    let _ = replica.list(); // so that it is known how many queues there are
     let number = replica.last().2 + 1;
     let (kept, given) = spelled(alloc, replica.site(), number, replica.pending())?;
     match replica.cut() {
@@ -93,7 +92,6 @@ fn whole_twice(alloc: Global, replica: &mut Replica) -> Result<(Bytes, Bytes), M
     ensures leads { IfOk result (λ both. Leads replica.old (StepDeed.Whole both.0) replica.new) }
     ensures err { OnErr result (replica.new ≡ replica.old) }
 {
-    let _ = replica.list(); // so that it is known how many queues there are
     let number = replica.last().2 + 1;
     let (kept, given) = spelled(alloc, replica.site(), number, replica.state())?;
     match replica.whole() {
@@ -245,7 +243,6 @@ impl Journaled {
         ensures value { result.now ≡ self.now.replica }
         ensures journal { IsJournal self.now }
     {
-        let _ = self.count;
         &self.replica
     }
 

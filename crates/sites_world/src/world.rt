@@ -167,7 +167,6 @@ impl World {
         ensures value { result.now ≡ self.now.names }
         ensures queues { AreQueues self.now.names }
     {
-        let _ = self.list.len(); // so that it is known what holds of them
         &self.list
     }
 }
