@@ -1,7 +1,8 @@
-ghost use Rattle.std.specs.Prelude.{◌≡◌, ◌≤◌, ◌+◌, ◌++◌, [], drop, vec_len, IfOk, IfSome, OnErr, OnOk};
+ghost use Rattle.std.specs.Prelude.{◌≡◌, ◌++◌, [], IfOk, IfSome, OnErr, OnOk};
 ghost use Rattle.delta_codec.specs.Decoding.{IsNextFault, IsNextFrame};
 
 use crate::{DecodeFault, Frame, Memory, decode};
+use held_bytes::HeldBytes;
 use std::alloc::Global;
 use std::marker::Model;
 
@@ -10,45 +11,15 @@ use std::marker::Model;
 #[derive(Drop)]
 pub struct Splitter {
     alloc: Global,
-    bytes: Vec<u8>,
-    taken: usize,
+    bytes: HeldBytes,
 }
 
 impl Model for Splitter {
-    ghost use Rattle.std.specs.Prelude.{ℕ, List, ◌≤◌, drop, vec_len};
+    ghost use Rattle.std.specs.Prelude.{ℕ, List};
 
     ghost Value = { List ℕ };
 
-    ghost view = { λ s. drop s.taken s.bytes.items };
-
-    ghost invariant = { λ s. s.taken ≤ vec_len s.bytes };
-}
-
-// Drops the first bytes.
-fn drop_front(bytes: &mut Vec<u8>, count: usize)
-    requires { count ≤ vec_len bytes.old }
-    ensures { bytes.new.items ≡ drop count bytes.old.items }
-{
-    let kept = bytes.len() - count;
-    bytes.copy_within(count.., 0);
-    bytes.truncate(kept);
-}
-
-// Adds a piece to the bytes that aren't taken yet. Where at least half of the bytes are taken, these are dropped first, so that
-// each byte is moved a bounded number of times, and what is taken is at most half of what is kept.
-fn append(bytes: &mut Vec<u8>, taken: &mut usize, piece: &[u8]) -> Result<(), Memory>
-    requires { taken.old ≤ vec_len bytes.old }
-    ensures ok { OnOk result (drop taken.new bytes.new.items
-        ≡ drop taken.old bytes.old.items ++ piece.now) }
-    ensures err { OnErr result (drop taken.new bytes.new.items ≡ drop taken.old bytes.old.items) }
-    ensures taken { taken.new ≤ vec_len bytes.new }
-    ensures few { taken.new + taken.new ≤ vec_len bytes.new }
-{
-    if bytes.len() - *taken <= *taken {
-        drop_front(bytes, *taken);
-        *taken = 0;
-    }
-    bytes.extend_from_slice(piece)
+    ghost view = { λ s. s.bytes };
 }
 
 impl Splitter {
@@ -58,16 +29,8 @@ impl Splitter {
     {
         Splitter {
             alloc,
-            bytes: Vec::new(alloc),
-            taken: 0,
+            bytes: HeldBytes::new(alloc),
         }
-    }
-
-    // The bytes that aren't taken yet.
-    fn held(&self) -> &[u8]
-        ensures { result.now ≡ self.now }
-    {
-        &self.bytes[self.taken..]
     }
 
     /// Takes the next piece of the stream, of any length. The one fault is want of memory, and then what is held is as before.
@@ -75,7 +38,7 @@ impl Splitter {
         ensures ok { OnOk result (self.new ≡ self.old ++ piece.now) }
         ensures err { OnErr result (self.new ≡ self.old) }
     {
-        append(&mut self.bytes, &mut self.taken, piece)
+        self.bytes.append(piece)
     }
 
     /// The next frame of the stream, taken from the front of the bytes that are held. `None` exactly where they are no whole frame
@@ -86,9 +49,9 @@ impl Splitter {
         ensures fault { IsNextFault self.old result }
         ensures retired { IfOk result (λ x. IfSome x (λ frame. frame.delta.members.retired ≡ 0)) }
     {
-        match decode(self.alloc, self.held()) {
+        match decode(self.alloc, self.bytes.as_slice()) {
             Ok((frame, len)) => {
-                self.taken += len;
+                self.bytes.take_front(len);
                 Ok(Some(frame))
             }
             Err(fault) => match fault {

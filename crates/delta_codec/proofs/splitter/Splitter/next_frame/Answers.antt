@@ -1,5 +1,4 @@
-use Rattle.std.proofs.Common.{◌≡◌, ◌+◌, drop, sym, ap, ◌∙◌}
-use Rattle.std.proofs.lemmas.List.{drop-drop}
+use Rattle.std.proofs.Common.{drop, ap, ◌∙◌}
 use Rattle.delta_codec.proofs.FaultAnswers.{next_fails, next_missing, next_taken}
 use Rattle.delta_codec.proofs.FrameAnswers.{fault_found, next_found, none_found}
 use Rattle.delta_codec.proofs.splitter.Splitter.next_frame.Goals as goal
@@ -7,20 +6,20 @@ use Rattle.delta_codec.proofs.splitter.Splitter.next_frame.Goals.{in-Truncated, 
 
 pub returns-in-Ok : goal.returns-in-Ok
 returns-in-Ok c =
-    let front = rw c.held.ensures at c.in-Ok.ensures.front in
-    let fault = rw c.held.ensures at c.in-Ok.ensures.fault in
-    let old : drop c.self.inside.taken c.self.inside.bytes.items ≡ c.args.self.now = c.self.view_is in
-    let new : drop (c.self.inside.taken + c.in-Ok.len) c.self.inside.bytes.items ≡ drop c.in-Ok.len (drop c.self.inside.taken c.self.inside.bytes.items) = sym (drop-drop c.in-Ok.len c.self.inside.taken c.self.inside.bytes.items) in
+    let held = c.as_slice.ensures ∙ c.self.view_is in
+    let front = rw held at c.in-Ok.ensures.front in
+    let fault = rw held at c.in-Ok.ensures.fault in
     record {
-      frame = next_found c.args.self.now (drop (c.self.inside.taken + c.in-Ok.len) c.self.inside.bytes.items) c.in-Ok.frame c.in-Ok.len front (new ∙ ap (drop c.in-Ok.len) old);
+      frame = next_found c.args.self.now c.take_front.new.self c.in-Ok.frame c.in-Ok.len front (c.take_front.ensures ∙ ap (drop c.in-Ok.len) c.self.view_is);
       fault = next_taken c.args.self.now c.in-Ok.frame c.in-Ok.len fault;
       retired = c.in-Ok.ensures.retired;
     }
 
 pub returns-after-fault : goal.returns-after-fault
 returns-after-fault c =
-    let front = rw c.held.ensures at c.in-Err.ensures.front in
-    let fault = rw c.held.ensures at c.in-Err.ensures.fault in
+    let held = c.as_slice.ensures ∙ c.self.view_is in
+    let front = rw held at c.in-Err.ensures.front in
+    let fault = rw held at c.in-Err.ensures.fault in
     elim c.match-fault.branch [
       | in-Truncated w ↦
           let missing = rw w.in-Truncated.is at front in
