@@ -98,6 +98,7 @@ Shows site names (command.Abandoned queue) old new = ShowsCount site names old n
 
 -- ---- what a site knows of its own dots
 
--- Of its own dots a site knows none past the last that it made, so that the dot of its next add is known to no operation yet. It is so in each world that events lead to.
+-- Of its own dots a site knows none past the last that it made, so that the dot of its next add is known to no operation yet. It is so of what each replica stands
+-- for, and of each site of a world that events lead to.
 abbrev pub KnowsNonePast : ℕ → Knowledge → Type 0
 KnowsNonePast site k = HasDotPast site (greatest (count_used site) k) (known_dots k) → ⊥

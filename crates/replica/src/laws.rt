@@ -229,9 +229,16 @@ pub fn what_a_site_knows_stays_small_enough_for_a_frame()
     ensures steps { StepsStaySmall }
 {}
 
+/// What a replica stands for has no dot of its site past the last that the site made, whatever frames it took. So the dot of its next add is new, and an add that is
+/// done shows there what `a_done_command_shows` says (RR-8083: each add has a tag of its own).
+pub fn a_replica_knows_none_of_its_dots_past_the_last()
+    ensures { (state : SiteState) (s : SiteKnowledge) → IsKept state → StandsFor state s
+        → KnowsNonePast state.site s.known }
+{}
+
 /// What a command that is done shows from then on, told by what its site knows before and after it: the rows of the members that it is for, or the totals of the call
-/// that it counts; all else is shown as before. An add is shown so at a site that knows none of its own dots past its last one, as in each world that events lead to
-/// (this project's own).
+/// that it counts; all else is shown as before. An add is shown so at a site that knows none of its own dots past its last one, as each replica does, and
+/// each site of a world that events lead to (this project's own).
 pub fn a_done_command_shows()
     ensures add { (site : ℕ) (names : List (List ℕ)) (queue interface : List ℕ) (penalty : ℕ)
         (paused : Bool) (label : Label) (k buffer : Knowledge) (o : Operation)
