@@ -5,7 +5,7 @@ use dots::{Interface, Label, Pause, Penalty, QueueName};
 
 /// A change that a supervisor or a call distributor asks of one site (Asterisk's queue actions; the counts of calls are this
 /// project's own).
-#[derive(Drop)]
+#[derive(Drop, PartialEq, Eq)]
 pub enum Command {
     /// Adds the interface to the queue, with what is set of it. One that is paused has an empty reason.
     Add {
@@ -92,6 +92,25 @@ fn copy_name(name: &Option<QueueName>) -> Option<QueueName>
     }
 }
 
+// The add of these values.
+fn copy_add(
+    queue: &QueueName,
+    interface: &Interface,
+    penalty: Penalty,
+    paused: bool,
+    label: &Label,
+) -> Command
+    ensures { result ≡ Command.Add queue.now interface.now penalty paused label.now }
+{
+    Command::Add {
+        queue: queue.copy(),
+        interface: interface.copy(),
+        penalty,
+        paused,
+        label: label.copy(),
+    }
+}
+
 impl Command {
     ghost use Rattle.replica.specs.Changes.{change_of};
     ghost use Rattle.replica.specs.Promises.{IsChange};
@@ -107,13 +126,7 @@ impl Command {
                 penalty,
                 paused,
                 label,
-            } => Command::Add {
-                queue: queue.copy(),
-                interface: interface.copy(),
-                penalty: *penalty,
-                paused: *paused,
-                label: label.copy(),
-            },
+            } => copy_add(queue, interface, *penalty, *paused, label),
             Command::Remove { queue, interface } => Command::Remove {
                 queue: queue.copy(),
                 interface: interface.copy(),
@@ -196,85 +209,6 @@ impl Command {
     pub fn same(&self, other: &Command) -> bool
         ensures { IsTrue result ↔ (self.now ≡ other.now) }
     {
-        match (self, other) {
-            (
-                Command::Add {
-                    queue,
-                    interface,
-                    penalty,
-                    paused,
-                    label,
-                },
-                Command::Add {
-                    queue: other_queue,
-                    interface: other_interface,
-                    penalty: other_penalty,
-                    paused: other_paused,
-                    label: other_label,
-                },
-            ) => {
-                *queue == *other_queue
-                    && *interface == *other_interface
-                    && *penalty == *other_penalty
-                    && *paused == *other_paused
-                    && *label == *other_label
-            }
-            (
-                Command::Remove { queue, interface },
-                Command::Remove {
-                    queue: other_queue,
-                    interface: other_interface,
-                },
-            ) => *queue == *other_queue && *interface == *other_interface,
-            (
-                Command::Pause {
-                    queue,
-                    interface,
-                    pause,
-                },
-                Command::Pause {
-                    queue: other_queue,
-                    interface: other_interface,
-                    pause: other_pause,
-                },
-            ) => {
-                *queue == *other_queue && *interface == *other_interface && *pause == *other_pause
-            }
-            (
-                Command::Penalty {
-                    queue,
-                    interface,
-                    penalty,
-                },
-                Command::Penalty {
-                    queue: other_queue,
-                    interface: other_interface,
-                    penalty: other_penalty,
-                },
-            ) => {
-                *queue == *other_queue
-                    && *interface == *other_interface
-                    && *penalty == *other_penalty
-            }
-            (
-                Command::RingInUse {
-                    queue,
-                    interface,
-                    ring,
-                },
-                Command::RingInUse {
-                    queue: other_queue,
-                    interface: other_interface,
-                    ring: other_ring,
-                },
-            ) => *queue == *other_queue && *interface == *other_interface && *ring == *other_ring,
-            (Command::Completed { queue }, Command::Completed { queue: other_queue }) => {
-                *queue == *other_queue
-            }
-            (Command::Abandoned { queue }, Command::Abandoned { queue: other_queue }) => {
-                *queue == *other_queue
-            }
-            _ => false,
-        }
+        *self == *other
     }
 }
