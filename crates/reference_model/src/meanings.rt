@@ -1,11 +1,10 @@
 // What changes mean.
 ghost use Rattle.std.specs.Prelude.{◌≡◌, ◌||◌, ℕ, [], map as each, IfOk};
 ghost use Rattle.operations.specs.Operations as defined;
-ghost use Rattle.replica.specs.Changes.{add_at, count_at, is_full, is_too_long, meaning};
+ghost use Rattle.replica.specs.Changes.{SetField, add_at, count_at, is_full, is_too_long, meaning};
 ghost use Rattle.replica.specs.Changes.{meaning_of_setting, remove_of, where_absent, where_present};
 ghost use Rattle.replica.specs.Changes.{within_limits, write_at};
 ghost use Rattle.replica.specs.SiteViews.{dots_seen, site_view};
-ghost use Rattle.operations.specs.Rows.{dot_view};
 ghost use Rattle.reference_model.specs.Plain.{knowledge_of, setting_of};
 ghost use Rattle.reference_model.specs.Sites.{Touches, buffer_view, change_meant, known_view};
 ghost use Rattle.reference_model.specs.Sites.{meaning_of};
@@ -18,8 +17,8 @@ use crate::queue_totals::site_total;
 use crate::replaced::last_replaced;
 use crate::{Calls, Change, Meaning, Operation, Setting, SiteKnowledge, Total};
 use dots::{
-    Dot, Interface, Label, MOST_LIVE, MOST_RUNS, Member, Memory, Pause, Penalty, SiteId, Stamp,
-    Text80,
+    Dot, Interface, Label, MOST_LIVE, MOST_RUNS, Member, Memory, Pause, Penalty, QueueName, SiteId,
+    Stamp, Text80,
 };
 use replica::laws::a_site_view_foresees_one_operation_more;
 use replica::{QueueList, Refusal};
@@ -244,7 +243,7 @@ fn remove_member(
 
 // The write of a field of an interface in the queue of this number, or, without one, in every queue that it is in; or its
 // refusal where it is in none, or a limit is passed.
-fn set_field(
+fn write_field(
     alloc: Global,
     site: SiteId,
     old: &SiteKnowledge,
@@ -263,6 +262,31 @@ fn set_field(
         Ok(Meaning::Refused(Refusal::NotThere))
     } else {
         write_at(alloc, site, old, setting, dots)
+    }
+}
+
+// The write of a field of an interface in the queue of this name, or, without one, in every queue that it is in; or its refusal
+// where there is no such queue, it is in none, or a limit is passed.
+fn set_field(
+    alloc: Global,
+    site: SiteId,
+    list: &QueueList,
+    old: &SiteKnowledge,
+    queue: &Option<QueueName>,
+    interface: &Interface,
+    setting: &Setting,
+) -> Result<Meaning, Memory>
+    ensures { IfOk result
+        (λ m. meaning_of m
+        ≡ meaning site list.now (known_view site old.now) (buffer_view site old.now)
+        (SetField queue.now interface.now (setting_of setting.now))) }
+{
+    let Some(queue) = queue else {
+        return write_field(alloc, site, old, None, interface, setting);
+    };
+    match list.position(queue) {
+        Some(queue) => write_field(alloc, site, old, Some(queue), interface, setting),
+        None => Ok(Meaning::Refused(Refusal::NoSuchQueue)),
     }
 }
 
@@ -304,20 +328,10 @@ pub fn meaning_at(
             remove_member(alloc, old, queue, interface)
         }
         Change::SetField {
-            queue: None,
+            queue,
             interface,
             setting,
-        } => set_field(alloc, site, old, None, interface, setting),
-        Change::SetField {
-            queue: Some(queue),
-            interface,
-            setting,
-        } => {
-            let Some(queue) = list.position(queue) else {
-                return Ok(Meaning::Refused(Refusal::NoSuchQueue));
-            };
-            set_field(alloc, site, old, Some(queue), interface, setting)
-        }
+        } => set_field(alloc, site, list, old, queue, interface, setting),
         Change::CountCall { queue, calls } => {
             let Some(queue) = list.position(queue) else {
                 return Ok(Meaning::Refused(Refusal::NoSuchQueue));
