@@ -1,7 +1,7 @@
 //! Offers: which member of a queue is to get the next call (this project's own).
 //!
 //! The one of the least penalty is offered, of equal penalties the one whose interface has the least bytes. Members that are
-//! paused and those that were tried are left out.
+//! paused and those that were tried are left out. Ring in use plays no part.
 #![tactic(auto)]
 
 ghost use Rattle.std.specs.Prelude.{◌≡◌};

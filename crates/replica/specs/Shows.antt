@@ -39,7 +39,7 @@ row_with (SetRing ring) row = record row { ring = ring }
 abbrev pub member_at : ℕ → List ℕ → Member
 member_at queue interface = record { queue = queue; interface = interface }
 
--- a member is one that a setting is for: of this interface, in the queue of this name, or in any where none is named
+-- a member is one that a change is for: of this interface, in the queue of this name, or in any where none is named
 abbrev pub IsSetOn : List (List ℕ) → Option (List ℕ) → List ℕ → Member → Type 0
 IsSetOn names None interface member = member.interface ≡ interface
 IsSetOn names (Some queue) interface member = (number_of names queue ≡ Some member.queue) × (member.interface ≡ interface)
