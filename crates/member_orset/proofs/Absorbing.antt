@@ -1,5 +1,5 @@
 -- What a set says once another was absorbed, and what it keeps.
-use Rattle.std.proofs.Common.{◌≡◌, ◌≤◌, Bool, true, false, not, ◌&&◌, ◌||◌, List, get_or, Option, Some, None, is_some, refl, sym, ap, subst, ◌∙◌, true≢false, inl, inr, ◌⊎◌}
+use Rattle.std.proofs.Common.{◌≡◌, ◌≤◌, Bool, true, false, not, ◌&&◌, ◌||◌, get_or, Option, Some, None, is_some, refl, sym, ap, subst, ◌∙◌, true≢false, inl, inr, ◌⊎◌}
 use Rattle.std.specs.Prelude.{if◌then◌else◌}
 use Rattle.std.specs.FinMap as map
 use Rattle.std.specs.FinSet as set
@@ -8,13 +8,12 @@ use Rattle.std.proofs.lemmas.List.Elements.{Contains-get_or}
 use Rattle.std.proofs.Math.Bool.{or-true}
 use Rattle.dots.specs.declared.limits.TheConstants.{MOST_LIVE}
 use Rattle.dots.specs.Values.{Dot}
-use Rattle.dots.specs.DotSets.{IsRunsOf, Run, in_runs}
 use Rattle.operations.specs.Conditions.{ConditionsAgree}
 use Rattle.dots.proofs.DotOrder.{dots_total}
 use Rattle.dots.proofs.KeySets.{len_of_keys}
 use Rattle.op_arena.specs.Ids.{Id}
 use Rattle.member_orset.specs.CellIds.{AreOfTheDead, IdsFollow}
-use Rattle.member_orset.specs.Joining.{AgreeWith, IsJoinedWith, IsThinned, dead_in_runs, holding_joined, holding_with}
+use Rattle.member_orset.specs.Joining.{AgreeWith, IsJoinedWith, IsThinned, dead_there, holding_joined, holding_with}
 use Rattle.member_orset.specs.LiveLists.{HoldingsAgree}
 use Rattle.member_orset.specs.LiveStates.{LiveState}
 use Rattle.member_orset.specs.Members.{AreKept, CanBeJoined, HasField, Holding, Members, both_joined, cells_joined, condition_at, joined_dots}
@@ -46,9 +45,9 @@ none_of None h = refl
 none_of (Some x) h = absurd (cc h)
 
 module _ (s t : Members) (heard : (q : Dot) (h : Holding) → map.get s.live q ≡ Some h → set.contains s.known q ≡ true) (heard_there : (q : Dot) (h : Holding) → map.get t.live q ≡ Some h → set.contains t.known q ≡ true)
-    (runs : List Run) (are : IsRunsOf runs t.known) (old mid : LiveState) (old_is : old.live ≡ s.live) (thin : IsThinned (dead_in_runs runs t.live) old mid) where
+    (old mid : LiveState) (old_is : old.live ≡ s.live) (thin : IsThinned (dead_there t.known t.live) old mid) where
   mid_live : (q : Dot) → map.get mid.live q ≡ (if (set.contains t.known q && not (map.contains_key t.live q)) then None else map.get s.live q)
-  mid_live q = thin.live q ∙ (λ i. if (sym (are.same q) i && not (map.contains_key t.live q)) then None else map.get (old_is i) q)
+  mid_live q = thin.live q ∙ (λ i. if dead_there t.known t.live q then None else map.get (old_is i) q)
 
   -- what is left agrees with what is live there
   pub left_agrees : CanBeJoined s t → AgreeWith mid.live (map.entries t.live)
@@ -90,17 +89,17 @@ module _ (s t : Members) (heard : (q : Dot) (h : Holding) → map.get s.live q �
 
     -- the ids follow those before
     pub follow_after : ((q : Dot) → map.contains_key after.ids q ≡ map.contains_key after.live q) → IdsFollow old.ids old.spent after.ids after.spent
-    follow_after named = follow_grown old.ids old.spent mid after (shrinks (dead_in_runs runs t.live) old mid thin) thin.follow join.ids (λ q i had none. unnamed after.ids after.live named q (gone q i had none (cases_Bool (dead_in_runs runs t.live q))))
+    follow_after named = follow_grown old.ids old.spent mid after (shrinks (dead_there t.known t.live) old mid thin) thin.follow join.ids (λ q i had none. unnamed after.ids after.live named q (gone q i had none (cases_Bool (dead_there t.known t.live q))))
       where
         not_there : (a b : Bool) → (a && not b) ≡ true → b ≡ false
         not_there true true h = absurd (cc h)
         not_there true false h = refl
         not_there false b h = absurd (cc h)
 
-        gone : (q : Dot) (i : Id) → map.get old.ids q ≡ Some i → map.get mid.ids q ≡ None → (dead_in_runs runs t.live q ≡ true) ⊎ (dead_in_runs runs t.live q ≡ false) → map.get after.live q ≡ None
+        gone : (q : Dot) (i : Id) → map.get old.ids q ≡ Some i → map.get mid.ids q ≡ None → (dead_there t.known t.live q ≡ true) ⊎ (dead_there t.known t.live q ≡ false) → map.get after.live q ≡ None
         gone q i had none c = elim c [
           | inl y ↦
-              let there : map.get t.live q ≡ None = none_of (map.get t.live q) (not_there (in_runs runs q) (map.contains_key t.live q) y) in
+              let there : map.get t.live q ≡ None = none_of (map.get t.live q) (not_there (set.contains t.known q) (map.contains_key t.live q) y) in
               let left : map.get mid.live q ≡ None = thin.live q ∙ ap (λ b. if b then None else map.get old.live q) y in
               join.live q ∙ (λ j. holding_with (left j) (set.contains s.known q) (there j))
           | inr n ↦ absurd (let e = sym none ∙ thin.ids q ∙ ap (λ b. if b then None else map.get old.ids q) n ∙ had in cc e)

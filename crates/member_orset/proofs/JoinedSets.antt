@@ -11,10 +11,9 @@ use Rattle.std.proofs.lemmas.List.Sums.{length-filter}
 use Rattle.std.proofs.Math.Bool.{or-false, or-true}
 use Rattle.dots.specs.Values.{Dot}
 use Rattle.dots.specs.Orders.{dot_cmp}
-use Rattle.dots.specs.DotSets.{IsRunsOf, Run, in_runs}
 use Rattle.dots.proofs.DotOrder.{dots_total, dots_exact}
 use Rattle.member_orset.specs.declared.placed.Placed.{Placed}
-use Rattle.member_orset.specs.Joining.{dead_in_runs, holding_joined}
+use Rattle.member_orset.specs.Joining.{dead_there, holding_joined}
 use Rattle.member_orset.specs.LiveDots.{live_dots_without}
 use Rattle.member_orset.specs.Members.{Holding, Members, both_joined, cells_joined, is_live, joined_dots}
 use Rattle.member_orset.specs.PlacedLists.{id_entries, is_placed}
@@ -67,23 +66,23 @@ module _ (test : Dot → Bool) where
       at false t rest = rest
 
 -- how many live dots aren't among others
-pub counted_without : (s : Members) (others : set.FinSet dot_cmp) (runs : List Run) (ps : List Placed) → Rise ps → is_placed ps ≡ map.contains_key s.live → IsRunsOf runs others
-    → set.len (live_dots_without s others) ≡ count_by (λ p. not (in_runs runs p.dot)) ps
+pub counted_without : (s : Members) (others : set.FinSet dot_cmp) (ps : List Placed) → Rise ps → is_placed ps ≡ map.contains_key s.live
+    → set.len (live_dots_without s others) ≡ count_by (λ p. not (set.contains others p.dot)) ps
 unfolding live_dots_without
-counted_without s others runs ps rise placed are =
-    let test = λ (q : Dot). not (in_runs runs q) in
+counted_without s others ps rise placed =
+    let test = λ (q : Dot). not (set.contains others q) in
     ap set.len (sets_same test)
     ∙ len_add (set.empty {R = dot_cmp}) (kept test ps) (new_kept test (set.empty {R = dot_cmp}) ps rise (λ q h t. set.contains-empty dot_cmp q))
     ∙ (let none = set.len-empty dot_cmp in let n = length_kept test ps in omega arith)
   where
-    sets_same : (test : Dot → Bool) → set.difference (set.from_list (map.keys s.live)) others ≡ add (set.empty {R = dot_cmp}) (kept (λ q. not (in_runs runs q)) ps)
+    sets_same : (test : Dot → Bool) → set.difference (set.from_list (map.keys s.live)) others ≡ add (set.empty {R = dot_cmp}) (kept (λ q. not (set.contains others q)) ps)
     sets_same test = set.same_set dots_total dots_exact _ _ (λ q.
         set.contains-difference dots_total (set.from_list (map.keys s.live)) others q
-        ∙ (λ i. (set.contains-from_list dots_total (map.keys s.live) q ∙ sym (map.contains_key-keys s.live q) ∙ (λ j. sym placed j q)) i && not (are.same q i))
-        ∙ sym (placed_kept (λ x. not (in_runs runs x)) q ps)
-        ∙ sym (or-false (list_any (eq_by_cmp dot_cmp q) (kept (λ x. not (in_runs runs x)) ps)))
-        ∙ ap (λ b. list_any (eq_by_cmp dot_cmp q) (kept (λ x. not (in_runs runs x)) ps) || b) (sym (set.contains-empty dot_cmp q))
-        ∙ sym (contains_add (set.empty {R = dot_cmp}) (kept (λ x. not (in_runs runs x)) ps) q))
+        ∙ (λ i. (set.contains-from_list dots_total (map.keys s.live) q ∙ sym (map.contains_key-keys s.live q) ∙ (λ j. sym placed j q)) i && not (set.contains others q))
+        ∙ sym (placed_kept (λ x. not (set.contains others x)) q ps)
+        ∙ sym (or-false (list_any (eq_by_cmp dot_cmp q) (kept (λ x. not (set.contains others x)) ps)))
+        ∙ ap (λ b. list_any (eq_by_cmp dot_cmp q) (kept (λ x. not (set.contains others x)) ps) || b) (sym (set.contains-empty dot_cmp q))
+        ∙ sym (contains_add (set.empty {R = dot_cmp}) (kept (λ x. not (set.contains others x)) ps) q))
 
 -- what is live in the join: what is live there and unknown here, and what is live here and not dead there
 live_in : (o p : Option Holding) (a b : Bool) → is_some (holding_joined o a p b) ≡ ((is_some p && not a) || ((is_some o && not (b && not (is_some p))) || false))
@@ -107,9 +106,9 @@ module _ (s t : Members) (heard : (q : Dot) (h : Holding) → map.get s.live q �
       ∙ ap (λ x. x && is_live (both_joined s t q)) (set.contains-union dots_total s.known t.known q)
       ∙ stays_live (map.get s.live q) (map.get t.live q) (set.contains s.known q) (set.contains t.known q) (heard q) (heard_there q)
 
-  module _ (runs : List Run) (are : IsRunsOf runs t.known) (ps qs : List Placed) (rise : Rise ps) (rise_there : Rise qs) (placed : is_placed ps ≡ map.contains_key s.live) (placed_there : is_placed qs ≡ map.contains_key t.live) where
+  module _ (ps qs : List Placed) (rise : Rise ps) (rise_there : Rise qs) (placed : is_placed ps ≡ map.contains_key s.live) (placed_there : is_placed qs ≡ map.contains_key t.live) where
     abbrev ours : List Dot
-    ours = kept (λ q. not (dead_in_runs runs t.live q)) ps
+    ours = kept (λ q. not (dead_there t.known t.live q)) ps
 
     abbrev theirs : List Dot
     theirs = kept (λ q. not (set.contains s.known q)) qs
@@ -120,8 +119,8 @@ module _ (s t : Members) (heard : (q : Dot) (h : Holding) → map.get s.live q �
     contains_own : (q : Dot) → set.contains own q ≡ ((map.contains_key s.live q && not (set.contains t.known q && not (map.contains_key t.live q))) || false)
     contains_own q =
         contains_add (set.empty {R = dot_cmp}) ours q
-        ∙ (λ i. placed_kept (λ x. not (dead_in_runs runs t.live x)) q ps i || set.contains-empty dot_cmp q i)
-        ∙ (λ i. (placed i q && not (sym (are.same q) i && not (map.contains_key t.live q))) || false)
+        ∙ (λ i. placed_kept (λ x. not (dead_there t.known t.live x)) q ps i || set.contains-empty dot_cmp q i)
+        ∙ (λ i. (placed i q && not (set.contains t.known q && not (map.contains_key t.live q))) || false)
 
     unheard : (q : Dot) → set.contains s.known q ≡ false → set.contains own q ≡ false
     unheard q f = contains_own q ∙ at (map.get s.live q) refl
@@ -130,7 +129,7 @@ module _ (s t : Members) (heard : (q : Dot) (h : Holding) → map.get s.live q �
         at None e = refl
         at (Some h) e = absurd (true≢false (sym (heard q h e) ∙ f))
 
-    pub counted_joined : cells_joined s t ≡ count_by (λ p. not (dead_in_runs runs t.live p.dot)) ps + count_by (λ p. not (set.contains s.known p.dot)) qs
+    pub counted_joined : cells_joined s t ≡ count_by (λ p. not (dead_there t.known t.live p.dot)) ps + count_by (λ p. not (set.contains s.known p.dot)) qs
     counted_joined =
         ap set.len (set.same_set dots_total dots_exact _ _ (λ q.
         contains_joined q ∙ live_in (map.get s.live q) (map.get t.live q) (set.contains s.known q) (set.contains t.known q)
@@ -138,8 +137,8 @@ module _ (s t : Members) (heard : (q : Dot) (h : Holding) → map.get s.live q �
         ∙ (λ i. sym (placed_kept (λ x. not (set.contains s.known x)) q qs) i || set.contains own q)
         ∙ sym (contains_add own theirs q)))
         ∙ len_add own theirs (new_kept (λ q. not (set.contains s.known q)) own qs rise_there (λ q h u. unheard q (not_true (set.contains s.known q) u)))
-        ∙ (λ i. (len_add (set.empty {R = dot_cmp}) ours (new_kept (λ q. not (dead_in_runs runs t.live q)) (set.empty {R = dot_cmp}) ps rise (λ q h u. set.contains-empty dot_cmp q)) ∙ ap (λ n. n + length ours) (set.len-empty dot_cmp)) i + length theirs)
-        ∙ (let a = length_kept (λ q. not (dead_in_runs runs t.live q)) ps in let b = length_kept (λ q. not (set.contains s.known q)) qs in omega arith)
+        ∙ (λ i. (len_add (set.empty {R = dot_cmp}) ours (new_kept (λ q. not (dead_there t.known t.live q)) (set.empty {R = dot_cmp}) ps rise (λ q h u. set.contains-empty dot_cmp q)) ∙ ap (λ n. n + length ours) (set.len-empty dot_cmp)) i + length theirs)
+        ∙ (let a = length_kept (λ q. not (dead_there t.known t.live q)) ps in let b = length_kept (λ q. not (set.contains s.known q)) qs in omega arith)
       where
         not_true : (b : Bool) → not b ≡ true → b ≡ false
         not_true true h = absurd (cc h)

@@ -29,7 +29,7 @@ use Rattle.member_orset.proofs.ListedIds.{as_long, entry_there, listed_alike}
 use Rattle.member_orset.proofs.LiveMaps.{dot_here, ids_by, its_cell, its_live, rise, within_dots}
 use Rattle.member_orset.proofs.MapSteps.{apart_by, gone_other, got, got_other}
 use Rattle.member_orset.proofs.MemberOrder.{member_itself}
-use Rattle.member_orset.proofs.PlacedChanges.{cells_kept, cells_less, cells_more, still_held}
+use Rattle.member_orset.proofs.PlacedChanges.{cells_less, cells_more, still_held}
 use Rattle.member_orset.proofs.PlacedDots.{ahead_dots, as_long as placed_long, before_dots, cell_there, no_cell, same_some}
 use Rattle.member_orset.proofs.Rising as rising
 use Rattle.member_orset.proofs.RisingMaps.{put_map, removed_map}
@@ -60,25 +60,18 @@ module _ (s t : PlacedState) (a : IsPlaced s) (i : ℕ) (cell : LiveDot) (id : I
 
 -- and is in the index
 module _ (s t : PlacedState) (members : List Id) (x : AreIndexed s members) (i : ℕ) (cell : LiveDot) (id : Id) (gap : IsGap (cells_of s) cell.dot i) (free : maps.get s.held id ≡ None) (h : t.held ≡ maps.insert s.held id cell) where
-  pub held_more : AreHeld t.held members
+  held_more : AreHeld t.held members
   held_more = subst (λ m. AreHeld m members) (sym h) (still_held s.held id cell members free x.held)
 
-  pub cell_more : maps.get t.held id ≡ Some cell
+  cell_more : maps.get t.held id ≡ Some cell
   cell_more = ap (λ m. maps.get m id) h ∙ got id_cmp ids_total ids_exact s.held id cell
-
-  pub listed_kept : listed_at t.held members ≡ listed_at s.held members
-  listed_kept = ap (λ m. listed_at m members) h ∙ ap (each listing) (cells_kept s.held id cell members free x.held)
-
-  pub rises_more : Rises (listed_at t.held members)
-  rises_more = subst Rises (sym listed_kept) x.index.rises
 
   not_listed : is_listed (listed_at s.held members) cell.member cell.dot ≡ false
   not_listed = x.index.lists cell.member cell.dot ∙ ap (λ o. option_map_or (eq_by_cmp member_cmp cell.member) (option_map (λ h. h.0) o) false) (gap_live (cells_of s) cell.dot i (rise s.dots s.held s.spent x.placed) gap)
 
-  pub indexed_more : (j : ℕ) → cells_of t ≡ insert (cells_of s) i cell → IsPlaced t → IsPlaceFor (listed_at t.held members) (listing cell) j → AreIndexed t (insert members j id)
-  indexed_more j cs valid place =
+  pub indexed_more : (j : ℕ) → cells_of t ≡ insert (cells_of s) i cell → IsPlaced t → IsPlaceFor (listed_at s.held members) (listing cell) j → AreIndexed t (insert members j id)
+  indexed_more j cs valid at =
       let index = listed_at s.held members in
-      let at = subst (λ ls. IsPlaceFor ls (listing cell) j) listed_kept place in
       let listed : listed_at t.held (insert members j id) ≡ insert index j (listing cell) =
       ap (λ m. listed_at m (insert members j id)) h ∙ ap (each listing) (cells_more s.held id cell members j free x.held) ∙ map_insert listing (cells_at s.held members) j cell in
       record {

@@ -17,8 +17,8 @@ use Rattle.operations.specs.Rows.{MemberRow, interface_in, row_of, row_of_fields
 use Rattle.dots.proofs.MemberOrder.{members_total}
 use Rattle.op_arena.specs.Ids.{Id}
 use Rattle.member_orset.specs.Index.{Listed, Rises, listed_cmp}
-use Rattle.member_orset.specs.PlacedStates.{PlacedState, cells_of, listed_at}
-use Rattle.member_orset.specs.RowWalks.{IsNext, IsReached, IsWalk, interface_before, rows_left}
+use Rattle.member_orset.specs.PlacedStates.{AreIndexed, PlacedState, cells_of, listed_at}
+use Rattle.member_orset.specs.RowWalks.{IsNext, IsReached, interface_before, rows_left}
 use Rattle.member_orset.specs.ShownRows.{IsLeastEntry, cells_view, fields_shown, is_left, is_passed, rows_after}
 use Rattle.member_orset.proofs.IndexPlaces.{Lesser, Upto, group_between, none_greater, not_lesser}
 use Rattle.member_orset.proofs.Indexes.{listed_exact, listed_total}
@@ -143,7 +143,7 @@ module _ (queue : ℕ) (ls : List Listed) (place : ℕ) (l : Listed) (r : Rises 
     }
 
 -- the member of the entry that is next, with its ids, of which the last stands before a place
-module _ (s : PlacedState) (members : List Id) (queue place : ℕ) (l : Listed) (walk : IsWalk s members queue place) (next : IsNext queue (listed_at s.held members) place l)
+module _ (s : PlacedState) (members : List Id) (queue place : ℕ) (l : Listed) (indexed : AreIndexed s members) (reached : IsReached queue (listed_at s.held members) place) (next : IsNext queue (listed_at s.held members) place l)
     (end : ℕ) (some : place < end) (within : end ≤ length members) (upto : Upto l.member (listed_at s.held members) end) where
   abbrev index : List Listed
   index = listed_at s.held members
@@ -152,28 +152,28 @@ module _ (s : PlacedState) (members : List Id) (queue place : ℕ) (l : Listed) 
   ids = take (end - place) (drop place members)
 
   inside : end ≤ length index
-  inside = let long = as_long s.held members walk.indexed.held in omega arith
+  inside = let long = as_long s.held members indexed.held in omega arith
 
-  pub walk_next : IsWalk s members queue end
-  walk_next = record { indexed = walk.indexed; reached = reached_next queue index place l walk.indexed.index.rises walk.reached next end some inside upto }
+  pub walk_next : IsReached queue index end
+  walk_next = reached_next queue index place l indexed.index.rises reached next end some inside upto
 
   -- they show its row
   pub row_next : option_map row_of_fields (fields_shown (fields_at s.held ids)) ≡ row_of (cells_view (cells_of s)) l.member
   row_next =
-      let lesser = lesser_before queue index place l walk.indexed.index.rises walk.reached next in
-      row_of_group s members ids l.member walk.indexed
-      (listed_between s.held members walk.indexed.held place (end - place) ∙ group_between l.member index place end walk.reached.within inside lesser upto)
+      let lesser = lesser_before queue index place l indexed.index.rises reached next in
+      row_of_group s members ids l.member indexed
+      (listed_between s.held members indexed.held place (end - place) ∙ group_between l.member index place end reached.within inside lesser upto)
 
   -- which is the first of those that are left
   pub rows_next : (row : MemberRow) → row_of (cells_view (cells_of s)) l.member ≡ Some row → rows_left s members queue place ≡ (l.member.interface, row) ∷ rows_left s members queue end
   rows_next row shown =
-      next_row (cells_of s) index queue (rise s.dots s.held s.spent walk.indexed.placed) walk.indexed.index (interface_before queue index place) l row (least_next queue index place l walk.indexed.index.rises walk.reached next) shown
-      ∙ ap (λ o. (l.member.interface, row) ∷ rows_after (cells_view (cells_of s)) queue o) (sym (passed_next queue index place l walk.indexed.index.rises walk.reached next end some inside upto))
+      next_row (cells_of s) index queue (rise s.dots s.held s.spent indexed.placed) indexed.index (interface_before queue index place) l row (least_next queue index place l indexed.index.rises reached next) shown
+      ∙ ap (λ o. (l.member.interface, row) ∷ rows_after (cells_view (cells_of s)) queue o) (sym (passed_next queue index place l indexed.index.rises reached next end some inside upto))
 
   pub has_next : row_of (cells_view (cells_of s)) l.member ≢ None
-  has_next = has_row (cells_of s) index l (rise s.dots s.held s.spent walk.indexed.placed) walk.indexed.index (least_next queue index place l walk.indexed.index.rises walk.reached next).here
+  has_next = has_row (cells_of s) index l (rise s.dots s.held s.spent indexed.placed) indexed.index (least_next queue index place l indexed.index.rises reached next).here
 
 -- no row is left where no entry is
-pub no_rows_left : (s : PlacedState) (members : List Id) (queue place : ℕ) → IsWalk s members queue place → All (λ l. is_left queue (interface_before queue (listed_at s.held members) place) l ≡ false) (listed_at s.held members) → rows_left s members queue place ≡ []
-no_rows_left s members queue place walk none =
-    no_more_rows (cells_of s) (listed_at s.held members) queue (rise s.dots s.held s.spent walk.indexed.placed) walk.indexed.index (interface_before queue (listed_at s.held members) place) none
+pub no_rows_left : (s : PlacedState) (members : List Id) (queue place : ℕ) → AreIndexed s members → IsReached queue (listed_at s.held members) place → All (λ l. is_left queue (interface_before queue (listed_at s.held members) place) l ≡ false) (listed_at s.held members) → rows_left s members queue place ≡ []
+no_rows_left s members queue place indexed reached none =
+    no_more_rows (cells_of s) (listed_at s.held members) queue (rise s.dots s.held s.spent indexed.placed) indexed.index (interface_before queue (listed_at s.held members) place) none

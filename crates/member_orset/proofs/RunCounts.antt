@@ -1,11 +1,18 @@
 -- How many elements have a dot of runs and pass a test, run by run.
-use Rattle.std.proofs.Common.{◌≡◌, ℕ, ◌+◌, ◌<◌, Bool, true, false, ◌&&◌, ◌||◌, List, [], ◌∷◌, length, get_or, take, filter, refl, sym, ap, ◌∙◌, arith}
+use Rattle.std.proofs.Common.{◌≡◌, ℕ, ◌+◌, ◌<◌, Bool, true, false, not, ◌&&◌, ◌||◌, List, [], ◌∷◌, length, get_or, take, filter, refl, sym, ap, ◌∙◌, arith}
+use Rattle.std.specs.FinMap as map
 use Rattle.std.specs.List.{count_by}
 use Rattle.std.proofs.lemmas.Bool.{and_parts}
 use Rattle.std.proofs.lemmas.List.Sums.{sum_by-cons}
 use Rattle.dots.specs.Values.{Dot}
+use Rattle.dots.specs.Orders.{dot_cmp}
 use Rattle.dots.specs.DotSets.{AreApart, Run, in_run, in_runs}
+use Rattle.member_orset.specs.Members.{Holding}
 use Rattle.member_orset.proofs.Counts.{count_either, count_filter, count_same, earlier_misses, runs_more}
+
+-- whether a dot is in runs and not live there
+abbrev pub dead_in_runs : List Run → map.FinMap dot_cmp Holding → Dot → Bool
+dead_in_runs runs there dot = in_runs runs dot && not (map.contains_key there dot)
 
 pub spread : (a b c : Bool) → ((a || b) && c) ≡ ((a && c) || (b && c))
 spread true true true = refl

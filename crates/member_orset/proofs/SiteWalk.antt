@@ -39,7 +39,7 @@ module _ (known : sets.FinSet dot_cmp) (live : Dot → Bool) (given : List Dot) 
     -- one where none is given or known
     pub none_known : k.inside ≡ false → IsPiece (λ n. is_to_name known live given (at site n)) first last k
     none_known y = record {
-      some = known_is.some;
+      some = λ h. known_is.some (given_is.some h);
       within = let a = known_is.within in let b = given_is.within in omega arith;
       same = λ n lo hi.
           (λ i. (given_is.same n lo (let a = known_is.within in omega arith) ∙ ungiven) i || ((are.same (at site n) ∙ known_is.same n lo hi ∙ y) i && not (live (at site n))))
@@ -49,7 +49,7 @@ module _ (known : sets.FinSet dot_cmp) (live : Dot → Bool) (given : List Dot) 
     -- one where none is given and all are known
     pub all_known : (l r : Piece) → k.inside ≡ true → IsPiece (λ n. live (at site n)) first k.last l → r.inside ≡ not l.inside → r.last ≡ l.last → IsPiece (λ n. is_to_name known live given (at site n)) first last r
     all_known l r y live_is inside end = record {
-      some = let a = live_is.some in omega arith;
+      some = λ h. let a = live_is.some (known_is.some (given_is.some h)) in omega arith;
       within = let a = live_is.within in let b = known_is.within in let d = given_is.within in omega arith;
       same = λ n lo hi.
           let in_live : n ≤ l.last = omega arith in

@@ -21,12 +21,10 @@ use Rattle.member_orset.specs.Joining.{HaveGrown, IsJoinedWith, IsTakenIn, holdi
 use Rattle.member_orset.specs.LiveLists.{holding}
 use Rattle.member_orset.specs.LiveStates.{HasTakenDot, LiveState}
 use Rattle.member_orset.specs.Members.{Holding}
-use Rattle.member_orset.specs.PlacedLists.{id_entries}
+use Rattle.member_orset.specs.PlacedLists.{is_placed}
 use Rattle.member_orset.proofs.Asserting.{len_again, len_one_more}
 use Rattle.member_orset.proofs.DotTests.{one_dot}
 use Rattle.member_orset.proofs.IdSteps.{grown_same, look}
-use Rattle.member_orset.proofs.LiveIds.{unnamed}
-use Rattle.member_orset.proofs.PlacedOrder.{placed_live}
 
 -- where its dot is live here too
 pub taken_joined : (known : Dot → Bool) (s t : LiveState) (c : LiveDot) → HasTakenDot s.live c.dot c.fields t.live → t.ids ≡ s.ids → t.spent ≡ s.spent → s.room ≤ t.room → IsTakenIn known s c t
@@ -45,9 +43,9 @@ taken_joined known s t c h ids spent room =
     at q false same = refl
 
 -- where its dot is unknown here
-pub taken_new : (known : Dot → Bool) (s t : LiveState) (c : LiveDot) (id : Id) → ((q : Dot) → map.contains_key s.ids q ≡ map.contains_key s.live q) → map.get s.live c.dot ≡ None → known c.dot ≡ false
+pub taken_new : (known : Dot → Bool) (s t : LiveState) (c : LiveDot) (id : Id) → map.get s.ids c.dot ≡ None → map.get s.live c.dot ≡ None → known c.dot ≡ false
     → t.live ≡ map.insert s.live c.dot (holding c) → t.ids ≡ map.insert s.ids c.dot id → IsNew s.ids s.spent s.spent id → t.spent ≡ s.spent → s.room ≤ t.room → IsTakenIn known s c t
-taken_new known s t c id named none new live ids fresh spent room = record {
+taken_new known s t c id no_id none new live ids fresh spent room = record {
   live = λ q. ap (λ m. map.get m q) live ∙ map.get-insert dots_total s.live c.dot (holding c) q ∙ at q (eq_by_cmp dot_cmp q c.dot) (one_dot q c.dot);
   ids = record {
     kept = λ q i h. ap (λ m. map.get m q) ids ∙ map.get-insert dots_total s.ids c.dot id q ∙ stays q i h (cases_Bool (eq_by_cmp dot_cmp q c.dot));
@@ -64,7 +62,7 @@ taken_new known s t c id named none new live ids fresh spent room = record {
 
     stays : (q : Dot) (i : Id) → map.get s.ids q ≡ Some i → ((eq_by_cmp dot_cmp q c.dot ≡ true) ⊎ (eq_by_cmp dot_cmp q c.dot ≡ false)) → cond (eq_by_cmp dot_cmp q c.dot) (Some id) (map.get s.ids q) ≡ Some i
     stays q i h b = elim b [
-      | inl t ↦ absurd (let n = sym h ∙ ap (map.get s.ids) (one_dot q c.dot t) ∙ unnamed s.ids s.live named c.dot none in cc n)
+      | inl t ↦ absurd (let n = sym h ∙ ap (map.get s.ids) (one_dot q c.dot t) ∙ no_id in cc n)
       | inr f ↦ ap (λ x. cond x (Some id) (map.get s.ids q)) f ∙ h
     ]
 
@@ -83,10 +81,10 @@ none_behind [] e ys h = find_below dot_cmp dots_total e.0 ys (rising_head dot_cm
 none_behind (x ∷ xs) e ys h = none_behind xs e ys (rising_tail dot_cmp dots_total x (xs ++ e ∷ ys) h)
 
 -- what is live there isn't live here, where none of its dots is known here and all that is live here is
-pub unknown_apart : (known : Dot → Bool) (here : map.FinMap dot_cmp Holding) (there : LiveState) (ps : List Placed) → id_entries ps ≡ map.entries there.ids → ((q : Dot) → map.contains_key there.ids q ≡ map.contains_key there.live q)
-    → All (λ p. known p.dot ≡ false) ps → ((q : Dot) → is_some (map.get here q) ≡ true → known q ≡ true) → (q : Dot) → is_some (map.get there.live q) ≡ true → (map.get here q ≡ None) × (known q ≡ false)
-unknown_apart known here there ps are named all heard q live =
-    let found = in_any (λ p. eq_by_cmp dot_cmp q p.dot) ps (ap (λ f. f q) (placed_live ps there are named) ∙ live) in
+pub unknown_apart : (known : Dot → Bool) (here : map.FinMap dot_cmp Holding) (there : map.FinMap dot_cmp Holding) (ps : List Placed) → ((q : Dot) → is_placed ps q ≡ map.contains_key there q)
+    → All (λ p. known p.dot ≡ false) ps → ((q : Dot) → is_some (map.get here q) ≡ true → known q ≡ true) → (q : Dot) → is_some (map.get there q) ≡ true → (map.get here q ≡ None) × (known q ≡ false)
+unknown_apart known here there ps placed all heard q live =
+    let found = in_any (λ p. eq_by_cmp dot_cmp q p.dot) ps (placed q ∙ live) in
     let unknown : known q ≡ false = ap known (one_dot q found.0.dot found.2 ∙ sym (ap (λ p. p.dot) found.1.2)) ∙ all found.1.0 found.0 found.1.1 in
     (elim (look (map.get here q)) [ inl none ↦ none | inr h ↦ absurd (true≢false (sym (heard q (ap is_some h.1)) ∙ unknown)) ], unknown)
 

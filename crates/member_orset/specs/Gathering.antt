@@ -21,9 +21,14 @@ pub record IsGreatest (given : List Dot) (site greatest : ℕ) : Type 0 where
   pub most : All (λ d. d.site ≡ site → d.count ≤ greatest) given
   pub reached : 0 < greatest → is_given given (record { site = site; count = greatest }) ≡ true
 
--- counts from a first one to the piece's last one, and no further than a last one: all pass a test, or none does
+-- a dot lies ahead, on the way from one to a last one of its site
+abbrev pub IsAhead : Dot → Dot → Dot → Type 0
+IsAhead from last dot = (from.site ≡ dot.site) × (from.count ≤ dot.count) × (dot.count ≤ last.count)
+
+-- counts from a first one to the piece's last one, and no further than a last one: all pass a test, or none does; there is one
+-- where the last one isn't before the first
 pub record IsPiece (test : ℕ → Bool) (first last : ℕ) (piece : Piece) : Type 0 where
-  pub some : first ≤ piece.last
+  pub some : first ≤ last → first ≤ piece.last
   pub within : piece.last ≤ last
   pub same : (n : ℕ) → first ≤ n → n ≤ piece.last → test n ≡ piece.inside
 

@@ -2,9 +2,10 @@
 use Rattle.std.specs.Prelude.{ℕ, ◌≡◌, ◌≤◌, ◌<◌, ◌+◌, Bool, true, false, not, ◌&&◌, Option, Some, None, List, Contains, if◌then◌else◌}
 use Rattle.std.specs.List.{All}
 use Rattle.std.specs.FinMap as map
+use Rattle.std.specs.FinSet as set
 use Rattle.std.specs.Ordering.{eq_by_cmp}
 use Rattle.dots.specs.Values.{Dot}
-use Rattle.dots.specs.DotSets.{Run, in_run, in_runs}
+use Rattle.dots.specs.DotSets.{Run, in_run}
 use Rattle.dots.specs.Orders.{dot_cmp}
 use Rattle.operations.specs.Conditions.{fields_joined}
 use Rattle.op_arena.specs.Ids.{Id}
@@ -40,9 +41,9 @@ IsTold live entries false = Clash live entries
 abbrev pub dead_in_run : Run → map.FinMap dot_cmp Holding → Dot → Bool
 dead_in_run run there dot = in_run dot run && not (map.contains_key there dot)
 
--- whether a dot is in runs and not live there
-abbrev pub dead_in_runs : List Run → map.FinMap dot_cmp Holding → Dot → Bool
-dead_in_runs runs there dot = in_runs runs dot && not (map.contains_key there dot)
+-- whether a dot is known there and not live
+abbrev pub dead_there : set.FinSet dot_cmp → map.FinMap dot_cmp Holding → Dot → Bool
+dead_there known there dot = set.contains known dot && not (map.contains_key there dot)
 
 -- a dot of a run that is live here and not there, with a count from a given one on, and none before it is so
 pub record IsFirstDead (run : Run) (there : map.FinMap dot_cmp Holding) (first : ℕ) (live : map.FinMap dot_cmp Holding) (dot : Dot) : Type 0 where

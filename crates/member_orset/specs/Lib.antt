@@ -10,12 +10,14 @@ pub mod LiveStates
 pub mod PlacedLists
 pub mod Merges
 pub mod LiveRuns
+pub mod RunsApart
 pub mod Reads
 pub mod Refusals
 pub mod LiveDots
 pub mod LiveLists
 pub mod Index
 pub mod PlacedStates
+pub mod IndexedOnce
 pub mod Moves
 pub mod Freed
 pub mod Joining

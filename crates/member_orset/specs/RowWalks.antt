@@ -5,7 +5,7 @@ use Rattle.std.specs.Option.{option_and_then}
 use Rattle.operations.specs.Rows.{MemberRow, interface_in}
 use Rattle.op_arena.specs.Ids.{Id}
 use Rattle.member_orset.specs.Index.{Listed}
-use Rattle.member_orset.specs.PlacedStates.{AreIndexed, PlacedState, cells_of, listed_at}
+use Rattle.member_orset.specs.PlacedStates.{PlacedState, cells_of, listed_at}
 use Rattle.member_orset.specs.ShownRows.{cells_view, is_passed, rows_after}
 
 -- the interface of the entry before a place, where there is one that is in a queue
@@ -24,11 +24,6 @@ pub record IsNext (queue : ℕ) (index : List Listed) (place : ℕ) (l : Listed)
   pub within : place < length index
   pub here : l ≡ slice_index_or index place l
   pub own : l.member.queue ≡ queue
-
--- what a walk goes by: the index of members, and a place in it that is reached
-pub record IsWalk (s : PlacedState) (members : List Id) (queue place : ℕ) : Type 0 where
-  pub indexed : AreIndexed s members
-  pub reached : IsReached queue (listed_at s.held members) place
 
 -- the rows of a queue that are left, where a place is reached
 abbrev pub rows_left : PlacedState → List Id → ℕ → ℕ → List (List ℕ × MemberRow)

@@ -44,7 +44,7 @@ impl<'a> Cells<'a> {
         ensures { result ≡ entries_of (cells_of cells.now) }
     {
         Cells {
-            left: cells.placed(),
+            left: cells.placed().list,
             cells,
         }
     }

@@ -4,30 +4,34 @@ ghost use Rattle.std.specs.FinMap as map;
 ghost use Rattle.dots.specs.Orders.{dot_cmp};
 ghost use Rattle.dots.specs.DotSets.{run_count};
 ghost use Rattle.member_orset.specs.LiveDots.{dead_dots};
-ghost use Rattle.member_orset.specs.PlacedLists.{AreRising, is_placed};
+ghost use Rattle.member_orset.specs.PlacedLists.{is_placed};
 
 use crate::gathered::Gathered;
-use crate::placed::Placed;
+use crate::known_runs::KnownRuns;
+use crate::placed_dots::PlacedDots;
 use crate::site_walk::gather_site;
 use causal_context::{Context, ContextFault};
-use dots::{MOST_COUNT, MOST_RUNS, SiteId};
+use dots::{Dot, MOST_COUNT, MOST_RUNS, SiteId};
 use std::alloc::Global;
 
 // The dots of a site that a context has and that aren't live.
 pub(crate) fn gather_dead(
     alloc: Global,
     context: &Context,
-    dots: &[Placed],
+    dots: PlacedDots<'_>,
     site: SiteId,
 ) -> Result<Context, ContextFault>
-    requires { AreRising dots.now }
     ensures ok { IfOk result
-        (λ dead. dead.dots ≡ dead_dots context.now.dots (is_placed dots.now) site) }
+        (λ dead. dead.dots ≡ dead_dots context.now.dots (is_placed dots.entry.list.now) site) }
     ensures full { (result ≡ Err ContextFault.RunsFull)
-        ↔ (MOST_RUNS < run_count (dead_dots context.now.dots (is_placed dots.now) site)) }
+        ↔ (MOST_RUNS
+        < run_count (dead_dots context.now.dots (is_placed dots.entry.list.now) site)) }
 {
-    let runs = context.as_slice();
+    let runs = KnownRuns::of(context);
     let mut gathered = Gathered::none(alloc);
-    gather_site(&mut gathered, runs, dots, &[], site, MOST_COUNT);
+    let Some(last) = Dot::new(site, MOST_COUNT) else {
+        return gathered.finish();
+    };
+    gather_site(&mut gathered, runs, dots, &[], last);
     gathered.finish()
 }

@@ -1,11 +1,12 @@
 ghost use Rattle.std.specs.Prelude.{◌≡◌};
 ghost use Rattle.std.specs.Iterator.{YieldsFirst, item_count};
-ghost use Rattle.member_orset.specs.PlacedStates.{AreHeld, listed_at};
-ghost use Rattle.member_orset.specs.ShownRows.{dots_listed};
+ghost use Rattle.member_orset.specs.PlacedStates.{listed_at};
+ghost use Rattle.member_orset.specs.ShownRows.{dots_listed, group};
 
+use crate::member_index::MemberIndex;
 use crate::placed_cells::PlacedCells;
 use crate::places::LAST_GENERATION;
-use dots::Dot;
+use dots::{Dot, Member};
 use op_arena::CellId;
 use std::marker::Model;
 
@@ -35,12 +36,16 @@ impl<'a> Model for Dots<'a> {
 }
 
 impl<'a> Dots<'a> {
-    // Those of the cells of ids.
-    pub(crate) fn of(cells: &'a PlacedCells<LAST_GENERATION>, left: &'a [CellId]) -> Dots<'a>
-        requires { AreHeld cells.now.held left.now }
-        ensures { result ≡ dots_listed (listed_at cells.now.held left.now) }
+    // Those of a member, by the index of members.
+    pub(crate) fn of(index: MemberIndex<'a, LAST_GENERATION>, member: &Member) -> Dots<'a>
+        ensures { result
+            ≡ dots_listed (group member.now
+            (listed_at index.entry.cells.now.held index.entry.ids.now)) }
     {
-        Dots { left, cells }
+        Dots {
+            left: index.group_of(member),
+            cells: index.cells,
+        }
     }
 }
 

@@ -5,9 +5,9 @@ ghost use Rattle.std.specs.FinMap as map;
 ghost use Rattle.std.specs.FinSet as set;
 ghost use Rattle.dots.specs.DotSets.{run_count};
 ghost use Rattle.operations.specs.Conditions.{FieldsAgree};
-ghost use Rattle.member_orset.specs.CellIds.{IdsFollow, retired_of};
+ghost use Rattle.member_orset.specs.CellIds.{IdsFollow};
 ghost use Rattle.member_orset.specs.LiveStates.{AreLive, fields_met};
-ghost use Rattle.member_orset.specs.Members.{live_with, most_places};
+ghost use Rattle.member_orset.specs.Members.{live_with};
 
 use crate::JoinFault;
 use crate::live_cells::LiveCells;
@@ -79,9 +79,7 @@ pub(crate) fn bring(
     cells: &mut LiveCells<LAST_GENERATION>,
     cell: LiveDot,
 ) -> Result<(), JoinFault>
-    requires dead { map.get cells.old.live cell.dot ≡ None }
-    requires place { retired_of LAST_GENERATION cells.old.spent + map.len cells.old.live
-        < most_places }
+    requires { map.get cells.old.live cell.dot ≡ None }
     ensures known { OnOk result (context.new.dots ≡ set.insert context.old.dots cell.dot) }
     ensures live { OnOk result (cells.new.live
         ≡ map.insert cells.old.live cell.dot (cell.member, cell.fields)) }
@@ -99,7 +97,6 @@ pub(crate) fn bring(
     ensures err_ids { OnErr result (cells.new.ids ≡ cells.old.ids) }
     ensures spent { cells.new.spent ≡ cells.old.spent }
 {
-    let _ = cells.len(); // so that it is known what holds of them
     if cells.reserve(1).is_err() {
         return Err(fault_without_room(context, cell.dot));
     }

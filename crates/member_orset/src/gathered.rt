@@ -4,8 +4,8 @@ ghost use Rattle.dots.specs.Orders.{dot_cmp};
 ghost use Rattle.dots.specs.DotSets.{dots_between, run_count};
 ghost use Rattle.member_orset.specs.Gathering.{IsGathered, runs_after};
 
-use causal_context::{Context, ContextFault};
-use dots::{MOST_COUNT, MOST_RUNS, SiteId};
+use causal_context::{Context, ContextFault, Run};
+use dots::MOST_RUNS;
 use std::alloc::Global;
 
 // Dots that are gathered run by run in their order, and how many runs they make. Where the context can't take more,
@@ -30,24 +30,21 @@ impl Gathered {
         }
     }
 
-    // Adds the dots of a site from a first count to a last, which begin a run or go on with one.
-    pub(crate) fn add(&mut self, site: SiteId, first: u64, last: u64, begins: bool)
-        requires least { 1 ≤ first }
-        requires ordered { first ≤ last }
-        requires most { last ≤ MOST_COUNT }
-        requires few { self.old.runs < 2 ^ 60 }
+    // Adds the dots of a run, which begin one here or go on with one.
+    pub(crate) fn add(&mut self, run: Run, begins: bool)
+        requires { self.old.runs < 2 ^ 60 }
         ensures gathered { (dots : set.FinSet dot_cmp)
             → IsGathered self.old dots
-            → run_count (set.union dots (dots_between site first last))
+            → run_count (set.union dots (dots_between run.site run.first run.last))
             ≡ runs_after (run_count dots) begins
-            → IsGathered self.new (set.union dots (dots_between site first last)) }
+            → IsGathered self.new (set.union dots (dots_between run.site run.first run.last)) }
         ensures runs { self.new.runs ≡ runs_after self.old.runs begins }
     {
         if begins {
             self.runs += 1;
         }
         if self.fault.is_none() {
-            self.fault = self.context.insert_run(site, first, last).err();
+            self.fault = self.context.insert_run(run.site, run.first, run.last).err();
         }
     }
 

@@ -5,20 +5,17 @@ ghost use Rattle.std.specs.List.{All, count_by};
 ghost use Rattle.std.specs.FinMap as map;
 ghost use Rattle.std.specs.FinSet as set;
 ghost use Rattle.dots.specs.Values.{Dot};
-ghost use Rattle.dots.specs.DotSets.{AreApart, IsRunsOf, run_count};
+ghost use Rattle.dots.specs.DotSets.{run_count};
 ghost use Rattle.causal_context.specs.Contexts.{IsPrepared};
-ghost use Rattle.member_orset.specs.CellIds.{retired_of};
-ghost use Rattle.member_orset.specs.Members.{most_places};
 ghost use Rattle.member_orset.specs.LiveLists.{HoldingsAgree, holding};
-ghost use Rattle.member_orset.specs.PlacedLists.{AreRising};
 ghost use Rattle.member_orset.specs.Joining.{AgreeWith, IsJoinedWith, IsNextDead, IsTakenIn};
-ghost use Rattle.member_orset.specs.Joining.{IsThinned, dead_in_run, dead_in_runs};
+ghost use Rattle.member_orset.specs.Joining.{IsThinned, dead_in_run, dead_there};
 
 use crate::JoinFault;
 use crate::live_cells::LiveCells;
 use crate::live_dot::LiveDot;
 use crate::placed::Placed;
-use crate::placed_lists::{count_outside, dots_in, next_in};
+use crate::placed_dots::PlacedDots;
 use crate::places::LAST_GENERATION;
 use causal_context::{Context, ContextFault, Run};
 use dots::{Dot, MOST_RUNS};
@@ -55,16 +52,20 @@ fn count_missing(dots: &[Placed], there: &LiveCells<LAST_GENERATION>) -> usize
     count
 }
 
-// How many live dots are still live once those of runs are dead that aren't live there.
-pub(crate) fn count_kept(dots: &[Placed], runs: &[Run], there: &LiveCells<LAST_GENERATION>) -> usize
-    requires rising { AreRising dots.now }
-    requires apart { AreApart runs.now }
+// How many live dots are still live once those are dead that are known there and not live.
+pub(crate) fn count_kept(
+    dots: PlacedDots<'_>,
+    known_there: &Context,
+    there: &LiveCells<LAST_GENERATION>,
+) -> usize
     ensures { result
-        ≡ count_by (λ p. not (dead_in_runs runs.now there.now.live p.dot)) dots.now }
+        ≡ count_by (λ p. not (dead_there known_there.now.dots there.now.live p.dot))
+        dots.entry.list.now }
 {
-    let mut left = dots.len();
+    let runs = known_there.as_slice();
+    let mut left = dots.list.len();
     for run in runs {
-        left -= count_missing(dots_in(dots, *run), there);
+        left -= count_missing(dots.dots_in(*run), there);
     }
     left
 }
@@ -76,15 +77,18 @@ fn next_dead(
     first: u64,
     there: &LiveCells<LAST_GENERATION>,
 ) -> Option<Dot>
-    requires within { first ≤ run.last + 1 }
-    requires least { run.first ≤ first }
+    requires { run.first ≤ first }
     ensures { IsNextDead run there.now.live first cells.now.live result }
 {
     let (site, last) = (run.site, run.last);
-    let _ = cells.len(); // so that it is known what holds of them
     let mut from = first;
     while from <= last {
-        let dot = next_in(cells.placed(), site, from, last)?;
+        let rest = Run {
+            site,
+            first: from,
+            last,
+        };
+        let dot = cells.placed().next_in(rest)?;
         if there.get(dot).is_none() {
             return Some(dot);
         }
@@ -109,14 +113,15 @@ fn drop_dead_in(
     }
 }
 
-// Lets the dots of runs be live no more that are live here and not there, one by one.
+// Lets the dots of a context be live no more that are live here and not there, one by one.
 fn drop_each(
     cells: &mut LiveCells<LAST_GENERATION>,
-    runs: &[Run],
+    context: &Context,
     there: &LiveCells<LAST_GENERATION>,
 )
-    ensures { IsThinned (dead_in_runs runs.now there.now.live) cells.old cells.new }
+    ensures { IsThinned (dead_there context.now.dots there.now.live) cells.old cells.new }
 {
+    let runs = context.as_slice();
     for run in runs {
         drop_dead_in(cells, *run, there);
     }
@@ -127,16 +132,14 @@ fn drop_each(
 pub(crate) fn drop_dead(
     cells: &mut LiveCells<LAST_GENERATION>,
     context: &Context,
-    runs: &[Run],
     there: &LiveCells<LAST_GENERATION>,
 )
-    requires { IsRunsOf runs.now context.now.dots }
-    ensures { IsThinned (dead_in_runs runs.now there.now.live) cells.old cells.new }
+    ensures { IsThinned (dead_there context.now.dots there.now.live) cells.old cells.new }
 {
     let dots = cells.placed();
-    let outside = count_outside(dots, runs);
-    if dots.len() <= outside + FEW {
-        drop_each(cells, runs, there);
+    let outside = dots.count_outside(context);
+    if dots.list.len() <= outside + FEW {
+        drop_each(cells, context, there);
     } else {
         cells.thin(
             |dot: Dot| -> bool
@@ -153,7 +156,6 @@ fn take_in(known: &Context, cells: &mut LiveCells<LAST_GENERATION>, cell: LiveDo
     requires room { map.len cells.old.live + 1 ≤ cells.old.room }
     ensures { IsTakenIn (set.contains known.now.dots) cells.old cell cells.new }
 {
-    let _ = cells.len(); // so that it is known what holds of them
     let dot = cell.dot;
     if cells.get(dot).is_some() {
         cells.join_fields(dot, cell.fields);
@@ -205,7 +207,7 @@ pub(crate) fn take_all(
         → set.contains known.now.dots q ≡ true }
     ensures { IsJoinedWith (set.contains known.now.dots) cells.old others.live cells.new }
 {
-    if others.len() > FEW && are_unknown(known, others.placed()) {
+    if others.len() > FEW && are_unknown(known, others.placed().list) {
         cells.append(others);
     } else {
         take_each(known, cells, others);
@@ -219,8 +221,6 @@ pub(crate) fn make_room(
     other: &Context,
     more: usize,
 ) -> Result<(), JoinFault>
-    requires places { retired_of LAST_GENERATION cells.old.spent + map.len cells.old.live + more
-        ≤ most_places }
     ensures room { OnOk result (map.len cells.new.live + more ≤ cells.new.room) }
     ensures runs { OnOk result (IsPrepared context.new other.now.dots) }
     ensures full { (result ≡ Err JoinFault.RunsFull)

@@ -1,6 +1,5 @@
 ghost use Rattle.std.specs.Prelude.{◌≡◌, ◌+◌, ◌<◌, ◌≤◌, ◌↔◌, ◌≢◌, [], IsOk, IsTrue, length};
 ghost use Rattle.std.specs.Prelude.{Bool, IfOk, IfSome, IsSome, OnOk, Err, None};
-ghost use Rattle.std.specs.Prelude.{map as each};
 ghost use Rattle.std.specs.Option.{option_map, option_or};
 ghost use Rattle.std.specs.FinMap as map;
 ghost use Rattle.std.specs.FinSet as set;
@@ -14,7 +13,7 @@ ghost use Rattle.member_orset.specs.Members.{IsPresentIn, most_places, view_of};
 ghost use Rattle.member_orset.specs.Reads.{cell_read};
 ghost use Rattle.member_orset.specs.LiveLists.{live_of};
 ghost use Rattle.member_orset.specs.LiveStates.{AreLive, HasId, HasTakenDot, TakesFields, spent_with};
-ghost use Rattle.member_orset.specs.PlacedLists.{id_entries};
+ghost use Rattle.member_orset.specs.PlacedLists.{id_entries, is_placed};
 ghost use Rattle.member_orset.specs.PlacedStates.{IsPlaced, cells_of};
 
 use crate::cells_lent::Cells;
@@ -22,11 +21,11 @@ use crate::dots_lent::Dots;
 use crate::freeing::keep_ids;
 use crate::insertion::put_in;
 use crate::live_dot::LiveDot;
-use crate::member_groups::{group_of, has_member};
-use crate::member_ids::{copy_members, list_members, merge_members, place_in};
+use crate::member_ids::{copy_members, list_members, merge_members};
+use crate::member_index::MemberIndex;
 use crate::member_rows::row_in;
-use crate::placed::Placed;
 use crate::placed_cells::PlacedCells;
+use crate::placed_dots::PlacedDots;
 use crate::places::LAST_GENERATION;
 use crate::rows_lent::Rows;
 use crate::taken_cells::TakenCells;
@@ -75,7 +74,6 @@ impl<const LAST: u32> LiveCells<LAST> {
 
     // The live dots that are placed. It makes their index in an empty list, with room for it.
     pub(crate) fn of(placed: PlacedCells<LAST>, mut members: Vec<CellId>) -> Self
-        requires valid { IsPlaced placed }
         requires empty { members.items ≡ [] }
         requires room { length placed.dots ≤ vec_capacity members }
         ensures live { result.live ≡ live_of (cells_of placed.entry) }
@@ -137,30 +135,35 @@ impl<const LAST: u32> LiveCells<LAST> {
     pub(crate) fn at(&self, id: CellId) -> Option<Cell<'_>>
         ensures some { IfSome result (λ cell. HasId self.now id (cell_read cell)) }
         ensures none { result ≡ None → (dot : Dot) → map.get self.now.ids dot ≢ Some id }
+        ensures spent { IsTrue (set.contains self.now.spent id) → result ≡ None }
     {
         let cell = self.placed.cell(id)?;
         Some(cell.lent())
     }
 
     // The live dots in their order, each with its id.
-    pub(crate) fn placed(&self) -> &[Placed]
-        ensures { each (λ p. (p.dot, p.id)) result.now ≡ map.entries self.now.ids }
+    pub(crate) fn placed(&self) -> PlacedDots<'_>
+        ensures { (dot : Dot) → is_placed result.list.now dot
+            ≡ map.contains_key self.now.live dot }
     {
         self.placed.placed()
+    }
+
+    // The index of members.
+    fn index(&self) -> MemberIndex<'_, LAST>
+        ensures { live_of (cells_of result.cells.now) ≡ self.now.live }
+    {
+        MemberIndex {
+            cells: &self.placed,
+            ids: &self.members,
+        }
     }
 
     // Whether some dot is live with a member.
     pub(crate) fn contains(&self, member: &Member) -> bool
         ensures { IsTrue result ↔ IsPresentIn self.now.live member.now }
     {
-        has_member(&self.placed, &self.members, member)
-    }
-
-    // The row of a member, where it has a live dot.
-    pub(crate) fn row(&self, member: &Member) -> Option<Row<'_>>
-        ensures { option_map row_view result ≡ row_of (view_of self.now.live) member.now }
-    {
-        row_in(&self.placed, &self.members, member)
+        self.index().has_member(member)
     }
 
     // Makes room for `more` more live dots. `Full` exactly where there can't be as many places, and then nothing has grown.
@@ -189,14 +192,19 @@ impl<const LAST: u32> LiveCells<LAST> {
             ≡ map.insert self.old.live cell.dot (cell.member, cell.fields) }
         ensures ids { self.new.ids ≡ map.insert self.old.ids cell.dot result }
         ensures new { IsNew self.old.ids self.old.spent self.old.spent result }
+        ensures had_none { map.get self.old.ids cell.dot ≡ None }
         ensures spent { self.new.spent ≡ self.old.spent }
         ensures room { self.old.room ≤ self.new.room }
     {
         let Err(place) = self.placed.find(cell.dot) else {
             unreachable!()
         };
+        let index = MemberIndex {
+            cells: &self.placed,
+            ids: &self.members,
+        };
+        let listed = index.place_for(&cell);
         let id = self.placed.insert(place, cell);
-        let listed = place_in(&self.placed, &self.members, id);
         put_in(&mut self.members, listed, id);
         id
     }
@@ -212,7 +220,11 @@ impl<const LAST: u32> LiveCells<LAST> {
         let Ok(place) = self.placed.find(dot) else {
             return;
         };
-        let listed = place_in(&self.placed, &self.members, self.placed.id_at(place));
+        let index = MemberIndex {
+            cells: &self.placed,
+            ids: &self.members,
+        };
+        let listed = index.place_for(self.placed.cell_at(place));
         self.members.remove(listed);
         self.placed.remove(place);
     }
@@ -266,7 +278,11 @@ impl<const LAST: u32> LiveCells<LAST> {
         ensures spent { IfOk result (λ copy. copy.spent ≡ set.empty) }
     {
         let placed = self.placed.copy()?;
-        let members = copy_members(self.allocator(), &self.placed, &self.members, &placed)?;
+        let index = MemberIndex {
+            cells: &self.placed,
+            ids: &self.members,
+        };
+        let members = copy_members(self.allocator(), index, &placed)?;
         Ok(LiveCells { placed, members })
     }
 
@@ -291,13 +307,20 @@ impl LiveCells<LAST_GENERATION> {
     pub(crate) fn dots(&self, member: &Member) -> Dots<'_>
         ensures { result ≡ dots_of (view_of self.now.live) member.now }
     {
-        Dots::of(&self.placed, group_of(&self.placed, &self.members, member))
+        Dots::of(self.index(), member)
+    }
+
+    // The row of a member, where it has a live dot.
+    pub(crate) fn row(&self, member: &Member) -> Option<Row<'_>>
+        ensures { option_map row_view result ≡ row_of (view_of self.now.live) member.now }
+    {
+        row_in(self.index(), member)
     }
 
     // The rows of a queue, one by one, in the order of the interfaces' bytes.
     pub(crate) fn rows(&self, queue: u16) -> Rows<'_>
         ensures { result ≡ rows_of (view_of self.now.live) queue }
     {
-        Rows::of(&self.placed, &self.members, queue)
+        Rows::of(self.index(), queue)
     }
 }

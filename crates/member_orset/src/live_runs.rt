@@ -1,44 +1,45 @@
 //! Runs of live dots: those of one site, with counts that follow one another.
-ghost use Rattle.std.specs.Prelude.{◌≡◌, ◌<◌, ◌≤◌, length, true};
-ghost use Rattle.member_orset.specs.LiveRuns.{IsLiveRun};
+ghost use Rattle.std.specs.Prelude.{◌≡◌, ◌-◌, ◌<◌, ◌≤◌, ◌^◌, length};
+ghost use Rattle.member_orset.specs.LiveRuns.{IsLiveRun, run-prop};
 
 use crate::placed::Placed;
 
-// Whether the live dots from one place to another are a run.
-fn is_live_run(dots: &[Placed], first: usize, last: usize) -> bool
-    requires order { first ≤ last }
-    requires within { last < length dots.now }
-    ensures { result ≡ true → IsLiveRun dots.now first last }
-{
-    let (from, to) = (dots[first].dot, dots[last].dot);
-    if to.site() != from.site() {
-        return false;
-    }
-    to.count() == from.count() + (last - first) as u64
+// A run that begins at a place of live dots: the last place of it that is known, and one past that, before which it ends.
+#[derive(Drop)]
+struct LiveRun<'a> {
+    dots: &'a [Placed],
+    first: usize,
+    last: usize,
+    past: usize,
+    ghost order: { first ≤ last },
+    ghost some: { last < past },
+    ghost within: { past ≤ length dots.now },
+    ghost limit: { past < 2 ^ 63 },
+    ghost run: { IsLiveRun dots.now first last } by { run-prop dots.now first last },
 }
 
-// The last place of the run that begins at a place, from a known place of it on and before one that is past it. The
-// places between are halved.
-fn live_run_between(dots: &[Placed], first: usize, known: usize, past: usize) -> usize
-    requires order { first ≤ known }
-    requires some { known < past }
-    requires within { past ≤ length dots.now }
-    requires run { IsLiveRun dots.now first known }
-    ensures least { first ≤ result }
-    ensures within { result < length dots.now }
-    ensures run { IsLiveRun dots.now first result }
-{
-    let mut last = known;
-    let mut end = past;
-    while end - last > 1 {
-        let middle = last + (end - last) / 2;
-        if is_live_run(dots, first, middle) {
-            last = middle;
-        } else {
-            end = middle;
+impl<'a> LiveRun<'a> {
+    // Goes on by so many places, if the dots up to there are of the run; else it ends before.
+    fn go(&mut self, step: usize) -> bool
+        requires some { 0 < step }
+        requires within { step < self.old.past - self.old.last }
+        ensures dots { self.new.dots.now ≡ self.old.dots.now }
+        ensures first { self.new.first ≡ self.old.first }
+        ensures less { self.new.past - self.new.last < self.old.past - self.old.last }
+    {
+        let (dots, first, place) = (self.dots, self.first, self.last + step);
+        let (from, to) = (dots[first].dot, dots[place].dot);
+        if to.site() != from.site() {
+            self.past = place;
+            return false;
         }
+        if to.count() != from.count() + (place - first) as u64 {
+            self.past = place;
+            return false;
+        }
+        self.last = place;
+        true
     }
-    last
 }
 
 // The last place of the run that begins at a place. It is sought by steps that double, and then by halving. Counts rise
@@ -49,14 +50,22 @@ pub(crate) fn live_run_end(dots: &[Placed], first: usize) -> usize
     ensures within { result < length dots.now }
     ensures run { IsLiveRun dots.now first result }
 {
-    let mut last = first;
+    let mut run = LiveRun {
+        dots,
+        first,
+        last: first,
+        past: dots.len(),
+    };
     let mut step: usize = 1;
-    while step < dots.len() - last {
-        if !is_live_run(dots, first, last + step) {
-            return live_run_between(dots, first, last, last + step);
+    while step < run.past - run.last {
+        if !run.go(step) {
+            break;
         }
-        last += step;
         step = step.saturating_mul(2);
     }
-    live_run_between(dots, first, last, dots.len())
+    while run.past - run.last > 1 {
+        let half = (run.past - run.last) / 2;
+        let _ = run.go(half);
+    }
+    run.last
 }

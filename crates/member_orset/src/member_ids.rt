@@ -1,58 +1,19 @@
 //! The index of members: the ids of the live dots, in the order of their cells' members and then of their dots.
-ghost use Rattle.std.specs.Prelude.{◌≡◌, ◌≤◌, ◌+◌, ◌++◌, [], IfOk, IsSomeAnd, Some, false, length};
-ghost use Rattle.std.specs.Prelude.{vec_len};
+ghost use Rattle.std.specs.Prelude.{◌≡◌, ◌≤◌, ◌+◌, ◌++◌, [], IfOk, IsSomeAnd, Some, length, vec_len};
 ghost use Rattle.std.specs.FinMap as map;
 ghost use Rattle.std.specs.List.Sorted.{IsPermutation, IsSorted, IsStrictlySortedBy};
-ghost use Rattle.std.specs.Option.{option_map_or};
-ghost use Rattle.std.specs.Ordering.{is_le, is_lt};
+ghost use Rattle.std.specs.Ordering.{is_le};
 ghost use Rattle.std.specs.Vec.{vec_capacity};
 ghost use Rattle.member_orset.specs.declared.live_dot.LiveDot.{LiveDot as live_dot};
-ghost use Rattle.member_orset.specs.Index.{IsPlaceFor, Rises, listed_cmp, listing};
 ghost use Rattle.member_orset.specs.Merges.{AreUntied};
-ghost use Rattle.member_orset.specs.PlacedStates.{AreHeld, AreIndexed, IsPlaced};
-ghost use Rattle.member_orset.specs.PlacedStates.{cells_at, cells_of, id_order, listed_at};
+ghost use Rattle.member_orset.specs.PlacedStates.{AreHeld, AreIndexed, cells_at, cells_of, id_order};
 
-use crate::live_dot::LiveDot;
+use crate::member_index::MemberIndex;
 use crate::placed_cells::PlacedCells;
 use dots::Memory;
 use op_arena::CellId;
 use std::alloc::Global;
 use std::cmp::Ordering;
-
-// Whether the cell of an id lies before another one.
-fn lies_before<const LAST: u32>(cells: &PlacedCells<LAST>, id: CellId, cell: &LiveDot) -> bool
-    ensures { result
-        ≡ option_map_or (λ c. is_lt (listed_cmp (listing c) (listing cell.now)))
-        (map.get cells.now.held id) false }
-{
-    match cells.cell(id) {
-        Some(other) => other.is_listed_before(cell),
-        None => false,
-    }
-}
-
-// How many ids of the index have cells that lie before that of another one.
-pub(crate) fn place_in<const LAST: u32>(
-    cells: &PlacedCells<LAST>,
-    members: &[CellId],
-    id: CellId,
-) -> usize
-    requires held { AreHeld cells.now.held members.now }
-    requires rises { Rises (listed_at cells.now.held members.now) }
-    ensures { (cell : live_dot) → map.get cells.now.held id ≡ Some cell
-        → IsPlaceFor (listed_at cells.now.held members.now) (listing cell) result }
-{
-    let Some(cell) = cells.cell(id) else {
-        return 0;
-    };
-    members.partition_point(
-        |other: &CellId| -> bool
-            ensures { result
-                ≡ option_map_or (λ c. is_lt (listed_cmp (listing c) (listing cell.entry.now)))
-                (map.get cells.entry.now.held other.now) false }
-        { lies_before(cells, *other, cell) },
-    )
-}
 
 // How the cells of two ids lie in the index; an id without a cell lies before those that have one.
 fn order_of<const LAST: u32>(cells: &PlacedCells<LAST>, id: CellId, other: CellId) -> Ordering
@@ -89,13 +50,12 @@ fn sort_members<const LAST: u32>(cells: &PlacedCells<LAST>, members: &mut Vec<Ce
 
 // Makes the index of all that is placed, in an empty list with room for it.
 pub(crate) fn list_members<const LAST: u32>(cells: &PlacedCells<LAST>, members: &mut Vec<CellId>)
-    requires valid { IsPlaced cells.now }
     requires empty { members.old.items ≡ [] }
     requires room { length cells.now.dots ≤ vec_capacity members.old }
     ensures indexed { AreIndexed cells.now members.new.items }
     ensures capacity { vec_capacity members.old ≤ vec_capacity members.new }
 {
-    let dots = cells.placed();
+    let dots = cells.placed().list;
     for placed in dots {
         members.push_reserved(placed.id);
     }
@@ -134,39 +94,36 @@ pub(crate) fn merge_members<const LAST: u32>(
 
 // The id that the cell of an id has in a copy.
 fn id_in<const LAST: u32>(
-    cells: &PlacedCells<LAST>,
+    index: MemberIndex<'_, LAST>,
     id: CellId,
     copy: &PlacedCells<LAST>,
 ) -> Option<CellId>
-    requires placed { IsPlaced cells.now }
-    requires same { cells_of copy.now ≡ cells_of cells.now }
-    ensures { (cell : live_dot) → map.get cells.now.held id ≡ Some cell
+    requires { cells_of copy.now ≡ cells_of index.cells.now }
+    ensures { (cell : live_dot) → map.get index.entry.cells.now.held id ≡ Some cell
         → IsSomeAnd result (λ copied. map.get copy.now.held copied ≡ Some cell) }
 {
-    let cell = cells.cell(id)?;
+    let cell = index.cells.cell(id)?;
     match copy.find(cell.dot) {
         Ok(place) => Some(copy.id_at(place)),
         Err(_) => None,
     }
 }
 
-// The ids that the cells of ids have in a copy. The one fault is want of memory.
+// The ids that the cells of an index have in a copy. The one fault is want of memory.
 pub(crate) fn copy_members<const LAST: u32>(
     alloc: Global,
-    cells: &PlacedCells<LAST>,
-    members: &[CellId],
+    index: MemberIndex<'_, LAST>,
     copy: &PlacedCells<LAST>,
 ) -> Result<Vec<CellId>, Memory>
-    requires placed { IsPlaced cells.now }
-    requires same { cells_of copy.now ≡ cells_of cells.now }
-    requires held { AreHeld cells.now.held members.now }
+    requires { cells_of copy.now ≡ cells_of index.cells.now }
     ensures held { IfOk result (λ ids. AreHeld copy.now.held ids.items) }
     ensures cells { IfOk result (λ ids. cells_at copy.now.held ids.items
-        ≡ cells_at cells.now.held members.now) }
+        ≡ cells_at index.entry.cells.now.held index.entry.ids.now) }
 {
+    let members = index.ids;
     let mut ids = Vec::with_capacity(alloc, members.len())?;
     for id in members {
-        if let Some(copied) = id_in(cells, *id, copy) {
+        if let Some(copied) = id_in(index, *id, copy) {
             ids.push(copied)?;
         }
     }

@@ -3,13 +3,14 @@ ghost use Rattle.std.specs.Prelude.{◌≡◌, map as each};
 ghost use Rattle.std.specs.Option.{option_map};
 ghost use Rattle.operations.specs.Rows.{row_of, row_of_fields};
 ghost use Rattle.operations.specs.Views.{row_view};
-ghost use Rattle.member_orset.specs.PlacedStates.{AreIndexed, cells_at, cells_of};
+ghost use Rattle.member_orset.specs.PlacedStates.{cells_at, cells_of};
 ghost use Rattle.member_orset.specs.ShownRows.{cells_view, fields_shown, latest_fields};
 
 use crate::Row;
 use crate::latest::{Latest, after};
-use crate::member_groups::group_of;
+use crate::member_index::MemberIndex;
 use crate::placed_cells::PlacedCells;
+use crate::places::LAST_GENERATION;
 use dots::Member;
 use op_arena::CellId;
 
@@ -44,13 +45,13 @@ pub(crate) fn row_over<'a, const LAST: u32>(
 }
 
 // The row of a member, where it has a live dot.
-pub(crate) fn row_in<'a, const LAST: u32>(
-    cells: &'a PlacedCells<LAST>,
-    members: &[CellId],
+pub(crate) fn row_in<'a>(
+    index: MemberIndex<'a, LAST_GENERATION>,
     member: &Member,
 ) -> Option<Row<'a>>
-    requires { AreIndexed cells.now members.now }
-    ensures { option_map row_view result ≡ row_of (cells_view (cells_of cells.now)) member.now }
+    ensures { option_map row_view result
+        ≡ row_of (cells_view (cells_of index.entry.cells.now)) member.now }
 {
-    row_over(cells, group_of(cells, members, member))
+    let cells = index.cells;
+    row_over(cells, index.group_of(member))
 }

@@ -24,7 +24,6 @@ use crate::edits::{bring, has_place, learn, meet};
 use crate::joining::{count_kept, count_unknown, drop_dead, make_room, take_all};
 use crate::live_cells::LiveCells;
 use crate::live_dot::LiveDot;
-use crate::placed_lists::count_outside;
 use crate::places::LAST_GENERATION;
 use crate::sameness::{are_same_cells, is_same_context};
 use crate::seen::gather;
@@ -134,8 +133,7 @@ impl MemberSet {
     pub fn live_without(&self, dead: &Context) -> usize
         ensures { result ≡ set.len (live_dots_without self.now dead.now.dots) }
     {
-        let _ = self.cells.len(); // so that it is known what holds of them
-        count_outside(self.cells.placed(), dead.as_slice())
+        self.cells.placed().count_outside(dead)
     }
 
     /// The live dots in their order, each with its cell.
@@ -181,7 +179,6 @@ impl MemberSet {
         ensures none { result ≡ None → (dot : Dot) → map.get self.now.ids dot ≢ Some id }
         ensures spent { IsTrue (set.contains self.now.spent id) → result ≡ None }
     {
-        let _ = self.cells.len(); // so that it is known what holds of them
         self.cells.at(id)
     }
 
@@ -240,7 +237,6 @@ impl MemberSet {
         ensures ids { KeepsIds self.old self.new }
     {
         let _ = self.context.runs(); // so that their limits are known
-        let _ = self.cells.len(); // so that it is known what holds of them
         if !agrees_with(&self.cells, dot, member, fields) {
             return Err(JoinFault::Conflict);
         }
@@ -285,8 +281,6 @@ impl MemberSet {
         ensures cell_room { self.old.cell_room ≤ self.new.cell_room }
         ensures run_room { self.old.run_room ≤ self.new.run_room }
     {
-        let _ = self.context.runs(); // so that their limits are known
-        let _ = self.cells.len(); // so that it is known what holds of them
         if !self.agrees(other) {
             return Err(JoinFault::Conflict);
         }
@@ -326,7 +320,7 @@ impl MemberSet {
     {
         let _ = self.cells.len(); // so that it is known what holds of them
         let MemberSet { context, cells } = other;
-        drop_dead(&mut self.cells, &context, context.as_slice(), &cells);
+        drop_dead(&mut self.cells, &context, &cells);
         take_all(&self.context, &mut self.cells, cells);
         self.context.absorb(&context);
         let _ = self.cells.len(); // so that it is known what holds of them
@@ -359,7 +353,6 @@ impl MemberSet {
         ensures full { (result ≡ Err ContextFault.RunsFull)
             ↔ (MOST_RUNS < run_count (dots_seen_below self.now given.now)) }
     {
-        let _ = self.cells.len(); // so that it is known what holds of them
         gather(
             self.cells.allocator(),
             &self.context,
@@ -375,7 +368,6 @@ impl MemberSet {
         ensures full { (result ≡ Err ContextFault.RunsFull)
             ↔ (MOST_RUNS < run_count (dead_dots_of self.now site)) }
     {
-        let _ = self.cells.len(); // so that it is known what holds of them
         gather_dead(
             self.cells.allocator(),
             &self.context,
@@ -388,10 +380,8 @@ impl MemberSet {
     fn joined_cells(&self, other: &MemberSet) -> usize
         ensures { result ≡ cells_joined self.now other.now }
     {
-        let _ = self.cells.len(); // so that it is known what holds of them
-        let _ = other.cells.len();
-        let kept = count_kept(self.cells.placed(), other.context.as_slice(), &other.cells);
-        kept + count_unknown(&self.context, other.cells.placed())
+        let kept = count_kept(self.cells.placed(), &other.context, &other.cells);
+        kept + count_unknown(&self.context, other.cells.placed().list)
     }
 
     /// Another set that says the same of each dot, with ids of its own, and no place that isn't used again. The one fault is

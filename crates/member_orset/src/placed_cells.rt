@@ -24,12 +24,14 @@ use crate::insertion::put_in;
 use crate::live_dot::LiveDot;
 use crate::moving::move_cells;
 use crate::placed::Placed;
+use crate::placed_dots::PlacedDots;
 use crate::placed_lists::merge_dots;
 use crate::taken_cells::TakenCells;
 use dots::{Dot, Memory};
 use lww_registers::Fields;
 use op_arena::{Arena, ArenaFault, CellId};
 use std::alloc::Global;
+use std::collections::VecDeque;
 use std::marker::Model;
 
 // The live dots in their order, each with the id of its cell, and the cells in the arena.
@@ -57,17 +59,6 @@ impl<const LAST: u32> Model for PlacedCells<LAST> {
     } };
 
     ghost invariant = { λ p. ArePlaced p.dots.items p.cells.held p.cells.spent };
-}
-
-// How many of the dots lie before another one.
-fn place_among(dots: &[Placed], dot: Dot) -> usize
-    requires { IsTrue (map.is_sorted dot_cmp (id_entries dots.now)) }
-    ensures within { result ≤ length dots.now }
-    ensures before { AllWithin (λ p. is_lt (dot_cmp p.dot dot) ≡ true) dots.now 0 result }
-    ensures after { AllWithin (λ p. is_lt (dot_cmp p.dot dot) ≡ false) dots.now result
-        (length dots.now) }
-{
-    dots.partition_point(|placed| placed.dot < dot)
 }
 
 // Joins the fields of the cell of an id with others, where it is held.
@@ -133,11 +124,11 @@ impl<const LAST: u32> PlacedCells<LAST> {
     }
 
     // The dots in their order, each with its id.
-    pub(crate) fn placed(&self) -> &[Placed]
-        ensures value { result.now ≡ self.now.dots }
+    pub(crate) fn placed(&self) -> PlacedDots<'_>
+        ensures value { result.list.now ≡ self.now.dots }
         ensures valid { IsPlaced self.now }
     {
-        &self.dots
+        PlacedDots { list: &self.dots }
     }
 
     // The place of a dot, or, where it isn't placed, the place where it would go in.
@@ -146,11 +137,12 @@ impl<const LAST: u32> PlacedCells<LAST> {
         ensures missed { IfErr result (IsGap (cells_of self.now) dot) }
         ensures valid { IsPlaced self.now }
     {
-        let place = place_among(&self.dots, dot);
-        if place == self.dots.len() {
+        let dots = self.placed();
+        let place = dots.place(dot);
+        if place == dots.list.len() {
             return Err(place);
         }
-        if self.dots[place].dot != dot {
+        if dots.list[place].dot != dot {
             return Err(place);
         }
         Ok(place)
@@ -320,6 +312,9 @@ impl<const LAST: u32> PlacedCells<LAST> {
         ensures { result ≡ entries_of (cells_of self.entry) }
     {
         let PlacedCells { dots, cells } = self;
-        TakenCells::of(dots, cells)
+        TakenCells {
+            dots: VecDeque::from_vec(dots),
+            cells,
+        }
     }
 }

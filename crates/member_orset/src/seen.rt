@@ -4,12 +4,13 @@ ghost use Rattle.std.specs.List.{All};
 ghost use Rattle.std.specs.FinMap as map;
 ghost use Rattle.dots.specs.Orders.{dot_cmp};
 ghost use Rattle.dots.specs.DotSets.{run_count};
-ghost use Rattle.member_orset.specs.PlacedLists.{AreRising, is_placed};
+ghost use Rattle.member_orset.specs.PlacedLists.{is_placed};
 ghost use Rattle.member_orset.specs.Reads.{seen_dots};
 ghost use Rattle.member_orset.specs.Gathering.{IsGreatest};
 
 use crate::gathered::Gathered;
-use crate::placed::Placed;
+use crate::known_runs::KnownRuns;
+use crate::placed_dots::PlacedDots;
 use crate::site_walk::gather_site;
 use causal_context::{Context, ContextFault};
 use dots::{Dot, MOST_COUNT, MOST_RUNS, SITES, SiteId};
@@ -52,28 +53,26 @@ fn greatest_of(given: &[Dot], site: SiteId) -> u64
 pub(crate) fn gather(
     alloc: Global,
     context: &Context,
-    dots: &[Placed],
+    dots: PlacedDots<'_>,
     given: &[Dot],
 ) -> Result<Context, ContextFault>
-    requires { AreRising dots.now }
-    ensures ok { IfOk result
-        (λ seen. seen.dots ≡ seen_dots context.now.dots (is_placed dots.now) given.now) }
+    ensures ok { IfOk result (λ seen. seen.dots
+        ≡ seen_dots context.now.dots (is_placed dots.entry.list.now) given.now) }
     ensures full { (result ≡ Err ContextFault.RunsFull)
         ↔ (MOST_RUNS
-        < run_count (seen_dots context.now.dots (is_placed dots.now) given.now)) }
+        < run_count (seen_dots context.now.dots (is_placed dots.entry.list.now) given.now)) }
 {
-    let runs = context.as_slice();
+    let runs = KnownRuns::of(context);
     let mut gathered = Gathered::none(alloc);
     let (first, end) = sites_of(given);
     for number in first..end {
         let Some(site) = SiteId::new(number) else {
             return gathered.finish();
         };
-        let last = greatest_of(given, site);
-        if last == 0 {
+        let Some(last) = Dot::new(site, greatest_of(given, site)) else {
             continue; // none of its dots is given, so that nothing was seen of it
-        }
-        gather_site(&mut gathered, runs, dots, given, site, last);
+        };
+        gather_site(&mut gathered, runs, dots, given, last);
     }
     gathered.finish()
 }

@@ -1,304 +1,268 @@
 //! The walk over the dots of a site: which of them are given or dead. It goes over the site's runs and its runs of live
 //! dots once.
-ghost use Rattle.std.specs.Prelude.{ℕ, ◌≡◌, ◌+◌, ◌-◌, ◌*◌, ◌<◌, ◌≤◌, ◌^◌, IsTrue, length, true};
-ghost use Rattle.std.specs.Prelude.{false};
-ghost use Rattle.std.specs.List.{All, AllWithin};
+ghost use Rattle.std.specs.Prelude.{ℕ, ◌≡◌, ◌+◌, ◌-◌, ◌*◌, ◌<◌, ◌≤◌, ◌^◌, length, true, false};
+ghost use Rattle.std.specs.List.{AllWithin};
 ghost use Rattle.std.specs.Ordering.{is_lt};
-ghost use Rattle.std.specs.FinMap as map;
 ghost use Rattle.std.specs.FinSet as set;
 ghost use Rattle.dots.specs.Orders.{dot_cmp};
-ghost use Rattle.dots.specs.DotSets.{AreApart, IsRunsOf, in_runs};
-ghost use Rattle.causal_context.specs.Contexts.{IsRunWithinLimits};
+ghost use Rattle.dots.specs.DotSets.{IsRunsOf, in_runs};
 ghost use Rattle.causal_context.specs.RunLists.{is_below};
-ghost use Rattle.member_orset.specs.PlacedLists.{AreRising, is_placed};
-ghost use Rattle.member_orset.specs.Gathering.{AreToName, IsGathered, IsPiece, is_given};
-ghost use Rattle.member_orset.specs.Gathering.{is_to_name, part_before};
+ghost use Rattle.member_orset.specs.PlacedLists.{is_placed};
+ghost use Rattle.member_orset.specs.Gathering.{AreToName, IsAhead, IsGathered, IsPiece};
+ghost use Rattle.member_orset.specs.Gathering.{is_given, is_to_name, part_before};
 
 use crate::gathered::Gathered;
+use crate::known_runs::{KnownRuns, ends_before};
 use crate::live_runs::live_run_end;
 use crate::piece::Piece;
-use crate::placed::Placed;
-use crate::placed_lists::place;
+use crate::placed_dots::PlacedDots;
 use causal_context::Run;
-use dots::{Dot, MOST_COUNT, SiteId};
+use dots::Dot;
 
-// Whether a dot is given; and up to which count, `last` at most, the dots from it on are as it is.
-fn given_piece(given: &[Dot], from: Dot, last: u64) -> Piece
-    requires { from.count ≤ last }
-    ensures { IsPiece (λ n. is_given given.now (record { site = from.site; count = n }))
-        from.count last result }
-{
-    let mut end = last;
-    for dot in given {
-        if dot.site() != from.site() {
-            continue;
+// A walk over the dots of a site up to a last one: the dot that it has come to, how many runs end before it, and how many
+// live dots lie before it.
+#[derive(Drop)]
+struct SiteWalk<'a> {
+    runs: KnownRuns<'a>,
+    dots: PlacedDots<'a>,
+    given: &'a [Dot],
+    last: Dot,
+    from: Dot,
+    run: usize,
+    live: usize,
+    ghost of_site: { from.site ≡ last.site },
+    ghost order: { from.count ≤ last.count },
+    ghost run_within: { run ≤ length runs.list.now },
+    ghost run_before: { AllWithin (λ r. is_below from r ≡ true) runs.list.now 0 run },
+    ghost run_after: { AllWithin (λ r. is_below from r ≡ false) runs.list.now run
+        (length runs.list.now) },
+    ghost live_within: { live ≤ length dots.list.now },
+    ghost live_before: { AllWithin (λ p. is_lt (dot_cmp p.dot from) ≡ true) dots.list.now 0 live },
+    ghost live_after: { AllWithin (λ p. is_lt (dot_cmp p.dot from) ≡ false) dots.list.now live
+        (length dots.list.now) },
+}
+
+impl<'a> SiteWalk<'a> {
+    // How many runs end before a dot that lies ahead.
+    fn run_at(&self, dot: Dot) -> usize
+        requires { IsAhead self.now.from self.now.last dot }
+        ensures within { result ≤ length self.now.runs.list.now }
+        ensures before { AllWithin (λ r. is_below dot r ≡ true) self.now.runs.list.now 0 result }
+        ensures after { AllWithin (λ r. is_below dot r ≡ false) self.now.runs.list.now result
+            (length self.now.runs.list.now) }
+    {
+        let runs = self.runs.list;
+        let mut passed = self.run;
+        while passed < runs.len() {
+            if !ends_before(runs[passed], dot) {
+                return passed;
+            }
+            passed += 1;
         }
-        if dot.count() < from.count() {
-            continue;
+        passed
+    }
+
+    // How many live dots lie before a dot that lies ahead. Mostly it is one more at most; where it is a whole run more, they
+    // are found by halving.
+    fn live_at(&self, dot: Dot) -> usize
+        requires { IsAhead self.now.from self.now.last dot }
+        ensures within { result ≤ length self.now.dots.list.now }
+        ensures before { AllWithin (λ p. is_lt (dot_cmp p.dot dot) ≡ true) self.now.dots.list.now 0
+            result }
+        ensures after { AllWithin (λ p. is_lt (dot_cmp p.dot dot) ≡ false) self.now.dots.list.now
+            result (length self.now.dots.list.now) }
+    {
+        let (dots, live) = (self.dots, self.live);
+        if !dots.is_passed(live, dot) {
+            return live;
         }
-        if dot.count() == from.count() {
+        if !dots.is_passed(live + 1, dot) {
+            return live + 1;
+        }
+        dots.place(dot)
+    }
+
+    // Comes to a dot that lies ahead.
+    fn go_to(&mut self, dot: Dot)
+        requires { IsAhead self.old.from self.old.last dot }
+        ensures from { self.new.from ≡ dot }
+        ensures last { self.new.last ≡ self.old.last }
+        ensures runs { self.new.runs.list.now ≡ self.old.runs.list.now }
+        ensures dots { self.new.dots.list.now ≡ self.old.dots.list.now }
+        ensures given { self.new.given.now ≡ self.old.given.now }
+    {
+        let (run, live) = (self.run_at(dot), self.live_at(dot));
+        self.from = dot;
+        self.run = run;
+        self.live = live;
+    }
+
+    // Whether the dot is given; and up to which count the dots from it on are as it is.
+    fn given_piece(&self) -> Piece
+        ensures { IsPiece
+            (λ n. is_given self.now.given.now (record { site = self.now.from.site; count = n }))
+            self.now.from.count self.now.last.count result }
+    {
+        let from = self.from;
+        let mut end = self.last.count();
+        for dot in self.given {
+            if dot.site() != from.site() {
+                continue;
+            }
+            if dot.count() < from.count() {
+                continue;
+            }
+            if dot.count() == from.count() {
+                return Piece {
+                    inside: true,
+                    last: from.count(),
+                };
+            }
+            end = end.min(dot.count() - 1);
+        }
+        Piece {
+            inside: false,
+            last: end,
+        }
+    }
+
+    // Whether the dot is in the runs; and up to which count, `last` at most, the dots from it on are as it is.
+    fn known_piece(&self, last: u64) -> Piece
+        ensures { IsPiece
+            (λ n. in_runs self.now.runs.list.now (record { site = self.now.from.site; count = n }))
+            self.now.from.count last result }
+    {
+        let (runs, from, place) = (self.runs.list, self.from, self.run);
+        if place == runs.len() {
             return Piece {
-                inside: true,
-                last: from.count(),
+                inside: false,
+                last,
             };
         }
-        end = end.min(dot.count() - 1);
-    }
-    Piece {
-        inside: false,
-        last: end,
-    }
-}
-
-// How many runs end before a dot.
-fn runs_below(runs: &[Run], dot: Dot) -> usize
-    requires { AreApart runs.now }
-    ensures within { result ≤ length runs.now }
-    ensures before { AllWithin (λ r. is_below dot r ≡ true) runs.now 0 result }
-    ensures after { AllWithin (λ r. is_below dot r ≡ false) runs.now result (length runs.now) }
-{
-    let (site, count) = (dot.site(), dot.count());
-    runs.partition_point(|run| run.site < site || run.site == site && run.last < count)
-}
-
-// Whether a run ends before a dot.
-fn ends_before(run: Run, dot: Dot) -> bool
-    ensures { result ≡ is_below dot run }
-{
-    run.site < dot.site() || run.site == dot.site() && run.last < dot.count()
-}
-
-// How many runs end before a dot, of which some are known to.
-fn runs_passed(runs: &[Run], known: usize, dot: Dot) -> usize
-    requires apart { AreApart runs.now }
-    requires within { known ≤ length runs.now }
-    requires before { AllWithin (λ r. is_below dot r ≡ true) runs.now 0 known }
-    ensures within { result ≤ length runs.now }
-    ensures before { AllWithin (λ r. is_below dot r ≡ true) runs.now 0 result }
-    ensures after { AllWithin (λ r. is_below dot r ≡ false) runs.now result (length runs.now) }
-{
-    let mut passed = known;
-    while passed < runs.len() {
-        if !ends_before(runs[passed], dot) {
-            return passed;
+        let run = runs[place];
+        if run.site != from.site() {
+            return Piece {
+                inside: false,
+                last,
+            };
         }
-        passed += 1;
-    }
-    passed
-}
-
-// Whether the live dot at a place lies before another dot. Where it doesn't, none does from there on.
-fn is_dot_passed(dots: &[Placed], place: usize, dot: Dot) -> bool
-    requires { AreRising dots.now }
-    ensures within { result ≡ true → place < length dots.now }
-    ensures here { result ≡ true
-        → AllWithin (λ c. is_lt (dot_cmp c.dot dot) ≡ true) dots.now place (place + 1) }
-    ensures none { result ≡ false
-        → AllWithin (λ c. is_lt (dot_cmp c.dot dot) ≡ false) dots.now place
-        (length dots.now) }
-{
-    if place >= dots.len() {
-        return false;
-    }
-    dots[place].dot < dot
-}
-
-// How many live dots lie before a dot, of which some are known to. Mostly it is one more at most; where it is a whole
-// run more, they are found by halving.
-fn dots_passed(dots: &[Placed], known: usize, dot: Dot) -> usize
-    requires rise { AreRising dots.now }
-    requires within { known ≤ length dots.now }
-    requires before { AllWithin (λ c. is_lt (dot_cmp c.dot dot) ≡ true) dots.now 0 known }
-    ensures within { result ≤ length dots.now }
-    ensures before { AllWithin (λ c. is_lt (dot_cmp c.dot dot) ≡ true) dots.now 0 result }
-    ensures after { AllWithin (λ c. is_lt (dot_cmp c.dot dot) ≡ false) dots.now result
-        (length dots.now) }
-{
-    if !is_dot_passed(dots, known, dot) {
-        return known;
-    }
-    if !is_dot_passed(dots, known + 1, dot) {
-        return known + 1;
-    }
-    place(dots, dot)
-}
-
-// Whether a dot is in the runs, the first `place` of which end before it; and up to which count, `last` at most, the dots from it on are as it is.
-fn known_piece(runs: &[Run], place: usize, from: Dot, last: u64) -> Piece
-    requires apart { AreApart runs.now }
-    requires within { place ≤ length runs.now }
-    requires before { AllWithin (λ r. is_below from r ≡ true) runs.now 0 place }
-    requires after { AllWithin (λ r. is_below from r ≡ false) runs.now place (length runs.now) }
-    requires order { from.count ≤ last }
-    ensures { IsPiece (λ n. in_runs runs.now (record { site = from.site; count = n }))
-        from.count last result }
-{
-    if place == runs.len() {
-        return Piece {
-            inside: false,
-            last,
-        };
-    }
-    let run = runs[place];
-    if run.site != from.site() {
-        return Piece {
-            inside: false,
-            last,
-        };
-    }
-    if from.count() < run.first {
-        return Piece {
-            inside: false,
-            last: last.min(run.first - 1),
-        };
-    }
-    Piece {
-        inside: true,
-        last: run.last.min(last),
-    }
-}
-
-// Whether a dot is live, where the first `below` live dots lie before it; and up to which count the dots from it on are as it is.
-fn live_piece(dots: &[Placed], below: usize, from: Dot, last: u64) -> Piece
-    requires rise { AreRising dots.now }
-    requires within { below ≤ length dots.now }
-    requires before { AllWithin (λ c. is_lt (dot_cmp c.dot from) ≡ true) dots.now 0 below }
-    requires after { AllWithin (λ c. is_lt (dot_cmp c.dot from) ≡ false) dots.now below
-        (length dots.now) }
-    requires order { from.count ≤ last }
-    ensures { IsPiece
-        (λ n. is_placed dots.now (record { site = from.site; count = n }))
-        from.count last result }
-{
-    if below == dots.len() {
-        return Piece {
-            inside: false,
-            last,
-        };
-    }
-    let next = dots[below].dot;
-    if next == from {
-        let end = live_run_end(dots, below);
-        let count = dots[end].dot.count();
-        return Piece {
+        if from.count() < run.first {
+            return Piece {
+                inside: false,
+                last: last.min(run.first - 1),
+            };
+        }
+        Piece {
             inside: true,
-            last: last.min(count),
-        };
+            last: run.last.min(last),
+        }
     }
-    if next.site() != from.site() {
-        return Piece {
+
+    // Whether the dot is live; and up to which count, `last` at most, the dots from it on are as it is.
+    fn live_piece(&self, last: u64) -> Piece
+        ensures { IsPiece
+            (λ n. is_placed self.now.dots.list.now (record { site = self.now.from.site; count = n }))
+            self.now.from.count last result }
+    {
+        let (dots, from, below) = (self.dots.list, self.from, self.live);
+        if below == dots.len() {
+            return Piece {
+                inside: false,
+                last,
+            };
+        }
+        let next = dots[below].dot;
+        if next == from {
+            let end = live_run_end(dots, below);
+            let count = dots[end].dot.count();
+            return Piece {
+                inside: true,
+                last: last.min(count),
+            };
+        }
+        if next.site() != from.site() {
+            return Piece {
+                inside: false,
+                last,
+            };
+        }
+        Piece {
             inside: false,
-            last,
-        };
+            last: last.min(next.count() - 1),
+        }
     }
-    Piece {
-        inside: false,
-        last: last.min(next.count() - 1),
+
+    // Whether the dot is given or dead; and up to which count the dots from it on are as it is.
+    fn piece(&self) -> Piece
+        ensures { (known : set.FinSet dot_cmp)
+            → IsRunsOf self.now.runs.list.now known
+            → IsPiece
+            (λ n. is_to_name known (is_placed self.now.dots.list.now) self.now.given.now
+            (record { site = self.now.from.site; count = n }))
+            self.now.from.count self.now.last.count result }
+    {
+        let given = self.given_piece();
+        if given.inside {
+            return given;
+        }
+        let known = self.known_piece(given.last);
+        if !known.inside {
+            return known;
+        }
+        let live = self.live_piece(known.last);
+        Piece {
+            inside: !live.inside,
+            last: live.last,
+        }
     }
 }
 
-// Whether a dot is given or dead, where the first `run` runs end before it and the first `live` live dots lie before it; and up to which
-// count the dots from it on are as it is.
-fn piece_at(
-    runs: &[Run],
-    run: usize,
-    dots: &[Placed],
-    live: usize,
-    given: &[Dot],
-    from: Dot,
-    last: u64,
-) -> Piece
-    requires apart { AreApart runs.now }
-    requires run { run ≤ length runs.now }
-    requires run_before { AllWithin (λ r. is_below from r ≡ true) runs.now 0 run }
-    requires run_after { AllWithin (λ r. is_below from r ≡ false) runs.now run
-        (length runs.now) }
-    requires rise { AreRising dots.now }
-    requires live { live ≤ length dots.now }
-    requires live_before { AllWithin (λ c. is_lt (dot_cmp c.dot from) ≡ true) dots.now 0 live }
-    requires live_after { AllWithin (λ c. is_lt (dot_cmp c.dot from) ≡ false) dots.now live
-        (length dots.now) }
-    requires order { from.count ≤ last }
-    ensures { (known : set.FinSet dot_cmp)
-        → IsRunsOf runs.now known
-        → IsPiece
-        (λ n. is_to_name known (is_placed dots.now) given.now
-        (record { site = from.site; count = n }))
-        from.count last result }
-{
-    let given = given_piece(given, from, last);
-    if given.inside {
-        return given;
-    }
-    let known = known_piece(runs, run, from, given.last);
-    if !known.inside {
-        return known;
-    }
-    let live = live_piece(dots, live, from, known.last);
-    Piece {
-        inside: !live.inside,
-        last: live.last,
-    }
-}
-
-// Gathers the dots of a piece, where they are in: they go on with a run, or begin one.
-fn gather_piece(gathered: &mut Gathered, from: Dot, piece: Piece, goes_on: bool)
-    requires order { from.count ≤ piece.last }
-    requires limit { piece.last ≤ MOST_COUNT }
-    requires few { gathered.old.runs < 2 ^ 60 }
-    ensures gathered { (dots : set.FinSet dot_cmp) (last : ℕ)
-        → IsGathered gathered.old (part_before dots from.site from.count)
-        → IsPiece (λ n. set.contains dots (record { site = from.site; count = n }))
-        from.count last piece
-        → goes_on ≡ set.contains dots (record { site = from.site; count = from.count - 1 })
-        → IsGathered gathered.new (part_before dots from.site (piece.last + 1)) }
-    ensures few { gathered.new.runs ≤ gathered.old.runs + 1 }
-{
-    let (site, first) = (from.site(), from.count());
-    if !piece.inside {
-        return;
-    }
-    gathered.add(site, first, piece.last, !goes_on);
-}
-
-// Gathers the dots of a site that are given or dead, up to a last count. It walks the site's runs and live dots once,
-// from the first ones on, which are found by halving.
+// Gathers the dots of a site that are given or dead, up to a last one. It walks the site's runs and live dots once, from
+// the first ones on, which are found by halving.
 pub(crate) fn gather_site(
     gathered: &mut Gathered,
-    runs: &[Run],
-    dots: &[Placed],
+    runs: KnownRuns<'_>,
+    dots: PlacedDots<'_>,
     given: &[Dot],
-    site: SiteId,
-    last: u64,
+    last: Dot,
 )
-    requires apart { AreApart runs.now }
-    requires counts { All IsRunWithinLimits runs.now }
-    requires rise { AreRising dots.now }
-    requires limit { last ≤ MOST_COUNT }
-    requires few { gathered.old.runs ≤ site * 2 ^ 41 }
+    requires { gathered.old.runs ≤ last.site * 2 ^ 41 }
     ensures gathered { (known named : set.FinSet dot_cmp)
-        → IsRunsOf runs.now known
-        → AreToName known (is_placed dots.now) given.now site last named
-        → IsGathered gathered.old (part_before named site 0)
-        → IsGathered gathered.new (part_before named (site + 1) 0) }
-    ensures few { gathered.new.runs ≤ (site + 1) * 2 ^ 41 }
+        → IsRunsOf runs.entry.list.now known
+        → AreToName known (is_placed dots.entry.list.now) given.now last.site last.count named
+        → IsGathered gathered.old (part_before named last.site 0)
+        → IsGathered gathered.new (part_before named (last.site + 1) 0) }
+    ensures few { gathered.new.runs ≤ (last.site + 1) * 2 ^ 41 }
 {
-    let _ = site.number(); // so that its limit is known
+    let (site, end) = (last.site(), last.count());
     let Some(start) = Dot::new(site, 1) else {
         return;
     };
-    let mut run = runs_below(runs, start);
-    let mut live = place(dots, start);
+    let mut walk = SiteWalk {
+        runs,
+        dots,
+        given,
+        last,
+        from: start,
+        run: runs.before(start),
+        live: dots.place(start),
+    };
     let mut first = 1;
     let mut goes_on = false;
-    while first <= last {
+    while first <= end {
         let Some(from) = Dot::new(site, first) else {
             return;
         };
-        run = runs_passed(runs, run, from);
-        live = dots_passed(dots, live, from);
-        let piece = piece_at(runs, run, dots, live, given, from, last);
-        gather_piece(gathered, from, piece, goes_on);
+        walk.go_to(from);
+        let piece = walk.piece();
+        if piece.inside {
+            let run = Run {
+                site,
+                first,
+                last: piece.last,
+            };
+            gathered.add(run, !goes_on);
+        }
         goes_on = piece.inside;
         first = piece.last + 1;
     }

@@ -1,6 +1,5 @@
 ghost use Rattle.std.specs.Prelude.{◌≡◌, [], ◌∷◌, IfSome, None};
-ghost use Rattle.member_orset.specs.LiveLists.{entries_of, entry_of};
-ghost use Rattle.member_orset.specs.PlacedStates.{ArePlaced, cells_at, ids_of};
+ghost use Rattle.member_orset.specs.LiveLists.{entry_of};
 
 use crate::live_dot::LiveDot;
 use crate::placed::Placed;
@@ -11,8 +10,8 @@ use std::marker::Model;
 // The cells of dots that are left to be taken, and the dots in their order.
 #[derive(Drop)]
 pub(crate) struct TakenCells<const LAST: u32> {
-    dots: VecDeque<Placed>,
-    cells: Arena<LiveDot, LAST>,
+    pub(crate) dots: VecDeque<Placed>,
+    pub(crate) cells: Arena<LiveDot, LAST>,
 }
 
 impl<const LAST: u32> Model for TakenCells<LAST> {
@@ -36,17 +35,6 @@ impl<const LAST: u32> Model for TakenCells<LAST> {
 }
 
 impl<const LAST: u32> TakenCells<LAST> {
-    // Those of placed dots.
-    pub(crate) fn of(dots: Vec<Placed>, cells: Arena<LiveDot, LAST>) -> Self
-        requires { ArePlaced dots.items cells.held cells.spent }
-        ensures { result ≡ entries_of (cells_at cells.entry.held (ids_of dots.items)) }
-    {
-        TakenCells {
-            dots: VecDeque::from_vec(dots),
-            cells,
-        }
-    }
-
     // The cell of the first dot that is left.
     pub(crate) fn take_first(&mut self) -> Option<LiveDot>
         ensures none { result ≡ None → self.old ≡ [] }

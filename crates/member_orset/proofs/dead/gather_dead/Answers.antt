@@ -1,27 +1,33 @@
-use Rattle.std.proofs.Common.{sym, subst, arith}
+use Rattle.std.proofs.Common.{◌+◌, [], ap, sym, subst, ◌∙◌, arith}
 use Rattle.member_orset.specs.LiveDots.{dead_dots}
 use Rattle.member_orset.specs.PlacedLists.{is_placed}
-use Rattle.member_orset.specs.Gathering.{IsGathered}
+use Rattle.member_orset.specs.Gathering.{AreToName, IsGathered, part_before}
 use Rattle.member_orset.proofs.DeadDots.{all_before_next, dead_to_name, none_earlier}
 use Rattle.member_orset.proofs.dead.gather_dead.Goals as goal
 
-pub gather_site-requires-clause-few : goal.gather_site-requires-clause-few
-gather_site-requires-clause-few c = let none = c.none-gathered.ensures.runs in omega arith
+pub gather_site-requires : goal.gather_site-requires
+gather_site-requires c = let none = c.none-gathered.ensures.runs in omega arith
 
 pub returns-clause-ok : goal.returns-clause-ok
 returns-clause-ok c =
     let dots = c.args.context.now.dots in
-    let live = is_placed c.args.dots.now in
-    let site = c.args.site in
-    c.finish.ensures.ok (dead_dots dots live site) (subst (IsGathered c.gather_site.new.gathered) (all_before_next dots live site)
-    (c.gather_site.ensures.gathered dots (dead_dots dots live site) c.as_slice-runs.ensures.value (dead_to_name dots live site c.as_slice-runs.result.now _ c.as_slice-runs.ensures.value c.as_slice-runs.ensures.limits (omega arith))
-    (subst (IsGathered c.none-gathered.result) (sym (none_earlier dots live site)) c.none-gathered.ensures.none)))
+    let live = is_placed c.args.dots.list.now in
+    let site = c.in-Some.ensures.value.0 in
+    let count = c.in-Some.ensures.value.1 in
+    let dead = dead_dots dots live c.args.site in
+    let named = subst (λ s. AreToName dots live [] s c.in-Some.last.count dead) (sym site) (dead_to_name dots live c.args.site c.of-runs.result.list.now c.in-Some.last.count c.of-runs.ensures.value c.of-runs.ensures.limits (omega arith)) in
+    c.finish-2.ensures.ok dead (subst (IsGathered c.gather_site.new.gathered) (ap (λ s. part_before dead (s + 1) 0) site ∙ all_before_next dots live c.args.site)
+    (c.gather_site.ensures.gathered dots dead c.of-runs.ensures.value named
+    (subst (IsGathered c.none-gathered.result) (sym (ap (λ s. part_before dead s 0) site ∙ none_earlier dots live c.args.site)) c.none-gathered.ensures.none)))
 
 pub returns-clause-full : goal.returns-clause-full
 returns-clause-full c =
     let dots = c.args.context.now.dots in
-    let live = is_placed c.args.dots.now in
-    let site = c.args.site in
-    c.finish.ensures.full (dead_dots dots live site) (subst (IsGathered c.gather_site.new.gathered) (all_before_next dots live site)
-    (c.gather_site.ensures.gathered dots (dead_dots dots live site) c.as_slice-runs.ensures.value (dead_to_name dots live site c.as_slice-runs.result.now _ c.as_slice-runs.ensures.value c.as_slice-runs.ensures.limits (omega arith))
-    (subst (IsGathered c.none-gathered.result) (sym (none_earlier dots live site)) c.none-gathered.ensures.none)))
+    let live = is_placed c.args.dots.list.now in
+    let site = c.in-Some.ensures.value.0 in
+    let count = c.in-Some.ensures.value.1 in
+    let dead = dead_dots dots live c.args.site in
+    let named = subst (λ s. AreToName dots live [] s c.in-Some.last.count dead) (sym site) (dead_to_name dots live c.args.site c.of-runs.result.list.now c.in-Some.last.count c.of-runs.ensures.value c.of-runs.ensures.limits (omega arith)) in
+    c.finish-2.ensures.full dead (subst (IsGathered c.gather_site.new.gathered) (ap (λ s. part_before dead (s + 1) 0) site ∙ all_before_next dots live c.args.site)
+    (c.gather_site.ensures.gathered dots dead c.of-runs.ensures.value named
+    (subst (IsGathered c.none-gathered.result) (sym (ap (λ s. part_before dead s 0) site ∙ none_earlier dots live c.args.site)) c.none-gathered.ensures.none)))

@@ -1,6 +1,7 @@
 -- Of the runs so far those are dropped that are dead there.
 use Rattle.std.proofs.Common.{take}
-use Rattle.member_orset.specs.Joining.{IsThinned, dead_in_runs}
+use Rattle.member_orset.specs.Joining.{IsThinned}
+use Rattle.member_orset.proofs.RunCounts.{dead_in_runs}
 use Rattle.member_orset.proofs.joining.drop_each.Given as goal
 
 abbrev pub invariant-loop-run : goal.invariant-loop-run

@@ -6,7 +6,6 @@ use Rattle.member_orset.proofs.joining.next_dead.Given as goal
 abbrev pub invariant-loop-from : goal.invariant-loop-from
 invariant-loop-from l = record {
   least : l.first ≤ l.from;
-  most : l.from ≤ l.last + 1;
   none : (n : ℕ) → l.first ≤ n → n < l.from → (map.contains_key l.cells.live (record { site = l.site; count = n }) && not (map.contains_key l.there.live (record { site = l.site; count = n }))) ≡ false;
 }
 

@@ -10,6 +10,6 @@ returns-then-is_some c = taken_joined (set.contains c.args.known.now.dots) c.arg
 
 pub returns-then-not-contains : goal.returns-then-not-contains
 returns-then-not-contains c =
-    taken_new (set.contains c.args.known.now.dots) c.args.cells.now c.insert.new.self c.args.cell c.insert.result c.len.ensures.limits.named
+    taken_new (set.contains c.args.known.now.dots) c.args.cells.now c.insert.new.self c.args.cell c.insert.result c.insert.ensures.had_none
     (none_read c.get.result (map.get c.args.cells.now.live c.args.cell.dot) c.get.ensures (sym c.is_some.ensures ∙ c.if-is_some.false)) (sym c.contains.ensures ∙ c.if-not-contains.true)
     c.insert.ensures.live c.insert.ensures.ids c.insert.ensures.new c.insert.ensures.spent c.insert.ensures.room

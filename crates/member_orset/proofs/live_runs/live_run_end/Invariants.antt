@@ -1,15 +1,22 @@
-use Rattle.std.proofs.Common.{◌≤◌, ◌<◌, ◌-◌, length}
-use Rattle.member_orset.specs.LiveRuns.{IsLiveRun}
+use Rattle.std.proofs.Common.{◌≡◌, ◌≤◌, ◌-◌}
 use Rattle.member_orset.proofs.live_runs.live_run_end.Given as goal
 
--- the last place that is known to be of the run
+-- it is the run that begins there
 abbrev pub invariant-loop-step : goal.invariant-loop-step
 invariant-loop-step l = record {
-  least : l.first ≤ l.last;
-  most : l.last < length l.dots;
+  dots : l.run.dots.now ≡ l.dots;
+  first : l.run.first ≡ l.first;
   some : 1 ≤ l.step;
-  run : IsLiveRun l.dots l.first l.last;
 }
 
 abbrev pub decreases-loop-step : goal.decreases-loop-step
-decreases-loop-step l = length l.dots - l.last
+decreases-loop-step l = l.run.past - l.run.last
+
+abbrev pub invariant-loop-run : goal.invariant-loop-run
+invariant-loop-run l = record {
+  dots : l.run.dots.now ≡ l.dots;
+  first : l.run.first ≡ l.first;
+}
+
+abbrev pub decreases-loop-run : goal.decreases-loop-run
+decreases-loop-run l = l.run.past - l.run.last

@@ -19,12 +19,12 @@ one_more held copy ids members i id copied cell l is e f h =
 
 pub loop-id-preserved : goal.loop-id-preserved
 loop-id-preserved g c =
-    let held = c.args.cells.now.held in
+    let held = c.args.index.cells.now.held in
     let copy = c.args.copy.now.held in
-    let members = c.args.members.now in
+    let members = c.args.index.ids.now in
     let i = c.loop-id.id-index in
     let id = c.id-item.result in
-    let there = some_of (map.get held id) (subst (λ q. is_some (map.get held q) ≡ true) (sym c.id-item.is) (c.requires.held i id c.loop-id-test.true)) in
+    let there = some_of (map.get held id) (subst (λ q. is_some (map.get held q) ≡ true) (sym c.id-item.is) (c.args.index.indexed.held i id c.loop-id-test.true)) in
     elim c.match-id_in.branch [
       | in-Some+in_ok-push w ↦
           let items = ap (λ v. v.items) w.ids-is ∙ w.in_ok-push.ensures.items in

@@ -6,5 +6,5 @@ use Rattle.member_orset.proofs.member_ids.copy_members.Given as goal
 abbrev pub invariant-loop-id : goal.invariant-loop-id
 invariant-loop-id g l = record {
   held : AreHeld l.copy.held l.ids.items;
-  cells : cells_at l.copy.held l.ids.items ≡ cells_at l.cells.held (take l.id-index l.members);
+  cells : cells_at l.copy.held l.ids.items ≡ cells_at l.index.cells.now.held (take l.id-index l.members);
 }

@@ -21,7 +21,7 @@ id_at-requires g c =
 
 pub returns-in-Ok : goal.returns-in-Ok
 returns-in-Ok g c cell e =
-    let s = c.args.cells.now in
+    let s = c.args.index.cells.now in
     let t = c.args.copy.now in
     let own = c.in_ok-cell.cell.now in
     let i = c.in-Ok.place in
@@ -29,16 +29,16 @@ returns-in-Ok g c cell e =
     let none : Placed = record { dot = own.dot; id = id_of 0 0 } in
     let there = get_or (cells_of t) i own in
     let held : holding there ≡ holding own = same_some _ _ (
-    sym (live_here t.dots t.held t.spent c.find.ensures.valid own.dot i own at) ∙ ap (λ cs. map.get (live_of cs) own.dot) c.requires.same
-    ∙ its_live s.dots s.held s.spent c.requires.placed c.args.id own (sym c.in_ok-cell.ensures)) in
+    sym (live_here t.dots t.held t.spent c.find.ensures.valid own.dot i own at) ∙ ap (λ cs. map.get (live_of cs) own.dot) c.requires
+    ∙ its_live s.dots s.held s.spent c.args.index.indexed.placed c.args.id own (sym c.in_ok-cell.ensures)) in
     ap (map.get t.held) (c.id_at.ensures none) ∙ cell_there t.dots t.held c.find.ensures.valid.there i none own (within_dots t.dots t.held t.spent c.find.ensures.valid own.dot i at)
     ∙ ap Some (one_cell there own (sym (at.here own)) held) ∙ c.in_ok-cell.ensures ∙ e
 
 pub returns-in-Err : goal.returns-in-Err
 returns-in-Err g c cell e =
-    let s = c.args.cells.now in
+    let s = c.args.index.cells.now in
     let t = c.args.copy.now in
     let own = c.in_ok-cell.cell.now in
-    let none = sym (gap_live (cells_of t) own.dot c.in-Err.field-0 (rise t.dots t.held t.spent c.find.ensures.valid) c.in-Err.ensures.missed) ∙ ap (λ cs. map.get (live_of cs) own.dot) c.requires.same
-    ∙ its_live s.dots s.held s.spent c.requires.placed c.args.id own (sym c.in_ok-cell.ensures) in
+    let none = sym (gap_live (cells_of t) own.dot c.in-Err.field-0 (rise t.dots t.held t.spent c.find.ensures.valid) c.in-Err.ensures.missed) ∙ ap (λ cs. map.get (live_of cs) own.dot) c.requires
+    ∙ its_live s.dots s.held s.spent c.args.index.indexed.placed c.args.id own (sym c.in_ok-cell.ensures) in
     cc

@@ -10,6 +10,6 @@ returns-clause-indexed g c =
     let s = c.args.cells.now in
     let ids = c.sort_members.new.members.items in
     let all : c.loop-placed.members.items ≡ ids_of s.dots =
-    c.loop-placed.invariant.items ∙ ap ids_of (take_all c.loop-placed.placed-index c.placed-dots.result.now (omega (arith, c.loop-placed-test.false)) ∙ c.placed-dots.ensures.value) in
+    c.loop-placed.invariant.items ∙ ap ids_of (take_all c.loop-placed.placed-index c.placed.result.list.now (omega (arith, c.loop-placed-test.false)) ∙ c.placed.ensures.value) in
     let same = subst (λ xs. IsPermutation xs ids) all c.sort_members.ensures.same in
-    indexed_by s ids c.requires.valid same (rises_sorted s ids c.requires.valid same c.sort_members.ensures.sorted)
+    indexed_by s ids c.placed.ensures.valid same (rises_sorted s ids c.placed.ensures.valid same c.sort_members.ensures.sorted)

@@ -1,93 +1,205 @@
-use Rattle.std.proofs.Common.{◌≡◌, ◌+◌, ◌-◌, ap, sym, subst, ◌∙◌, arith}
+use Rattle.std.proofs.Common.{ℕ, ◌≡◌, ◌+◌, ◌-◌, ◌≤◌, Bool, true, false, not, refl, ap, sym, subst, ◌∙◌, arith}
 use Rattle.std.specs.FinSet as set
-use Rattle.dots.specs.DotSets.{set_of}
+use Rattle.dots.specs.DotSets.{IsRunsOf, dots_between, run_count, set_of}
 use Rattle.dots.proofs.Runs.{runs_of_set}
 use Rattle.member_orset.specs.PlacedLists.{is_placed}
-use Rattle.member_orset.specs.Gathering.{AreToName, IsGathered, is_to_name, part_before}
-use Rattle.member_orset.proofs.Pieces.{dots_ahead, runs_ahead}
-use Rattle.member_orset.proofs.SeenDots.{from_one, next_site}
+use Rattle.member_orset.specs.Gathering.{IsGathered, IsPiece, is_to_name, part_before, runs_after}
+use Rattle.member_orset.proofs.SeenDots.{before_it, from_one, next_site, none_past, part_inside, part_outside, runs_grown}
 use Rattle.member_orset.proofs.SiteWalk.{piece_of}
+use Rattle.member_orset.proofs.site_walk.gather_site.Goals.{else-piece, then-piece}
 use Rattle.member_orset.proofs.site_walk.gather_site.Goals as goal
+
+at_most : (runs : ℕ) (begins : Bool) → runs_after runs begins ≤ runs + 1
+at_most runs true = omega arith
+at_most runs false = omega arith
 
 pub loop-first-init : goal.loop-first-init
 loop-first-init c =
-    let few = c.requires.few in
-    let site = c.in-Some.ensures.value.0 in
+    let few = c.requires in
+    let site = c.site-site.ensures.value in
     let count = c.in-Some.ensures.value.1 in
     record {
       least = omega arith;
       most = omega arith;
       few = omega arith;
-      run = c.runs_below-run.ensures.within;
-      runs_before = runs_ahead c.in-Some.start c.args.site 1 c.args.runs.now c.runs_below-run.result site (omega arith) c.runs_below-run.ensures.before;
-      live = c.place-live.ensures.within;
-      live_before = dots_ahead c.in-Some.start c.args.site 1 c.args.dots.now c.place-live.result site (omega arith) c.place-live.ensures.before;
+      come = omega arith;
+      runs = refl;
+      dots = refl;
+      given = refl;
+      last = refl;
       before = λ known dots are name. sym name.not_zero;
-      gathered = λ known dots are name g. subst (IsGathered c.args.gathered.now) (sym (from_one dots c.args.site name.not_zero)) g;
+      gathered = λ known dots are name g. subst (IsGathered c.args.gathered.now) (sym (from_one dots c.args.last.site name.not_zero)) g;
     }
 
-pub gather_piece-requires-clause-order : goal.gather_piece-requires-clause-order
-gather_piece-requires-clause-order c = let is = c.piece_at-piece.ensures (set_of c.args.runs.now) (runs_of_set c.args.runs.now c.requires.apart) in is.some
+pub go_to-requires : goal.go_to-requires
+go_to-requires c =
+    let v = c.loop-first.invariant in
+    let come = v.come in
+    let count = c.in-Some-new.ensures.value.1 in
+    let end = c.count-end.ensures.value in
+    let last = ap (λ d. d.count) v.last in (
+      c.loop-first.walk.of_site ∙ ap (λ d. d.site) v.last ∙ sym (c.in-Some-new.ensures.value.0 ∙ c.site-site.ensures.value),
+      omega arith,
+      omega arith,
+    )
 
-pub gather_piece-requires-clause-limit : goal.gather_piece-requires-clause-limit
-gather_piece-requires-clause-limit c =
-    let is = c.piece_at-piece.ensures (set_of c.args.runs.now) (runs_of_set c.args.runs.now c.requires.apart) in
-    let within = is.within in
-    let limit = c.requires.limit in
+pub invariant_of-run : goal.invariant_of-run
+invariant_of-run c =
+    let site = c.args.last.site in
+    let v = c.loop-first.invariant in
+    let first = c.loop-first.first in
+    let piece = c.piece-piece.result in
+    let end = c.count-end.ensures.value in
+    let e = c.go_to.ensures in
+    let at = ap (λ d. d.site) e.from ∙ c.in-Some-new.ensures.value.0 ∙ c.site-site.ensures.value in
+    let count = ap (λ d. d.count) e.from ∙ c.in-Some-new.ensures.value.1 in
+    let runs_are = e.runs ∙ v.runs in
+    let dots_are = e.dots ∙ v.dots in
+    let given_are = e.given ∙ v.given in
+    let last_is = e.last ∙ v.last in
+    let all = set_of c.args.runs.list.now in
+    let is0 : IsPiece (λ n. is_to_name all (is_placed c.args.dots.list.now) c.args.given.now (record { site = site; count = n })) first c.args.last.count piece =
+    subst (λ (X : Type 0). X) (λ i. IsPiece (λ n. is_to_name all (is_placed (dots_are i)) (given_are i) (record { site = at i; count = n })) (count i) (last_is i).count piece)
+    (c.piece-piece.ensures all (subst (λ rs. IsRunsOf rs all) (sym runs_are) (runs_of_set c.args.runs.list.now c.args.runs.apart))) in
+    let order : first ≤ c.args.last.count = omega arith in
+    let some : first ≤ piece.last = is0.some order in
+    let within = is0.within in
+    let least = v.least in
+    let limit = c.count-end.ensures.limit in
+    record {
+      site = c.site-site.ensures.limit;
+      least = least;
+      ordered = some;
+      most = omega arith;
+    }
+
+pub add-requires : goal.add-requires
+add-requires c =
+    let few = c.loop-first.invariant.few in
+    let site = c.site-site.ensures.value in
+    let limit = c.site-site.ensures.limit in
+    let most = c.count-end.ensures.limit in
     omega arith
 
 pub overflow_add-first : goal.overflow_add-first
 overflow_add-first c =
-    let is = c.piece_at-piece.ensures (set_of c.args.runs.now) (runs_of_set c.args.runs.now c.requires.apart) in
-    let within = is.within in
-    let limit = c.requires.limit in
+    let site = c.args.last.site in
+    let v = c.loop-first.invariant in
+    let first = c.loop-first.first in
+    let piece = c.piece-piece.result in
+    let end = c.count-end.ensures.value in
+    let e = c.go_to.ensures in
+    let at = ap (λ d. d.site) e.from ∙ c.in-Some-new.ensures.value.0 ∙ c.site-site.ensures.value in
+    let count = ap (λ d. d.count) e.from ∙ c.in-Some-new.ensures.value.1 in
+    let runs_are = e.runs ∙ v.runs in
+    let dots_are = e.dots ∙ v.dots in
+    let given_are = e.given ∙ v.given in
+    let last_is = e.last ∙ v.last in
+    let all = set_of c.args.runs.list.now in
+    let is0 : IsPiece (λ n. is_to_name all (is_placed c.args.dots.list.now) c.args.given.now (record { site = site; count = n })) first c.args.last.count piece =
+    subst (λ (X : Type 0). X) (λ i. IsPiece (λ n. is_to_name all (is_placed (dots_are i)) (given_are i) (record { site = at i; count = n })) (count i) (last_is i).count piece)
+    (c.piece-piece.ensures all (subst (λ rs. IsRunsOf rs all) (sym runs_are) (runs_of_set c.args.runs.list.now c.args.runs.apart))) in
+    let order : first ≤ c.args.last.count = omega arith in
+    let some : first ≤ piece.last = is0.some order in
+    let within = is0.within in
+    let limit = c.count-end.ensures.limit in
     omega arith
 
 pub loop-first-smaller : goal.loop-first-smaller
 loop-first-smaller c =
-    let is = c.piece_at-piece.ensures (set_of c.args.runs.now) (runs_of_set c.args.runs.now c.requires.apart) in
-    let some = is.some in
-    let within = is.within in
-    let count = c.in-Some-new.ensures.value.1 in
+    let site = c.args.last.site in
+    let v = c.loop-first.invariant in
+    let first = c.loop-first.first in
+    let piece = c.piece-piece.result in
+    let end = c.count-end.ensures.value in
+    let e = c.go_to.ensures in
+    let at = ap (λ d. d.site) e.from ∙ c.in-Some-new.ensures.value.0 ∙ c.site-site.ensures.value in
+    let count = ap (λ d. d.count) e.from ∙ c.in-Some-new.ensures.value.1 in
+    let runs_are = e.runs ∙ v.runs in
+    let dots_are = e.dots ∙ v.dots in
+    let given_are = e.given ∙ v.given in
+    let last_is = e.last ∙ v.last in
+    let all = set_of c.args.runs.list.now in
+    let is0 : IsPiece (λ n. is_to_name all (is_placed c.args.dots.list.now) c.args.given.now (record { site = site; count = n })) first c.args.last.count piece =
+    subst (λ (X : Type 0). X) (λ i. IsPiece (λ n. is_to_name all (is_placed (dots_are i)) (given_are i) (record { site = at i; count = n })) (count i) (last_is i).count piece)
+    (c.piece-piece.ensures all (subst (λ rs. IsRunsOf rs all) (sym runs_are) (runs_of_set c.args.runs.list.now c.args.runs.apart))) in
+    let order : first ≤ c.args.last.count = omega arith in
+    let some : first ≤ piece.last = is0.some order in
+    let within = is0.within in
     omega arith
 
 pub loop-first-preserved : goal.loop-first-preserved
 loop-first-preserved c =
-    let piece = c.piece_at-piece.result in
-    let from = c.in-Some-new.from in
-    let is0 = c.piece_at-piece.ensures (set_of c.args.runs.now) (runs_of_set c.args.runs.now c.requires.apart) in
-    let some = is0.some in
+    let site = c.args.last.site in
+    let v = c.loop-first.invariant in
+    let first = c.loop-first.first in
+    let piece = c.piece-piece.result in
+    let end = c.count-end.ensures.value in
+    let e = c.go_to.ensures in
+    let at = ap (λ d. d.site) e.from ∙ c.in-Some-new.ensures.value.0 ∙ c.site-site.ensures.value in
+    let count = ap (λ d. d.count) e.from ∙ c.in-Some-new.ensures.value.1 in
+    let runs_are = e.runs ∙ v.runs in
+    let dots_are = e.dots ∙ v.dots in
+    let given_are = e.given ∙ v.given in
+    let last_is = e.last ∙ v.last in
+    let all = set_of c.args.runs.list.now in
+    let is0 : IsPiece (λ n. is_to_name all (is_placed c.args.dots.list.now) c.args.given.now (record { site = site; count = n })) first c.args.last.count piece =
+    subst (λ (X : Type 0). X) (λ i. IsPiece (λ n. is_to_name all (is_placed (dots_are i)) (given_are i) (record { site = at i; count = n })) (count i) (last_is i).count piece)
+    (c.piece-piece.ensures all (subst (λ rs. IsRunsOf rs all) (sym runs_are) (runs_of_set c.args.runs.list.now c.args.runs.apart))) in
+    let order : first ≤ c.args.last.count = omega arith in
+    let some : first ≤ piece.last = is0.some order in
     let within = is0.within in
-    let site = c.in-Some-new.ensures.value.0 in
-    let count = c.in-Some-new.ensures.value.1 in
-    let least = c.loop-first.invariant.least in
-    let few = c.loop-first.invariant.few in
-    let more = c.gather_piece.ensures.few in
-    let end : piece.last ≡ (piece.last + 1) - 1 = omega arith in
+    let least = v.least in
+    let few = v.few in
+    let next : piece.last ≡ (piece.last + 1) - 1 = omega arith in
     record {
       least = omega arith;
       most = omega arith;
-      few = omega arith;
-      run = c.runs_passed-run.ensures.within;
-      runs_before = runs_ahead from c.args.site (piece.last + 1) c.args.runs.now c.runs_passed-run.result site (omega arith) c.runs_passed-run.ensures.before;
-      live = c.dots_passed-live.ensures.within;
-      live_before = dots_ahead from c.args.site (piece.last + 1) c.args.dots.now c.dots_passed-live.result site (omega arith) c.dots_passed-live.ensures.before;
+      few = elim c.if-piece.branch [
+        | then-piece w ↦
+            let more = w.add.ensures.runs in
+            let most = at_most c.loop-first.gathered.runs (not c.loop-first.goes_on) in
+            let same = ap (λ s. s.runs) w.gathered-is in
+            omega arith
+        | else-piece w ↦ let same = ap (λ s. s.runs) w.gathered-is in omega arith
+      ];
+      come = omega arith;
+      runs = runs_are;
+      dots = dots_are;
+      given = given_are;
+      last = last_is;
       before = λ known dots are name.
-          let is = c.piece_at-piece.ensures known are in
-          sym (is.same piece.last is.some (omega arith)) ∙ (λ i. is_to_name known (is_placed c.args.dots.now) c.args.given.now (record { site = site i; count = end i }))
-          ∙ sym (name.same (piece.last + 1 - 1) (omega arith) (omega arith));
+          let is : IsPiece (λ n. is_to_name known (is_placed c.args.dots.list.now) c.args.given.now (record { site = site; count = n })) first c.args.last.count piece =
+          subst (λ (X : Type 0). X) (λ i. IsPiece (λ n. is_to_name known (is_placed (dots_are i)) (given_are i) (record { site = at i; count = n })) (count i) (last_is i).count piece)
+          (c.piece-piece.ensures known (subst (λ rs. IsRunsOf rs known) (sym runs_are) are)) in
+          sym (is.same piece.last some (omega arith)) ∙ sym (name.same piece.last (omega arith) within) ∙ (λ i. set.contains dots (record { site = site; count = next i }));
       gathered = λ known dots are name g.
-          let named = subst (λ s. AreToName known (is_placed c.args.dots.now) c.args.given.now s c.args.last dots) (sym site) name in
-          let old = subst (IsGathered c.loop-first.gathered) (λ i. part_before dots (sym site i) (sym count i)) (c.loop-first.invariant.gathered known dots are name g) in
-          let before = c.loop-first.invariant.before known dots are name ∙ (λ i. set.contains dots (record { site = sym site i; count = sym count i - 1 })) in
-          let is = piece_of known (is_placed c.args.dots.now) c.args.given.now from.site from.count c.args.last dots piece named (omega arith) (c.piece_at-piece.ensures known are) in
-          subst (IsGathered c.gather_piece.new.gathered) (λ i. part_before dots (site i) (piece.last + 1)) (c.gather_piece.ensures.gathered dots c.args.last old is before);
+          let is : IsPiece (λ n. is_to_name known (is_placed c.args.dots.list.now) c.args.given.now (record { site = site; count = n })) first c.args.last.count piece =
+          subst (λ (X : Type 0). X) (λ i. IsPiece (λ n. is_to_name known (is_placed (dots_are i)) (given_are i) (record { site = at i; count = n })) (count i) (last_is i).count piece)
+          (c.piece-piece.ensures known (subst (λ rs. IsRunsOf rs known) (sym runs_are) are)) in
+          let named = piece_of known (is_placed c.args.dots.list.now) c.args.given.now site first c.args.last.count dots piece name least is in
+          let old = v.gathered known dots are name g in
+          let part = part_before dots site first in
+          elim c.if-piece.branch [
+            | then-piece w ↦
+                let same : set.union part (dots_between c.site-site.result first piece.last) ≡ set.union part (dots_between site first piece.last) =
+                λ i. set.union part (dots_between (c.site-site.ensures.value i) first piece.last) in
+                let runs : run_count (set.union part (dots_between c.site-site.result first piece.last)) ≡ runs_after (run_count part) (not c.loop-first.goes_on) =
+                ap run_count same ∙ runs_grown part site first least (λ n h. none_past dots site first n h) piece.last some
+                ∙ ap (λ b. runs_after (run_count part) (not b)) (before_it dots site first least ∙ sym (v.before known dots are name)) in
+                subst (λ s. IsGathered s (part_before dots site (piece.last + 1))) (sym w.gathered-is)
+                (subst (IsGathered w.add.new.self) (same ∙ sym (part_inside dots site first piece.last some (λ n lo hi. named.same n lo hi ∙ w.if-piece.true))) (w.add.ensures.gathered part old runs))
+            | else-piece w ↦
+                subst (λ s. IsGathered s (part_before dots site (piece.last + 1))) (sym w.gathered-is)
+                (subst (IsGathered c.loop-first.gathered) (sym (part_outside dots site first piece.last some (λ n lo hi. named.same n lo hi ∙ w.if-piece.false))) old)
+          ];
     }
 
 pub returns-clause-gathered : goal.returns-clause-gathered
 returns-clause-gathered c known dots are name g =
     let most = c.loop-first.invariant.most in
-    let end : c.loop-first.first ≡ c.args.last + 1 = omega arith in
+    let last = c.count-end.ensures.value in
+    let end : c.loop-first.first ≡ c.args.last.count + 1 = omega arith in
     subst (IsGathered c.loop-first.gathered)
-    (ap (part_before dots c.args.site) end ∙ next_site dots c.args.site c.args.last name.none_past)
+    (ap (part_before dots c.args.last.site) end ∙ next_site dots c.args.last.site c.args.last.count name.none_past)
     (c.loop-first.invariant.gathered known dots are name g)

@@ -8,6 +8,7 @@ use Rattle.member_orset.proofs.live_cells.LiveCells+LAST_GENERATION.rows.Goals a
 
 pub returns : goal.returns
 returns c =
-    let s = c.self.inside.placed in
-    c.of.ensures ∙ all_rows (cells_of s) (listed_at s.held c.self.inside.members.items) c.args.queue (rise s.dots s.held s.spent c.self.invariant.placed) c.self.invariant.index
-    ∙ ap (λ x. rows_of (view_of x.live) c.args.queue) c.self.view_is
+    let s = c.index.result.cells.now in
+    let indexed = c.index.result.indexed in
+    c.of.ensures ∙ all_rows (cells_of s) (listed_at s.held c.index.result.ids.now) c.args.queue (rise s.dots s.held s.spent indexed.placed) indexed.index
+    ∙ ap (λ live. rows_of (view_of live) c.args.queue) c.index.ensures

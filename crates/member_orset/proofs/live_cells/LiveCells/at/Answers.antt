@@ -1,9 +1,10 @@
-use Rattle.std.proofs.Common.{Some, sym, ap, subst, ◌∙◌}
+use Rattle.std.proofs.Common.{Some, sym, ap, subst, ◌∙◌, true≢false}
 use Rattle.std.specs.FinMap as map
+use Rattle.std.specs.FinSet as set
 use Rattle.std.specs.Option.{option_map}
 use Rattle.member_orset.specs.LiveStates.{HasId}
 use Rattle.member_orset.specs.Reads.{cell_read}
-use Rattle.member_orset.proofs.LiveMaps.{its_cell, its_id, its_live}
+use Rattle.member_orset.proofs.LiveMaps.{apart, its_cell, its_id, its_live}
 use Rattle.member_orset.proofs.live_cells.LiveCells.at.Goals as goal
 
 pub returns-in_err-cell-clause-none : goal.returns-in_err-cell-clause-none
@@ -23,3 +24,11 @@ returns-clause-some g c =
       named = its_id s.dots s.held s.spent c.self.invariant.placed c.args.id cell is;
       live = its_live s.dots s.held s.spent c.self.invariant.placed c.args.id cell is ∙ ap Some (sym c.lent.ensures);
     })
+
+pub returns-clause-spent : goal.returns-clause-spent
+returns-clause-spent g c h =
+    let s = c.self.inside.placed in
+    let cell = c.in_ok-cell.cell.now in
+    let named = its_id s.dots s.held s.spent c.self.invariant.placed c.args.id cell (sym c.in_ok-cell.ensures) in
+    let unspent = (apart s.dots s.held s.spent c.self.invariant.placed).unspent cell.dot c.args.id named in
+    absurd (true≢false (sym h ∙ ap (λ x. set.contains x.spent c.args.id) (sym c.self.view_is) ∙ unspent))

@@ -2,11 +2,11 @@ use Rattle.std.proofs.Common.{◌≡◌, ◌≤◌, length, min, vec_len, lit<, 
 use Rattle.std.specs.FinMap as map
 use Rattle.std.specs.Vec.{vec_capacity}
 use Rattle.member_orset.specs.CellIds.{IsNew}
-use Rattle.member_orset.specs.Index.{IsPlaceFor, Rises, listing}
-use Rattle.member_orset.specs.PlacedStates.{AreHeld, AreIndexed, listed_at}
+use Rattle.member_orset.specs.Index.{IsPlaceFor, listing}
+use Rattle.member_orset.specs.PlacedStates.{AreIndexed, listed_at}
 use Rattle.member_orset.proofs.ListedIds.{as_long}
-use Rattle.member_orset.proofs.LiveChanges.{cell_more, held_more, ids_more, indexed_more, is_new, live_more, members_count, rises_more}
-use Rattle.member_orset.proofs.LiveMaps.{len_live, live_here}
+use Rattle.member_orset.proofs.LiveChanges.{ids_more, indexed_more, is_new, live_more, members_count}
+use Rattle.member_orset.proofs.LiveMaps.{len_live, live_here, no_id}
 use Rattle.member_orset.proofs.PlacedDots.{no_cell}
 use Rattle.member_orset.proofs.live_cells.LiveCells.insert.Goals as goal
 
@@ -24,27 +24,17 @@ insert-id-requires g c =
     let room : min s.room (vec_capacity c.self.inside.members) ≡ c.args.self.now.room = ap (λ x. x.room) c.self.view_is in
     (lit< tt, (c.in-Err.ensures.missed, omega (arith, count, room, c.requires.room)))
 
-pub place_in-listed-requires : goal.place_in-listed-requires
-place_in-listed-requires g c =
-    let s = c.self.inside.placed in
-    let t = c.insert-id.new.self in (
-      lit< tt,
-      (
-        subst (AreHeld t.held) (sym c.deref.ensures.value) (held_more s t c.self.inside.members.items c.self.invariant c.in-Err.place c.args.cell c.insert-id.result c.in-Err.ensures.missed c.insert-id.ensures.free c.insert-id.ensures.held),
-        subst (λ ids. Rises (listed_at t.held ids)) (sym c.deref.ensures.value) (rises_more s t c.self.inside.members.items c.self.invariant c.in-Err.place c.args.cell c.insert-id.result c.in-Err.ensures.missed c.insert-id.ensures.free c.insert-id.ensures.held),
-      ),
-    )
+pub invariant_of-index : goal.invariant_of-index
+invariant_of-index g c = record { indexed = subst (AreIndexed c.self.inside.placed) (sym c.deref.ensures.value) c.self.invariant }
 
 pub put_in-requires-clause-within : goal.put_in-requires-clause-within
 put_in-requires-clause-within g c =
     let s = c.self.inside.placed in
-    let t = c.insert-id.new.self in
     let ids = c.self.inside.members.items in
-    let there = cell_more s t ids c.self.invariant c.in-Err.place c.args.cell c.insert-id.result c.in-Err.ensures.missed c.insert-id.ensures.free c.insert-id.ensures.held in
-    let at = subst (λ xs. IsPlaceFor (listed_at t.held xs) (listing c.args.cell) c.place_in-listed.result) c.deref.ensures.value (c.place_in-listed.ensures c.args.cell there) in
-    let within : c.place_in-listed.result ≤ length (listed_at t.held ids) = at.within in
+    let at = subst (λ xs. IsPlaceFor (listed_at s.held xs) (listing c.args.cell) c.place_for-listed.result) c.deref.ensures.value c.place_for-listed.ensures in
+    let within : c.place_for-listed.result ≤ length (listed_at s.held ids) = at.within in
     let len : vec_len c.self.inside.members ≡ length ids = search rules in
-    omega (arith, within, len, as_long t.held ids (held_more s t ids c.self.invariant c.in-Err.place c.args.cell c.insert-id.result c.in-Err.ensures.missed c.insert-id.ensures.free c.insert-id.ensures.held))
+    omega (arith, within, len, as_long s.held ids c.self.invariant.held)
 
 pub put_in-requires-clause-room : goal.put_in-requires-clause-room
 put_in-requires-clause-room g c =
@@ -59,10 +49,9 @@ invariant_of-self g c =
     let s = c.self.inside.placed in
     let t = c.insert-id.new.self in
     let ids = c.self.inside.members.items in
-    let there = cell_more s t ids c.self.invariant c.in-Err.place c.args.cell c.insert-id.result c.in-Err.ensures.missed c.insert-id.ensures.free c.insert-id.ensures.held in
-    let at = subst (λ xs. IsPlaceFor (listed_at t.held xs) (listing c.args.cell) c.place_in-listed.result) c.deref.ensures.value (c.place_in-listed.ensures c.args.cell there) in
+    let at = subst (λ xs. IsPlaceFor (listed_at s.held xs) (listing c.args.cell) c.place_for-listed.result) c.deref.ensures.value c.place_for-listed.ensures in
     subst (AreIndexed t) (sym c.put_in.ensures.items)
-    (indexed_more s t ids c.self.invariant c.in-Err.place c.args.cell c.insert-id.result c.in-Err.ensures.missed c.insert-id.ensures.free c.insert-id.ensures.held c.place_in-listed.result c.insert-id.ensures.cells c.insert-id.ensures.valid at)
+    (indexed_more s t ids c.self.invariant c.in-Err.place c.args.cell c.insert-id.result c.in-Err.ensures.missed c.insert-id.ensures.free c.insert-id.ensures.held c.place_for-listed.result c.insert-id.ensures.cells c.insert-id.ensures.valid at)
 
 pub returns-clause-live : goal.returns-clause-live
 returns-clause-live g c =
@@ -81,3 +70,8 @@ returns-clause-new g c =
     let s = c.self.inside.placed in
     subst (λ x. IsNew x.ids x.spent x.spent c.insert-id.result) c.self.view_is
     (is_new s c.insert-id.new.self c.self.invariant.placed c.in-Err.place c.args.cell c.insert-id.result c.in-Err.ensures.missed c.insert-id.ensures.free c.insert-id.ensures.held c.insert-id.ensures.unspent c.insert-id.ensures.lesser)
+
+pub returns-clause-had_none : goal.returns-clause-had_none
+returns-clause-had_none g c =
+    let s = c.self.inside.placed in
+    ap (λ x. map.get x.ids c.args.cell.dot) (sym c.self.view_is) ∙ no_id s.dots s.held s.spent c.self.invariant.placed c.args.cell.dot c.in-Err.place c.in-Err.ensures.missed

@@ -11,9 +11,10 @@ use Rattle.member_orset.specs.LiveStates.{spent_with}
 use Rattle.member_orset.specs.Index.{IsPlaceFor, listing}
 use Rattle.member_orset.specs.PlacedStates.{AreIndexed, cells_of, listed_at}
 use Rattle.member_orset.proofs.Changes.{missed_live}
-use Rattle.member_orset.proofs.LiveChanges.{cell, here, ids_less, indexed_less, live_less, stands_in}
+use Rattle.member_orset.proofs.LiveChanges.{cell, ids_less, indexed_less, live_less, stands_in}
 use Rattle.member_orset.proofs.LiveMaps.{id_here, ids_by, len_live, no_id, rise, within_dots}
 use Rattle.member_orset.proofs.MapSteps.{kept_without}
+use Rattle.member_orset.proofs.PlacedDots.{no_cell}
 use Rattle.member_orset.proofs.live_cells.LiveCells.remove.Goals as goal
 
 pub returns-in_default-clause-live : goal.returns-in_default-clause-live
@@ -33,8 +34,11 @@ returns-in_default-clause-spent g c =
     subst (λ x. x.spent ≡ spent_with (map.get x.ids c.args.dot) x.spent) c.self.view_is
     (ap (λ o. spent_with o s.spent) (sym (no_id s.dots s.held s.spent c.self.invariant.placed c.args.dot c.in_default.field-0 c.in_default.ensures.missed)))
 
-pub id_at-requires : goal.id_at-requires
-id_at-requires g c =
+pub invariant_of-index : goal.invariant_of-index
+invariant_of-index g c = record { indexed = subst (AreIndexed c.self.inside.placed) (sym c.deref.ensures.value) c.self.invariant }
+
+pub cell_at-requires : goal.cell_at-requires
+cell_at-requires g c =
     let s = c.self.inside.placed in
     (lit< tt, within_dots s.dots s.held s.spent c.self.invariant.placed c.args.dot c.in-Ok.place c.in-Ok.ensures.found)
 
@@ -44,9 +48,9 @@ remove-requires g c =
     let ids = c.self.inside.members.items in
     let none : Placed = record { dot = c.args.dot; id = id_of 0 0 } in
     let own = cell s ids c.self.invariant c.args.dot c.in-Ok.place none c.in-Ok.ensures.found in
-    let there = ap (map.get s.held) (c.id_at.ensures none) ∙ here s ids c.self.invariant c.args.dot c.in-Ok.place none c.in-Ok.ensures.found in
-    let at = subst (λ xs. IsPlaceFor (listed_at s.held xs) (listing own) c.place_in-listed.result) c.deref.ensures.value (c.place_in-listed.ensures own there) in
-    let inside : c.place_in-listed.result < length ids = stands_in s ids c.self.invariant c.args.dot c.in-Ok.place none c.in-Ok.ensures.found c.place_in-listed.result at in
+    let is = subst (λ x. IsPlaceFor (listed_at s.held c.deref.result.now) (listing x) c.place_for-listed.result) (c.cell_at.ensures (no_cell c.args.dot)) c.place_for-listed.ensures in
+    let at = subst (λ xs. IsPlaceFor (listed_at s.held xs) (listing own) c.place_for-listed.result) c.deref.ensures.value is in
+    let inside : c.place_for-listed.result < length ids = stands_in s ids c.self.invariant c.args.dot c.in-Ok.place none c.in-Ok.ensures.found c.place_for-listed.result at in
     let len : vec_len c.self.inside.members ≡ length ids = search rules in
     omega (arith, inside, len)
 
@@ -62,10 +66,10 @@ invariant_of-self g c =
     let ids = c.self.inside.members.items in
     let none : Placed = record { dot = c.args.dot; id = id_of 0 0 } in
     let own = cell s ids c.self.invariant c.args.dot c.in-Ok.place none c.in-Ok.ensures.found in
-    let there = ap (map.get s.held) (c.id_at.ensures none) ∙ here s ids c.self.invariant c.args.dot c.in-Ok.place none c.in-Ok.ensures.found in
-    let at = subst (λ xs. IsPlaceFor (listed_at s.held xs) (listing own) c.place_in-listed.result) c.deref.ensures.value (c.place_in-listed.ensures own there) in
+    let is = subst (λ x. IsPlaceFor (listed_at s.held c.deref.result.now) (listing x) c.place_for-listed.result) (c.cell_at.ensures (no_cell c.args.dot)) c.place_for-listed.ensures in
+    let at = subst (λ xs. IsPlaceFor (listed_at s.held xs) (listing own) c.place_for-listed.result) c.deref.ensures.value is in
     subst (AreIndexed t) (sym c.remove.ensures.items)
-    (indexed_less s ids c.self.invariant c.args.dot c.in-Ok.place none c.in-Ok.ensures.found c.place_in-listed.result at t (c.remove-2.ensures.held none) c.remove-2.ensures.cells c.remove-2.ensures.valid)
+    (indexed_less s ids c.self.invariant c.args.dot c.in-Ok.place none c.in-Ok.ensures.found c.place_for-listed.result at t (c.remove-2.ensures.held none) c.remove-2.ensures.cells c.remove-2.ensures.valid)
 
 pub returns-clause-live : goal.returns-clause-live
 returns-clause-live g c =

@@ -2,9 +2,8 @@ use Rattle.std.proofs.Common.{◌≡◌, sym, ap, subst, ◌∙◌}
 use Rattle.std.specs.FinMap as map
 use Rattle.std.specs.FinSet as set
 use Rattle.dots.specs.Orders.{dot_cmp}
-use Rattle.dots.specs.DotSets.{IsRunsOf}
 use Rattle.member_orset.specs.CellIds.{AreOfTheDead, IdsFollow}
-use Rattle.member_orset.specs.Joining.{AgreeWith, IsJoinedWith, IsThinned, dead_in_runs}
+use Rattle.member_orset.specs.Joining.{AgreeWith, IsJoinedWith, IsThinned, dead_there}
 use Rattle.member_orset.specs.Members.{Holding, IsSet, Members, condition_at}
 use Rattle.member_orset.proofs.Absorbing.{conditions_after, dead_after, follow_after, held_after, left_agrees}
 use Rattle.member_orset.proofs.member_set.MemberSet.absorb.Goals as goal
@@ -18,8 +17,8 @@ take_all-requires-clause-agree c =
     (left_agrees s t
     (λ q h e. ap (λ (x : Members). set.contains x.known q) (sym c.self.view_is) ∙ c.self.invariant.kept.heard q h (ap (λ (x : Members). map.get x.live q) c.self.view_is ∙ e))
     (λ q h e. ap (λ (x : Members). set.contains x.known q) (sym c.other.view_is) ∙ c.other.invariant.kept.heard q h (ap (λ (x : Members). map.get x.live q) c.other.view_is ∙ e))
-    c.as_slice.result.now (subst (λ (x : Members). IsRunsOf c.as_slice.result.now x.known) c.other.view_is c.as_slice.ensures.value) c.self.inside.cells c.drop_dead.new.cells (ap (λ (x : Members). x.live) c.self.view_is)
-    (subst (λ (m : map.FinMap dot_cmp Holding). IsThinned (dead_in_runs c.as_slice.result.now m) c.self.inside.cells c.drop_dead.new.cells) live c.drop_dead.ensures) c.requires.agree)
+    c.self.inside.cells c.drop_dead.new.cells (ap (λ (x : Members). x.live) c.self.view_is)
+    (subst (λ (x : Members). IsThinned (dead_there x.known x.live) c.self.inside.cells c.drop_dead.new.cells) c.other.view_is c.drop_dead.ensures) c.requires.agree)
 
 pub invariant_of-self : goal.invariant_of-self
 invariant_of-self c =
@@ -32,16 +31,16 @@ invariant_of-self c =
       kept = held_after s t
           (λ q h e. ap (λ (x : Members). set.contains x.known q) (sym c.self.view_is) ∙ c.self.invariant.kept.heard q h (ap (λ (x : Members). map.get x.live q) c.self.view_is ∙ e))
           (λ q h e. ap (λ (x : Members). set.contains x.known q) (sym c.other.view_is) ∙ c.other.invariant.kept.heard q h (ap (λ (x : Members). map.get x.live q) c.other.view_is ∙ e))
-          c.as_slice.result.now (subst (λ (x : Members). IsRunsOf c.as_slice.result.now x.known) c.other.view_is c.as_slice.ensures.value) c.self.inside.cells c.drop_dead.new.cells (ap (λ (x : Members). x.live) c.self.view_is)
-          (subst (λ (m : map.FinMap dot_cmp Holding). IsThinned (dead_in_runs c.as_slice.result.now m) c.self.inside.cells c.drop_dead.new.cells) live c.drop_dead.ensures) c.take_all.new.cells
+          c.self.inside.cells c.drop_dead.new.cells (ap (λ (x : Members). x.live) c.self.view_is)
+          (subst (λ (x : Members). IsThinned (dead_there x.known x.live) c.self.inside.cells c.drop_dead.new.cells) c.other.view_is c.drop_dead.ensures) c.take_all.new.cells
           (subst (λ (m : map.FinMap dot_cmp Holding). IsJoinedWith (set.contains s.known) c.drop_dead.new.cells m c.take_all.new.cells) live
           (subst (λ (k : set.FinSet dot_cmp). IsJoinedWith (set.contains k) c.drop_dead.new.cells c.other.inside.cells.live c.take_all.new.cells) known c.take_all.ensures))
           (λ q h e. c.self.invariant.kept.set q h (ap (λ (x : Members). map.get x.live q) c.self.view_is ∙ e)) (λ q h e. c.other.invariant.kept.set q h (ap (λ (x : Members). map.get x.live q) c.other.view_is ∙ e)) c.requires.cells;
       dead = dead_after s t
           (λ q h e. ap (λ (x : Members). set.contains x.known q) (sym c.self.view_is) ∙ c.self.invariant.kept.heard q h (ap (λ (x : Members). map.get x.live q) c.self.view_is ∙ e))
           (λ q h e. ap (λ (x : Members). set.contains x.known q) (sym c.other.view_is) ∙ c.other.invariant.kept.heard q h (ap (λ (x : Members). map.get x.live q) c.other.view_is ∙ e))
-          c.as_slice.result.now (subst (λ (x : Members). IsRunsOf c.as_slice.result.now x.known) c.other.view_is c.as_slice.ensures.value) c.self.inside.cells c.drop_dead.new.cells (ap (λ (x : Members). x.live) c.self.view_is)
-          (subst (λ (m : map.FinMap dot_cmp Holding). IsThinned (dead_in_runs c.as_slice.result.now m) c.self.inside.cells c.drop_dead.new.cells) live c.drop_dead.ensures) c.take_all.new.cells
+          c.self.inside.cells c.drop_dead.new.cells (ap (λ (x : Members). x.live) c.self.view_is)
+          (subst (λ (x : Members). IsThinned (dead_there x.known x.live) c.self.inside.cells c.drop_dead.new.cells) c.other.view_is c.drop_dead.ensures) c.take_all.new.cells
           (subst (λ (m : map.FinMap dot_cmp Holding). IsJoinedWith (set.contains s.known) c.drop_dead.new.cells m c.take_all.new.cells) live
           (subst (λ (k : set.FinSet dot_cmp). IsJoinedWith (set.contains k) c.drop_dead.new.cells c.other.inside.cells.live c.take_all.new.cells) known c.take_all.ensures))
           c.len.ensures.limits.named c.len-2.ensures.limits.named
@@ -61,8 +60,8 @@ returns-clause-joined c =
           ∙ conditions_after s t
           (λ q h e. ap (λ (x : Members). set.contains x.known q) (sym c.self.view_is) ∙ c.self.invariant.kept.heard q h (ap (λ (x : Members). map.get x.live q) c.self.view_is ∙ e))
           (λ q h e. ap (λ (x : Members). set.contains x.known q) (sym c.other.view_is) ∙ c.other.invariant.kept.heard q h (ap (λ (x : Members). map.get x.live q) c.other.view_is ∙ e))
-          c.as_slice.result.now (subst (λ (x : Members). IsRunsOf c.as_slice.result.now x.known) c.other.view_is c.as_slice.ensures.value) c.self.inside.cells c.drop_dead.new.cells (ap (λ (x : Members). x.live) c.self.view_is)
-          (subst (λ (m : map.FinMap dot_cmp Holding). IsThinned (dead_in_runs c.as_slice.result.now m) c.self.inside.cells c.drop_dead.new.cells) live c.drop_dead.ensures) c.take_all.new.cells
+          c.self.inside.cells c.drop_dead.new.cells (ap (λ (x : Members). x.live) c.self.view_is)
+          (subst (λ (x : Members). IsThinned (dead_there x.known x.live) c.self.inside.cells c.drop_dead.new.cells) c.other.view_is c.drop_dead.ensures) c.take_all.new.cells
           (subst (λ (m : map.FinMap dot_cmp Holding). IsJoinedWith (set.contains s.known) c.drop_dead.new.cells m c.take_all.new.cells) live
           (subst (λ (k : set.FinSet dot_cmp). IsJoinedWith (set.contains k) c.drop_dead.new.cells c.other.inside.cells.live c.take_all.new.cells) known c.take_all.ensures)) q;
     }
@@ -77,7 +76,7 @@ returns-clause-ids c =
     (follow_after s t
     (λ q h e. ap (λ (x : Members). set.contains x.known q) (sym c.self.view_is) ∙ c.self.invariant.kept.heard q h (ap (λ (x : Members). map.get x.live q) c.self.view_is ∙ e))
     (λ q h e. ap (λ (x : Members). set.contains x.known q) (sym c.other.view_is) ∙ c.other.invariant.kept.heard q h (ap (λ (x : Members). map.get x.live q) c.other.view_is ∙ e))
-    c.as_slice.result.now (subst (λ (x : Members). IsRunsOf c.as_slice.result.now x.known) c.other.view_is c.as_slice.ensures.value) c.self.inside.cells c.drop_dead.new.cells (ap (λ (x : Members). x.live) c.self.view_is)
-    (subst (λ (m : map.FinMap dot_cmp Holding). IsThinned (dead_in_runs c.as_slice.result.now m) c.self.inside.cells c.drop_dead.new.cells) live c.drop_dead.ensures) c.take_all.new.cells
+    c.self.inside.cells c.drop_dead.new.cells (ap (λ (x : Members). x.live) c.self.view_is)
+    (subst (λ (x : Members). IsThinned (dead_there x.known x.live) c.self.inside.cells c.drop_dead.new.cells) c.other.view_is c.drop_dead.ensures) c.take_all.new.cells
     (subst (λ (m : map.FinMap dot_cmp Holding). IsJoinedWith (set.contains s.known) c.drop_dead.new.cells m c.take_all.new.cells) live
     (subst (λ (k : set.FinSet dot_cmp). IsJoinedWith (set.contains k) c.drop_dead.new.cells c.other.inside.cells.live c.take_all.new.cells) known c.take_all.ensures)) c.len-2.ensures.limits.named)

@@ -10,7 +10,7 @@ use Rattle.member_orset.specs.LiveStates.{fields_met}
 use Rattle.member_orset.specs.Members.{HasField, Holding, IsSet, Members, cells_with, condition_at, joined_at, live_with}
 use Rattle.member_orset.proofs.Asserting.{brought_conditions, either, known_already, len_one_more, met_conditions, on_err, on_err_both, on_ok_both, refused_conflict, refused_none, unknown_not_live}
 use Rattle.member_orset.proofs.IdSteps.{follow_same}
-use Rattle.member_orset.proofs.KeptSets.{set_brought, set_met, set_rested, set_same}
+use Rattle.member_orset.proofs.KeptSets.{set_brought, set_met, set_same}
 use Rattle.member_orset.proofs.member_set.MemberSet.assert.Goals as goal
 
 pub returns-then-not-agrees_with-clause-refusals : goal.returns-then-not-agrees_with-clause-refusals
@@ -50,12 +50,6 @@ returns-then-contains-clause-refusals c =
     (ap (λ (t : Members). set.contains t.known c.args.dot) (sym c.self.view_is) ∙ sym c.contains.ensures ∙ c.if-contains.true)
     (subst (λ (t : Members). cells_with t c.args.dot ≤ MOST_LIVE) c.self.view_is (c.has_place.ensures.there.0 c.if-not-has_place.false))
     (subst (λ (t : Members). run_count t.known ≤ MOST_RUNS) c.self.view_is few)
-
-pub bring-requires-clause-place : goal.bring-requires-clause-place
-bring-requires-clause-place c =
-    let s = c.self.inside in
-    let rested = set_rested s.context s.cells c.runs.ensures.dots c.len.ensures.limits c.self.invariant in
-    omega (arith, rested, c.self.invariant.kept.few)
 
 pub invariant_of-self-2 : goal.invariant_of-self-2
 invariant_of-self-2 c =

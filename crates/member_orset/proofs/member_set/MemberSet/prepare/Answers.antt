@@ -3,7 +3,6 @@ use Rattle.std.specs.FinMap as map
 use Rattle.dots.specs.declared.limits.TheConstants.{MOST_LIVE}
 use Rattle.member_orset.specs.Members.{CanBeJoined, Members, cells_joined}
 use Rattle.member_orset.proofs.Asserting.{on_ok_both}
-use Rattle.member_orset.proofs.KeptSets.{set_rested}
 use Rattle.member_orset.proofs.Preparing.{prepared_for}
 use Rattle.member_orset.proofs.member_set.MemberSet.prepare.Goals as goal
 
@@ -16,15 +15,6 @@ returns-then-not-agrees-clause-refusals c =
       runs_full = (λ e. absurd (cc e), λ h. absurd (no h.0));
     }
 
-pub make_room-requires : goal.make_room-requires
-make_room-requires c =
-    let s = c.self.inside in
-    let rested = set_rested s.context s.cells c.runs.ensures.dots c.len.ensures.limits c.self.invariant in
-    let ours = c.self.invariant.kept.few in
-    let theirs = c.other.invariant.kept.few in
-    let more = c.len-2.ensures.value in
-    omega (arith, rested, ours, theirs, more)
-
 pub returns-clause-ready : goal.returns-clause-ready
 returns-clause-ready c =
     let s = c.args.self.now in
@@ -34,5 +24,5 @@ returns-clause-ready c =
     let live = c.make_room.ensures.same_live ∙ ap (λ (x : Members). x.live) c.self.view_is in
     let few : cells_joined s t ≤ MOST_LIVE = let value = c.joined_cells.ensures in omega arith in
     on_ok_both c.make_room.result _ _ _ (λ room runs. prepared_for s _ t known live (c.agrees.ensures.agree.0 c.if-not-agrees.false) few
-    c.make_room.new.context c.other.inside.context.dots refl refl (ap (λ (x : Members). x.known) there) runs (let len = c.len-2.ensures.value in let same = ap (λ (x : Members). map.len x.live) there in omega arith))
+    c.make_room.new.context c.other.inside.context.dots refl refl (ap (λ (x : Members). x.known) there) runs (let len = c.len.ensures.value in let same = ap (λ (x : Members). map.len x.live) there in omega arith))
     c.make_room.ensures.room c.make_room.ensures.runs
