@@ -39,6 +39,11 @@ pub if_fault : {T : Type 0} (result : Result T DeskFault) (P Q : DeskFault → T
 if_fault (Ok x) P Q then is = tt
 if_fault (Err cause) P Q then is = then cause is
 
+-- what a fault has stopped, of which two things stand
+pub both_faults : {T : Type 0} (result : Result T DeskFault) (P Q S : DeskFault → Type 0) → ((cause : DeskFault) → P cause → Q cause → S cause) → IfErr result P → IfErr result Q → IfErr result S
+both_faults (Ok x) P Q S then one other = tt
+both_faults (Err cause) P Q S then one other = then cause one other
+
 -- what stands of each fault
 pub each_fault : {T : Type 0} (result : Result T DeskFault) (Q : DeskFault → Type 0) → ((cause : DeskFault) → Q cause) → IfErr result Q
 each_fault (Ok x) Q each = tt

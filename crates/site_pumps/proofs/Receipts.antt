@@ -1,5 +1,6 @@
 -- One receipt more.
-use Rattle.std.proofs.Common.{◌≡◌, ◌⊎◌, inl, inr, ℕ, ◌+◌, ◌≤◌, List, [], ◌∷◌, ◌++◌, map, refl, sym, ap, subst, ◌∙◌, length-append, arith}
+use Rattle.std.proofs.Common.{◌≡◌, ◌⊎◌, inl, inr, ℕ, ◌+◌, ◌≤◌, List, [], ◌∷◌, ◌++◌, length, map, refl, sym, ap, subst, ◌∙◌, length-append, arith}
+use Rattle.std.proofs.lemmas.List.{length-map}
 use Rattle.site_journal.specs.declared.receipt.Receipt.{Receipt}
 use Rattle.site_journal.specs.declared.step.StepDeed.TheVariants.{Took, Cut}
 use Rattle.site_journal.specs.Receipts.{IsOfCut, IsOfWhole, IsOfTake}
@@ -23,6 +24,10 @@ cuts_whole n rs all r is whole cuts = (
   cuts.1,
   ap (map (λ (x : Receipt). x.deed)) is ∙ map_more (λ (x : Receipt). x.deed) rs r ∙ ap (λ l. l ++ r.deed ∷ []) cuts.2 ∙ ap (λ d. map Cut cuts.0 ++ d ∷ []) whole.1,
 )
+
+-- cuts have a receipt each
+pub cuts_long : (n : ℕ) (rs : List Receipt) → AreCuts n rs → length rs ≡ n
+cuts_long n rs cuts = sym (length-map rs (λ (x : Receipt). x.deed)) ∙ ap length cuts.2 ∙ length-map cuts.0 Cut ∙ cuts.1
 
 -- a cut more, or none
 pub cuts_perhaps : (n rung : ℕ) (rs all : List Receipt) → n ≤ rung → rung ≤ n + 1 → (all ≡ rs) ⊎ ((r : Receipt) × IsOfCut r × (all ≡ rs ++ r ∷ [])) → AreCuts n rs → AreCutsFor rung all

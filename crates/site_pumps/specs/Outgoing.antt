@@ -1,5 +1,5 @@
 -- How far a pump has come with a plan.
-use Rattle.std.specs.Prelude.{ℕ, ◌≡◌, ◌⊎◌, Bool, true, List, [], length}
+use Rattle.std.specs.Prelude.{ℕ, ◌≡◌, ◌≤◌, ◌+◌, ◌⊎◌, Bool, true, List, [], length}
 use Rattle.site_links.specs.Links.{Sending}
 use Rattle.site_pumps.specs.declared.deed.Deed.{Deed}
 use Rattle.site_journal.specs.declared.receipt.Receipt.{Receipt}
@@ -18,7 +18,8 @@ pub record IsUnderWay (plan : List Deed) (receipts : List Receipt) (used : ℕ) 
 abbrev pub IsFrontOf : List Deed → List Receipt → List Sending → List Sending → Type 0
 IsFrontOf plan receipts start links = EachLink (BeginsToCarry (planned plan (cut_frames receipts) (whole_frames receipts))) start links
 
--- these receipts' frames were sent as the plan says, where those that it holds are held still, or were sent too once the bell had ended
-abbrev pub IsStopped : List Deed → List Receipt → Bool → List Sending → List Sending → Type 0
-IsStopped plan receipts ended start links =
-    EachLink (Carries (sent_from plan 0 [] (cut_frames receipts))) start links ⊎ ((ended ≡ true) × EachLink (Carries (planned plan (cut_frames receipts) [])) start links)
+-- these receipts' frames were sent as the plan says: those that it holds are held still, where there are no more cuts than rings; where there is one
+-- more, the bell has ended, and they were sent too
+abbrev pub IsStopped : List Deed → ℕ → List Receipt → Bool → List Sending → List Sending → Type 0
+IsStopped plan rung receipts ended start links = ((length receipts ≤ rung) × EachLink (Carries (sent_from plan 0 [] (cut_frames receipts))) start links)
+    ⊎ ((length receipts ≡ rung + 1) × (ended ≡ true) × EachLink (Carries (planned plan (cut_frames receipts) [])) start links)

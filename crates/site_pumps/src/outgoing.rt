@@ -165,6 +165,8 @@ impl Outgoing {
             links.old
             → IsUnderWay plan.now self.new.receipts.items self.new.used self.new.held.items start
             links.new) }
+        ensures refused { IfErr result (λ cause. P.fault port.new ≡ Some cause
+            → self.new.receipts.items ≡ self.old.receipts.items) }
         ensures receipt { OnOk result ((r : _) × IsOfCut r
             × (self.new.receipts.items ≡ self.old.receipts.items ++ r ∷ [])) }
         ensures perhaps { OnErr result ((self.new.receipts.items ≡ self.old.receipts.items)
@@ -215,6 +217,8 @@ impl Outgoing {
             links.old
             → EachLink (Carries (planned plan (cut_frames self.new.receipts.items) [])) start
             links.new) }
+        ensures refused { IfErr result (λ cause. P.fault port.new ≡ Some cause
+            → self.new.receipts.items ≡ self.old.receipts.items) }
         ensures receipt { OnOk result ((r : _) × IsOfWhole r
             × (self.new.receipts.items ≡ self.old.receipts.items ++ r ∷ [])) }
         ensures perhaps { OnErr result ((self.new.receipts.items ≡ self.old.receipts.items)

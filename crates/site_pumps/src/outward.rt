@@ -40,7 +40,9 @@ fn drive<R: Wait, P: Port<R>, B: Bell<R>>(
     ensures front { OnErr result
         (IsFrontOf plan.now outgoing.new.receipts.items links.old links.new) }
     ensures stopped { IfErr result (λ cause. P.fault port.new ≡ Some cause
-        → IsStopped plan.now outgoing.new.receipts.items (B.ended bell.new) links.old links.new) }
+        → (rung : ℕ) × (B.rings bell.new ≡ B.rings bell.old + rung)
+        × IsStopped plan.now rung outgoing.new.receipts.items (B.ended bell.new) links.old
+        links.new) }
     ensures receipts { OnOk result ((rung : ℕ) × (B.rings bell.new ≡ B.rings bell.old + rung)
         × AreCutsAndWhole (rung + 1) outgoing.new.receipts.items) }
     ensures cuts { (rung : ℕ) × (B.rings bell.new ≡ B.rings bell.old + rung)
@@ -81,9 +83,10 @@ pub fn pump_out<R: Wait, P: Port<R>, B: Bell<R>>(
         (cut_frames result.receipts.items) (whole_frames result.receipts.items)))
         links.old links.new }
     ensures front { IsFrontOf plan.now result.receipts.items links.old links.new }
-    // Where the port has refused a call, all was sent that the plan says of the frames cut so far.
+    // Where the port has refused a cut, all was sent that the plan says of the frames cut so far; where it has refused the whole, what was held too.
     ensures stopped { MatchOption result.fault ⊤ (λ cause. P.fault port.new ≡ Some cause
-        → IsStopped plan.now result.receipts.items (B.ended bell.new) links.old links.new) }
+        → (rung : ℕ) × (B.rings bell.new ≡ B.rings bell.old + rung)
+        × IsStopped plan.now rung result.receipts.items (B.ended bell.new) links.old links.new) }
     ensures receipts { result.fault ≡ None → (rung : ℕ)
         × (B.rings bell.new ≡ B.rings bell.old + rung)
         × AreCutsAndWhole (rung + 1) result.receipts.items }

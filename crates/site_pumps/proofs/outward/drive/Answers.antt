@@ -1,9 +1,9 @@
-use Rattle.std.proofs.Common.{rules, arith, ◌≡◌, ◌+◌, ◌∙◌, [], ap, inl, inr, map, refl, true}
+use Rattle.std.proofs.Common.{rules, arith, ◌≡◌, ◌+◌, ◌∙◌, [], ap, inl, inr, length, map, refl, true}
 use Rattle.std.proofs.lemmas.Result.{err_from_is_err_and, on_ok_weaker, on_err_weaker}
 use Rattle.site_journal.specs.declared.receipt.Receipt.{Receipt}
 use Rattle.site_pumps.proofs.Carrying.{on_err}
-use Rattle.site_pumps.proofs.PortRuns.{either_way, if_fault, run_none}
-use Rattle.site_pumps.proofs.Receipts.{cuts_more, cuts_perhaps, cuts_whole, whole_perhaps}
+use Rattle.site_pumps.proofs.PortRuns.{both_faults, either_way, if_fault, run_none}
+use Rattle.site_pumps.proofs.Receipts.{cuts_long, cuts_more, cuts_perhaps, cuts_whole, whole_perhaps}
 use Rattle.site_pumps.proofs.UnderWay.{at_start_of}
 use Rattle.site_pumps.proofs.outward.drive.Goals as goal
 use Rattle.site_pumps.proofs.outward.drive.Goals.{in-None, in-Some+then-not-wait}
@@ -65,15 +65,36 @@ returns-clause-cuts g c = let was = c.loop.invariant in let cut = c.in_ok-cut-2.
 
 pub returns-in_err-cut-clause-stopped : goal.returns-in_err-cut-clause-stopped
 returns-in_err-cut-clause-stopped g c = let p = err_from_is_err_and c.from_residual.result c.from_residual.ensures.1 in
-    rw (p.1, p.2) (λ told. inl (c.in_err-cut.ensures.stopped told _ c.loop.invariant.under_way).carried)
+    let was = c.loop.invariant in
+    let long = cuts_long _ _ was.cuts.2 in
+    rw (p.1, p.2) (λ told. (
+      was.cuts.0 + 1,
+      omega (arith, c.if-not-wait.ensures.rings, was.cuts.1),
+      inl ((let same = ap length (c.in_err-cut.ensures.refused told) in omega (arith, same, long)), (c.in_err-cut.ensures.stopped told _ was.under_way).carried),
+    ))
 
 pub returns-in_err-cut-2-clause-stopped : goal.returns-in_err-cut-2-clause-stopped
 returns-in_err-cut-2-clause-stopped g c = let p = err_from_is_err_and c.from_residual-in_err-cut-2.result c.from_residual-in_err-cut-2.ensures.1 in
-    rw (p.1, p.2) (λ told. inl (c.in_err-cut-2.ensures.stopped told _ c.loop.invariant.under_way).carried)
+    let was = c.loop.invariant in
+    let long = cuts_long _ _ was.cuts.2 in
+    let rings : g.B.Bell.rings c.match-next.bell ≡ g.B.Bell.rings c.loop.bell = elim c.match-next.branch [ in-None w ↦ ap g.B.Bell.rings w.bell-is | in-Some+then-not-wait w ↦ ap g.B.Bell.rings w.bell-is ∙ w.if-not-wait.ensures.rings ] in
+    rw (p.1, p.2) (λ told. (
+      was.cuts.0,
+      rings ∙ was.cuts.1,
+      inl ((let same = ap length (c.in_err-cut-2.ensures.refused told) in omega (arith, same, long)), (c.in_err-cut-2.ensures.stopped told _ was.under_way).carried),
+    ))
 
 pub returns-clause-stopped : goal.returns-clause-stopped
 returns-clause-stopped g c = let finished : g.B.Bell.ended c.match-next.bell ≡ true = search rules in
-    if_fault c.finish.result _ _ (λ cause f told. inr (finished, f told _ _ (c.in_ok-cut-2.ensures.ok _ c.loop.invariant.under_way))) c.finish.ensures.stopped
+    let was = c.loop.invariant in
+    let cut = c.in_ok-cut-2.ensures in
+    let long = cuts_long _ _ (cuts_more _ _ _ cut.receipt.0 cut.receipt.2 cut.receipt.1 was.cuts.2) in
+    let rings : g.B.Bell.rings c.match-next.bell ≡ g.B.Bell.rings c.loop.bell = elim c.match-next.branch [ in-None w ↦ ap g.B.Bell.rings w.bell-is | in-Some+then-not-wait w ↦ ap g.B.Bell.rings w.bell-is ∙ w.if-not-wait.ensures.rings ] in
+    both_faults c.finish.result _ _ _ (λ cause f same told. (
+      was.cuts.0,
+      rings ∙ was.cuts.1,
+      inr (ap length (same told) ∙ long, finished, f told _ _ (cut.ok _ was.under_way)),
+    )) c.finish.ensures.stopped c.finish.ensures.refused
 
 pub returns-in_err-cut-clause-work : goal.returns-in_err-cut-clause-work
 returns-in_err-cut-clause-work g c = let p = err_from_is_err_and c.from_residual.result c.from_residual.ensures.1 in rw (p.1, p.2) (c.in_err-cut.ensures.work _ c.loop.invariant.run)

@@ -51,3 +51,12 @@ returns-clause-perhaps g c = on_err c.treat-treated.result (inr (
 
 pub returns-clause-well : goal.returns-clause-well
 returns-clause-well g c = whatever c.treat-treated.result c.in_ok-receipt.ensures.well
+
+pub returns-then-is_err-clause-refused : goal.returns-then-is_err-clause-refused
+returns-then-is_err-clause-refused g c = λ told. c.reserve.ensures.items
+
+pub returns-in_err-receipt-clause-refused : goal.returns-in_err-receipt-clause-refused
+returns-in_err-receipt-clause-refused g c = let p = err_from_is_err_and c.from_residual.result c.from_residual.ensures.1 in rw (p.1, p.2) (λ told. c.reserve.ensures.items)
+
+pub returns-clause-refused : goal.returns-clause-refused
+returns-clause-refused g c = each_fault c.treat-treated.result _ (λ cause told. absurd (cc (told, c.in_ok-receipt.ensures.well)))

@@ -69,3 +69,15 @@ returns-in_err-receipt-clause-perhaps g c = on_err c.from_residual-in_err-receip
 
 pub returns-in-Err-clause-perhaps : goal.returns-in-Err-clause-perhaps
 returns-in-Err-clause-perhaps g c = inr (c.in_ok-receipt.receipt, c.in_ok-receipt.ensures.deed, c.push_reserved.ensures.items ∙ ap (λ l. l ++ c.in_ok-receipt.receipt ∷ []) c.reserve.ensures.items)
+
+pub returns-then-is_err-clause-refused : goal.returns-then-is_err-clause-refused
+returns-then-is_err-clause-refused g c = λ told. c.reserve.ensures.items
+
+pub returns-in_err-send_each-clause-refused : goal.returns-in_err-send_each-clause-refused
+returns-in_err-send_each-clause-refused g c = let p = err_from_is_err_and c.from_residual.result c.from_residual.ensures.1 in rw (p.1, p.2) (λ told. c.reserve.ensures.items)
+
+pub returns-in_err-receipt-clause-refused : goal.returns-in_err-receipt-clause-refused
+returns-in_err-receipt-clause-refused g c = let p = err_from_is_err_and c.from_residual-in_err-receipt.result c.from_residual-in_err-receipt.ensures.1 in rw (p.1, p.2) (λ told. c.reserve.ensures.items)
+
+pub returns-in-Err-clause-refused : goal.returns-in-Err-clause-refused
+returns-in-Err-clause-refused g c = λ told. absurd (cc (told, c.in_ok-receipt.ensures.well))
