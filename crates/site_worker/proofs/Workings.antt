@@ -15,7 +15,7 @@ use Rattle.site_journal.specs.declared.receipt.Receipt.{Receipt}
 use Rattle.site_journal.specs.Settling.{list_of}
 use Rattle.site_pumps.proofs.Receipts.{map_more}
 use Rattle.site_worker.specs.Runs.{AreGathered}
-use Rattle.site_worker.specs.Working.{AnswerFront, AreLegal, AreOfPasses, HaveSent, HaveTaken, HaveWorked, receipts_in}
+use Rattle.site_worker.specs.Working.{AnswerFront, AreInOrder, AreLegal, AreOfPasses, HaveSent, HaveTaken, HaveWorked, receipts_in}
 use Rattle.status_report.specs.declared.asks.Ask.{Ask}
 
 -- a list that is mapped has as many elements
@@ -117,6 +117,13 @@ worked_legal site names n (p ∷ ps) (l ∷ ls) was =
     All-cons (λ (list : List Receipt). All (λ (receipt : Receipt). IsLegalDeed site names receipt.deed) list) l ls was.0.legal (worked_legal site names (suc n) ps ls was.1)
 worked_legal site names n [] (l ∷ ls) was = absurd was
 worked_legal site names n (p ∷ ps) [] was = absurd was
+
+-- each list is in the order of its positions
+pub worked_order : (site : ℕ) (names : List (List ℕ)) (n : ℕ) (passes : List PassState) (lists : List (List Receipt)) → HaveWorked site names n passes lists → AreInOrder lists
+worked_order site names n [] [] was = All-nil (λ (list : List Receipt). (seen : ℕ) × Ascend 0 list seen)
+worked_order site names n (p ∷ ps) (l ∷ ls) was = All-cons (λ (list : List Receipt). (seen : ℕ) × Ascend 0 list seen) l ls (p.seen, was.0.seen) (worked_order site names (suc n) ps ls was.1)
+worked_order site names n [] (l ∷ ls) was = absurd was
+worked_order site names n (p ∷ ps) [] was = absurd was
 
 -- a pass more, whose receipts are in a vector
 pub worked_push : {V : Type 0} (f : V → List Receipt) (site : ℕ) (names : List (List ℕ)) (passes all : List PassState) (vs vall : List V) (pass : PassState) (v : V) (n : ℕ) → all ≡ passes ++ pass ∷ []

@@ -7,7 +7,7 @@ use Rattle.site_journal.specs.declared.journaled.TheConstants.{MOST_STEPS}
 use Rattle.site_journal.specs.declared.receipt.Receipt.{Receipt}
 use Rattle.site_journal.specs.Journals.{IsOfSite, JournalState}
 use Rattle.site_journal.specs.Settling.{list_of}
-use Rattle.site_worker.specs.Working.{AnswerFront, AreLegal, AreOfPasses, HaveSent, HaveTaken, HaveWorked, receipts_in}
+use Rattle.site_worker.specs.Working.{AnswerFront, AreInOrder, AreLegal, AreOfPasses, HaveSent, HaveTaken, HaveWorked, receipts_in}
 use Rattle.status_report.specs.declared.asks.Ask.{Ask}
 
 -- as many steps may stand in a journal as in any; where none was dropped, it began from a site that knew nothing
@@ -39,6 +39,7 @@ pub record HasRun (site : ℕ) (names : List (List ℕ)) (number : ℕ) (asks : 
   pub passes : length lists ≡ number
   pub count : journal.count ≡ receipts_in lists
   pub own : AreOfPasses 0 lists
+  pub order : AreInOrder lists
   pub legal : AreLegal site names lists
   pub answered : HasAnsweredAsks site names asks lists fault
   pub pumped : HavePumped lists fault

@@ -3,7 +3,7 @@ use Rattle.std.specs.List.{All}
 use Rattle.std.specs.Prelude.{ℕ, suc, ◌≡◌, ◌⊎◌, ◌+◌, ⊤, List, [], ◌∷◌, Option, None, length, sum_by}
 use Rattle.site_desk.specs.Deeds.{IsLegalAnswer, IsLegalDeed}
 use Rattle.site_desk.specs.Passes.{PassState, fresh_pass}
-use Rattle.site_desk.specs.Ports.{HasDoneAll}
+use Rattle.site_desk.specs.Ports.{Ascend, HasDoneAll}
 use Rattle.site_journal.specs.declared.desk_fault.DeskFault.{DeskFault}
 use Rattle.site_journal.specs.declared.receipt.Receipt.{Receipt}
 use Rattle.site_pumps.specs.Deeds.{AreCuts, AreCutsAndWhole, AreTakes}
@@ -33,6 +33,10 @@ AreOfPasses ordinal (list ∷ lists) = All (λ (receipt : Receipt). receipt.pass
 -- the deed of each receipt in lists is so at some state of the site of this number and of these queues
 abbrev pub AreLegal : ℕ → List (List ℕ) → List (List Receipt) → Type 0
 AreLegal site names lists = All (λ (list : List Receipt). All (λ (receipt : Receipt). IsLegalDeed site names receipt.deed) list) lists
+
+-- in each list the positions of the receipts ascend, so that none stands twice
+abbrev pub AreInOrder : List (List Receipt) → Type 0
+AreInOrder lists = All (λ (list : List Receipt). (seen : ℕ) × Ascend 0 list seen) lists
 
 -- how many receipts are in lists
 abbrev pub receipts_in : List (List Receipt) → ℕ

@@ -8,7 +8,7 @@ ghost use Rattle.site_links.specs.Linking.{AreLinksOf};
 ghost use Rattle.site_worker.specs.Gates.{IsGatedBy};
 ghost use Rattle.site_worker.specs.Promises.{ArePromised};
 ghost use Rattle.site_worker.specs.Runs.{HasAnsweredAsks, HasBegun, HasRun, HavePumped};
-ghost use Rattle.site_worker.specs.Working.{AreLegal, AreOfPasses, receipts_in};
+ghost use Rattle.site_worker.specs.Working.{AreInOrder, AreLegal, AreOfPasses, receipts_in};
 ghost use Rattle.status_report.specs.declared.asks.Ask.{Ask};
 
 use crate::site::run_new_site;
@@ -320,6 +320,8 @@ pub fn run_sites<R: Threads + Wait + Sync, G: Gate + Send + Drop>(
         ≡ receipts_in (map (λ list. list.items) end.receipts.items)) ends.items) }
     ensures own { IfOk result (λ ends. All (λ end.
         AreOfPasses 0 (map (λ list. list.items) end.receipts.items)) ends.items) }
+    ensures order { IfOk result (λ ends. All (λ end.
+        AreInOrder (map (λ list. list.items) end.receipts.items)) ends.items) }
     ensures answers { IfOk result (λ ends. (site : ℕ) (work : _) (end : _)
         → slice_get works.items site ≡ Some work → slice_get ends.items site ≡ Some end
         → HasAnsweredAsks site list.now work.asks.items

@@ -1,7 +1,7 @@
 use Rattle.std.proofs.Common.{◌≡◌, ◌+◌, [], arith, map, subst, vec_len}
 use Rattle.std.proofs.lemmas.Result.{IfOk-weaker}
 use Rattle.site_worker.specs.Runs.{HasAnsweredAsks, HasBegun, HavePumped}
-use Rattle.site_worker.specs.Working.{AreOfPasses, receipts_in}
+use Rattle.site_worker.specs.Working.{AreInOrder, AreOfPasses, receipts_in}
 use Rattle.site_worker.specs.declared.work.SiteEnd.{SiteEnd}
 use Rattle.site_worker.specs.declared.work.SiteWork.{SiteWork}
 use Rattle.site_worker.proofs.Sites.{all_got, mapped_at}
@@ -27,6 +27,10 @@ returns-in-Ok-clause-count g c = IfOk-weaker c.run_scoped.result _ _
 pub returns-in-Ok-clause-own : goal.returns-in-Ok-clause-own
 returns-in-Ok-clause-own g c = IfOk-weaker c.run_scoped.result _ _
     (λ ends are. all_got (λ (end : SiteEnd g.row.G.Denot). AreOfPasses 0 (map (λ list. list.items) end.receipts.items)) ends.items (λ site end is. (are site end is).own)) c.run_scoped.ensures.ends
+
+pub returns-in-Ok-clause-order : goal.returns-in-Ok-clause-order
+returns-in-Ok-clause-order g c = IfOk-weaker c.run_scoped.result _ _
+    (λ ends are. all_got (λ (end : SiteEnd g.row.G.Denot). AreInOrder (map (λ list. list.items) end.receipts.items)) ends.items (λ site end is. (are site end is).order)) c.run_scoped.ensures.ends
 
 pub returns-in-Ok-clause-answers : goal.returns-in-Ok-clause-answers
 returns-in-Ok-clause-answers g c = IfOk-weaker c.run_scoped.result _ _

@@ -1,5 +1,5 @@
 use Rattle.std.proofs.Common.{◌∙◌, sym}
-use Rattle.site_worker.proofs.Workings.{worked_all, worked_legal, worked_number, worked_own, worked_shares}
+use Rattle.site_worker.proofs.Workings.{worked_all, worked_legal, worked_number, worked_order, worked_own, worked_shares}
 use Rattle.site_worker.proofs.NewSites.{new_same}
 use Rattle.site_worker.proofs.site.ended.Goals as goal
 
@@ -14,6 +14,7 @@ returns-clause-end g c = λ number asks is. record {
   passes = worked_number _ _ 0 _ _ is.worked ∙ is.count;
   count = c.in-Ok.ensures.count ∙ worked_shares _ _ 0 _ _ is.worked;
   own = worked_own _ _ 0 _ _ is.worked;
+  order = worked_order _ _ 0 _ _ is.worked;
   legal = worked_legal _ _ 0 _ _ is.worked;
   answered = is.answered;
   pumped = is.pumped;
