@@ -1,38 +1,42 @@
-//! Clients over TCP: what they send, what they must read, and how they wait for one another.
-use ami_text::StdSink;
-use dots::{QueueName, Text80};
-use replica::QueueList;
-use server::{
-    LAST_PORT, MOST_SERVED_SITES, ServeSitesFault, ServerSettings, SessionSettings, serve_sites,
-};
-use site_journal::Journaled;
-use std::alloc::Global;
-use std::io;
-use std::io::{Read, Write};
-use std::net::{Ipv4Addr, Net, SocketAddr, TcpListener, TcpStream};
+//! Clients over TCP: what they send and what they must read. Each that finds something else stops the test.
+use crate::sites::{HERE, SHORT};
+use std::io::{ErrorKind, Read, Write};
+use std::net::{Net, SocketAddr, TcpListener, TcpStream};
 use std::process::Abort;
-use std::sync::Wait;
 use std::sync::atomic::{AtomicBool, Ordering};
-use std::thread::{Threads, yield_now};
+use std::thread::{Threads, join, yield_now};
 use std::time::{Clock, Duration};
+use std::{io, thread};
 
-/// What is sent, and what must be read.
-pub type Exchange = (&'static str, &'static str);
+// What is sent, and what must be read then.
+#[derive(Clone, Copy)]
+struct Exchange {
+    sent: &'static str,
+    read: &'static str,
+}
 
-/// Nothing is sent, and the greeting is read.
-pub const GREETING: Exchange = ("", "Queue Sites Call Manager/1.0.0\r\n");
+// Nothing is sent, and the greeting is read.
+const GREETING: Exchange = Exchange {
+    sent: "",
+    read: "Queue Sites Call Manager/1.0.0\r\n",
+};
 
-/// A login.
-pub const LOGIN: Exchange = (
-    "Action: Login\r\nUsername: admin\r\nSecret: s3\r\n\r\n",
-    "Response: Success\r\nMessage: Authentication accepted\r\n\r\n",
-);
+const LOGIN: Exchange = Exchange {
+    sent: "Action: Login\r\nUsername: admin\r\nSecret: s3\r\n\r\n",
+    read: "Response: Success\r\nMessage: Authentication accepted\r\n\r\n",
+};
 
-/// An add to `sales`.
-pub const ADD: Exchange = (
-    "Action: QueueAdd\r\nQueue: sales\r\nInterface: SIP/1\r\n\r\n",
-    "Response: Success\r\nMessage: Added interface to queue\r\n\r\n",
-);
+// A login that isn't a whole message yet.
+const HALF_LOGIN: Exchange = Exchange {
+    sent: "Action: Login\r\nUsername: admin\r\n",
+    read: "",
+};
+
+// An add to `sales`.
+const ADD: Exchange = Exchange {
+    sent: "Action: QueueAdd\r\nQueue: sales\r\nInterface: SIP/1\r\n\r\n",
+    read: "Response: Success\r\nMessage: Added interface to queue\r\n\r\n",
+};
 
 /// What a site of `sales` shows to which SIP/1 was added.
 pub const REPORT: &str =
@@ -42,157 +46,297 @@ Event: QueueMember\r\nQueue: sales\r\nName: SIP/1\r\nLocation: SIP/1\r\nStateInt
 Penalty: 0\r\nPaused: 0\r\nPausedReason: \r\nRingInUse: 1\r\n\r\n\
 Event: QueueStatusComplete\r\nEventList: Complete\r\nListItems: 2\r\n\r\n";
 
-/// A status after the add.
-pub const STATUS: Exchange = ("Action: QueueStatus\r\n\r\n", REPORT);
+// A status after the add.
+const STATUS: Exchange = Exchange {
+    sent: "Action: QueueStatus\r\n\r\n",
+    read: REPORT,
+};
 
-/// The reply to a logoff.
-pub const GOODBYE: &str = "Response: Goodbye\r\nMessage: Thanks for all the fish.\r\n\r\n";
+// A status of a queue without members.
+const NO_MEMBERS: Exchange = Exchange {
+    sent: "Action: QueueStatus\r\n\r\n",
+    read: "Response: Success\r\nEventList: start\r\nMessage: Queue status will follow\r\n\r\n\
+Event: QueueParams\r\nQueue: sales\r\nCompleted: 0\r\nAbandoned: 0\r\n\r\n\
+Event: QueueStatusComplete\r\nEventList: Complete\r\nListItems: 1\r\n\r\n",
+};
 
-/// A logoff.
-pub const LOGOFF: Exchange = ("Action: Logoff\r\n\r\n", GOODBYE);
+const GOODBYE: &str = "Response: Goodbye\r\nMessage: Thanks for all the fish.\r\n\r\n";
+
+const LOGOFF: Exchange = Exchange {
+    sent: "Action: Logoff\r\n\r\n",
+    read: GOODBYE,
+};
+
+// What comes behind a logoff is never read, and doesn't take back the reply.
+const LOGOFF_AND_MORE: Exchange = Exchange {
+    sent: "Action: Logoff\r\n\r\nAction: QueueStatus\r\n\r\nAction: QueueStatus\r\n\r\n",
+    read: GOODBYE,
+};
 
 // How often a client tries to connect.
 const TRIES: u32 = 1_000_000;
 
-// How long a client waits for a reply, in seconds.
+// How long a client waits for a reply or to write, in seconds.
 const PATIENCE: u64 = 20;
 
-/// The list of the queue `sales`.
-pub fn list(rt: &impl Abort, alloc: Global) -> QueueList {
-    let name = QueueName::new(b"sales").expect(rt, "a name");
-    QueueList::new(alloc, &[name]).expect(rt, "a list")
-}
+// How many thousand turns a client waits for another one.
+const TURNS: u32 = 1_000_000;
 
-/// So many sites at this port, for the user `admin` with the secret `s3`.
-pub fn settings(rt: &impl Abort, sites: u16, port: u16) -> ServerSettings {
-    let user = Text80::new(b"admin").expect(rt, "a text");
-    let secret = Text80::new(b"s3").expect(rt, "a text");
-    ServerSettings {
-        sites,
-        address: Ipv4Addr::LOCALHOST,
-        port,
-        session: SessionSettings::new(user, secret),
-    }
-}
+// How often a client asks that asks often: with the last cut and the whole these are more than a thousand steps, however few rings are heard, and with a
+// cut for each of them no more than two thousand.
+const ASKS: u32 = 999;
 
-/// Serves a number of sessions of each site, and sets the flag once that is over.
-pub fn served<R>(
-    rt: &R,
-    alloc: Global,
-    settings: &ServerSettings,
-    list: &QueueList,
-    sessions: u32,
-    over: &AtomicBool,
-) -> Result<Vec<Journaled>, ServeSitesFault>
-where
-    R: Net<Listener = TcpListener, Stream = TcpStream> + Threads + Wait + Clock + Eprint + Sync,
-{
-    let (sites, port) = (settings.sites, settings.port);
-    if sites == 0 || sites > MOST_SERVED_SITES || port == 0 || port > LAST_PORT {
-        over.store(true, Ordering::SeqCst);
-        return Err(ServeSitesFault::CannotListen(port));
-    }
-    let mut log = StdSink::new(io::sink());
-    let ended = serve_sites(rt, alloc, settings, list, Some(sessions), &mut log);
-    over.store(true, Ordering::SeqCst);
-    ended
-}
+// How long a client waits between two bytes that drips, in milliseconds, and how many it sends at most.
+const DROP: u64 = 60;
 
-/// The first of a few ports at which as many sites as are wanted could just be bound.
-pub fn free_port<R: Net<Listener = TcpListener, Stream = TcpStream>>(
-    rt: &R,
-    first: u16,
-    sites: u16,
-) -> u16 {
-    let mut port = first;
-    for _ in 0..16u32 {
-        let mut free = true;
-        for site in 0..sites {
-            let own = SocketAddr::from((Ipv4Addr::LOCALHOST, port.saturating_add(site)));
-            free = free && TcpListener::bind(rt, own).is_ok();
-        }
-        if free {
-            return port;
-        }
-        port = port.saturating_add(sites);
-    }
-    port
-}
+const DROPS: u32 = 40;
 
-/// A stream to this port, which is tried until the server is over.
-pub fn connected<R: Net<Listener = TcpListener, Stream = TcpStream>>(
+// How often a client asks at most that reads nothing.
+const UNREAD: u32 = 100_000;
+
+// A stream to this port, which is tried until the server listens.
+fn connected<R: Net<Listener = TcpListener, Stream = TcpStream> + Abort>(
     rt: &R,
     port: u16,
-    over: &AtomicBool,
-) -> Option<TcpStream> {
+) -> TcpStream {
     for _ in 0..TRIES {
-        if over.load(Ordering::SeqCst) {
-            return None;
-        }
-        if let Ok(stream) = TcpStream::connect(rt, SocketAddr::from((Ipv4Addr::LOCALHOST, port))) {
+        if let Ok(stream) = TcpStream::connect(rt, SocketAddr::from((HERE, port))) {
             let patience = Some(Duration::from_secs(PATIENCE));
-            stream.set_read_timeout(patience).ok()?;
-            return Some(stream);
+            assert!(rt; stream.set_read_timeout(patience).is_ok());
+            return stream;
         }
         yield_now();
     }
-    None
+    rt.panic("no connection")
+}
+
+fn send(rt: &impl Abort, stream: &TcpStream, bytes: &[u8]) {
+    let mut writer = stream;
+    assert!(rt; writer.write_all(bytes).is_ok());
 }
 
 // Reads just these bytes.
-fn reads(stream: &TcpStream, bytes: &[u8]) -> bool {
+fn read(rt: &impl Abort, stream: &TcpStream, bytes: &[u8]) {
     let mut piece = [0u8; 1024];
     let count = bytes.len();
-    if count > 1024 {
-        return false;
-    }
+    assert!(rt; count <= 1024);
     let mut reader = stream;
-    if reader.read_exact(&mut piece[..count]).is_err() {
-        return false;
-    }
-    piece.starts_with(bytes)
+    assert!(rt; reader.read_exact(&mut piece[..count]).is_ok());
+    assert!(rt; piece.starts_with(bytes));
 }
 
-/// Sends and reads, one exchange after another.
-pub fn talks(stream: &TcpStream, exchanges: &[Exchange]) -> bool {
-    let mut writer = stream;
-    for (sent, read) in exchanges {
-        if writer.write_all(sent.as_bytes()).is_err() || !reads(stream, read.as_bytes()) {
-            return false;
-        }
+// Sends and reads, one exchange after another.
+fn talk(rt: &impl Abort, stream: &TcpStream, exchanges: &[Exchange]) {
+    for exchange in exchanges {
+        send(rt, stream, exchange.sent.as_bytes());
+        read(rt, stream, exchange.read.as_bytes());
     }
-    true
 }
 
-/// Whether the stream ends here.
-pub fn ends(stream: &TcpStream) -> bool {
+// The stream ends here.
+fn assert_ends(rt: &impl Abort, stream: &TcpStream) {
     let mut piece = [0u8; 1];
     let mut reader = stream;
-    matches!(reader.read(&mut piece), Ok(0))
+    assert!(rt; matches!(reader.read(&mut piece), Ok(0)));
 }
 
-/// A whole session: it connects, and the stream ends behind the exchanges.
-pub fn session<R: Net<Listener = TcpListener, Stream = TcpStream>>(
-    rt: &R,
-    port: u16,
-    over: &AtomicBool,
-    exchanges: &[Exchange],
-) -> bool {
-    match connected(rt, port, over) {
-        None => false,
-        Some(stream) => talks(&stream, exchanges) && ends(&stream),
+// The stream ends behind these exchanges.
+fn talk_to_the_end(rt: &impl Abort, stream: &TcpStream, exchanges: &[Exchange]) {
+    talk(rt, stream, exchanges);
+    assert_ends(rt, stream);
+}
+
+// A session that asks often.
+fn ask_often(rt: &impl Abort, stream: &TcpStream) {
+    talk(rt, stream, &[GREETING, LOGIN]);
+    for _ in 0..ASKS {
+        talk(rt, stream, &[NO_MEMBERS]);
+    }
+    talk_to_the_end(rt, stream, &[LOGOFF]);
+}
+
+// A session that is silent behind its login for a long time, and then logs off.
+fn be_silent(rt: &(impl Abort + Clock), stream: &TcpStream) {
+    talk(rt, stream, &[GREETING, LOGIN]);
+    thread::sleep(rt, Duration::from_millis(3 * SHORT));
+    talk_to_the_end(rt, stream, &[LOGOFF]);
+}
+
+// Sends a byte of a line again and again, which never ends, until the stream is given up.
+fn drip(rt: &(impl Abort + Clock), stream: &TcpStream) {
+    talk(rt, stream, &[GREETING]);
+    let mut writer = stream;
+    for _ in 0..DROPS {
+        if writer.write_all(b"a").is_err() {
+            return;
+        }
+        thread::sleep(rt, Duration::from_millis(DROP));
+    }
+    rt.panic("it isn't given up")
+}
+
+// Asks for a report, which has the ActionID three times.
+fn ask_at_length(stream: &TcpStream) -> io::Result<()> {
+    let mut writer = stream;
+    writer.write_all(b"Action: QueueStatus\r\nActionID: ")?;
+    writer.write_all(&[b'a'; 1_000])?;
+    writer.write_all(b"\r\n\r\n")
+}
+
+// Asks for one report after another and reads none, until the stream is given up, which must come of the server.
+fn read_nothing(rt: &impl Abort, stream: &TcpStream) {
+    talk(rt, stream, &[GREETING, LOGIN]);
+    let patience = Some(Duration::from_secs(PATIENCE));
+    assert!(rt; stream.set_write_timeout(patience).is_ok());
+    for _ in 0..UNREAD {
+        if let Err(error) = ask_at_length(stream) {
+            assert!(rt; error.kind() != ErrorKind::WouldBlock);
+            return;
+        }
+    }
+    rt.panic("it isn't given up")
+}
+
+/// What a client does.
+#[derive(Clone, Copy)]
+pub enum Client {
+    /// It asks for 999 reports.
+    AskOften,
+    /// It is given up in the midst of its login.
+    InLogin,
+    /// It is given up behind its login.
+    LoggedIn,
+    /// It is silent behind its login for a long time, and then logs off.
+    Silent,
+    /// It sends a byte now and then, until it is given up.
+    Drip,
+    /// It reads no reports, until it is given up.
+    ReadNothing,
+}
+
+fn behave(rt: &(impl Abort + Clock), stream: &TcpStream, client: Client) {
+    match client {
+        Client::AskOften => ask_often(rt, stream),
+        Client::InLogin => talk_to_the_end(rt, stream, &[GREETING, HALF_LOGIN]),
+        Client::LoggedIn => talk_to_the_end(rt, stream, &[GREETING, LOGIN]),
+        Client::Silent => be_silent(rt, stream),
+        Client::Drip => drip(rt, stream),
+        Client::ReadNothing => read_nothing(rt, stream),
     }
 }
 
-/// Whether a flag is seen within `thousands` thousand turns.
-pub fn sees(flag: &AtomicBool, thousands: u32) -> bool {
-    for _ in 0..thousands {
+// A whole session of a client.
+fn visit<R: Net<Listener = TcpListener, Stream = TcpStream> + Abort + Clock>(
+    rt: &R,
+    port: u16,
+    client: Client,
+) {
+    let stream = connected(rt, port);
+    behave(rt, &stream, client);
+    drop(stream);
+}
+
+// A whole session of these exchanges.
+fn hold_session<R: Net<Listener = TcpListener, Stream = TcpStream> + Abort>(
+    rt: &R,
+    port: u16,
+    exchanges: &[Exchange],
+) {
+    let stream = connected(rt, port);
+    talk_to_the_end(rt, &stream, exchanges);
+    drop(stream);
+}
+
+// A session with each of two sites, of which the first is told of a member.
+fn tell_one_of_two<R: Net<Listener = TcpListener, Stream = TcpStream> + Abort>(rt: &R, port: u16) {
+    hold_session(rt, port, &[GREETING, LOGIN, ADD, LOGOFF]);
+    hold_session(rt, port.saturating_add(1), &[GREETING, LOGIN, LOGOFF]);
+}
+
+// Ten sessions, one after another, which read all that is due to them.
+fn read_all<R: Net<Listener = TcpListener, Stream = TcpStream> + Abort>(rt: &R, port: u16) {
+    for _ in 0..10u32 {
+        hold_session(rt, port, &[GREETING, LOGIN, LOGOFF_AND_MORE]);
+    }
+}
+
+// Waits until a flag is seen.
+fn wait_for(rt: &impl Abort, flag: &AtomicBool) {
+    for _ in 0..TURNS {
         for _ in 0..1_000u32 {
             if flag.load(Ordering::SeqCst) {
-                return true;
+                return;
             }
         }
         yield_now();
     }
-    false
+    rt.panic("the other client isn't done")
+}
+
+// Logs in, waits until the other client is done, and then must see what that has added.
+fn see<R: Net<Listener = TcpListener, Stream = TcpStream> + Abort>(
+    rt: &R,
+    port: u16,
+    is_in: &AtomicBool,
+    is_done: &AtomicBool,
+) {
+    let stream = connected(rt, port);
+    talk(rt, &stream, &[GREETING, LOGIN]);
+    is_in.store(true, Ordering::SeqCst);
+    wait_for(rt, is_done);
+    talk_to_the_end(rt, &stream, &[STATUS, LOGOFF]);
+    drop(stream);
+}
+
+// A whole session, once the other client is logged in.
+fn add<R: Net<Listener = TcpListener, Stream = TcpStream> + Abort>(
+    rt: &R,
+    port: u16,
+    is_in: &AtomicBool,
+    is_done: &AtomicBool,
+) {
+    wait_for(rt, is_in);
+    hold_session(rt, port, &[GREETING, LOGIN, ADD, LOGOFF]);
+    is_done.store(true, Ordering::SeqCst);
+}
+
+// Two sessions at once.
+fn meet<R: Net<Listener = TcpListener, Stream = TcpStream> + Abort + Threads + Sync>(
+    rt: &R,
+    port: u16,
+) {
+    let is_in = AtomicBool::new(false);
+    let is_done = AtomicBool::new(false);
+    let (is_in, is_done) = (&is_in, &is_done);
+    join(
+        rt,
+        move || see(rt, port, is_in, is_done),
+        move || add(rt, port, is_in, is_done),
+    );
+}
+
+/// What the clients of a server do.
+#[derive(Clone, Copy)]
+pub enum Clients {
+    /// One session.
+    One(Client),
+    /// A session with each of two sites, of which the first is told of SIP/1.
+    OfTwoSites,
+    /// Two sessions, of which the first sees what the second has added.
+    AtOnce,
+    /// Ten sessions, one after another, which send more behind their logoff.
+    InTurn,
+}
+
+/// Does what clients do at this port.
+pub fn act<R>(rt: &R, port: u16, clients: Clients)
+where
+    R: Net<Listener = TcpListener, Stream = TcpStream> + Abort + Threads + Clock + Sync,
+{
+    match clients {
+        Clients::One(client) => visit(rt, port, client),
+        Clients::OfTwoSites => tell_one_of_two(rt, port),
+        Clients::AtOnce => meet(rt, port),
+        Clients::InTurn => read_all(rt, port),
+    }
 }

@@ -2,7 +2,7 @@
 ghost use Rattle.std.specs.Prelude.{◌≡◌};
 ghost use Rattle.site_journal.specs.Journals.{IsOfSite};
 
-use crate::clients::list;
+use crate::sites::list;
 use dots::{Bytes, SiteId};
 use pass_desk::{Ear, PassDesk, RingingDesk, SiteBell};
 use replica::{Refusal, Replica};
@@ -37,26 +37,18 @@ fn status(alloc: Global) -> Ask {
     })
 }
 
-// A desk over a journal, and its one pass.
-fn desk_of_one<L: SiteLedger>(
-    rt: &impl Abort,
+// Asks a number of times, and is answered by a report each time.
+fn assert_answers<L: SiteLedger, R: Abort + Wait>(
+    rt: &R,
     alloc: Global,
-    blank: Blank,
-    journal: Journaled,
-) -> (SiteDesk<L>, Pass<L>)
-    requires name { blank.name ≡ L.name }
-    requires ledger { blank.parts ≡ L.parts }
-    requires one { blank.parts ≡ 1 }
-    requires begun { journal.count ≡ 0 }
-    requires site { IsOfSite L.site L.names journal }
-    requires limit { journal.limit ≡ L.limit }
-    requires base { journal.base ≡ L.base }
-{
-    let Ok((desk, mut passes)) = SiteDesk::new(alloc, blank, journal, 1) else {
-        rt.panic("memory");
-    };
-    let pass = passes.pop().expect(rt, "a pass");
-    (desk, pass)
+    desk: &mut PassDesk<'_, L>,
+    times: u32,
+) {
+    for _ in 0..times {
+        let answered = desk.ask(rt, status(alloc));
+        assert!(rt; matches!(answered, Ok(Answer::Report(_))));
+        drop(answered);
+    }
 }
 
 // The journal of a desk that is closed with its one pass.
@@ -71,14 +63,15 @@ fn closed<L: SiteLedger>(
     close(desk, passes).ok().expect(rt, "a journal")
 }
 
-// Asks a number of times, and is answered by a report each time.
-fn assert_answers<L: SiteLedger, R: Abort + Wait>(
+// Asks a number of times, and then drops the steps if they keep more than a number of bytes. Whether they were dropped so, and the journal.
+fn asked<L: SiteLedger, R: Abort + Wait>(
     rt: &R,
     alloc: Global,
     blank: Blank,
     journal: Journaled,
     times: u32,
-) -> Journaled
+    bytes: u64,
+) -> (bool, Journaled)
     requires name { blank.name ≡ L.name }
     requires ledger { blank.parts ≡ L.parts }
     requires one { blank.parts ≡ 1 }
@@ -87,31 +80,43 @@ fn assert_answers<L: SiteLedger, R: Abort + Wait>(
     requires limit { journal.limit ≡ L.limit }
     requires base { journal.base ≡ L.base }
 {
-    let (desk, pass) = desk_of_one::<L>(rt, alloc, blank, journal);
+    let made = SiteDesk::<L>::new(alloc, blank, journal, 1).ok();
+    let (desk, mut passes) = made.expect(rt, "memory");
+    let pass = passes.pop().expect(rt, "a pass");
+    drop(passes);
     let mut asked = PassDesk::new(&desk, pass);
-    for _ in 0..times {
-        let answered = asked.ask(rt, status(alloc));
-        assert!(rt; matches!(answered, Ok(Answer::Report(_))));
-        drop(answered);
-    }
+    assert_answers(rt, alloc, &mut asked, times);
     let pass = asked.into_pass();
-    closed(rt, alloc, desk, pass)
+    let dropped = desk.checkpoint_above(rt, bytes).expect(rt, "memory");
+    (dropped, closed(rt, alloc, desk, pass))
+}
+
+// Asks a number of times at a site in whose journal `limit` steps may stand, and asserts whether steps that keep more than a number of
+// bytes are dropped then, and how many were dropped in all.
+fn assert_asked<R: Abort + Wait>(
+    rt: &R,
+    alloc: Global,
+    limit: u32,
+    times: u32,
+    bytes: u64,
+    drops: bool,
+    start: u64,
+) {
+    let journal = journal(rt, alloc, limit);
+    let (dropped, journal) = asked::<Brand, R>(rt, alloc, Blank::new(1), journal, times, bytes);
+    assert!(rt; dropped == drops);
+    assert!(rt; journal.start() == start && journal.len() == u64::from(times));
+    drop(journal);
 }
 
 #[test]
-fn a_full_journal_is_dropped_and_goes_on(rt: HostRuntime) {
-    for (limit, start) in [(2, 4), (3, 3)] {
-        let journal = journal(&rt, rt.alloc(), limit);
-        let journal = assert_answers::<Brand, HostRuntime>(
-            &rt,
-            rt.alloc(),
-            Blank::new(1),
-            journal,
-            5,
-        );
-        assert!(&rt; journal.start() == start && journal.len() == 5);
-        drop(journal);
-    }
+fn steps_are_dropped_of_a_journal_that_is_full_or_keeps_too_much(rt: HostRuntime) {
+    let alloc = rt.alloc();
+    assert_asked(&rt, alloc, 2, 5, u64::MAX, false, 4);
+    assert_asked(&rt, alloc, 3, 5, u64::MAX, false, 3);
+    // The report of an empty queue has 203 bytes.
+    assert_asked(&rt, alloc, 10, 1, 202, true, 1);
+    assert_asked(&rt, alloc, 10, 1, 203, false, 0);
 }
 
 // A desk that refuses so many asks in turn, does one more, and then gives no answer.
@@ -157,44 +162,5 @@ fn hears(rt: &(impl Abort + Wait), alloc: Global, refusals: u32, deeds: u32) -> 
 fn a_desk_rings_at_each_answer_alone(rt: HostRuntime) {
     for (refusals, deeds, heard) in [(0, 0, false), (1, 0, true), (0, 1, true), (1, 1, true)] {
         assert!(&rt; hears(&rt, rt.alloc(), refusals, deeds) == heard);
-    }
-}
-
-// A status, then the steps are dropped if they keep more than a number of bytes. Whether they were.
-fn dropped_above<L: SiteLedger, R: Abort + Wait>(
-    rt: &R,
-    alloc: Global,
-    blank: Blank,
-    journal: Journaled,
-    bytes: u64,
-) -> (bool, Journaled)
-    requires name { blank.name ≡ L.name }
-    requires ledger { blank.parts ≡ L.parts }
-    requires one { blank.parts ≡ 1 }
-    requires begun { journal.count ≡ 0 }
-    requires site { IsOfSite L.site L.names journal }
-    requires limit { journal.limit ≡ L.limit }
-    requires base { journal.base ≡ L.base }
-{
-    let (desk, mut pass) = desk_of_one::<L>(rt, alloc, blank, journal);
-    assert!(rt; desk.call(rt, &mut pass, &status(alloc)).is_ok());
-    let dropped = desk.checkpoint_above(rt, bytes).expect(rt, "memory");
-    (dropped, closed(rt, alloc, desk, pass))
-}
-
-// The report of an empty queue has 203 bytes.
-#[test]
-fn a_journal_is_dropped_that_keeps_too_much(rt: HostRuntime) {
-    for (bytes, drops, start) in [(202, true, 1), (203, false, 0)] {
-        let journal = journal(&rt, rt.alloc(), 10);
-        let (dropped, journal) = dropped_above::<Brand, HostRuntime>(
-            &rt,
-            rt.alloc(),
-            Blank::new(1),
-            journal,
-            bytes,
-        );
-        assert!(&rt; dropped == drops && journal.start() == start && journal.len() == 1);
-        drop(journal);
     }
 }

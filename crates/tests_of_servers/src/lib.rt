@@ -2,12 +2,10 @@
 #![tactic(auto)]
 
 #[cfg(test)]
-mod at_once;
-#[cfg(test)]
 mod clients;
 #[cfg(test)]
 mod desks;
 #[cfg(test)]
 mod served;
 #[cfg(test)]
-mod timed;
+mod sites;

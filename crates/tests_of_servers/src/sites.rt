@@ -1,0 +1,138 @@
+//! Sites that are served: their ports, their settings, and how serving them ends.
+use ami_text::MemorySink;
+use dots::{QueueName, Text80};
+use replica::QueueList;
+use server::{
+    LAST_PORT, MOST_SERVED_SITES, ServeSitesFault, ServerSettings, SessionSettings, serve_sites,
+};
+use site_journal::Journaled;
+use std::alloc::Global;
+use std::net::{Ipv4Addr, Net, SocketAddr, TcpListener, TcpStream};
+use std::process::Abort;
+use std::sync::Wait;
+use std::thread::Threads;
+use std::time::{Clock, Duration};
+
+/// Where sites listen, if a test doesn't say otherwise.
+pub const HERE: Ipv4Addr = Ipv4Addr::LOCALHOST;
+
+/// In milliseconds: what a client may take that may not take long.
+pub const SHORT: u64 = 300;
+
+/// How long clients may take.
+#[derive(Clone, Copy)]
+pub enum Limit {
+    /// As long as a server gives them by itself.
+    Usual,
+    /// A short time for the first message; they may be silent without end.
+    FirstMessage,
+    /// A short time in which they are silent.
+    Idle,
+    /// A short time in which they read nothing.
+    Write,
+}
+
+/// A listener at a port, which must be free.
+pub fn bound<R: Net<Listener = TcpListener, Stream = TcpStream> + Abort>(
+    rt: &R,
+    address: Ipv4Addr,
+    port: u16,
+) -> TcpListener {
+    let listener = TcpListener::bind(rt, SocketAddr::from((address, port)));
+    listener.ok().expect(rt, "a free port")
+}
+
+/// Whether so many ports from the first on can be bound.
+pub fn are_free<R: Net<Listener = TcpListener, Stream = TcpStream>>(
+    rt: &R,
+    first: u16,
+    sites: u16,
+) -> bool {
+    for site in 0..sites {
+        let own = SocketAddr::from((HERE, first.saturating_add(site)));
+        if TcpListener::bind(rt, own).is_err() {
+            return false;
+        }
+    }
+    true
+}
+
+/// The first of a few ports at which as many sites as are wanted could just be bound.
+pub fn free_port<R: Net<Listener = TcpListener, Stream = TcpStream>>(
+    rt: &R,
+    first: u16,
+    sites: u16,
+) -> u16 {
+    let mut port = first;
+    for _ in 0..16u32 {
+        if are_free(rt, port, sites) {
+            return port;
+        }
+        port = port.saturating_add(sites);
+    }
+    port
+}
+
+fn text(rt: &impl Abort, text: &[u8]) -> Text80 {
+    Text80::new(text).expect(rt, "a text")
+}
+
+/// So many sites at this port, for the user `admin` with the secret `s3`.
+pub fn settings(
+    rt: &impl Abort,
+    sites: u16,
+    address: Ipv4Addr,
+    port: u16,
+    limit: Limit,
+) -> ServerSettings {
+    let mut session = SessionSettings::new(text(rt, b"admin"), text(rt, b"s3"));
+    let short = Duration::from_millis(SHORT);
+    match limit {
+        Limit::Usual => {}
+        Limit::FirstMessage => {
+            session.first_message = short;
+            session.idle = None;
+        }
+        Limit::Idle => session.idle = Some(short),
+        Limit::Write => session.write = short,
+    }
+    ServerSettings {
+        sites,
+        address,
+        port,
+        session,
+    }
+}
+
+/// The list of the queue `sales`.
+pub fn list(rt: &impl Abort, alloc: Global) -> QueueList {
+    let name = QueueName::new(b"sales").expect(rt, "a name");
+    QueueList::new(alloc, &[name]).expect(rt, "a list")
+}
+
+/// Serves a number of sessions of each site, over a log that fails behind a number of writes. How that ends, and what the log has taken.
+pub fn served<R>(
+    rt: &R,
+    alloc: Global,
+    settings: &ServerSettings,
+    sessions: u32,
+    writes: u64,
+) -> (Result<Vec<Journaled>, ServeSitesFault>, MemorySink)
+where
+    R: Net<Listener = TcpListener, Stream = TcpStream>
+        + Abort
+        + Threads
+        + Wait
+        + Clock
+        + Eprint
+        + Sync,
+{
+    let (sites, port) = (settings.sites, settings.port);
+    assert!(rt; 0 < sites && sites <= MOST_SERVED_SITES);
+    assert!(rt; 0 < port && port <= LAST_PORT);
+    let mut log = MemorySink::failing(alloc, 700, writes);
+    let list = list(rt, alloc);
+    let ended = serve_sites(rt, alloc, settings, &list, Some(sessions), &mut log);
+    drop(list);
+    (ended, log)
+}
