@@ -23,7 +23,7 @@ class MemoryTest(NamedTuple):
 
 TESTS = [
     MemoryTest(
-        crate="tests_of_streams",
+        crate="tests_of_sites",
         name="feeds::a_feed_gives_the_same_messages_when_memory_comes_later",
         what="a feed",
         whole="at once",

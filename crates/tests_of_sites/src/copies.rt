@@ -52,14 +52,20 @@ fn command(rt: &impl Abort, place: u32) -> Command {
 // Asserts that a copy of a command is the same as the command at one place alone.
 fn assert_command(rt: &impl Abort, copy: &Command, place: u32) {
     for at in 0..11 {
-        assert!(rt; command(rt, at).same(copy) == (at == place));
+        let one = command(rt, at);
+        assert!(rt; one.same(copy) == (at == place));
+        drop(one);
     }
 }
 
 #[test]
 fn a_command_is_the_same_as_its_copy_and_as_no_other(rt: HostRuntime) {
     for place in 0..11 {
-        assert_command(&rt, &command(&rt, place).copy(), place);
+        let one = command(&rt, place);
+        let copy = one.copy();
+        drop(one);
+        assert_command(&rt, &copy, place);
+        drop(copy);
     }
 }
 
@@ -77,15 +83,20 @@ fn asked(rt: &impl Abort, alloc: Global, place: u32) -> Ask {
 // Asserts that a copy of an ask is the same as the ask at one place alone.
 fn assert_ask(rt: &impl Abort, alloc: Global, copy: &Ask, place: u32) {
     for at in 0..5 {
-        assert!(rt; asked(rt, alloc, at).same(copy) == (at == place));
+        let one = asked(rt, alloc, at);
+        assert!(rt; one.same(copy) == (at == place));
+        drop(one);
     }
 }
 
 #[test]
 fn an_ask_is_the_same_as_its_copy_and_as_no_other(rt: HostRuntime) {
     for place in 0..5 {
-        let copy = asked(&rt, rt.alloc(), place).copy().expect(&rt, "memory");
+        let one = asked(&rt, rt.alloc(), place);
+        let copy = one.copy().expect(&rt, "memory");
+        drop(one);
         assert_ask(&rt, rt.alloc(), &copy, place);
+        drop(copy);
     }
 }
 
@@ -109,16 +120,19 @@ fn answered(rt: &impl Abort, alloc: Global, place: u32) -> Answer {
 // Asserts that a copy of an answer is the same as the answer at one place alone.
 fn assert_answer(rt: &impl Abort, alloc: Global, copy: &Answer, place: u32) {
     for at in 0..6 {
-        assert!(rt; answered(rt, alloc, at).same(copy) == (at == place));
+        let one = answered(rt, alloc, at);
+        assert!(rt; one.same(copy) == (at == place));
+        drop(one);
     }
 }
 
 #[test]
 fn an_answer_is_the_same_as_its_copy_and_as_no_other(rt: HostRuntime) {
     for place in 0..6 {
-        let copy = answered(&rt, rt.alloc(), place)
-            .copy()
-            .expect(&rt, "memory");
+        let one = answered(&rt, rt.alloc(), place);
+        let copy = one.copy().expect(&rt, "memory");
+        drop(one);
         assert_answer(&rt, rt.alloc(), &copy, place);
+        drop(copy);
     }
 }

@@ -1,5 +1,5 @@
-//! Tests of lists of queues, reports, replies, copies of asks and answers, sessions that are served, worlds of sites and scripts by their
-//! public calls. This crate has no code of its own.
+//! Tests of feeds and devices, lists of queues, reports, replies, copies of asks and answers, sessions that are served, worlds of sites and
+//! scripts by their public calls. This crate has no code of its own.
 #![tactic(auto)]
 
 #[cfg(test)]
@@ -7,7 +7,11 @@ mod copies;
 #[cfg(test)]
 mod example;
 #[cfg(test)]
+mod feeds;
+#[cfg(test)]
 mod lists;
+#[cfg(test)]
+mod memory_devices;
 #[cfg(test)]
 mod reports;
 #[cfg(test)]
@@ -18,5 +22,7 @@ mod served;
 mod sessions;
 #[cfg(test)]
 mod shared;
+#[cfg(test)]
+mod std_devices;
 #[cfg(test)]
 mod worlds;

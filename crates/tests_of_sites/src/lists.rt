@@ -34,7 +34,9 @@ fn a_list_has_1_to_256_names_that_differ(rt: HostRuntime) {
     ];
     for (count, last, fault) in LISTS {
         let names = many_names(&rt, rt.alloc(), *count, *last);
-        assert!(rt; QueueList::new(rt.alloc(), &names).err() == *fault);
+        let told = QueueList::new(rt.alloc(), &names).err();
+        drop(names);
+        assert!(rt; told == *fault);
     }
 }
 
@@ -53,6 +55,7 @@ fn each_of_256_queues_of_a_site_has_its_place(rt: HostRuntime) {
     let alloc = rt.alloc();
     let names = many_names(&rt, alloc, 256, 255);
     let list = QueueList::new(alloc, &names).expect(&rt, "a list");
+    drop(names);
     let replica = Replica::new(alloc, site(&rt, 5), list);
     assert!(rt; replica.site().number() == 5);
     assert_places(&rt, alloc, replica.list());

@@ -34,62 +34,105 @@ fn end_of(
     end
 }
 
-// A script: the length of its comment, and what stands behind; how many bytes its reader gives at most a read, and behind how many
-// reads it fails; how many the writer takes at most a write, and behind how many writes it fails; how the run ends, and what is
-// written.
-type Run = (
-    (usize, &'static str),
-    (usize, u64),
-    (usize, u64),
-    Result<u64, ScriptFault>,
-    &'static str,
-);
-
-const LINES: &str = "0 dance\n0 dance\n";
-
-// A script is read in pieces of 1,024 bytes, 1,000,000 times at most, and the last read tells the end.
-const RUNS: &[Run] = &[
-    ((1_000, ""), (1_000, 1), (9, 9), Err(Read), ""),
-    ((1_000, ""), (1_000, 2), (9, 9), Ok(0), ""),
-    ((1_024, ""), (2_000, 2), (9, 9), Ok(0), ""),
-    ((1_025, ""), (2_000, 2), (9, 9), Err(Read), ""),
-    ((999_999, ""), (1, 2_000_000), (9, 9), Ok(0), ""),
-    ((1_000_000, ""), (1, 2_000_000), (9, 9), Err(Read), ""),
-    ((16_777_216, ""), (1_024, 20_000), (9, 9), Ok(0), ""),
-    ((16_777_216, "#"), (1_024, 20_000), (9, 9), Err(TooLong), ""),
-    (
-        (0, LINES),
-        (1, 100),
-        (9, 9),
-        Ok(2),
-        "line 1: not understood\nline 2: not understood\n",
-    ),
-    ((0, LINES), (1, 100), (10, 0), Err(Write), ""),
-    (
-        (0, LINES),
-        (1, 100),
-        (10, 4),
-        Err(Write),
-        "line 1: not understood\nline 2: no",
-    ),
-    ((0, LINES), (1, 100), (0, 9), Err(Write), ""),
-];
+// A device that takes or gives at most so many bytes at once, and fails behind a number of calls.
+#[derive(Clone, Copy)]
+struct Device {
+    most: usize,
+    calls: u64,
+}
 
 // Runs a script, and asserts how that ends, and what is written.
-fn assert_run(rt: &impl Abort, alloc: Global, row: Run) {
-    let ((length, behind), (read, reads), (write, writes), wanted, written) = row;
-    let script = script(rt, alloc, length, behind);
-    let mut reader = MemorySource::failing(&script, read.max(1), reads);
-    let mut writer = MemorySink::failing(alloc, write, writes);
-    assert!(rt; end_of(rt, alloc, &mut reader, &mut writer) == wanted);
+fn assert_run(
+    rt: &impl Abort,
+    alloc: Global,
+    script: &[u8],
+    read: Device,
+    write: Device,
+    wanted: Result<u64, ScriptFault>,
+    written: &str,
+) {
+    let mut reader = MemorySource::failing(script, read.most.max(1), read.calls);
+    let mut writer = MemorySink::failing(alloc, write.most, write.calls);
+    let end = end_of(rt, alloc, &mut reader, &mut writer);
+    drop(reader);
+    assert!(rt; end == wanted);
     assert!(rt; writer.as_slice() == written.as_bytes());
+    drop(writer);
+}
+
+// Runs a script of a comment of `length` bytes, and what stands behind it, which writes nothing.
+fn assert_read(
+    rt: &impl Abort,
+    alloc: Global,
+    length: usize,
+    behind: &str,
+    most: usize,
+    calls: u64,
+    wanted: Result<u64, ScriptFault>,
+) {
+    let script = script(rt, alloc, length, behind);
+    let (read, write) = (Device { most, calls }, Device { most: 9, calls: 9 });
+    assert_run(rt, alloc, &script, read, write, wanted, "");
+    drop(script);
+}
+
+// Runs a script of two lines that aren't understood.
+fn assert_written(
+    rt: &impl Abort,
+    alloc: Global,
+    most: usize,
+    calls: u64,
+    wanted: Result<u64, ScriptFault>,
+    written: &str,
+) {
+    let (read, write) = (
+        Device {
+            most: 1,
+            calls: 100,
+        },
+        Device { most, calls },
+    );
+    assert_run(
+        rt,
+        alloc,
+        b"0 dance\n0 dance\n",
+        read,
+        write,
+        wanted,
+        written,
+    );
 }
 
 #[test]
 fn a_script_is_read_to_its_end_or_ends_with_its_fault(rt: HostRuntime) {
-    for row in RUNS {
-        assert_run(&rt, rt.alloc(), *row);
-    }
+    let alloc = rt.alloc();
+    // A script is read in pieces of 1,024 bytes, 1,000,000 times at most, and the last read tells the end.
+    assert_read(&rt, alloc, 1_000, "", 1_000, 1, Err(Read));
+    assert_read(&rt, alloc, 1_000, "", 1_000, 2, Ok(0));
+    assert_read(&rt, alloc, 1_024, "", 2_000, 2, Ok(0));
+    assert_read(&rt, alloc, 1_025, "", 2_000, 2, Err(Read));
+    assert_read(&rt, alloc, 999_999, "", 1, 2_000_000, Ok(0));
+    assert_read(&rt, alloc, 1_000_000, "", 1, 2_000_000, Err(Read));
+    assert_read(&rt, alloc, 16_777_216, "", 1_024, 20_000, Ok(0));
+    assert_read(&rt, alloc, 16_777_216, "#", 1_024, 20_000, Err(TooLong));
+    assert_written(
+        &rt,
+        alloc,
+        9,
+        9,
+        Ok(2),
+        "line 1: not understood\nline 2: not understood\n",
+    );
+    assert_written(&rt, alloc, 10, 0, Err(Write), "");
+    assert_written(
+        &rt,
+        alloc,
+        10,
+        4,
+        Err(Write),
+        "line 1: not understood\nline 2: no",
+    );
+    assert_written(&rt, alloc, 0, 9, Err(Write), "");
 }
 
 #[test]

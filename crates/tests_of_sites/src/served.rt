@@ -87,6 +87,20 @@ impl Desk<()> for TiredDesk {
     }
 }
 
+// Serves a session, of whose end nothing is said.
+fn serve_session<S: Source, W: Sink, D: Desk<()>>(
+    alloc: Global,
+    reader: &mut S,
+    writer: &mut W,
+    session: Session,
+    desk: &mut D,
+) -> Result<(), ServeFault>
+    requires reader { S.failed reader.old ≡ false }
+    requires writer { W.failed writer.old ≡ false }
+{
+    serve(&(), alloc, reader, writer, session, desk)
+}
+
 // How a session upon this stream ends whose reader gives a byte a read, and fails behind a number of reads; whose writer takes a number
 // of bytes a write, and fails behind a number of writes; and whose desk gives a number of answers. How many bytes were written is
 // answered too: they are a front of the texts.
@@ -104,75 +118,99 @@ fn end_of_failing(
         desk: desk(rt, alloc),
         answers,
     };
-    let served = serve(&(), alloc, &mut reader, &mut writer, login(rt), &mut tired);
+    let served = serve_session(alloc, &mut reader, &mut writer, login(rt), &mut tired);
     assert!(rt; is_front(writer.as_slice(), &TEXTS));
     drop(tired);
-    (served, writer.as_slice().len())
+    let written = writer.as_slice().len();
+    drop(writer);
+    drop(reader);
+    (served, written)
 }
 
-// Numbers of reads or writes, from the first to below the second.
-type Numbers = (u64, u64);
-
 // More reads or writes than there are.
-const NEVER: Numbers = (1_000, 1_001);
-
-// Behind how many reads the reader fails; how many bytes the writer takes at most a write, and behind how many writes it fails; how many
-// answers the desk gives; how the session ends; and the least and the most bytes that are written.
-type Failing = (
-    Numbers,
-    usize,
-    Numbers,
-    u32,
-    Result<(), ServeFault>,
-    (usize, usize),
-);
-
-const READ: Result<(), ServeFault> = Err(ServeFault::Read);
+const NEVER: u64 = 1_000;
 
 const WRITE: Result<(), ServeFault> = Err(ServeFault::Write);
 
-const DOWN: Result<(), ServeFault> = Err(ServeFault::DeskDown);
-
-// The greeting has 32 bytes with its end, and the replies behind it 55, 56, 366 and 56.
-const FAILING: &[Failing] = &[
-    ((0, 46), 700, NEVER, 2, READ, (32, 32)),
-    ((46, 93), 700, NEVER, 2, READ, (87, 87)),
-    ((93, 114), 700, NEVER, 2, READ, (143, 143)),
-    ((114, 132), 700, NEVER, 2, READ, (509, 509)),
-    // Nothing is read behind the logoff.
-    ((132, 133), 700, NEVER, 2, Ok(()), (565, 565)),
-    (NEVER, 700, (0, 1), 2, WRITE, (0, 0)),
-    (NEVER, 700, (1, 2), 2, WRITE, (30, 30)),
-    (NEVER, 700, (2, 3), 2, WRITE, (32, 32)),
-    (NEVER, 700, (3, 4), 2, WRITE, (87, 87)),
-    (NEVER, 700, (4, 5), 2, WRITE, (143, 143)),
-    (NEVER, 700, (5, 6), 2, WRITE, (509, 509)),
-    (NEVER, 700, (6, 7), 2, Ok(()), (565, 565)),
-    (NEVER, 3, (0, 190), 2, WRITE, (0, 564)),
-    (NEVER, 3, (190, 191), 2, Ok(()), (565, 565)),
-    // A writer that takes no bytes.
-    (NEVER, 0, NEVER, 2, WRITE, (0, 0)),
-    (NEVER, 700, NEVER, 0, DOWN, (87, 87)),
-    (NEVER, 700, NEVER, 1, DOWN, (143, 143)),
-];
-
-// Asserts how the session ends, and how much is written, at each of the reads and writes of a row.
-fn assert_failing(rt: &impl Abort, alloc: Global, row: &Failing) {
-    let (reads, most, writes, answers, wanted, (least, greatest)) = row;
+// Asserts how a session ends whose devices fail behind a number of reads or of writes, each of at most so many bytes, and whose desk gives a
+// number of answers; and the least and the most bytes that are written.
+fn assert_end(
+    rt: &impl Abort,
+    alloc: Global,
+    reads: u64,
+    most: usize,
+    writes: u64,
+    answers: u32,
+    wanted: Result<(), ServeFault>,
+    least: usize,
+    greatest: usize,
+) {
     let stream = SESSION.as_bytes();
-    for read in reads.0..reads.1 {
-        for write in writes.0..writes.1 {
-            let (end, written) = end_of_failing(rt, alloc, stream, read, (*most, write), *answers);
-            assert!(rt; end == *wanted && *least <= written && written <= *greatest);
-        }
+    let (end, written) = end_of_failing(rt, alloc, stream, reads, (most, writes), answers);
+    assert!(rt; end == wanted && least <= written && written <= greatest);
+}
+
+// Asserts how a session ends whose reader fails behind a number of reads, from the first to below the second.
+fn assert_reads(
+    rt: &impl Abort,
+    alloc: Global,
+    first: u64,
+    second: u64,
+    wanted: Result<(), ServeFault>,
+    written: usize,
+) {
+    for reads in first..second {
+        assert_end(rt, alloc, reads, 700, NEVER, 2, wanted, written, written);
     }
 }
 
+// Asserts how a session ends whose writer takes at most so many bytes a write, and fails behind a number of writes.
+fn assert_writes(
+    rt: &impl Abort,
+    alloc: Global,
+    most: usize,
+    first: u64,
+    second: u64,
+    wanted: Result<(), ServeFault>,
+    least: usize,
+    greatest: usize,
+) {
+    for writes in first..second {
+        assert_end(rt, alloc, NEVER, most, writes, 2, wanted, least, greatest);
+    }
+}
+
+// Asserts that a session ends behind so many answers, with so many bytes.
+fn assert_down(rt: &impl Abort, alloc: Global, answers: u32, written: usize) {
+    let wanted = Err(ServeFault::DeskDown);
+    assert_end(
+        rt, alloc, NEVER, 700, NEVER, answers, wanted, written, written,
+    );
+}
+
+// The greeting has 32 bytes with its end, and the replies behind it 55, 56, 366 and 56.
 #[test]
 fn a_session_ends_with_the_fault_of_its_devices_or_its_desk(rt: HostRuntime) {
-    for row in FAILING {
-        assert_failing(&rt, rt.alloc(), row);
-    }
+    let alloc = rt.alloc();
+    assert_reads(&rt, alloc, 0, 46, Err(ServeFault::Read), 32);
+    assert_reads(&rt, alloc, 46, 93, Err(ServeFault::Read), 87);
+    assert_reads(&rt, alloc, 93, 114, Err(ServeFault::Read), 143);
+    assert_reads(&rt, alloc, 114, 132, Err(ServeFault::Read), 509);
+    // Nothing is read behind the logoff.
+    assert_reads(&rt, alloc, 132, 133, Ok(()), 565);
+    assert_writes(&rt, alloc, 700, 0, 1, WRITE, 0, 0);
+    assert_writes(&rt, alloc, 700, 1, 2, WRITE, 30, 30);
+    assert_writes(&rt, alloc, 700, 2, 3, WRITE, 32, 32);
+    assert_writes(&rt, alloc, 700, 3, 4, WRITE, 87, 87);
+    assert_writes(&rt, alloc, 700, 4, 5, WRITE, 143, 143);
+    assert_writes(&rt, alloc, 700, 5, 6, WRITE, 509, 509);
+    assert_writes(&rt, alloc, 700, 6, 7, Ok(()), 565, 565);
+    assert_writes(&rt, alloc, 3, 0, 190, WRITE, 0, 564);
+    assert_writes(&rt, alloc, 3, 190, 191, Ok(()), 565, 565);
+    // A writer that takes no bytes.
+    assert_writes(&rt, alloc, 0, NEVER, NEVER + 1, WRITE, 0, 0);
+    assert_down(&rt, alloc, 0, 87);
+    assert_down(&rt, alloc, 1, 143);
 }
 
 #[test]
@@ -181,6 +219,7 @@ fn a_session_reads_a_million_times_at_most(rt: HostRuntime) {
     for (lines, end) in [(999_999, Ok(())), (1_000_000, Err(ServeFault::Turns))] {
         let stream = vec![in rt.alloc(); b'\n'; lines].expect(&rt, "memory");
         let ended = end_of_failing(&rt, rt.alloc(), &stream, u64::MAX, (700, u64::MAX), 0);
+        drop(stream);
         assert!(rt; ended == (end, GREETING.len()));
     }
 }
@@ -252,7 +291,7 @@ fn is_prompt(rt: &impl Abort, alloc: Global, most: usize, reads: u64) -> bool {
     };
     let mut writer = CountingSink { taken: &taken };
     let mut desk = desk(rt, alloc);
-    let served = serve(&(), alloc, &mut reader, &mut writer, login(rt), &mut desk);
+    let served = serve_session(alloc, &mut reader, &mut writer, login(rt), &mut desk);
     drop(desk);
     served == Ok(()) && reader.is_prompt && taken.get() == 565
 }
@@ -278,8 +317,9 @@ fn a_session_has_more_messages_than_reads(rt: HostRuntime) {
     let mut reader = MemorySource::new(&stream, 1_024);
     let mut writer = CountingSink { taken: &taken };
     let mut desk = desk(&rt, alloc);
-    let served = serve(&(), alloc, &mut reader, &mut writer, login(&rt), &mut desk);
+    let served = serve_session(alloc, &mut reader, &mut writer, login(&rt), &mut desk);
     drop(desk);
+    drop(stream);
     // The greeting, and for each message an error of 55 bytes.
     assert!(rt; served == Ok(()) && taken.get() == 32 + 55 * MESSAGES);
 }
@@ -343,6 +383,7 @@ fn a_session_is_served_over_a_slice_and_a_vector(rt: HostRuntime) {
     );
     assert!(rt; served == Ok(()) && left.is_empty());
     assert_text(&rt, &written, &TEXTS);
+    drop(written);
     drop(desk);
 }
 
@@ -364,5 +405,6 @@ fn a_session_that_lacks_memory_ends_or_tells_so(rt: HostRuntime) {
     );
     let end = end_of(&rt, served, &written);
     assert!(rt; println!(rt; "{end}").is_ok());
+    drop(written);
     drop(desk);
 }

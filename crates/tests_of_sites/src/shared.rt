@@ -3,7 +3,18 @@ use dots::{Bytes, Interface, Label, Penalty, QueueName, SiteId, Text80};
 use replica::{Command, QueueList, Replica};
 use status_report::StatusRequest;
 use std::alloc::Global;
+use std::fmt::Debug;
 use std::process::Abort;
+
+// Asserts that a value is the wanted one.
+pub(crate) fn assert_same<T: PartialEq + Debug>(rt: &impl Abort, value: &T, want: &T) {
+    assert_eq!(rt; value, want);
+}
+
+// Asserts what bytes are.
+pub(crate) fn assert_bytes(rt: &impl Abort, bytes: &[u8], want: &[u8]) {
+    assert!(rt; *bytes == *want);
+}
 
 pub(crate) fn text(rt: &impl Abort, text: &str) -> Text80 {
     Text80::new(text.as_bytes()).expect(rt, "a text")

@@ -70,6 +70,11 @@ fn events_of(rt: &impl Abort, alloc: Global, told: &[Told]) -> Vec<Event> {
     events
 }
 
+// What comes of events, for which there is memory.
+fn ran(rt: &impl Abort, world: &mut World, events: &[Event]) -> Vec<Outcome> {
+    world.run(events).expect(rt, "memory")
+}
+
 fn assert_outcome(rt: &impl Abort, outcome: &Outcome, wanted: Came) {
     match (outcome, wanted) {
         (Outcome::Answered(Answer::Done), Came::Done) => {}
@@ -99,6 +104,25 @@ fn world_of_two(rt: &impl Abort, alloc: Global) -> World {
 // The block of the queue without calls.
 const QUEUE: &str = queue_block!("sales", "0", "0");
 
+// Asserts that a site of a world knows nothing, and has made nothing.
+fn assert_site(rt: &impl Abort, world: &World, at: u16) {
+    let replica = world.replica(site(rt, at)).expect(rt, "a replica");
+    assert!(rt; replica.site().number() == at && replica.list().len() == 1);
+    assert!(rt; replica.state().is_empty() && replica.last() == (0, 0, 0));
+}
+
+// Asserts that a world has these sites, and that nothing has happened.
+fn assert_sites(rt: &impl Abort, world: &World, sites: u16) {
+    for at in 0..sites {
+        assert_site(rt, world, at);
+    }
+    if let Some(behind) = SiteId::new(sites) {
+        assert!(rt; world.replica(behind).is_none(), "{sites}");
+    }
+    assert!(rt; world.entries() == 0 && world.entry(0).is_none());
+    assert!(rt; world.list().len() == 1);
+}
+
 #[test]
 fn a_world_has_from_1_to_64_sites(rt: HostRuntime) {
     for sites in [0, 65, 65_535] {
@@ -107,24 +131,33 @@ fn a_world_has_from_1_to_64_sites(rt: HostRuntime) {
     }
     for sites in [1, 2, 63, 64] {
         let world = new_world(&rt, rt.alloc(), sites).expect(&rt, "a world");
-        for at in 0..sites {
-            let replica = world.replica(site(&rt, at)).expect(&rt, "a replica");
-            assert!(rt; replica.site().number() == at && replica.list().len() == 1);
-            assert!(rt; replica.state().is_empty() && replica.last() == (0, 0, 0));
-        }
-        if let Some(behind) = SiteId::new(sites) {
-            assert!(rt; world.replica(behind).is_none(), "{sites}");
-        }
-        assert!(rt; world.entries() == 0 && world.entry(0).is_none());
-        assert!(rt; world.list().len() == 1);
+        assert_sites(&rt, &world, sites);
         drop(world);
     }
+}
+
+// Asserts what comes of events, and how many entries there are then.
+fn assert_outcomes(
+    rt: &impl Abort,
+    alloc: Global,
+    world: &mut World,
+    told: &[Told],
+    entries: usize,
+) {
+    let events = events_of(rt, alloc, told);
+    let outcomes = ran(rt, world, &events);
+    drop(events);
+    assert!(rt; outcomes.len() == told.len());
+    for (outcome, (_, _, wanted)) in outcomes.iter().zip(told) {
+        assert_outcome(rt, outcome, *wanted);
+    }
+    drop(outcomes);
+    assert!(rt; world.entries() == entries && world.entry(entries).is_none());
 }
 
 #[test]
 fn events_at_no_site_and_of_no_entry_are_told(rt: HostRuntime) {
     const NOBODY: Came = Reported(&[QUEUE]);
-    const NO_EVENTS: &[Told] = &[];
     const EVENTS: &[Told] = &[
         (5, Add("SIP/1", 0), NoSite),
         (5, Status, NoSite),
@@ -143,16 +176,8 @@ fn events_at_no_site_and_of_no_entry_are_told(rt: HostRuntime) {
     ];
     let alloc = rt.alloc();
     let mut world = world_of_two(&rt, alloc);
-    for (told, entries) in [(NO_EVENTS, 0), (EVENTS, 1)] {
-        let outcomes = world
-            .run(&events_of(&rt, alloc, told))
-            .expect(&rt, "memory");
-        assert!(rt; outcomes.len() == told.len());
-        for (outcome, (_, _, wanted)) in outcomes.iter().zip(told) {
-            assert_outcome(&rt, outcome, *wanted);
-        }
-        assert!(rt; world.entries() == entries && world.entry(entries).is_none());
-    }
+    assert_outcomes(&rt, alloc, &mut world, &[], 0);
+    assert_outcomes(&rt, alloc, &mut world, EVENTS, 1);
     let frame = world.entry(0).expect(&rt, "an entry");
     assert!(rt; frame.maker.number() == 0 && frame.number == 1 && frame.delta.is_empty());
     drop(world);
@@ -171,7 +196,8 @@ fn cuts(rt: &impl Abort, alloc: Global, count: u32) -> Vec<Event> {
 fn ten_thousand_events_are_run(rt: HostRuntime) {
     let mut world = world_of_two(&rt, rt.alloc());
     let events = cuts(&rt, rt.alloc(), 10_000);
-    let outcomes = world.run(&events).expect(&rt, "memory");
+    let outcomes = ran(&rt, &mut world, &events);
+    drop(events);
     assert!(rt; outcomes.len() == 10_000);
     for outcome in outcomes.iter() {
         assert!(rt; matches!(outcome, Outcome::Cut(Ok(None))));
@@ -238,13 +264,15 @@ fn outcome_of(world: &mut World, event: &Event) -> Option<Outcome> {
 
 // Lets an event happen, once more where memory is wanting, and asserts what comes of it. Answers whether memory was wanting.
 fn happens_again(rt: &impl Abort, world: &mut World, event: &Event, wanted: Came) -> bool {
-    let outcome = outcome_of(world, event);
-    let is_refused = outcome.is_none();
-    match outcome.or_else(|| outcome_of(world, event)) {
-        Some(outcome) => assert_outcome(rt, &outcome, wanted),
-        None => rt.panic("memory"),
+    if let Some(outcome) = outcome_of(world, event) {
+        assert_outcome(rt, &outcome, wanted);
+        drop(outcome);
+        return false;
     }
-    is_refused
+    let outcome = outcome_of(world, event).expect(rt, "memory");
+    assert_outcome(rt, &outcome, wanted);
+    drop(outcome);
+    true
 }
 
 // Lets events happen one by one, and answers whether memory was wanting for one of them at first.
@@ -278,6 +306,9 @@ fn events_that_lack_memory_change_nothing_and_happen_again(rt: HostRuntime) {
         "at once"
     };
     assert!(rt; println!(rt; "{end}").is_ok());
+    drop(added);
+    drop(taken);
+    drop(called);
     drop(shown);
     drop(counted);
 }
