@@ -5,7 +5,7 @@ use clap::{Arg, ArgAction, ArgMatches, Command, Error, value_parser};
 use dots::{QueueName, Text80};
 use replica::{ListFault, QueueList};
 use scripts::SiteCount;
-use server::{ServerSettings, SessionSettings};
+use server::{IDLE_SECONDS, ServerSettings, SessionSettings};
 use std::alloc::{AllocError, Global};
 use std::io;
 use std::net::Ipv4Addr;
@@ -70,7 +70,10 @@ pub fn read_command_line<R: Env + AllocGlobal + Print + Eprint>(rt: &R) -> io::R
         Err(error) if error.kind() == io::ErrorKind::OutOfMemory => return out_of_memory(rt),
         Err(_) => return wrong_words(rt, "the arguments are no text"),
     };
-    match right_words(alloc, words.as_slice()) {
+    let Ok(seconds) = format!(in alloc; "{IDLE_SECONDS}") else {
+        return out_of_memory(rt);
+    };
+    match right_words(alloc, words.as_slice(), seconds.as_str()) {
         Ok(CommandWords::Script(words)) => script_request(rt, &words),
         Ok(CommandWords::Serve(words)) => serve_request(rt, &words),
         Err(error) if error.kind() == ErrorKind::OutOfMemory => out_of_memory(rt),
@@ -94,9 +97,13 @@ fn words<R: Env + AllocGlobal>(rt: &R) -> io::Result<Vec<String>> {
     Ok(words)
 }
 
-// The words of a command line that is right.
-fn right_words<'a>(alloc: Global, words: &'a [String]) -> Result<CommandWords<'a>, Error> {
-    let matches = command(alloc)?.try_get_matches_from(words)?;
+// The words of a command line that is right. A client may be silent for so many seconds, unless they say another time.
+fn right_words<'a>(
+    alloc: Global,
+    words: &'a [String],
+    seconds: &'a str,
+) -> Result<CommandWords<'a>, Error> {
+    let matches = command(alloc, seconds)?.try_get_matches_from(words)?;
     if let Some(serve) = matches.subcommand_matches("serve") {
         return Ok(CommandWords::Serve(serve_words(alloc, serve)?));
     }
@@ -170,7 +177,7 @@ fn script<'a>(alloc: Global) -> Result<Command<'a>, AllocError> {
         .arg(queues(alloc))
 }
 
-fn serve<'a>(alloc: Global) -> Result<Command<'a>, AllocError> {
+fn serve<'a>(alloc: Global, seconds: &'a str) -> Result<Command<'a>, AllocError> {
     let bind = option(alloc, "bind", "ADDRESS", "The address that is listened on");
     let idle = option(
         alloc,
@@ -183,7 +190,7 @@ fn serve<'a>(alloc: Global) -> Result<Command<'a>, AllocError> {
         .after_help(SERVE_EXAMPLE)
         .arg(bind.default_value("127.0.0.1"))?
         .arg(option(alloc, "greeting", "TEXT", "The line that greets a client"))?
-        .arg(idle.default_value("3600").value_parser(value_parser!(u64)))?
+        .arg(idle.default_value(seconds).value_parser(value_parser!(u64)))?
         .arg(sites(alloc, "How many sites there are, 1 to 8", 8))?
         .arg(port(alloc))?
         .arg(login_word(alloc, "USER", "The user who may log in"))?
@@ -191,9 +198,9 @@ fn serve<'a>(alloc: Global) -> Result<Command<'a>, AllocError> {
         .arg(queues(alloc))
 }
 
-fn command<'a>(alloc: Global) -> Result<Command<'a>, AllocError> {
+fn command<'a>(alloc: Global, seconds: &'a str) -> Result<Command<'a>, AllocError> {
     let script = script(alloc)?;
-    let serve = serve(alloc)?;
+    let serve = serve(alloc, seconds)?;
     Command::new(alloc, "queue_sites")
         .about("The queue membership service of a call centre with several sites")
         .version("0.1.0")

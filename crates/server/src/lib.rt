@@ -25,6 +25,6 @@ mod working;
 
 pub use dots::Memory;
 pub use serve_sites_fault::ServeSitesFault;
-pub use server_settings::{ServerSettings, SessionSettings};
+pub use server_settings::{IDLE_SECONDS, ServerSettings, SessionSettings};
 pub use serving::{LAST_PORT, MOST_SERVED_SITES, serve_sites};
 pub use site::JOURNAL_STEPS;

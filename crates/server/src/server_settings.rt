@@ -1,4 +1,4 @@
-ghost use Rattle.std.specs.Prelude.{◌≡◌, IsSomeAnd, None};
+ghost use Rattle.std.specs.Prelude.{◌≡◌, ◌*◌, IsSomeAnd, None};
 ghost use Rattle.std.specs.Duration.{as_nanos};
 ghost use Rattle.server.specs.ServedClients.{session_of};
 
@@ -10,8 +10,8 @@ use std::time::Duration;
 // How long a client may take for its first message, in seconds.
 const FIRST_MESSAGE: u64 = 30;
 
-// How long it may be silent.
-const IDLE: u64 = 3_600;
+/// How long a client may be silent where nothing else is set, in seconds.
+pub const IDLE_SECONDS: u64 = 3_600;
 
 // How long it may read nothing.
 const WRITE: u64 = 30;
@@ -46,13 +46,14 @@ fn copy_of(text: &Option<Text80>) -> Option<Text80>
 
 impl SessionSettings {
     /// Sessions for this user and secret, with the session's own greeting. A client has 30 seconds for its first message, may be silent for
-    /// an hour, and may read nothing for 30 seconds.
+    /// `IDLE_SECONDS`, and may read nothing for 30 seconds.
     pub fn new(user: Text80, secret: Text80) -> SessionSettings
         ensures user { result.user ≡ user }
         ensures secret { result.secret ≡ secret }
         ensures greeting { result.greeting ≡ None }
         ensures first_message { as_nanos result.first_message ≡ 30_000_000_000 }
-        ensures idle { IsSomeAnd result.idle (λ time. as_nanos time ≡ 3_600_000_000_000) }
+        ensures idle { IsSomeAnd result.idle (λ time.
+            as_nanos time ≡ IDLE_SECONDS * 1_000_000_000) }
         ensures write { as_nanos result.write ≡ 30_000_000_000 }
     {
         SessionSettings {
@@ -60,7 +61,7 @@ impl SessionSettings {
             secret,
             greeting: None,
             first_message: Duration::from_secs(FIRST_MESSAGE),
-            idle: Some(Duration::from_secs(IDLE)),
+            idle: Some(Duration::from_secs(IDLE_SECONDS)),
             write: Duration::from_secs(WRITE),
         }
     }
