@@ -1,5 +1,3 @@
-use dots::Memory;
-
 // Why a site isn't served, in order.
 #[derive(Clone, Copy, Debug, PartialEq, Eq)]
 pub(crate) enum SiteFault {
@@ -7,10 +5,4 @@ pub(crate) enum SiteFault {
     NoThread,
     // An allocation was refused.
     Memory,
-}
-
-impl From<Memory> for SiteFault {
-    fn from(_fault: Memory) -> Self {
-        SiteFault::Memory
-    }
 }

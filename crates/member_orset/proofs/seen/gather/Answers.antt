@@ -62,7 +62,7 @@ loop-number-preserved c =
     let last = c.in-Some-new.ensures.value in
     let is = c.of-runs.ensures.value in
     let named = subst (λ (X : Type 0). X) (λ i. AreToName known live given (sym last.0 i) (sym last.1 i) seen)
-        (seen_to_name known live given c.in-Some.site c.greatest_of.result c.greatest_of.ensures.greatest (known_zero c.of-runs.result.list.now known c.in-Some.site is c.of-runs.ensures.limits)) in
+    (seen_to_name known live given c.in-Some.site c.greatest_of.result c.greatest_of.ensures.greatest (known_zero c.of-runs.result.list.now known c.in-Some.site is c.of-runs.ensures.limits)) in
     record {
       few = let same = last.0 in omega arith;
       gathered = subst (λ n. IsGathered c.gather_site.new.gathered (part_before seen (n + 1) 0)) (last.0 ∙ site)
