@@ -23,6 +23,7 @@ pub mod PlacedRuns
 pub mod FieldReadings
 pub mod Changes
 pub mod ListEdits
+pub mod GivenDots
 pub mod GivenItems
 pub mod MapSteps
 pub mod RisingMaps

@@ -214,7 +214,7 @@ any_weaker p q (x ∷ xs) f h = elim (cases_Bool (p x)) [
   | inr n ↦ or_right (q x) (list_any q xs) (any_weaker p q xs f (ap (λ b. b || list_any p xs) (sym n) ∙ h))
 ]
 
-any_has : (P : Dot → Type 0) (p : Dot → Bool) (xs : List Dot) → All P xs → list_any p xs ≡ true → (x : Dot) × P x × (p x ≡ true)
+pub any_has : (P : Dot → Type 0) (p : Dot → Bool) (xs : List Dot) → All P xs → list_any p xs ≡ true → (x : Dot) × P x × (p x ≡ true)
 any_has P p [] a h = absurd (cc)
 any_has P p (x ∷ xs) a h = elim (cases_Bool (p x)) [
   | inl t ↦ (x, All-head P x xs a, t)

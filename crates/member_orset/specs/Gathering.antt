@@ -21,6 +21,20 @@ pub record IsGreatest (given : List Dot) (site greatest : ℕ) : Type 0 where
   pub most : All (λ d. d.site ≡ site → d.count ≤ greatest) given
   pub reached : 0 < greatest → is_given given (record { site = site; count = greatest }) ≡ true
 
+-- some of the dots, and among them all of a site
+pub record AreOfSite (dots : List Dot) (site : ℕ) (those : List Dot) : Type 0 where
+  pub given : All (λ d. is_given dots d ≡ true) those
+  pub all : All (λ d. d.site ≡ site → is_given those d ≡ true) dots
+
+-- a dot that is of another one's site, and has no lesser count, has a count past a last one
+abbrev pub LiesPast : Dot → ℕ → Dot → Type 0
+LiesPast from end dot = dot.site ≡ from.site → from.count ≤ dot.count → end < dot.count
+
+-- some of the dots, and among them the next one from a dot on, if there is one: where these have counts past a last one, all have
+pub record AreNext (dots : List Dot) (from : Dot) (those : List Dot) : Type 0 where
+  pub given : All (λ d. is_given dots d ≡ true) those
+  pub past : (end : ℕ) → All (LiesPast from end) those → All (LiesPast from end) dots
+
 -- a dot lies ahead, on the way from one to a last one of its site
 abbrev pub IsAhead : Dot → Dot → Dot → Type 0
 IsAhead from last dot = (from.site ≡ dot.site) × (from.count ≤ dot.count) × (dot.count ≤ last.count)

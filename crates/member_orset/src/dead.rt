@@ -7,6 +7,7 @@ ghost use Rattle.member_orset.specs.LiveDots.{dead_dots};
 ghost use Rattle.member_orset.specs.PlacedLists.{is_placed};
 
 use crate::gathered::Gathered;
+use crate::given_dots::GivenDots;
 use crate::known_runs::KnownRuns;
 use crate::placed_dots::PlacedDots;
 use crate::site_walk::gather_site;
@@ -32,6 +33,6 @@ pub(crate) fn gather_dead(
     let Some(last) = Dot::new(site, MOST_COUNT) else {
         return gathered.finish();
     };
-    gather_site(&mut gathered, runs, dots, &[], last);
+    gather_site(&mut gathered, runs, dots, GivenDots::of(&[]), last);
     gathered.finish()
 }

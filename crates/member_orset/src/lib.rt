@@ -10,6 +10,7 @@ mod dots_lent;
 mod edits;
 mod freeing;
 mod gathered;
+mod given_dots;
 mod insertion;
 mod join_fault;
 mod joining;

@@ -21,6 +21,7 @@ ghost use Rattle.member_orset.specs.Reads.{cell_read, dots_seen_below};
 use crate::agreement::{agrees_with, cells_agree};
 use crate::dead::gather_dead;
 use crate::edits::{bring, has_place, learn, meet};
+use crate::given_dots::GivenDots;
 use crate::joining::{count_kept, count_unknown, drop_dead, make_room, take_all};
 use crate::live_cells::LiveCells;
 use crate::live_dot::LiveDot;
@@ -357,7 +358,7 @@ impl MemberSet {
             self.cells.allocator(),
             &self.context,
             self.cells.placed(),
-            given,
+            GivenDots::of(given),
         )
     }
 

@@ -6,14 +6,14 @@ ghost use Rattle.dots.specs.Orders.{dot_cmp};
 ghost use Rattle.dots.specs.DotSets.{run_count};
 ghost use Rattle.member_orset.specs.PlacedLists.{is_placed};
 ghost use Rattle.member_orset.specs.Reads.{seen_dots};
-ghost use Rattle.member_orset.specs.Gathering.{IsGreatest};
 
 use crate::gathered::Gathered;
+use crate::given_dots::GivenDots;
 use crate::known_runs::KnownRuns;
 use crate::placed_dots::PlacedDots;
 use crate::site_walk::gather_site;
 use causal_context::{Context, ContextFault};
-use dots::{Dot, MOST_COUNT, MOST_RUNS, SITES, SiteId};
+use dots::{Dot, MOST_RUNS, SITES, SiteId};
 use std::alloc::Global;
 
 // Between which numbers the sites of the given dots lie: from the first on, and before the second.
@@ -33,43 +33,27 @@ fn sites_of(given: &[Dot]) -> (u16, u16)
     (first, end)
 }
 
-// The greatest count of the given dots of a site: 0 where none is of it.
-fn greatest_of(given: &[Dot], site: SiteId) -> u64
-    ensures greatest { IsGreatest given.now site result }
-    ensures limit { result ≤ MOST_COUNT }
-{
-    let mut greatest: u64 = 0;
-    for dot in given {
-        let count = dot.count();
-        if dot.site() != site {
-            continue;
-        }
-        greatest = greatest.max(count);
-    }
-    greatest
-}
-
 // The given dots, with all that are dead here and older than a given one of their site.
 pub(crate) fn gather(
     alloc: Global,
     context: &Context,
     dots: PlacedDots<'_>,
-    given: &[Dot],
+    given: GivenDots<'_>,
 ) -> Result<Context, ContextFault>
     ensures ok { IfOk result (λ seen. seen.dots
-        ≡ seen_dots context.now.dots (is_placed dots.entry.list.now) given.now) }
+        ≡ seen_dots context.now.dots (is_placed dots.entry.list.now) given.entry.list.now) }
     ensures full { (result ≡ Err ContextFault.RunsFull)
-        ↔ (MOST_RUNS
-        < run_count (seen_dots context.now.dots (is_placed dots.entry.list.now) given.now)) }
+        ↔ (MOST_RUNS < run_count
+        (seen_dots context.now.dots (is_placed dots.entry.list.now) given.entry.list.now)) }
 {
     let runs = KnownRuns::of(context);
     let mut gathered = Gathered::none(alloc);
-    let (first, end) = sites_of(given);
+    let (first, end) = sites_of(given.list);
     for number in first..end {
         let Some(site) = SiteId::new(number) else {
             return gathered.finish();
         };
-        let Some(last) = Dot::new(site, greatest_of(given, site)) else {
+        let Some(last) = Dot::new(site, given.greatest(site)) else {
             continue; // none of its dots is given, so that nothing was seen of it
         };
         gather_site(&mut gathered, runs, dots, given, last);

@@ -9,9 +9,10 @@ ghost use Rattle.dots.specs.DotSets.{IsRunsOf, in_runs};
 ghost use Rattle.causal_context.specs.RunLists.{is_below};
 ghost use Rattle.member_orset.specs.PlacedLists.{is_placed};
 ghost use Rattle.member_orset.specs.Gathering.{AreToName, IsAhead, IsGathered, IsPiece};
-ghost use Rattle.member_orset.specs.Gathering.{is_given, is_to_name, part_before};
+ghost use Rattle.member_orset.specs.Gathering.{is_to_name, part_before};
 
 use crate::gathered::Gathered;
+use crate::given_dots::GivenDots;
 use crate::known_runs::{KnownRuns, ends_before};
 use crate::live_runs::live_run_end;
 use crate::piece::Piece;
@@ -25,7 +26,7 @@ use dots::Dot;
 struct SiteWalk<'a> {
     runs: KnownRuns<'a>,
     dots: PlacedDots<'a>,
-    given: &'a [Dot],
+    given: GivenDots<'a>,
     last: Dot,
     from: Dot,
     run: usize,
@@ -89,41 +90,12 @@ impl<'a> SiteWalk<'a> {
         ensures last { self.new.last ≡ self.old.last }
         ensures runs { self.new.runs.list.now ≡ self.old.runs.list.now }
         ensures dots { self.new.dots.list.now ≡ self.old.dots.list.now }
-        ensures given { self.new.given.now ≡ self.old.given.now }
+        ensures given { self.new.given.list.now ≡ self.old.given.list.now }
     {
         let (run, live) = (self.run_at(dot), self.live_at(dot));
         self.from = dot;
         self.run = run;
         self.live = live;
-    }
-
-    // Whether the dot is given; and up to which count the dots from it on are as it is.
-    fn given_piece(&self) -> Piece
-        ensures { IsPiece
-            (λ n. is_given self.now.given.now (record { site = self.now.from.site; count = n }))
-            self.now.from.count self.now.last.count result }
-    {
-        let from = self.from;
-        let mut end = self.last.count();
-        for dot in self.given {
-            if dot.site() != from.site() {
-                continue;
-            }
-            if dot.count() < from.count() {
-                continue;
-            }
-            if dot.count() == from.count() {
-                return Piece {
-                    inside: true,
-                    last: from.count(),
-                };
-            }
-            end = end.min(dot.count() - 1);
-        }
-        Piece {
-            inside: false,
-            last: end,
-        }
     }
 
     // Whether the dot is in the runs; and up to which count, `last` at most, the dots from it on are as it is.
@@ -197,11 +169,11 @@ impl<'a> SiteWalk<'a> {
         ensures { (known : set.FinSet dot_cmp)
             → IsRunsOf self.now.runs.list.now known
             → IsPiece
-            (λ n. is_to_name known (is_placed self.now.dots.list.now) self.now.given.now
+            (λ n. is_to_name known (is_placed self.now.dots.list.now) self.now.given.list.now
             (record { site = self.now.from.site; count = n }))
             self.now.from.count self.now.last.count result }
     {
-        let given = self.given_piece();
+        let given = self.given.piece(self.from, self.last);
         if given.inside {
             return given;
         }
@@ -223,13 +195,14 @@ pub(crate) fn gather_site(
     gathered: &mut Gathered,
     runs: KnownRuns<'_>,
     dots: PlacedDots<'_>,
-    given: &[Dot],
+    given: GivenDots<'_>,
     last: Dot,
 )
     requires { gathered.old.runs ≤ last.site * 2 ^ 41 }
     ensures gathered { (known named : set.FinSet dot_cmp)
         → IsRunsOf runs.entry.list.now known
-        → AreToName known (is_placed dots.entry.list.now) given.now last.site last.count named
+        → AreToName known (is_placed dots.entry.list.now) given.entry.list.now last.site last.count
+        named
         → IsGathered gathered.old (part_before named last.site 0)
         → IsGathered gathered.new (part_before named (last.site + 1) 0) }
     ensures few { gathered.new.runs ≤ (last.site + 1) * 2 ^ 41 }

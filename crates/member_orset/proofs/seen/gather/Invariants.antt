@@ -8,5 +8,5 @@ use Rattle.member_orset.proofs.seen.gather.Given as goal
 abbrev pub invariant-loop-number : goal.invariant-loop-number
 invariant-loop-number l = record {
   few : l.gathered.runs ≤ l.number * 2 ^ 41;
-  gathered : IsGathered l.gathered (part_before (seen_dots l.context.dots (is_placed l.dots.list.now) l.given) l.number 0);
+  gathered : IsGathered l.gathered (part_before (seen_dots l.context.dots (is_placed l.dots.list.now) l.given.list.now) l.number 0);
 }

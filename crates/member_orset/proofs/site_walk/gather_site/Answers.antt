@@ -58,7 +58,7 @@ invariant_of-run c =
     let given_are = e.given ∙ v.given in
     let last_is = e.last ∙ v.last in
     let all = set_of c.args.runs.list.now in
-    let is0 : IsPiece (λ n. is_to_name all (is_placed c.args.dots.list.now) c.args.given.now (record { site = site; count = n })) first c.args.last.count piece =
+    let is0 : IsPiece (λ n. is_to_name all (is_placed c.args.dots.list.now) c.args.given.list.now (record { site = site; count = n })) first c.args.last.count piece =
     subst (λ (X : Type 0). X) (λ i. IsPiece (λ n. is_to_name all (is_placed (dots_are i)) (given_are i) (record { site = at i; count = n })) (count i) (last_is i).count piece)
     (c.piece-piece.ensures all (subst (λ rs. IsRunsOf rs all) (sym runs_are) (runs_of_set c.args.runs.list.now c.args.runs.apart))) in
     let order : first ≤ c.args.last.count = omega arith in
@@ -96,7 +96,7 @@ overflow_add-first c =
     let given_are = e.given ∙ v.given in
     let last_is = e.last ∙ v.last in
     let all = set_of c.args.runs.list.now in
-    let is0 : IsPiece (λ n. is_to_name all (is_placed c.args.dots.list.now) c.args.given.now (record { site = site; count = n })) first c.args.last.count piece =
+    let is0 : IsPiece (λ n. is_to_name all (is_placed c.args.dots.list.now) c.args.given.list.now (record { site = site; count = n })) first c.args.last.count piece =
     subst (λ (X : Type 0). X) (λ i. IsPiece (λ n. is_to_name all (is_placed (dots_are i)) (given_are i) (record { site = at i; count = n })) (count i) (last_is i).count piece)
     (c.piece-piece.ensures all (subst (λ rs. IsRunsOf rs all) (sym runs_are) (runs_of_set c.args.runs.list.now c.args.runs.apart))) in
     let order : first ≤ c.args.last.count = omega arith in
@@ -120,7 +120,7 @@ loop-first-smaller c =
     let given_are = e.given ∙ v.given in
     let last_is = e.last ∙ v.last in
     let all = set_of c.args.runs.list.now in
-    let is0 : IsPiece (λ n. is_to_name all (is_placed c.args.dots.list.now) c.args.given.now (record { site = site; count = n })) first c.args.last.count piece =
+    let is0 : IsPiece (λ n. is_to_name all (is_placed c.args.dots.list.now) c.args.given.list.now (record { site = site; count = n })) first c.args.last.count piece =
     subst (λ (X : Type 0). X) (λ i. IsPiece (λ n. is_to_name all (is_placed (dots_are i)) (given_are i) (record { site = at i; count = n })) (count i) (last_is i).count piece)
     (c.piece-piece.ensures all (subst (λ rs. IsRunsOf rs all) (sym runs_are) (runs_of_set c.args.runs.list.now c.args.runs.apart))) in
     let order : first ≤ c.args.last.count = omega arith in
@@ -143,7 +143,7 @@ loop-first-preserved c =
     let given_are = e.given ∙ v.given in
     let last_is = e.last ∙ v.last in
     let all = set_of c.args.runs.list.now in
-    let is0 : IsPiece (λ n. is_to_name all (is_placed c.args.dots.list.now) c.args.given.now (record { site = site; count = n })) first c.args.last.count piece =
+    let is0 : IsPiece (λ n. is_to_name all (is_placed c.args.dots.list.now) c.args.given.list.now (record { site = site; count = n })) first c.args.last.count piece =
     subst (λ (X : Type 0). X) (λ i. IsPiece (λ n. is_to_name all (is_placed (dots_are i)) (given_are i) (record { site = at i; count = n })) (count i) (last_is i).count piece)
     (c.piece-piece.ensures all (subst (λ rs. IsRunsOf rs all) (sym runs_are) (runs_of_set c.args.runs.list.now c.args.runs.apart))) in
     let order : first ≤ c.args.last.count = omega arith in
@@ -169,15 +169,15 @@ loop-first-preserved c =
       given = given_are;
       last = last_is;
       before = λ known dots are name.
-          let is : IsPiece (λ n. is_to_name known (is_placed c.args.dots.list.now) c.args.given.now (record { site = site; count = n })) first c.args.last.count piece =
+          let is : IsPiece (λ n. is_to_name known (is_placed c.args.dots.list.now) c.args.given.list.now (record { site = site; count = n })) first c.args.last.count piece =
           subst (λ (X : Type 0). X) (λ i. IsPiece (λ n. is_to_name known (is_placed (dots_are i)) (given_are i) (record { site = at i; count = n })) (count i) (last_is i).count piece)
           (c.piece-piece.ensures known (subst (λ rs. IsRunsOf rs known) (sym runs_are) are)) in
           sym (is.same piece.last some (omega arith)) ∙ sym (name.same piece.last (omega arith) within) ∙ (λ i. set.contains dots (record { site = site; count = next i }));
       gathered = λ known dots are name g.
-          let is : IsPiece (λ n. is_to_name known (is_placed c.args.dots.list.now) c.args.given.now (record { site = site; count = n })) first c.args.last.count piece =
+          let is : IsPiece (λ n. is_to_name known (is_placed c.args.dots.list.now) c.args.given.list.now (record { site = site; count = n })) first c.args.last.count piece =
           subst (λ (X : Type 0). X) (λ i. IsPiece (λ n. is_to_name known (is_placed (dots_are i)) (given_are i) (record { site = at i; count = n })) (count i) (last_is i).count piece)
           (c.piece-piece.ensures known (subst (λ rs. IsRunsOf rs known) (sym runs_are) are)) in
-          let named = piece_of known (is_placed c.args.dots.list.now) c.args.given.now site first c.args.last.count dots piece name least is in
+          let named = piece_of known (is_placed c.args.dots.list.now) c.args.given.list.now site first c.args.last.count dots piece name least is in
           let old = v.gathered known dots are name g in
           let part = part_before dots site first in
           elim c.if-piece.branch [

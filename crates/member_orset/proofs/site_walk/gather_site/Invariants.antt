@@ -16,11 +16,11 @@ invariant-loop-first l = record {
   come : l.walk.from.count ≤ l.first;
   runs : l.walk.runs.list.now ≡ l.runs.list.now;
   dots : l.walk.dots.list.now ≡ l.dots.list.now;
-  given : l.walk.given.now ≡ l.given;
+  given : l.walk.given.list.now ≡ l.given.list.now;
   last : l.walk.last ≡ l.fn.last;
-  before : (known dots : set.FinSet dot_cmp) → IsRunsOf l.runs.list.now known → AreToName known (is_placed l.dots.list.now) l.given l.fn.last.site l.fn.last.count dots
+  before : (known dots : set.FinSet dot_cmp) → IsRunsOf l.runs.list.now known → AreToName known (is_placed l.dots.list.now) l.given.list.now l.fn.last.site l.fn.last.count dots
       → l.goes_on ≡ set.contains dots (record { site = l.fn.last.site; count = l.first - 1 });
-  gathered : (known dots : set.FinSet dot_cmp) → IsRunsOf l.runs.list.now known → AreToName known (is_placed l.dots.list.now) l.given l.fn.last.site l.fn.last.count dots
+  gathered : (known dots : set.FinSet dot_cmp) → IsRunsOf l.runs.list.now known → AreToName known (is_placed l.dots.list.now) l.given.list.now l.fn.last.site l.fn.last.count dots
       → IsGathered l.fn.gathered (part_before dots l.fn.last.site 0) → IsGathered l.gathered (part_before dots l.fn.last.site l.first);
 }
 

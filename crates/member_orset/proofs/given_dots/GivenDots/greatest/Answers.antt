@@ -4,8 +4,9 @@ use Rattle.std.proofs.lemmas.List.{take_all}
 use Rattle.std.proofs.lemmas.List.Elements.{All-more, All-same, All-weaker}
 use Rattle.dots.specs.Values.{Dot}
 use Rattle.member_orset.specs.Gathering.{is_given}
+use Rattle.member_orset.proofs.GivenDots.{greatest_among}
 use Rattle.member_orset.proofs.Pieces.{differs, agrees, given_before, given_now}
-use Rattle.member_orset.proofs.seen.greatest_of.Goals as goal
+use Rattle.member_orset.proofs.given_dots.GivenDots.greatest.Goals as goal
 
 abbrev Least : ℕ → Dot → Type 0
 Least site d = d.site ≡ site → 1 ≤ d.count
@@ -15,7 +16,7 @@ Most site greatest d = d.site ≡ site → d.count ≤ greatest
 
 pub loop-dot-preserved-then-ne : goal.loop-dot-preserved-then-ne
 loop-dot-preserved-then-ne c =
-    let given = c.args.given.now in
+    let given = c.of_site-those.result.now in
     let site = c.args.site in
     let i = c.loop-dot.dot-index in
     let x = c.dot-item.result in
@@ -30,7 +31,7 @@ loop-dot-preserved-then-ne c =
 
 pub loop-dot-preserved : goal.loop-dot-preserved
 loop-dot-preserved c =
-    let given = c.args.given.now in
+    let given = c.of_site-those.result.now in
     let site = c.args.site in
     let i = c.loop-dot.dot-index in
     let x = c.dot-item.result in
@@ -55,10 +56,10 @@ loop-dot-preserved c =
 
 pub returns-clause-greatest : goal.returns-clause-greatest
 returns-clause-greatest c =
-    let given = c.args.given.now in
+    let given = c.of_site-those.result.now in
     let all = take_all c.loop-dot.dot-index given c.loop-dot-test.false in
-    record {
+    greatest_among c.args.self.list.now given c.args.site c.loop-dot.greatest c.of_site-those.ensures (record {
       least = All-same (Least c.args.site) given (take c.loop-dot.dot-index given) (sym all) c.loop-dot.invariant.least;
       most = All-same (Most c.args.site c.loop-dot.greatest) given (take c.loop-dot.dot-index given) (sym all) c.loop-dot.invariant.most;
       reached = λ h. ap (λ ds. is_given ds (record { site = c.args.site; count = c.loop-dot.greatest })) (sym all) ∙ c.loop-dot.invariant.reached h;
-    }
+    })

@@ -1,0 +1,99 @@
+//! Given dots, lent: those of a site, and the next one. Where they rise, these are found by halving.
+ghost use Rattle.std.specs.Prelude.{ℕ, ◌≡◌, ◌≤◌, true};
+ghost use Rattle.std.specs.List.Sorted.{IsSorted};
+ghost use Rattle.dots.specs.Orders.{dot_cmp};
+ghost use Rattle.member_orset.specs.Gathering.{AreNext, AreOfSite, IsGreatest, IsPiece, is_given};
+
+use crate::piece::Piece;
+use dots::{Dot, MOST_COUNT, SiteId};
+
+// Given dots, and whether they rise.
+#[derive(Clone, Copy)]
+pub(crate) struct GivenDots<'a> {
+    pub(crate) list: &'a [Dot],
+    rise: bool,
+    ghost order: { rise ≡ true → IsSorted dot_cmp list.now },
+}
+
+impl<'a> GivenDots<'a> {
+    // Dots in any order.
+    pub(crate) fn of(list: &'a [Dot]) -> GivenDots<'a>
+        ensures { result.list.now ≡ list.now }
+    {
+        GivenDots {
+            list,
+            rise: list.is_sorted(),
+        }
+    }
+
+    // Those of a site. Where they don't rise, the others are with them.
+    fn of_site(self, site: SiteId) -> &'a [Dot]
+        ensures { AreOfSite self.entry.list.now site result.now }
+    {
+        if !self.rise {
+            return self.list;
+        }
+        let start = self.list.partition_point(|dot| dot.site() < site);
+        let end = self.list.partition_point(|dot| dot.site() <= site);
+        &self.list[start..end]
+    }
+
+    // The greatest count of those of a site: 0 where none is of it.
+    pub(crate) fn greatest(self, site: SiteId) -> u64
+        ensures greatest { IsGreatest self.entry.list.now site result }
+        ensures limit { result ≤ MOST_COUNT }
+    {
+        let those = self.of_site(site);
+        let mut greatest: u64 = 0;
+        for dot in those {
+            let count = dot.count();
+            if dot.site() != site {
+                continue;
+            }
+            greatest = greatest.max(count);
+        }
+        greatest
+    }
+
+    // The next one from a dot on, if there is one. Where they don't rise, the others are with it.
+    fn next(self, from: Dot) -> &'a [Dot]
+        ensures { AreNext self.entry.list.now from result.now }
+    {
+        if !self.rise {
+            return self.list;
+        }
+        let place = self.list.partition_point(|dot| *dot < from);
+        let end = self.list.len().min(place + 1);
+        &self.list[place..end]
+    }
+
+    // Whether a dot is given; and up to which count, a last dot's at most, the dots from it on are as it is.
+    pub(crate) fn piece(self, from: Dot, last: Dot) -> Piece
+        requires { from.count ≤ last.count }
+        ensures { IsPiece
+            (λ n. is_given self.entry.list.now (record { site = from.site; count = n }))
+            from.count last.count result }
+    {
+        let those = self.next(from);
+        let mut end = last.count();
+        for dot in those {
+            if dot.site() != from.site() {
+                continue;
+            }
+            if dot.count() < from.count() {
+                continue;
+            }
+            if dot.count() == from.count() {
+                return Piece {
+                    inside: true,
+                    last: from.count(),
+                };
+            }
+            end = end.min(dot.count() - 1);
+        }
+        Piece {
+            inside: false,
+            last: end,
+        }
+    }
+}
