@@ -1,0 +1,238 @@
+ghost use Rattle.std.specs.Prelude.{◌≡◌, ◌+◌, ◌<◌, ◌≤◌, ◌++◌, ◌∷◌, [], IsOk, OnErr, OnOk, drop, length};
+ghost use Rattle.std.specs.Prelude.{◌-◌, nat_lt, slice_index_or, slice_set, vec_len};
+ghost use Rattle.std.specs.Fn.{CalledAt};
+ghost use Rattle.std.specs.List.{insert, remove};
+ghost use Rattle.std.specs.List.Retain.{IsFiltered};
+ghost use Rattle.std.specs.Vec.{vec_capacity};
+
+use std::alloc::{AllocError, Global};
+use std::marker::Model;
+
+/// Items in their order, in one piece of memory, with room before them and behind them. What goes in or comes out moves the items
+/// before it or those behind it, whichever are fewer, as far as there is room on that side.
+#[derive(Drop)]
+pub struct Devector<T> {
+    items: Vec<T>,
+    // So many of them are left over: they are the room before the first item.
+    first: usize,
+}
+
+impl<T> Model for Devector<T> {
+    ghost use Rattle.devector.specs.Items.{Items, items_in, items_code};
+
+    ghost Value = { Items T };
+
+    ghost coded = { items_code T.code };
+
+    ghost use Rattle.std.specs.Prelude.{◌≤◌, drop, vec_len};
+    ghost use Rattle.std.specs.Vec.{vec_capacity};
+
+    ghost view = { λ d. items_in (drop d.first d.items.items) (vec_capacity d.items) };
+
+    ghost invariant = { λ d. d.first ≤ vec_len d.items };
+}
+
+// Drops the first items. Where there are none to be dropped, nothing is moved.
+fn drop_front<T: Copy>(items: &mut Vec<T>, count: usize)
+    requires { count ≤ vec_len items.old }
+    ensures items { items.new.items ≡ drop count items.old.items }
+    ensures capacity { vec_capacity items.new ≡ vec_capacity items.old }
+{
+    if count == 0 {
+        return;
+    }
+    let kept = items.len() - count;
+    items.copy_within(count.., 0);
+    items.truncate(kept);
+}
+
+impl<T: Copy> Devector<T> {
+    /// No items. It takes no memory.
+    pub fn new(alloc: Global) -> Self
+        ensures items { result.items ≡ [] }
+        ensures room { result.room ≡ 0 }
+    {
+        Devector {
+            items: Vec::new(alloc),
+            first: 0,
+        }
+    }
+
+    /// The items of a vector, in its memory. Nothing is moved.
+    pub fn from_vec(items: Vec<T>) -> Self
+        ensures items { result.items ≡ items.items }
+        ensures room { result.room ≡ vec_capacity items }
+    {
+        Devector { items, first: 0 }
+    }
+
+    /// A vector of the items, in their memory. Where there is room before them, they are all moved into it.
+    pub fn into_vec(self) -> Vec<T>
+        ensures items { result.items ≡ self.items }
+        ensures capacity { vec_capacity result ≡ self.room }
+    {
+        let Devector { mut items, first } = self;
+        drop_front(&mut items, first);
+        items
+    }
+
+    /// The allocator that it grows with.
+    pub fn allocator(&self) -> Global {
+        *self.items.allocator()
+    }
+
+    /// How many items there are.
+    pub fn len(&self) -> usize
+        ensures value { result ≡ length self.now.items }
+        ensures fits { result ≤ self.now.room }
+    {
+        self.items.len() - self.first
+    }
+
+    /// For how many items there is memory in all.
+    pub fn room(&self) -> usize
+        ensures value { result ≡ self.now.room }
+        ensures fits { length self.now.items ≤ result }
+    {
+        self.items.capacity()
+    }
+
+    /// The items, as one slice.
+    pub fn as_slice(&self) -> &[T]
+        ensures { result.now ≡ self.now.items }
+    {
+        &self.items[self.first..]
+    }
+
+    /// Replaces the item at a place.
+    pub fn set(&mut self, place: usize, item: T)
+        requires { place < length self.old.items }
+        ensures items { self.new.items ≡ slice_set self.old.items place item }
+        ensures room { self.new.room ≡ self.old.room }
+    {
+        self.items[self.first + place] = item;
+    }
+
+    /// Makes room for `more` more items, of which the room before the first one is a part. The one fault is want of memory, which
+    /// changes nothing.
+    pub fn reserve(&mut self, more: usize) -> Result<(), AllocError>
+        ensures room { OnOk result (length self.old.items + more ≤ self.new.room) }
+        ensures had_room { length self.old.items + more ≤ self.old.room → IsOk result }
+        ensures items { self.new.items ≡ self.old.items }
+        ensures grows { self.old.room ≤ self.new.room }
+        ensures err { OnErr result (self.new.room ≡ self.old.room) }
+    {
+        self.items.reserve(more.saturating_sub(self.first))
+    }
+
+    // Whether a place is nearer to the front than to the end.
+    fn is_near_front(&self, place: usize) -> bool
+        requires { place ≤ length self.now.items }
+        ensures { result ≡ nat_lt place (length self.now.items - place) }
+    {
+        place < self.len() - place
+    }
+
+    // Whether there is room on that side of a place on which fewer items are.
+    fn has_room_near(&self, place: usize) -> bool
+        requires { place ≤ length self.now.items }
+    {
+        if self.is_near_front(place) {
+            self.first > 0
+        } else {
+            self.items.len() < self.items.capacity()
+        }
+    }
+
+    // Where there is no room on the nearer side of a place, moves all items so that half of the free room is on each side. It does so
+    // only if that is more than 1/128 of their number: as many go in before a side is full again, so that each pays for few moves.
+    fn make_room_near(&mut self, place: usize, filler: T)
+        requires { place ≤ length self.old.items }
+        ensures items { self.new.items ≡ self.old.items }
+        ensures room { self.old.room ≤ self.new.room }
+    {
+        let len = self.len();
+        let first = (self.items.capacity() - len) / 2;
+        if self.has_room_near(place) || first <= len / 128 {
+            return;
+        }
+        let end = self.items.len().max(first + len);
+        let _ = self.items.resize(end, filler); // there is room
+        self.items.copy_within(self.first..self.first + len, first);
+        self.items.truncate(first + len);
+        self.first = first;
+    }
+
+    /// Puts an item in at a place, in room that is there. It takes no memory. It moves the items before the place or those behind it,
+    /// whichever are fewer, where there is room on their side. Where there is none, it first moves all, so that half of the free room is
+    /// on each side, if that is more than 1/128 of their number; else it moves those on the other side.
+    pub fn insert(&mut self, place: usize, item: T)
+        requires within { place ≤ length self.old.items }
+        requires room { length self.old.items < self.old.room }
+        ensures items { self.new.items ≡ insert self.old.items place item }
+        ensures room { self.old.room ≤ self.new.room }
+    {
+        self.make_room_near(place, item);
+        let is_full_behind = self.items.len() == self.items.capacity();
+        if self.first > 0 && (is_full_behind || self.is_near_front(place)) {
+            self.items
+                .copy_within(self.first..self.first + place, self.first - 1);
+            self.first -= 1;
+            self.items[self.first + place] = item;
+        } else {
+            let _ = self.items.insert(self.first + place, item); // there is room
+        }
+    }
+
+    /// Puts an item in behind the others, as `insert` does.
+    pub fn push(&mut self, item: T)
+        requires { length self.old.items < self.old.room }
+        ensures items { self.new.items ≡ self.old.items ++ item ∷ [] }
+        ensures room { self.old.room ≤ self.new.room }
+    {
+        self.insert(self.len(), item);
+    }
+
+    /// Puts items in behind the others, in room that is there. It takes no memory. Where the room behind the others is too little, they
+    /// are all moved to the front of theirs.
+    pub fn append_slice(&mut self, others: &[T])
+        requires { length self.old.items + length others.now ≤ self.old.room }
+        ensures items { self.new.items ≡ self.old.items ++ others.now }
+        ensures room { self.old.room ≤ self.new.room }
+    {
+        if others.len() > self.items.capacity() - self.items.len() {
+            drop_front(&mut self.items, self.first);
+            self.first = 0;
+        }
+        let _ = self.items.extend_from_slice(others); // there is room
+    }
+
+    /// Takes out the item at a place. It moves at most half of the others.
+    pub fn remove(&mut self, place: usize) -> T
+        requires { place < length self.old.items }
+        ensures value { (d : T) → result ≡ slice_index_or self.old.items place d }
+        ensures items { self.new.items ≡ remove self.old.items place }
+        ensures room { self.new.room ≡ self.old.room }
+    {
+        if self.is_near_front(place) {
+            let item = self.items[self.first + place];
+            self.items
+                .copy_within(self.first..self.first + place, self.first + 1);
+            self.first += 1;
+            item
+        } else {
+            self.items.remove(self.first + place)
+        }
+    }
+
+    /// Leaves out the items that a test doesn't pass. It tests each once, in their order, and moves the others to the front.
+    pub fn retain<F: FnMut(&T) -> bool>(&mut self, keep: F)
+        requires { F.IsAlwaysCallable keep }
+        ensures items { IsFiltered (CalledAt F.FnMut) keep self.old.items self.new.items }
+        ensures room { self.new.room ≡ self.old.room }
+    {
+        drop_front(&mut self.items, self.first);
+        self.first = 0;
+        self.items.retain(keep);
+    }
+}
