@@ -1,5 +1,5 @@
 -- What single steps of a session do.
-use Rattle.std.specs.Prelude.{ℕ, ◌≡◌, ◌≤◌, ◌+◌, ◌*◌, ◌⊎◌, Bool, true, false, List, [], ◌∷◌, ◌++◌, length, Option, Some, None, Result, Ok, Err}
+use Rattle.std.specs.Prelude.{ℕ, ◌≡◌, ◌≤◌, ◌<◌, ◌+◌, ◌*◌, ◌⊎◌, Bool, true, false, List, [], ◌∷◌, ◌++◌, length, Option, Some, None, Result, Ok, Err, IfErr, IsErrOf, OnOk}
 use Rattle.std.specs.Io.KnownBytes.{Appends, Consumes}
 use Rattle.ami_text.specs.declared.feed_fault.FeedFault.TheVariants as feed
 use Rattle.ami_text.specs.Devices.{HasTaken}
@@ -11,11 +11,27 @@ use Rattle.ami_session.specs.FieldValues.{Fields}
 use Rattle.ami_session.specs.Text.{asks_upon, text_upon}
 use Rattle.serve.specs.declared.serve_fault.ServeFault.{ServeFault}
 use Rattle.serve.specs.declared.serve_fault.ServeFault.TheVariants.{Read, Write, LineTooLong, TooManyFields, DeskDown, Turns, Memory}
+use Rattle.serve.specs.declared.incoming.Incoming.{Incoming}
 use Rattle.serve.specs.Desks.{DeskRun}
+use Rattle.serve.specs.Faults.{FailsWith}
 
 -- how many bytes may still be looked at: those held, and as many as the reads that are left may give
 abbrev pub bytes_ahead : ℕ → List ℕ → ℕ
 bytes_ahead reads held = 1024 * reads + length held
+
+-- a client's stream may be read on: the reader works, the stream has shown no fault, and no read that was used has told the end
+pub record MayRead (failed ended : Bool) (incoming : Incoming) : Type 0 where
+  pub works : failed ≡ false
+  pub feed : incoming.feed.fault ≡ None
+  pub goes_on : incoming.reads < 1000000 → ended ≡ false
+
+-- a call has read on: it has used no read more than were left, the reader has failed exactly at `Read`, the stream has shown no fault where
+-- the call succeeded, and at `Turns` no read is left and none has told the end
+pub record HasRead {T : Type 0} (reads_left_old reads_left_new : ℕ) (failed ended : Bool) (old new : Incoming) (result : Result T ServeFault) : Type 0 where
+  pub counted : reads_left_old ≤ reads_left_new + old.reads
+  pub reader : FailsWith Read result failed
+  pub feed : OnOk result (new.feed.fault ≡ None)
+  pub turns : IsErrOf result Turns → (new.reads ≡ 0) × (ended ≡ false)
 
 -- A source has given bytes, at least one and at most 1,024 for each read that was used, and this holds of the stream that
 -- they make with those held before.
@@ -113,3 +129,10 @@ BreaksOff Answers Refuses r d e taken_old taken_new Read = ⊥
 BreaksOff Answers Refuses r d e taken_old taken_new LineTooLong = ⊥
 BreaksOff Answers Refuses r d e taken_old taken_new TooManyFields = ⊥
 BreaksOff Answers Refuses r d e taken_old taken_new Turns = ⊥
+
+-- a call has done what a reaction says: it is said where the call succeeded, and else broken off by its fault; the sink has failed exactly
+-- at `Write`
+pub record IsPerformed {D T : Type 0} (Answers : D → Ask → Answer → D → Type 0) (Refuses : D → Ask → D → Type 0) (r : Reaction) (d e : D) (taken_old taken_new : Option (List ℕ)) (failed : Bool) (result : Result T ServeFault) : Type 0 where
+  pub said : OnOk result (HasSaid Answers r d e taken_old taken_new)
+  pub writer : FailsWith Write result failed
+  pub fault : IfErr result (λ fault. BreaksOff Answers Refuses r d e taken_old taken_new fault)

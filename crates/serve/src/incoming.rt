@@ -1,9 +1,7 @@
 //! The messages that come in, read as they are needed.
 ghost use Rattle.std.specs.Prelude.{◌≡◌, ◌≤◌, ◌<◌, ◌+◌, [], None, Ok, true, false, IfOk, IfSome};
-ghost use Rattle.std.specs.Prelude.{OnOk, IsErrOf};
 ghost use Rattle.ami_text.specs.Devices.{HasEnded};
-ghost use Rattle.serve.specs.Faults.{FailsWith};
-ghost use Rattle.serve.specs.Steps.{HasCome, IsHeld, StandsFirst, bytes_ahead};
+ghost use Rattle.serve.specs.Steps.{HasCome, HasRead, IsHeld, MayRead, StandsFirst, bytes_ahead};
 
 use crate::ServeFault;
 use ami_text::laws::messages_so_far;
@@ -39,9 +37,7 @@ impl Incoming {
 // Reads once, and holds what came. It tells whether anything did. Faults: `Turns` where no read is
 // left, `Read`, `Memory`.
 fn read_piece<S: Source>(reader: &mut S, incoming: &mut Incoming) -> Result<bool, ServeFault>
-    requires reader { S.failed reader.old ≡ false }
-    requires feed { incoming.old.feed.fault ≡ None }
-    requires goes_on { incoming.old.reads < 1000000 → S.ended reader.old ≡ false }
+    requires reading { MayRead (S.failed reader.old) (S.ended reader.old) incoming.old }
     ensures come { HasCome (S.left reader.old) (S.left reader.new) incoming.old.feed.held
         incoming.old.reads incoming.new.reads
         (IsHeld result incoming.old.feed.held incoming.new.feed.held) }
@@ -50,13 +46,10 @@ fn read_piece<S: Source>(reader: &mut S, incoming: &mut Incoming) -> Result<bool
         ≤ bytes_ahead incoming.old.reads incoming.old.feed.held) }
     ensures counted { result ≡ Ok true → S.reads_left reader.old + incoming.new.reads
         ≤ S.reads_left reader.new + incoming.old.reads }
-    ensures reads { S.reads_left reader.old ≤ S.reads_left reader.new + incoming.old.reads }
     ensures goes_on { result ≡ Ok true → S.ended reader.new ≡ false }
     ensures ended { result ≡ Ok false → HasEnded (S.ended reader.new) (S.left reader.new) }
-    ensures reader { FailsWith ServeFault.Read result (S.failed reader.new) }
-    ensures feed { OnOk result (incoming.new.feed.fault ≡ None) }
-    ensures turns { IsErrOf result ServeFault.Turns
-        → (incoming.new.reads ≡ 0) × (S.ended reader.new ≡ false) }
+    ensures has_read { HasRead (S.reads_left reader.old) (S.reads_left reader.new)
+        (S.failed reader.new) (S.ended reader.new) incoming.old incoming.new result }
 {
     if incoming.reads == 0 {
         return Err(ServeFault::Turns);
@@ -84,26 +77,21 @@ pub fn next_message<S: Source>(
     reader: &mut S,
     incoming: &mut Incoming,
 ) -> Result<Option<Message>, ServeFault>
-    requires reader { S.failed reader.old ≡ false }
-    requires feed { incoming.old.feed.fault ≡ None }
-    requires goes_on { incoming.old.reads < 1000000 → S.ended reader.old ≡ false }
+    requires reading { MayRead (S.failed reader.old) (S.ended reader.old) incoming.old }
     ensures come { HasCome (S.left reader.old) (S.left reader.new) incoming.old.feed.held
         incoming.old.reads incoming.new.reads
         (StandsFirst result incoming.old.feed.held incoming.new.feed.held) }
     ensures counted { IfOk result (λ next. IfSome next (λ _.
         S.reads_left reader.old + incoming.new.reads
         ≤ S.reads_left reader.new + incoming.old.reads)) }
-    ensures reads { S.reads_left reader.old ≤ S.reads_left reader.new + incoming.old.reads }
     ensures goes_on { IfOk result (λ next. IfSome next (λ _.
         incoming.new.reads < 1000000 → S.ended reader.new ≡ false)) }
     ensures ended { result ≡ Ok None → HasEnded (S.ended reader.new) (S.left reader.new) }
-    ensures reader { FailsWith ServeFault.Read result (S.failed reader.new) }
-    ensures feed { OnOk result (incoming.new.feed.fault ≡ None) }
+    ensures has_read { HasRead (S.reads_left reader.old) (S.reads_left reader.new)
+        (S.failed reader.new) (S.ended reader.new) incoming.old incoming.new result }
     ensures shorter { IfOk result (λ next. IfSome next (λ _.
         bytes_ahead incoming.new.reads incoming.new.feed.held
         < bytes_ahead incoming.old.reads incoming.old.feed.held)) }
-    ensures turns { IsErrOf result ServeFault.Turns
-        → (incoming.new.reads ≡ 0) × (S.ended reader.new ≡ false) }
 {
     messages_so_far();
     'pieces: loop {

@@ -6,7 +6,7 @@ ghost use Rattle.ami_session.specs.Checks.{Asks, after, reaction};
 ghost use Rattle.ami_session.specs.Text.{greeting, is_end};
 ghost use Rattle.ami_session.specs.Views.{reaction_of};
 ghost use Rattle.serve.specs.Faults.{FailsWith};
-ghost use Rattle.serve.specs.Steps.{BreaksOff, HasSaid};
+ghost use Rattle.serve.specs.Steps.{IsPerformed};
 
 use crate::{Desk, ServeFault};
 use ami_session::{Act, Pending, Session};
@@ -52,11 +52,8 @@ fn answer_ask<R, W: Sink, D: Desk<R>>(
     pending: Pending,
 ) -> Result<(), ServeFault>
     requires { W.failed writer.old ≡ false }
-    ensures said { OnOk result (HasSaid D.answers (Asks ask pending)
-        desk.old desk.new (W.taken writer.old) (W.taken writer.new)) }
-    ensures writer { FailsWith ServeFault.Write result (W.failed writer.new) }
-    ensures fault { IfErr result (λ fault. BreaksOff D.answers D.refuses (Asks ask pending)
-        desk.old desk.new (W.taken writer.old) (W.taken writer.new) fault) }
+    ensures performed { IsPerformed D.answers D.refuses (Asks ask pending) desk.old desk.new
+        (W.taken writer.old) (W.taken writer.new) (W.failed writer.new) result }
 {
     let answer = match desk.ask(rt, ask) {
         Ok(answer) => answer,
@@ -78,12 +75,9 @@ fn perform<R, W: Sink, D: Desk<R>>(
     act: Act,
 ) -> Result<bool, ServeFault>
     requires { W.failed writer.old ≡ false }
-    ensures said { OnOk result (HasSaid D.answers (reaction_of act)
-        desk.old desk.new (W.taken writer.old) (W.taken writer.new)) }
+    ensures performed { IsPerformed D.answers D.refuses (reaction_of act) desk.old desk.new
+        (W.taken writer.old) (W.taken writer.new) (W.failed writer.new) result }
     ensures ends { IfOk result (λ ends. ends ≡ is_end (reaction_of act)) }
-    ensures writer { FailsWith ServeFault.Write result (W.failed writer.new) }
-    ensures fault { IfErr result (λ fault. BreaksOff D.answers D.refuses (reaction_of act)
-        desk.old desk.new (W.taken writer.old) (W.taken writer.new) fault) }
 {
     match act {
         Act::Reply(bytes) => {
@@ -113,14 +107,11 @@ pub fn answer_message<R, W: Sink, D: Desk<R>>(
     message: &Message,
 ) -> Result<bool, ServeFault>
     requires { W.failed writer.old ≡ false }
-    ensures said { OnOk result (HasSaid D.answers (reaction session.old message.now)
-        desk.old desk.new (W.taken writer.old) (W.taken writer.new)) }
+    ensures performed { IsPerformed D.answers D.refuses (reaction session.old message.now)
+        desk.old desk.new (W.taken writer.old) (W.taken writer.new) (W.failed writer.new)
+        result }
     ensures ends { IfOk result (λ ends. ends ≡ is_end (reaction session.old message.now)) }
     ensures session { OnOk result (session.new ≡ after session.old message.now) }
-    ensures writer { FailsWith ServeFault.Write result (W.failed writer.new) }
-    ensures fault { IfErr result (λ fault.
-        BreaksOff D.answers D.refuses (reaction session.old message.now)
-        desk.old desk.new (W.taken writer.old) (W.taken writer.new) fault) }
 {
     match session.handle(alloc, message) {
         Ok(act) => perform(rt, alloc, writer, desk, act),

@@ -38,11 +38,13 @@ messages-init g c =
     let feed = c.new-incoming.ensures.feed in
     let written : Appends (g.W.Sink.taken c.args.writer.now) (g.W.Sink.taken c.greet.new.writer) (greeting c.args.session) = first_of (search rules, grind (arith, common_steps)) in
     record {
-      reader = c.requires.reader;
+      reading = record {
+        works = c.requires.reader;
+        feed = ap (λ (f : FeedState). f.fault) feed;
+        goes_on = λ less. absurd (omega (arith, less, c.new-incoming.ensures.reads));
+      };
       writer = first_of (search rules, grind (arith, common_steps));
-      feed = ap (λ (f : FeedState). f.fault) feed;
       counted = omega (arith, c.new-incoming.ensures.reads);
-      goes_on = λ less. absurd (omega (arith, less, c.new-incoming.ensures.reads));
       going = going_start g.D.Desk.answers c.args.session c.args.desk.now _ _ _ _ _ c.messages_so_far.ensures.none (ap (λ (f : FeedState). f.held) feed) c.new-incoming.ensures.reads written;
     }
 
@@ -74,7 +76,7 @@ pub returns-in_err-message-clause-turns : goal.returns-in_err-message-clause-tur
 returns-in_err-message-clause-turns g c = λ turns.
     let fault = c.in_err-message.field-0.0 in
     let is : fault ≡ Turns = err_is c.from_residual-in_err-message.result fault Turns (gives c.from_residual-in_err-message.result fault c.from_residual-in_err-message.ensures.1) turns in
-    let told = c.in_err-message.ensures.turns (ap Err is) in
+    let told = c.in_err-message.ensures.has_read.turns (ap Err is) in
     (told.1, turns_over g.D.Desk.answers _ _ _ _ _ _ _ _ _ _ _ _ _ told.0 c.messages.invariant.going c.next_message.ensures.come)
 
 pub returns-then-branch-clause-served : goal.returns-then-branch-clause-served
@@ -82,13 +84,13 @@ returns-then-branch-clause-served g c =
     let laws = c.messages_so_far.ensures in
     let is = c.in_ok-message.was ∙ ap Ok c.in-Some.is in
     served_by_end g.D.Desk.answers _ _ _ _ _ _ _ _ _ _ _ _ _ c.in-Some.message _ _ _ c.stream_of_two_pieces.ensures.rest laws.more laws.later
-    c.messages.invariant.going (next_so _ _ _ _ _ _ _ _ is c.next_message.ensures.come) c.in_ok-answer_message.ensures.said (as_told _ _ _ c.in_ok-answer_message.ensures.ends c.if-branch.true)
+    c.messages.invariant.going (next_so _ _ _ _ _ _ _ _ is c.next_message.ensures.come) c.in_ok-answer_message.ensures.performed.said (as_told _ _ _ c.in_ok-answer_message.ensures.ends c.if-branch.true)
 
 pub returns-then-branch-clause-bytes : goal.returns-then-branch-clause-bytes
 returns-then-branch-clause-bytes g c = given_few g.D.Desk.answers _ _ _ _ _ _ _ _ _ _ _ _ _ c.messages.invariant.going c.next_message.ensures.come
 
 pub returns-then-branch-clause-desk : goal.returns-then-branch-clause-desk
-returns-then-branch-clause-desk g c = work_said g.D.Desk.answers g.D.Desk.refuses _ _ _ _ _ _ _ _ _ _ _ _ _ c.messages.invariant.going c.in_ok-answer_message.ensures.said
+returns-then-branch-clause-desk g c = work_said g.D.Desk.answers g.D.Desk.refuses _ _ _ _ _ _ _ _ _ _ _ _ _ c.messages.invariant.going c.in_ok-answer_message.ensures.performed.said
 
 pub returns-in_err-answer_message-clause-left : goal.returns-in_err-answer_message-clause-left
 returns-in_err-answer_message-clause-left g c =
@@ -96,25 +98,27 @@ returns-in_err-answer_message-clause-left g c =
     let is = c.in_ok-message.was ∙ ap Ok c.in-Some.is in
     rw (gives c.from_residual-in_err-answer_message.result c.in_err-answer_message.field-0.0 c.from_residual-in_err-answer_message.ensures.1)
     (answering_breaks g.D.Desk.answers g.D.Desk.refuses c.in_err-answer_message.field-0.0 _ _ _ _ _ _ _ _ _ _ _ _ _ c.in-Some.message _ _ c.stream_of_two_pieces.ensures.rest laws.more laws.later
-    c.messages.invariant.going (next_so _ _ _ _ _ _ _ _ is c.next_message.ensures.come) c.in_err-answer_message.ensures.fault)
+    c.messages.invariant.going (next_so _ _ _ _ _ _ _ _ is c.next_message.ensures.come) c.in_err-answer_message.ensures.performed.fault)
 
 pub returns-in_err-answer_message-clause-bytes : goal.returns-in_err-answer_message-clause-bytes
 returns-in_err-answer_message-clause-bytes g c = given_few g.D.Desk.answers _ _ _ _ _ _ _ _ _ _ _ _ _ c.messages.invariant.going c.next_message.ensures.come
 
 pub returns-in_err-answer_message-clause-desk : goal.returns-in_err-answer_message-clause-desk
 returns-in_err-answer_message-clause-desk g c =
-    work_broken g.D.Desk.answers g.D.Desk.refuses c.in_err-answer_message.field-0.0 _ _ _ _ _ _ _ _ _ _ _ _ _ c.messages.invariant.going c.in_err-answer_message.ensures.fault
+    work_broken g.D.Desk.answers g.D.Desk.refuses c.in_err-answer_message.field-0.0 _ _ _ _ _ _ _ _ _ _ _ _ _ c.messages.invariant.going c.in_err-answer_message.ensures.performed.fault
 
 pub messages-preserved : goal.messages-preserved
 messages-preserved g c =
     let laws = c.messages_so_far.ensures in
     let is = c.in_ok-message.was ∙ ap Ok c.in-Some.is in
     record {
-      reader = c.in_ok-message.ensures.reader.works;
-      writer = c.in_ok-answer_message.ensures.writer.works;
-      feed = c.in_ok-message.ensures.feed;
+      reading = record {
+        works = c.in_ok-message.ensures.has_read.reader.works;
+        feed = c.in_ok-message.ensures.has_read.feed;
+        goes_on = rw c.in-Some.is at c.in_ok-message.ensures.goes_on;
+      };
+      writer = c.in_ok-answer_message.ensures.performed.writer.works;
       counted = let now = rw c.in-Some.is at c.in_ok-message.ensures.counted in omega (arith, now, c.messages.invariant.counted);
-      goes_on = rw c.in-Some.is at c.in_ok-message.ensures.goes_on;
       going = going_on g.D.Desk.answers _ _ _ _ _ _ _ _ _ _ _ _ _ _ c.in-Some.message _ _ c.stream_of_two_pieces.ensures.rest laws.more laws.later
-          c.messages.invariant.going (next_so _ _ _ _ _ _ _ _ is c.next_message.ensures.come) c.in_ok-answer_message.ensures.said c.in_ok-answer_message.ensures.session (as_told _ _ _ c.in_ok-answer_message.ensures.ends c.if-branch.false);
+          c.messages.invariant.going (next_so _ _ _ _ _ _ _ _ is c.next_message.ensures.come) c.in_ok-answer_message.ensures.performed.said c.in_ok-answer_message.ensures.session (as_told _ _ _ c.in_ok-answer_message.ensures.ends c.if-branch.false);
     }

@@ -1,17 +1,15 @@
-use Rattle.std.proofs.Common.{◌≡◌, ◌<◌, ◌≤◌, ◌+◌, None, false}
+use Rattle.std.proofs.Common.{◌≡◌, ◌≤◌, ◌+◌, false}
 use Rattle.serve.specs.Sessions.{HasCarried}
-use Rattle.serve.specs.Steps.{bytes_ahead}
+use Rattle.serve.specs.Steps.{MayRead, bytes_ahead}
 use Rattle.serve.proofs.Serving.{Going}
 use Rattle.serve.proofs.serve.Given as goal
 
--- the devices and the feed work, no read has told the end, and the session goes on
+-- the stream may be read on, the writer works, and the session goes on
 abbrev pub invariant-messages : goal.invariant-messages
 invariant-messages g l = record {
-  reader : g.S.Source.failed l.reader ≡ false;
+  reading : MayRead (g.S.Source.failed l.reader) (g.S.Source.ended l.reader) l.incoming;
   writer : g.W.Sink.failed l.writer ≡ false;
-  feed : l.incoming.feed.fault ≡ None;
   counted : g.S.Source.reads_left l.fn.reader + l.incoming.reads ≤ g.S.Source.reads_left l.reader + 1000000;
-  goes_on : l.incoming.reads < 1000000 → g.S.Source.ended l.reader ≡ false;
   going : HasCarried (g.S.Source.left l.fn.reader) (g.S.Source.left l.reader) (g.W.Sink.taken l.fn.writer) (g.W.Sink.taken l.writer)
       (Going g.D.Desk.answers l.fn.session l.fn.desk l.desk l.session l.incoming.feed.held l.incoming.reads);
 }

@@ -20,15 +20,13 @@ returns-in_err-message-clause-come g c =
     let told = err_from_is_err_and c.from_residual.result c.from_residual.ensures.1 in
     next_so _ _ _ _ _ _ _ _ (sym told.1)
     (come_so _ _ _ _ _ (λ stream. Gives stream [] c.pieces.incoming.feed.held × IsWanted _ stream) _
-    (λ stream x. fault_next c.in_err-message.field-0.0 told.0 c.pieces.incoming.feed _ _ stream told.2 c.pieces.invariant.feed c.in_err-message.ensures.fault x.0 x.1)
+    (λ stream x. fault_next c.in_err-message.field-0.0 told.0 c.pieces.incoming.feed _ _ stream told.2 c.pieces.invariant.reading.feed c.in_err-message.ensures.fault x.0 x.1)
     c.pieces.invariant.come)
 
 pub pieces-init : goal.pieces-init
 pieces-init g c = record {
-  works = c.requires.reader;
-  feed = c.requires.feed;
+  reading = c.requires.reading;
   counted = omega arith;
-  goes_on = c.requires.goes_on;
   come = come_none _ _ _ c.messages_so_far.ensures.none;
   ahead = omega arith;
 }
@@ -42,12 +40,11 @@ pieces-preserved g c =
     let left = c.next_message.new.self.held in
     let before = come_so _ _ _ _ _ (λ stream. Gives stream [] held × IsWanted _ stream) (λ stream. Gives stream [] left) (λ stream x. laws.later stream held left [] [] x.0 rest.0) c.pieces.invariant.come in
     let more = c.read_piece.ensures.more is in
+    let read = c.in_ok-read_piece.ensures.has_read in
     let short : length c.read_piece.new.incoming.feed.held ≤ length left + 1024 = omega (arith, more.0, more.1) in
     record {
-      works = c.in_ok-read_piece.ensures.reader.works;
-      feed = c.in_ok-read_piece.ensures.feed;
+      reading = record { works = read.reader.works; feed = read.feed; goes_on = λ less. c.read_piece.ensures.goes_on is };
       counted = omega (arith, c.read_piece.ensures.counted is, c.pieces.invariant.counted);
-      goes_on = λ less. c.read_piece.ensures.goes_on is;
       come = piece_came _ _ _ _ left _ _ _ _ laws.more rest.1 short before (held_so _ _ left _ _ _ _ _ is c.read_piece.ensures.come);
       ahead = omega (arith, more.1, left_within held left rest.0, c.pieces.invariant.ahead);
     }
