@@ -1,8 +1,12 @@
 -- How far a pump has come with a plan.
-use Rattle.std.specs.Prelude.{ℕ, ◌≡◌, ◌≤◌, ◌+◌, ◌⊎◌, Bool, true, List, [], length}
+use Rattle.std.specs.Prelude.{ℕ, ◌≡◌, ◌≤◌, ◌+◌, ◌⊎◌, ◌++◌, Bool, true, List, [], ◌∷◌, Option, Some, Result, IfErr, OnErr, OnOk, length, vec_len}
 use Rattle.site_links.specs.Links.{Sending}
 use Rattle.site_pumps.specs.declared.deed.Deed.{Deed}
+use Rattle.site_pumps.specs.declared.outgoing.Outgoing.{Outgoing}
+use Rattle.site_journal.specs.declared.desk_fault.DeskFault.{DeskFault}
+use Rattle.site_journal.specs.declared.desk_fault.DeskFault.TheVariants.{Memory}
 use Rattle.site_journal.specs.declared.receipt.Receipt.{Receipt}
+use Rattle.site_journal.specs.Ports.{PortRun, PortWork}
 use Rattle.site_pumps.specs.Carried.{BeginsToCarry, Carries, EachLink}
 use Rattle.site_pumps.specs.Deeds.{cut_frames, whole_frames}
 use Rattle.site_pumps.specs.Plans.{held_from, planned, sent_from}
@@ -23,3 +27,18 @@ IsFrontOf plan receipts start links = EachLink (BeginsToCarry (planned plan (cut
 abbrev pub IsStopped : List Deed → ℕ → List Receipt → Bool → List Sending → List Sending → Type 0
 IsStopped plan rung receipts ended start links = ((length receipts ≤ rung) × EachLink (Carries (sent_from plan 0 [] (cut_frames receipts))) start links)
     ⊎ ((length receipts ≡ rung + 1) × (ended ≡ true) × EachLink (Carries (planned plan (cut_frames receipts) [])) start links)
+
+-- a call of a pump has one receipt more, of this kind, where it succeeded, and else perhaps; not where its port tells the call's fault
+pub record AddsReceipt {T : Type 0} (IsOf : Receipt → Type 0) (told : Option DeskFault) (old new : List Receipt) (result : Result T DeskFault) : Type 0 where
+  pub receipt : OnOk result ((r : Receipt) × IsOf r × (new ≡ old ++ r ∷ []))
+  pub perhaps : OnErr result ((new ≡ old) ⊎ ((r : Receipt) × IsOf r × (new ≡ old ++ r ∷ [])))
+  pub refused : IfErr result (λ cause. told ≡ Some cause → new ≡ old)
+
+-- what a call of a pump has done at its port, from state `p` to `q`: the steps of its receipts, and perhaps a refusal for its fault, which the port
+-- tells or which is want of memory; its pass is the same, and has done a step for each receipt
+pub record WorksAt {P T : Type 0} (Makes : P → Receipt → P → Type 0) (Refuses : P → DeskFault → P → Type 0) (told : P → Option DeskFault) (ordinal share : P → ℕ) (p q : P) (old new : Outgoing) (result : Result T DeskFault) : Type 0 where
+  pub run : OnOk result ((start : P) → PortRun Makes start old.receipts.items p → PortRun Makes start new.receipts.items q)
+  pub work : IfErr result (λ cause. (start : P) → PortRun Makes start old.receipts.items p → PortWork Makes Refuses start new.receipts.items (Some cause) q)
+  pub fault : IfErr result (λ cause. (told q ≡ Some cause) ⊎ (cause ≡ Memory))
+  pub same : ordinal q ≡ ordinal p
+  pub done : share q + vec_len old.receipts ≡ share p + vec_len new.receipts

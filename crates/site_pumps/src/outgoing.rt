@@ -1,12 +1,11 @@
 //! How far a pump has come that sends.
-ghost use Rattle.std.specs.Prelude.{◌≡◌, ◌⊎◌, ◌+◌, ◌∷◌, ◌++◌, [], ◌≤◌, vec_len, List, IfErr, IfOk};
+ghost use Rattle.std.specs.Prelude.{◌≡◌, ◌+◌, ◌∷◌, ◌++◌, [], ◌≤◌, vec_len, List, IfErr, IfOk};
 ghost use Rattle.std.specs.Prelude.{OnErr, OnOk, MatchOption, None, Some};
-ghost use Rattle.site_journal.specs.Ports.{PortRun, PortWork};
 ghost use Rattle.site_journal.specs.Receipts.{IsOfCut, IsOfWhole};
 ghost use Rattle.site_links.specs.Links.{Sending};
 ghost use Rattle.site_pumps.specs.Carried.{BeginsToCarry, Carries, EachLink};
 ghost use Rattle.site_pumps.specs.Deeds.{cut_frame, cut_frames, whole_frame, whole_frames};
-ghost use Rattle.site_pumps.specs.Outgoing.{IsFrontOf, IsUnderWay};
+ghost use Rattle.site_pumps.specs.Outgoing.{AddsReceipt, IsFrontOf, IsUnderWay, WorksAt};
 ghost use Rattle.site_pumps.specs.Plans.{deed_at, held_after, planned, sent_for};
 
 use crate::sending::{send_each, send_one};
@@ -165,25 +164,12 @@ impl Outgoing {
             links.old
             → IsUnderWay plan.now self.new.receipts.items self.new.used self.new.held.items start
             links.new) }
-        ensures refused { IfErr result (λ cause. P.fault port.new ≡ Some cause
-            → self.new.receipts.items ≡ self.old.receipts.items) }
-        ensures receipt { OnOk result ((r : _) × IsOfCut r
-            × (self.new.receipts.items ≡ self.old.receipts.items ++ r ∷ [])) }
-        ensures perhaps { OnErr result ((self.new.receipts.items ≡ self.old.receipts.items)
-            ⊎ ((r : _) × IsOfCut r
-            × (self.new.receipts.items ≡ self.old.receipts.items ++ r ∷ []))) }
+        ensures receipts { AddsReceipt IsOfCut (P.fault port.new) self.old.receipts.items
+            self.new.receipts.items result }
         ensures well { OnOk result (P.fault port.new ≡ None) }
         ensures few { self.new.used ≤ vec_len self.new.receipts }
-        ensures run { OnOk result ((start : P)
-            → PortRun P.makes start self.old.receipts.items port.old
-            → PortRun P.makes start self.new.receipts.items port.new) }
-        ensures work { IfErr result (λ cause. (start : P)
-            → PortRun P.makes start self.old.receipts.items port.old
-            → PortWork P.makes P.refuses start self.new.receipts.items (Some cause) port.new) }
-        ensures fault { IfErr result (λ e. (P.fault port.new ≡ Some e) ⊎ (e ≡ DeskFault.Memory)) }
-        ensures ordinal { P.ordinal port.new ≡ P.ordinal port.old }
-        ensures share { P.share port.new + vec_len self.old.receipts
-            ≡ P.share port.old + vec_len self.new.receipts }
+        ensures port { WorksAt P.makes P.refuses P.fault P.ordinal P.share port.old port.new
+            self.old self.new result }
     {
         if self.receipts.reserve(1).is_err() {
             return Err(DeskFault::Memory);
@@ -217,23 +203,10 @@ impl Outgoing {
             links.old
             → EachLink (Carries (planned plan (cut_frames self.new.receipts.items) [])) start
             links.new) }
-        ensures refused { IfErr result (λ cause. P.fault port.new ≡ Some cause
-            → self.new.receipts.items ≡ self.old.receipts.items) }
-        ensures receipt { OnOk result ((r : _) × IsOfWhole r
-            × (self.new.receipts.items ≡ self.old.receipts.items ++ r ∷ [])) }
-        ensures perhaps { OnErr result ((self.new.receipts.items ≡ self.old.receipts.items)
-            ⊎ ((r : _) × IsOfWhole r
-            × (self.new.receipts.items ≡ self.old.receipts.items ++ r ∷ []))) }
-        ensures run { OnOk result ((start : P)
-            → PortRun P.makes start self.old.receipts.items port.old
-            → PortRun P.makes start self.new.receipts.items port.new) }
-        ensures work { IfErr result (λ cause. (start : P)
-            → PortRun P.makes start self.old.receipts.items port.old
-            → PortWork P.makes P.refuses start self.new.receipts.items (Some cause) port.new) }
-        ensures fault { IfErr result (λ e. (P.fault port.new ≡ Some e) ⊎ (e ≡ DeskFault.Memory)) }
-        ensures ordinal { P.ordinal port.new ≡ P.ordinal port.old }
-        ensures share { P.share port.new + vec_len self.old.receipts
-            ≡ P.share port.old + vec_len self.new.receipts }
+        ensures receipts { AddsReceipt IsOfWhole (P.fault port.new) self.old.receipts.items
+            self.new.receipts.items result }
+        ensures port { WorksAt P.makes P.refuses P.fault P.ordinal P.share port.old port.new
+            self.old self.new result }
     {
         if self.receipts.reserve(1).is_err() {
             return Err(DeskFault::Memory);

@@ -1,4 +1,4 @@
-use Rattle.std.proofs.Common.{◌∙◌, ◌++◌, ◌∷◌, [], Global, Vec, ap, inl, inr, refl, subst, sym}
+use Rattle.std.proofs.Common.{rules, ◌∙◌, ◌++◌, ◌∷◌, [], Global, Vec, ap, inl, inr, refl, subst, sym}
 use Rattle.std.proofs.lemmas.Result.{err_from_is_err_and}
 use Rattle.site_journal.specs.declared.receipt.Receipt.{Receipt}
 use Rattle.site_pumps.proofs.Carrying.{on_err}
@@ -13,19 +13,6 @@ returns-then-is_err-clause-err g c = λ start w. subst (λ l. IsFrontOf c.args.p
 pub returns-in_err-receipt-clause-err : goal.returns-in_err-receipt-clause-err
 returns-in_err-receipt-clause-err g c = on_err c.from_residual.result (λ start w. subst (λ l. IsFrontOf c.args.plan.now l start c.args.links.now) (sym c.reserve.ensures.items) (stopped _ _ _ _ _ _ w))
 
-pub returns-then-is_err-clause-work : goal.returns-then-is_err-clause-work
-returns-then-is_err-clause-work g c = λ start run. work_stopped g.P.Port.makes g.P.Port.refuses start _ _ _ refl (run_same g.P.Port.makes start _ _ _ c.reserve.ensures.items run)
-
-pub returns-in_err-receipt-clause-work : goal.returns-in_err-receipt-clause-work
-returns-in_err-receipt-clause-work g c = let p = err_from_is_err_and c.from_residual.result c.from_residual.ensures.1 in rw (p.1, p.2) (λ start run. work_refused g.P.Port.makes g.P.Port.refuses start _ _ _ _ (run_same g.P.Port.makes start _ _ _ c.reserve.ensures.items run) c.in_err-receipt.ensures.refused)
-
-pub returns-clause-run : goal.returns-clause-run
-returns-clause-run g c = whatever c.treat-treated.result (λ start run. run_more g.P.Port.makes start _ _ _ _ _ c.in_ok-receipt.receipt c.push_reserved.ensures.items (ap (λ (v : Vec Receipt Global). v.items) c.treat-treated.ensures.receipts ∙ c.reserve.ensures.items) run c.in_ok-receipt.ensures.made)
-
-pub returns-clause-work : goal.returns-clause-work
-returns-clause-work g c = if_memory c.treat-treated.result _ c.treat-treated.ensures.memory (λ cause memory start run.
-    work_stopped g.P.Port.makes g.P.Port.refuses start _ _ _ memory (run_more g.P.Port.makes start _ _ _ _ _ c.in_ok-receipt.receipt c.push_reserved.ensures.items (ap (λ (v : Vec Receipt Global). v.items) c.treat-treated.ensures.receipts ∙ c.reserve.ensures.items) run c.in_ok-receipt.ensures.made))
-
 pub returns-then-is_err-clause-stopped : goal.returns-then-is_err-clause-stopped
 returns-then-is_err-clause-stopped g c = λ told start w. subst (λ l. IsUnderWay c.args.plan.now l c.args.self.now.used c.args.self.now.held.items start c.args.links.now) (sym c.reserve.ensures.items) w
 
@@ -36,27 +23,55 @@ returns-in_err-receipt-clause-stopped g c = let p = err_from_is_err_and c.from_r
 pub returns-clause-stopped : goal.returns-clause-stopped
 returns-clause-stopped g c = each_fault c.treat-treated.result _ (λ cause told. absurd (cc (told, c.in_ok-receipt.ensures.well)))
 
-pub returns-then-is_err-clause-perhaps : goal.returns-then-is_err-clause-perhaps
-returns-then-is_err-clause-perhaps g c = inl c.reserve.ensures.items
-
-pub returns-in_err-receipt-clause-perhaps : goal.returns-in_err-receipt-clause-perhaps
-returns-in_err-receipt-clause-perhaps g c = on_err c.from_residual.result (inl c.reserve.ensures.items)
-
-pub returns-clause-perhaps : goal.returns-clause-perhaps
-returns-clause-perhaps g c = on_err c.treat-treated.result (inr (
-  c.in_ok-receipt.receipt,
-  c.in_ok-receipt.ensures.deed,
-  c.push_reserved.ensures.items ∙ ap (λ l. l ++ c.in_ok-receipt.receipt ∷ []) (ap (λ (v : Vec Receipt Global). v.items) c.treat-treated.ensures.receipts ∙ c.reserve.ensures.items),
-))
-
 pub returns-clause-well : goal.returns-clause-well
 returns-clause-well g c = whatever c.treat-treated.result c.in_ok-receipt.ensures.well
 
-pub returns-then-is_err-clause-refused : goal.returns-then-is_err-clause-refused
-returns-then-is_err-clause-refused g c = λ told. c.reserve.ensures.items
+pub returns-then-is_err-clause-receipts : goal.returns-then-is_err-clause-receipts
+returns-then-is_err-clause-receipts g c = record { receipt = tt; perhaps = inl c.reserve.ensures.items; refused = λ told. c.reserve.ensures.items }
 
-pub returns-in_err-receipt-clause-refused : goal.returns-in_err-receipt-clause-refused
-returns-in_err-receipt-clause-refused g c = let p = err_from_is_err_and c.from_residual.result c.from_residual.ensures.1 in rw (p.1, p.2) (λ told. c.reserve.ensures.items)
+pub returns-in_err-receipt-clause-receipts : goal.returns-in_err-receipt-clause-receipts
+returns-in_err-receipt-clause-receipts g c = let p = err_from_is_err_and c.from_residual.result c.from_residual.ensures.1 in
+    rw (p.1, p.2) (record { receipt = tt; perhaps = inl c.reserve.ensures.items; refused = λ told. c.reserve.ensures.items })
 
-pub returns-clause-refused : goal.returns-clause-refused
-returns-clause-refused g c = each_fault c.treat-treated.result _ (λ cause told. absurd (cc (told, c.in_ok-receipt.ensures.well)))
+pub returns-clause-receipts : goal.returns-clause-receipts
+returns-clause-receipts g c =
+    let receipt = c.in_ok-receipt.receipt in
+    let room = ap (λ (v : Vec Receipt Global). v.items) c.treat-treated.ensures.receipts ∙ c.reserve.ensures.items in
+    let more = c.push_reserved.ensures.items ∙ ap (λ l. l ++ receipt ∷ []) room in
+    record {
+      receipt = whatever c.treat-treated.result (receipt, c.in_ok-receipt.ensures.deed, more);
+      perhaps = on_err c.treat-treated.result (inr (receipt, c.in_ok-receipt.ensures.deed, more));
+      refused = each_fault c.treat-treated.result _ (λ cause told. absurd (cc (told, c.in_ok-receipt.ensures.well)));
+    }
+
+pub returns-then-is_err-clause-port : goal.returns-then-is_err-clause-port
+returns-then-is_err-clause-port g c = record {
+  run = tt;
+  work = λ start run. work_stopped g.P.Port.makes g.P.Port.refuses start _ _ _ refl (run_same g.P.Port.makes start _ _ _ c.reserve.ensures.items run);
+  fault = inr refl;
+  same = refl;
+  done = search rules;
+}
+
+pub returns-in_err-receipt-clause-port : goal.returns-in_err-receipt-clause-port
+returns-in_err-receipt-clause-port g c = let p = err_from_is_err_and c.from_residual.result c.from_residual.ensures.1 in
+    rw (p.1, p.2) (record {
+      run = tt;
+      work = λ start run. work_refused g.P.Port.makes g.P.Port.refuses start _ _ _ _ (run_same g.P.Port.makes start _ _ _ c.reserve.ensures.items run) c.in_err-receipt.ensures.refused;
+      fault = inl c.in_err-receipt.ensures.told;
+      same = search rules;
+      done = search rules;
+    })
+
+pub returns-clause-port : goal.returns-clause-port
+returns-clause-port g c =
+    let receipt = c.in_ok-receipt.receipt in
+    let room = ap (λ (v : Vec Receipt Global). v.items) c.treat-treated.ensures.receipts ∙ c.reserve.ensures.items in
+    record {
+      run = whatever c.treat-treated.result (λ start run. run_more g.P.Port.makes start _ _ _ _ _ receipt c.push_reserved.ensures.items room run c.in_ok-receipt.ensures.made);
+      work = if_memory c.treat-treated.result _ c.treat-treated.ensures.memory (λ cause memory start run.
+          work_stopped g.P.Port.makes g.P.Port.refuses start _ _ _ memory (run_more g.P.Port.makes start _ _ _ _ _ receipt c.push_reserved.ensures.items room run c.in_ok-receipt.ensures.made));
+      fault = if_memory c.treat-treated.result _ c.treat-treated.ensures.memory (λ cause memory. inr memory);
+      same = search rules;
+      done = search rules;
+    }

@@ -1,4 +1,4 @@
-use Rattle.std.proofs.Common.{refl, subst, sym, ap, inl, inr, ◌∙◌, ◌++◌, ◌∷◌, []}
+use Rattle.std.proofs.Common.{rules, refl, subst, sym, ap, inl, inr, ◌∙◌, ◌++◌, ◌∷◌, []}
 use Rattle.std.proofs.lemmas.Result.{err_from_is_err_and}
 use Rattle.site_pumps.specs.Carried.{BeginsToCarry, Carries, EachLink}
 use Rattle.site_pumps.specs.Deeds.{cut_frames, whole_frames}
@@ -30,21 +30,6 @@ returns-in-Err-clause-err g c = λ start plan w. subst (λ l. IsFrontOf plan l s
     (sym (c.push_reserved.ensures.items ∙ ap (λ l. l ++ c.in_ok-receipt.receipt ∷ []) c.reserve.ensures.items))
     (broken_at_end _ _ _ _ _ _ _ _ _ c.in_ok-receipt.ensures.deed w (subst (λ l. EachLink (Carries l) c.args.links.now c.send_each.new.links) c.as_slice.ensures.value c.in_ok-send_each.ensures.ok) c.in-Err.ensures.err)
 
-pub returns-then-is_err-clause-work : goal.returns-then-is_err-clause-work
-returns-then-is_err-clause-work g c = λ start run. work_stopped g.P.Port.makes g.P.Port.refuses start _ _ _ refl (run_same g.P.Port.makes start _ _ _ c.reserve.ensures.items run)
-
-pub returns-in_err-send_each-clause-work : goal.returns-in_err-send_each-clause-work
-returns-in_err-send_each-clause-work g c = let p = err_from_is_err_and c.from_residual.result c.from_residual.ensures.1 in rw (p.1, p.2) (λ start run. work_stopped g.P.Port.makes g.P.Port.refuses start _ _ _ refl (run_same g.P.Port.makes start _ _ _ c.reserve.ensures.items run))
-
-pub returns-in_err-receipt-clause-work : goal.returns-in_err-receipt-clause-work
-returns-in_err-receipt-clause-work g c = let p = err_from_is_err_and c.from_residual-in_err-receipt.result c.from_residual-in_err-receipt.ensures.1 in rw (p.1, p.2) (λ start run. work_refused g.P.Port.makes g.P.Port.refuses start _ _ _ _ (run_same g.P.Port.makes start _ _ _ c.reserve.ensures.items run) c.in_err-receipt.ensures.refused)
-
-pub returns-in-Ok-clause-run : goal.returns-in-Ok-clause-run
-returns-in-Ok-clause-run g c = λ start run. run_more g.P.Port.makes start _ _ _ _ _ c.in_ok-receipt.receipt c.push_reserved.ensures.items c.reserve.ensures.items run c.in_ok-receipt.ensures.made
-
-pub returns-in-Err-clause-work : goal.returns-in-Err-clause-work
-returns-in-Err-clause-work g c = λ start run. work_stopped g.P.Port.makes g.P.Port.refuses start _ _ _ refl (run_more g.P.Port.makes start _ _ _ _ _ c.in_ok-receipt.receipt c.push_reserved.ensures.items c.reserve.ensures.items run c.in_ok-receipt.ensures.made)
-
 pub returns-then-is_err-clause-stopped : goal.returns-then-is_err-clause-stopped
 returns-then-is_err-clause-stopped g c = λ told. absurd (cc (told, c.requires.well))
 
@@ -58,26 +43,75 @@ returns-in_err-receipt-clause-stopped g c = let p = err_from_is_err_and c.from_r
 pub returns-in-Err-clause-stopped : goal.returns-in-Err-clause-stopped
 returns-in-Err-clause-stopped g c = λ told. absurd (cc (told, c.in_ok-receipt.ensures.well))
 
-pub returns-then-is_err-clause-perhaps : goal.returns-then-is_err-clause-perhaps
-returns-then-is_err-clause-perhaps g c = inl c.reserve.ensures.items
+pub returns-then-is_err-clause-receipts : goal.returns-then-is_err-clause-receipts
+returns-then-is_err-clause-receipts g c = record { receipt = tt; perhaps = inl c.reserve.ensures.items; refused = λ told. c.reserve.ensures.items }
 
-pub returns-in_err-send_each-clause-perhaps : goal.returns-in_err-send_each-clause-perhaps
-returns-in_err-send_each-clause-perhaps g c = on_err c.from_residual.result (inl c.reserve.ensures.items)
+pub returns-in_err-send_each-clause-receipts : goal.returns-in_err-send_each-clause-receipts
+returns-in_err-send_each-clause-receipts g c = let p = err_from_is_err_and c.from_residual.result c.from_residual.ensures.1 in
+    rw (p.1, p.2) (record { receipt = tt; perhaps = inl c.reserve.ensures.items; refused = λ told. c.reserve.ensures.items })
 
-pub returns-in_err-receipt-clause-perhaps : goal.returns-in_err-receipt-clause-perhaps
-returns-in_err-receipt-clause-perhaps g c = on_err c.from_residual-in_err-receipt.result (inl c.reserve.ensures.items)
+pub returns-in_err-receipt-clause-receipts : goal.returns-in_err-receipt-clause-receipts
+returns-in_err-receipt-clause-receipts g c = let p = err_from_is_err_and c.from_residual-in_err-receipt.result c.from_residual-in_err-receipt.ensures.1 in
+    rw (p.1, p.2) (record { receipt = tt; perhaps = inl c.reserve.ensures.items; refused = λ told. c.reserve.ensures.items })
 
-pub returns-in-Err-clause-perhaps : goal.returns-in-Err-clause-perhaps
-returns-in-Err-clause-perhaps g c = inr (c.in_ok-receipt.receipt, c.in_ok-receipt.ensures.deed, c.push_reserved.ensures.items ∙ ap (λ l. l ++ c.in_ok-receipt.receipt ∷ []) c.reserve.ensures.items)
+pub returns-in-Ok-clause-receipts : goal.returns-in-Ok-clause-receipts
+returns-in-Ok-clause-receipts g c =
+    let receipt = c.in_ok-receipt.receipt in
+    record { receipt = (receipt, c.in_ok-receipt.ensures.deed, c.push_reserved.ensures.items ∙ ap (λ l. l ++ receipt ∷ []) c.reserve.ensures.items); perhaps = tt; refused = tt }
 
-pub returns-then-is_err-clause-refused : goal.returns-then-is_err-clause-refused
-returns-then-is_err-clause-refused g c = λ told. c.reserve.ensures.items
+pub returns-in-Err-clause-receipts : goal.returns-in-Err-clause-receipts
+returns-in-Err-clause-receipts g c =
+    let receipt = c.in_ok-receipt.receipt in
+    record {
+      receipt = tt;
+      perhaps = inr (receipt, c.in_ok-receipt.ensures.deed, c.push_reserved.ensures.items ∙ ap (λ l. l ++ receipt ∷ []) c.reserve.ensures.items);
+      refused = λ told. absurd (cc (told, c.in_ok-receipt.ensures.well));
+    }
 
-pub returns-in_err-send_each-clause-refused : goal.returns-in_err-send_each-clause-refused
-returns-in_err-send_each-clause-refused g c = let p = err_from_is_err_and c.from_residual.result c.from_residual.ensures.1 in rw (p.1, p.2) (λ told. c.reserve.ensures.items)
+pub returns-then-is_err-clause-port : goal.returns-then-is_err-clause-port
+returns-then-is_err-clause-port g c = record {
+  run = tt;
+  work = λ start run. work_stopped g.P.Port.makes g.P.Port.refuses start _ _ _ refl (run_same g.P.Port.makes start _ _ _ c.reserve.ensures.items run);
+  fault = inr refl;
+  same = refl;
+  done = search rules;
+}
 
-pub returns-in_err-receipt-clause-refused : goal.returns-in_err-receipt-clause-refused
-returns-in_err-receipt-clause-refused g c = let p = err_from_is_err_and c.from_residual-in_err-receipt.result c.from_residual-in_err-receipt.ensures.1 in rw (p.1, p.2) (λ told. c.reserve.ensures.items)
+pub returns-in_err-send_each-clause-port : goal.returns-in_err-send_each-clause-port
+returns-in_err-send_each-clause-port g c = let p = err_from_is_err_and c.from_residual.result c.from_residual.ensures.1 in
+    rw (p.1, p.2) (record {
+      run = tt;
+      work = λ start run. work_stopped g.P.Port.makes g.P.Port.refuses start _ _ _ refl (run_same g.P.Port.makes start _ _ _ c.reserve.ensures.items run);
+      fault = inr refl;
+      same = refl;
+      done = search rules;
+    })
 
-pub returns-in-Err-clause-refused : goal.returns-in-Err-clause-refused
-returns-in-Err-clause-refused g c = λ told. absurd (cc (told, c.in_ok-receipt.ensures.well))
+pub returns-in_err-receipt-clause-port : goal.returns-in_err-receipt-clause-port
+returns-in_err-receipt-clause-port g c = let p = err_from_is_err_and c.from_residual-in_err-receipt.result c.from_residual-in_err-receipt.ensures.1 in
+    rw (p.1, p.2) (record {
+      run = tt;
+      work = λ start run. work_refused g.P.Port.makes g.P.Port.refuses start _ _ _ _ (run_same g.P.Port.makes start _ _ _ c.reserve.ensures.items run) c.in_err-receipt.ensures.refused;
+      fault = inl c.in_err-receipt.ensures.told;
+      same = search rules;
+      done = search rules;
+    })
+
+pub returns-in-Ok-clause-port : goal.returns-in-Ok-clause-port
+returns-in-Ok-clause-port g c = record {
+  run = λ start run. run_more g.P.Port.makes start _ _ _ _ _ c.in_ok-receipt.receipt c.push_reserved.ensures.items c.reserve.ensures.items run c.in_ok-receipt.ensures.made;
+  work = tt;
+  fault = tt;
+  same = search rules;
+  done = search rules;
+}
+
+pub returns-in-Err-clause-port : goal.returns-in-Err-clause-port
+returns-in-Err-clause-port g c = record {
+  run = tt;
+  work = λ start run. work_stopped g.P.Port.makes g.P.Port.refuses start _ _ _ refl
+      (run_more g.P.Port.makes start _ _ _ _ _ c.in_ok-receipt.receipt c.push_reserved.ensures.items c.reserve.ensures.items run c.in_ok-receipt.ensures.made);
+  fault = inr refl;
+  same = search rules;
+  done = search rules;
+}
