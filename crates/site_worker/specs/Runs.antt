@@ -1,5 +1,6 @@
 -- What becomes of a site whose threads are run (this project's own).
-use Rattle.std.specs.Prelude.{ℕ, ◌≡◌, ◌≤◌, List, Option, None, length}
+use Rattle.std.specs.Prelude.{ℕ, ◌≡◌, ◌≤◌, ◌+◌, [], List, Option, None, Some, length, map, slice_get, slice_index_or, vec_len}
+use Rattle.std.specs.Global.{Vec}
 use Rattle.replica.specs.Deeds.{IsNew}
 use Rattle.site_desk.specs.Passes.{PassState}
 use Rattle.site_journal.specs.declared.desk_fault.DeskFault.{DeskFault}
@@ -7,6 +8,9 @@ use Rattle.site_journal.specs.declared.journaled.TheConstants.{MOST_STEPS}
 use Rattle.site_journal.specs.declared.receipt.Receipt.{Receipt}
 use Rattle.site_journal.specs.Journals.{IsOfSite, JournalState}
 use Rattle.site_journal.specs.Settling.{list_of}
+use Rattle.site_worker.specs.declared.work.SiteEnd.{SiteEnd}
+use Rattle.site_worker.specs.declared.work.SiteWork.{SiteWork}
+use Rattle.site_worker.specs.Gates.{IsGatedBy}
 use Rattle.site_worker.specs.Working.{AnswerFront, AreInOrder, AreLegal, AreOfPasses, HaveSent, HaveTaken, HaveWorked, receipts_in}
 use Rattle.status_report.specs.declared.asks.Ask.{Ask}
 
@@ -43,3 +47,12 @@ pub record HasRun (site : ℕ) (names : List (List ℕ)) (number : ℕ) (asks : 
   pub legal : AreLegal site names lists
   pub answered : HasAnsweredAsks site names asks lists fault
   pub pumped : HavePumped lists fault
+
+-- sites have run, one for each of these works and all of these queues: each has come to its end with its work's asks, and its work's gate was
+-- called for its receipts
+pub record HaveRun {G : Type 0} (Called : G → ℕ → G → Type 0) (names : List (List ℕ)) (works : Vec (SiteWork G)) (ends : Vec (SiteEnd G)) : Type 0 where
+  pub number : vec_len ends ≡ vec_len works
+  pub ran : (site : ℕ) (end : SiteEnd G) → slice_get ends.items site ≡ Some end
+      → HasRun site names (vec_len works + 1) (slice_index_or (map (λ (work : SiteWork G). work.asks.items) works.items) site []) end.journal (map (λ list. list.items) end.receipts.items) end.fault
+  pub gated : (site : ℕ) (work : SiteWork G) (end : SiteEnd G) → slice_get works.items site ≡ Some work → slice_get ends.items site ≡ Some end
+      → IsGatedBy Called work.gate (map (λ list. list.items) end.receipts.items) end.fault end.gate

@@ -7,7 +7,7 @@ ghost use Rattle.site_journal.specs.Journals.{IsOfSite};
 ghost use Rattle.site_links.specs.Linking.{AreLinksOf};
 ghost use Rattle.site_worker.specs.Gates.{IsGatedBy};
 ghost use Rattle.site_worker.specs.Promises.{ArePromised};
-ghost use Rattle.site_worker.specs.Runs.{HasAnsweredAsks, HasBegun, HasRun, HavePumped};
+ghost use Rattle.site_worker.specs.Runs.{HasAnsweredAsks, HasBegun, HasRun, HavePumped, HaveRun};
 ghost use Rattle.site_worker.specs.Working.{AreInOrder, AreLegal, AreOfPasses, receipts_in};
 ghost use Rattle.status_report.specs.declared.asks.Ask.{Ask};
 
@@ -228,15 +228,7 @@ fn run_all<'s, 'e: 's, R: Threads + Wait + Sync, G: Gate + Send + Drop + 's>(
 ) -> Result<Vec<SiteEnd<G>>, RunFault>
     requires few { vec_len works ≤ MOST_RUN_SITES }
     requires links { AreLinksOf (vec_len works) links }
-    ensures number { IfOk result (λ ends. vec_len ends ≡ vec_len works) }
-    ensures ends { IfOk result (λ ends. (site : ℕ) (end : _) → slice_get ends.items site ≡ Some end
-        → HasRun site list.now (vec_len works + 1)
-        (slice_index_or (map (λ work. work.asks.items) works.items) site []) end.journal
-        (map (λ list. list.items) end.receipts.items) end.fault) }
-    ensures gates { IfOk result (λ ends. (site : ℕ) (work : _) (end : _)
-        → slice_get works.items site ≡ Some work → slice_get ends.items site ≡ Some end
-        → IsGatedBy G.called work.gate (map (λ list. list.items) end.receipts.items) end.fault
-        end.gate) }
+    ensures ran { IfOk result (λ ends. HaveRun G.called list.now works ends) }
     ensures fault { IfErr result (λ fault. fault ≢ RunFault.BadSites) }
 {
     let (ends, mut sites) = match room_for(alloc, works.len()) {
@@ -264,15 +256,7 @@ fn run_scoped<R: Threads + Wait + Sync, G: Gate + Send + Drop>(
 ) -> Result<Vec<SiteEnd<G>>, RunFault>
     requires few { vec_len works ≤ MOST_RUN_SITES }
     requires links { AreLinksOf (vec_len works) links }
-    ensures number { IfOk result (λ ends. vec_len ends ≡ vec_len works) }
-    ensures ends { IfOk result (λ ends. (site : ℕ) (end : _) → slice_get ends.items site ≡ Some end
-        → HasRun site list.now (vec_len works + 1)
-        (slice_index_or (map (λ work. work.asks.items) works.items) site []) end.journal
-        (map (λ list. list.items) end.receipts.items) end.fault) }
-    ensures gates { IfOk result (λ ends. (site : ℕ) (work : _) (end : _)
-        → slice_get works.items site ≡ Some work → slice_get ends.items site ≡ Some end
-        → IsGatedBy G.called work.gate (map (λ list. list.items) end.receipts.items) end.fault
-        end.gate) }
+    ensures ran { IfOk result (λ ends. HaveRun G.called list.now works ends) }
     ensures fault { IfErr result (λ fault. fault ≢ RunFault.BadSites) }
 {
     thread::scope(
@@ -281,17 +265,7 @@ fn run_scoped<R: Threads + Wait + Sync, G: Gate + Send + Drop>(
         move |scope| -> Result<Vec<SiteEnd<G>>, RunFault>
             requires few { vec_len works ≤ MOST_RUN_SITES }
             requires links { AreLinksOf (vec_len works) links }
-            ensures number { IfOk result (λ ends. vec_len ends ≡ vec_len works) }
-            ensures ends { IfOk result (λ ends. (site : ℕ) (end : _)
-                → slice_get ends.items site ≡ Some end
-                → HasRun site list.entry.now (vec_len works + 1)
-                (slice_index_or (map (λ work. work.asks.items) works.items) site []) end.journal
-                (map (λ list. list.items) end.receipts.items) end.fault) }
-            ensures gates { IfOk result (λ ends. (site : ℕ) (work : _) (end : _)
-                → slice_get works.items site ≡ Some work
-                → slice_get ends.items site ≡ Some end
-                → IsGatedBy G.called work.gate (map (λ list. list.items) end.receipts.items)
-                end.fault end.gate) }
+            ensures ran { IfOk result (λ ends. HaveRun G.called list.entry.now works ends) }
             ensures fault { IfErr result (λ fault. fault ≢ RunFault.BadSites) }
         { run_all(scope, rt, alloc, list, works, links) },
     )
