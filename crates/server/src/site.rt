@@ -1,6 +1,6 @@
 //! One site: its desk, its bell and its listener, and its threads in a scope of their own.
 ghost use Rattle.std.specs.Prelude.{◌≡◌, ◌+◌, ◌≤◌, [], IfOk, vec_capacity, vec_len};
-ghost use Rattle.site_desk.specs.Passes.{AreFresh};
+ghost use Rattle.site_desk.specs.Passes.{AreNewPasses};
 ghost use Rattle.site_journal.specs.Journals.{IsOfSite};
 ghost use Rattle.server.specs.ServedJournals.{IsServedJournal};
 ghost use Rattle.server.specs.Workers.{AreInOrder};
@@ -81,7 +81,7 @@ fn run_workers<'s, 'e: 's, L: SiteLedger + Send + Sync, R: Threads + Wait + Cloc
     passes: Vec<Pass<L>>,
     links: LinkEnds,
 ) -> Result<Vec<Pass<L>>, SiteFault>
-    requires { AreFresh (vec_len links.from + 5) passes.items }
+    requires { AreNewPasses (vec_len links.from + 5) passes.items }
     ensures number { IfOk result (λ passes. vec_len passes ≡ vec_len links.from + 5) }
     ensures order { IfOk result (λ passes. AreInOrder passes.items) }
 {
@@ -124,7 +124,7 @@ fn run_scoped<L: SiteLedger + Send + Sync, R: Threads + Wait + Clock + Eprint + 
     passes: Vec<Pass<L>>,
     links: LinkEnds,
 ) -> Result<Vec<Pass<L>>, SiteFault>
-    requires { AreFresh (vec_len links.from + 5) passes.items }
+    requires { AreNewPasses (vec_len links.from + 5) passes.items }
     ensures number { IfOk result (λ passes. vec_len passes ≡ vec_len links.from + 5) }
     ensures order { IfOk result (λ passes. AreInOrder passes.items) }
 {
@@ -132,7 +132,7 @@ fn run_scoped<L: SiteLedger + Send + Sync, R: Threads + Wait + Clock + Eprint + 
         thread::scope_env(),
         rt,
         move |scope| -> Result<Vec<Pass<L>>, SiteFault>
-            requires { AreFresh (vec_len links.from + 5) passes.items }
+            requires { AreNewPasses (vec_len links.from + 5) passes.items }
             ensures number { IfOk result (λ passes. vec_len passes ≡ vec_len links.from + 5) }
             ensures order { IfOk result (λ passes. AreInOrder passes.items) }
         { run_workers(scope, rt, alloc, site, passes, links) },
@@ -182,7 +182,7 @@ fn run_desk<L: SiteLedger + Send + Sync, R: Threads + Wait + Clock + Eprint + Sy
     parts: SiteParts,
     links: LinkEnds,
 ) -> Result<Journaled, SiteFault>
-    requires passes { AreFresh (vec_len links.from + 5) passes.items }
+    requires passes { AreNewPasses (vec_len links.from + 5) passes.items }
     requires all { desk.passes ≡ vec_len links.from + 5 }
     ensures site { IfOk result (λ journal. IsOfSite L.site L.names journal) }
     ensures limit { IfOk result (λ journal. journal.limit ≡ L.limit) }

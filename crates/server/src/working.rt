@@ -1,6 +1,6 @@
 //! The threads of a site: what each does, how they are started, and how they are joined again.
 ghost use Rattle.std.specs.Prelude.{◌≡◌, ◌+◌, ◌≤◌, IfOk, OnOk, vec_capacity, vec_len};
-ghost use Rattle.site_desk.specs.Passes.{AreFresh};
+ghost use Rattle.site_desk.specs.Passes.{AreNewPasses};
 ghost use Rattle.server.specs.Places.{AtEach};
 ghost use Rattle.server.specs.Tasks.{tasks_for};
 ghost use Rattle.server.specs.Workers.{AreInOrder};
@@ -129,7 +129,7 @@ pub(crate) fn start_workers<
     tasks: Vec<Task>,
     workers: &mut Workers<L>,
 ) -> Result<(), SiteFault>
-    requires fresh { AreFresh (vec_len tasks) passes.items }
+    requires passes { AreNewPasses (vec_len tasks) passes.items }
     requires none { vec_len workers.old ≡ 0 }
     requires room { vec_len tasks ≤ vec_capacity workers.old }
     ensures number { OnOk result (vec_len workers.new ≡ vec_len tasks) }

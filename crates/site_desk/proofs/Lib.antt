@@ -1,4 +1,4 @@
 pub mod DoneDeeds
-pub mod FreshPasses
+pub mod NewPasses
 pub mod LegalDeeds
 pub mod PortRuns

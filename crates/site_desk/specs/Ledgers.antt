@@ -60,4 +60,4 @@ same_site-prop s t x y = λ i. record {
 }
 
 pub begun-prop : (start : ℕ) (s t : SiteState) → IsProp (start ≡ 0 → IsSameSite s t)
-begun-prop start s t x y = λ i fresh. same_site-prop s t (x fresh) (y fresh) i
+begun-prop start s t x y = λ i begun. same_site-prop s t (x begun) (y begun) i

@@ -21,8 +21,8 @@ pub record DeskState : Type 0 where
   pub passes : ℕ
 
 -- the pass of the number `ordinal` that has done nothing
-abbrev pub fresh_pass : ℕ → PassState
-fresh_pass ordinal = record { ordinal = ordinal; share = 0; seen = 0 }
+abbrev pub new_pass : ℕ → PassState
+new_pass ordinal = record { ordinal = ordinal; share = 0; seen = 0 }
 
 -- `pass` after one step more, which stands at `position` in the journal
 abbrev pub one_more : PassState → ℕ → PassState
@@ -55,9 +55,9 @@ TellsTruly pass other = ⊤
 
 -- `passes` are those of a new desk: `number` of them, with the numbers 0, 1, .., none of which has
 -- done anything
-pub record AreFresh (number : ℕ) (passes : List PassState) : Type 0 where
+pub record AreNewPasses (number : ℕ) (passes : List PassState) : Type 0 where
   pub count : length passes ≡ number
-  pub each : (k : ℕ) (none : PassState) → k < number → slice_index_or passes k none ≡ fresh_pass k
+  pub each : (k : ℕ) (none : PassState) → k < number → slice_index_or passes k none ≡ new_pass k
 
 -- how many steps the passes of a list have done together
 abbrev pub shares_of : List PassState → ℕ

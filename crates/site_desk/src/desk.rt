@@ -4,7 +4,7 @@ ghost use Rattle.site_journal.specs.Journals.{HasFaultAlone, IsOfSite, IsRefused
 ghost use Rattle.site_journal.specs.Journals.{RefusesTake};
 ghost use Rattle.site_journal.specs.Receipts.{IsOfCut, IsOfTake, IsOfWhole};
 ghost use Rattle.site_desk.specs.Deeds.{IsLegalAnswer, IsLegalDeed, IsLegalRefusal};
-ghost use Rattle.site_desk.specs.Passes.{AreFresh, HasDone, IsOfAsk, IsRewound};
+ghost use Rattle.site_desk.specs.Passes.{AreNewPasses, HasDone, IsOfAsk, IsRewound};
 
 use crate::kept::Kept;
 use crate::{Pass, SiteLedger};
@@ -57,7 +57,7 @@ impl<L: SiteLedger> SiteDesk<L> {
         requires limit { journal.limit ≡ L.limit }
         requires base { journal.base ≡ L.base }
         ensures desk { IfOk result (λ made. made.0.passes ≡ passes) }
-        ensures passes { IfOk result (λ made. AreFresh passes made.1.items) }
+        ensures passes { IfOk result (λ made. AreNewPasses passes made.1.items) }
         ensures back { IfErr result (λ refused. refused.1 ≡ journal) }
     {
         let mut all = Vec::new(alloc);

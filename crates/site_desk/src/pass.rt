@@ -1,6 +1,6 @@
 ghost use Rattle.std.specs.Prelude.{◌≡◌, ◌≤◌, ◌+◌};
 ghost use Rattle.dots.specs.declared.limits.TheConstants.{MOST_COUNT};
-ghost use Rattle.site_desk.specs.Passes.{fresh_pass, one_more};
+ghost use Rattle.site_desk.specs.Passes.{new_pass, one_more};
 
 use std::marker::Model;
 use std::sync::ledger::{Book, Ledger, Share};
@@ -30,7 +30,7 @@ impl<L: Ledger> Pass<L> {
     pub(crate) fn new(ordinal: u32, share: Share<L>) -> Pass<L>
         requires part { share.parts ≡ 1 }
         requires nothing { share.amount ≡ 0 }
-        ensures { result ≡ fresh_pass ordinal }
+        ensures { result ≡ new_pass ordinal }
     {
         Pass {
             ordinal,

@@ -32,7 +32,7 @@ fn drive<R: Wait, P: Port<R>, B: Bell<R>>(
     bell: &mut B,
     plan: &[Deed],
 ) -> Result<(), DeskFault>
-    requires fresh { (outgoing.old.receipts.items ≡ []) × (outgoing.old.held.items ≡ [])
+    requires new { (outgoing.old.receipts.items ≡ []) × (outgoing.old.held.items ≡ [])
         × (outgoing.old.used ≡ 0) × (vec_len outgoing.old.receipts ≡ 0) }
     ensures sent { OnOk result (EachLink (Carries (planned plan.now
         (cut_frames outgoing.new.receipts.items) (whole_frames outgoing.new.receipts.items)))

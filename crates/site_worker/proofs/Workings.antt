@@ -8,7 +8,7 @@ use Rattle.std.proofs.lemmas.List.Elements.{All-cons, All-nil, All-push}
 use Rattle.std.proofs.lemmas.List.Sums.{sum_by-cons}
 use Rattle.sites_world.proofs.Lists.{none_some, one_some}
 use Rattle.site_desk.specs.Deeds.{IsLegalAnswer, IsLegalDeed}
-use Rattle.site_desk.specs.Passes.{AreAll, HasDone, PassState, fresh_pass, shares_of}
+use Rattle.site_desk.specs.Passes.{AreAll, HasDone, PassState, new_pass, shares_of}
 use Rattle.site_desk.specs.Ports.{Ascend, HasDoneAll}
 use Rattle.site_journal.specs.declared.desk_fault.DeskFault.{DeskFault}
 use Rattle.site_journal.specs.declared.receipt.Receipt.{Receipt}
@@ -57,10 +57,10 @@ answered_push site names asks receipts all ask r is there of front = subst (Answ
 
 -- a pass more
 pub worked_next : (site : ℕ) (names : List (List ℕ)) (n : ℕ) (passes : List PassState) (lists : List (List Receipt)) (pass : PassState) (list : List Receipt)
-    → HaveWorked site names n passes lists → HasDoneAll site names (fresh_pass (n + length passes)) list pass → HaveWorked site names n (passes ++ pass ∷ []) (lists ++ list ∷ [])
-worked_next site names n [] [] pass list was done = (subst (λ k. HasDoneAll site names (fresh_pass k) list pass) (omega arith) done, tt)
+    → HaveWorked site names n passes lists → HasDoneAll site names (new_pass (n + length passes)) list pass → HaveWorked site names n (passes ++ pass ∷ []) (lists ++ list ∷ [])
+worked_next site names n [] [] pass list was done = (subst (λ k. HasDoneAll site names (new_pass k) list pass) (omega arith) done, tt)
 worked_next site names n (p ∷ ps) (l ∷ ls) pass list was done =
-    (was.0, worked_next site names (suc n) ps ls pass list was.1 (subst (λ k. HasDoneAll site names (fresh_pass k) list pass) (omega arith) done))
+    (was.0, worked_next site names (suc n) ps ls pass list was.1 (subst (λ k. HasDoneAll site names (new_pass k) list pass) (omega arith) done))
 worked_next site names n [] (l ∷ ls) pass list was done = absurd was
 worked_next site names n (p ∷ ps) [] pass list was done = absurd was
 
@@ -127,10 +127,10 @@ worked_order site names n (p ∷ ps) [] was = absurd was
 
 -- a pass more, whose receipts are in a vector
 pub worked_push : {V : Type 0} (f : V → List Receipt) (site : ℕ) (names : List (List ℕ)) (passes all : List PassState) (vs vall : List V) (pass : PassState) (v : V) (n : ℕ) → all ≡ passes ++ pass ∷ []
-    → vall ≡ vs ++ v ∷ [] → n ≡ length passes → HaveWorked site names 0 passes (map f vs) → HasDoneAll site names (fresh_pass n) (f v) pass → HaveWorked site names 0 all (map f vall)
+    → vall ≡ vs ++ v ∷ [] → n ≡ length passes → HaveWorked site names 0 passes (map f vs) → HasDoneAll site names (new_pass n) (f v) pass → HaveWorked site names 0 all (map f vall)
 worked_push f site names passes all vs vall pass v n is vis long was done = subst (λ ps. HaveWorked site names 0 ps (map f vall)) (sym is)
     (subst (HaveWorked site names 0 (passes ++ pass ∷ [])) (sym (ap (map f) vis ∙ map_more f vs v))
-    (worked_next site names 0 passes (map f vs) pass (f v) was (subst (λ k. HasDoneAll site names (fresh_pass k) (f v) pass) (let e = long in omega (arith, e)) done)))
+    (worked_next site names 0 passes (map f vs) pass (f v) was (subst (λ k. HasDoneAll site names (new_pass k) (f v) pass) (let e = long in omega (arith, e)) done)))
 
 -- a list stays where another is put behind it
 pub list_stays : {V : Type 0} (f : V → List Receipt) (vs vall : List V) (v : V) (pass : ℕ) → vall ≡ vs ++ v ∷ [] → pass < length vs → list_of (map f vall) pass ≡ list_of (map f vs) pass

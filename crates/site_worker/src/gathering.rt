@@ -2,7 +2,7 @@
 ghost use Rattle.std.specs.Prelude.{◌≡◌, ◌+◌, ◌++◌, ◌∷◌, ◌<◌, ◌≤◌, [], IfOk, None, map};
 ghost use Rattle.std.specs.Option.{option_or};
 ghost use Rattle.std.specs.Prelude.{vec_capacity, vec_len};
-ghost use Rattle.site_desk.specs.Passes.{fresh_pass};
+ghost use Rattle.site_desk.specs.Passes.{new_pass};
 ghost use Rattle.site_desk.specs.Ports.{HasDoneAll};
 ghost use Rattle.site_worker.specs.Working.{HaveWorked};
 
@@ -41,7 +41,7 @@ impl<L: SiteLedger> Gathered<L> {
             × (vec_len self.old.passes < vec_capacity self.old.receipts) }
         requires gathered { HaveWorked L.site L.names 0 self.old.passes.items
             (map (λ list. list.items) self.old.receipts.items) }
-        requires next { HasDoneAll L.site L.names (fresh_pass (vec_len self.old.passes))
+        requires next { HasDoneAll L.site L.names (new_pass (vec_len self.old.passes))
             worked.receipts.items worked.pass }
         ensures gathered { HaveWorked L.site L.names 0 self.new.passes.items
             (map (λ list. list.items) self.new.receipts.items) }

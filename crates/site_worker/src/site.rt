@@ -1,7 +1,7 @@
 //! One site: its desk, and its threads in a scope of their own.
 ghost use Rattle.std.specs.Prelude.{◌≡◌, ◌≢◌, ◌+◌, ◌≤◌, ℕ, IfErr, IfOk, List, map, vec_len};
 ghost use Rattle.replica.specs.Deeds.{IsNew};
-ghost use Rattle.site_desk.specs.Passes.{AreFresh};
+ghost use Rattle.site_desk.specs.Passes.{AreNewPasses};
 ghost use Rattle.site_journal.specs.Journals.{IsOfSite};
 ghost use Rattle.site_journal.specs.declared.journaled.TheConstants.{MOST_STEPS};
 ghost use Rattle.site_worker.specs.Gates.{IsGatedBy};
@@ -42,7 +42,7 @@ fn run_threads<
     gate: G,
     links: LinkEnds,
 ) -> Result<(Gathered<L>, G), RunFault>
-    requires { AreFresh (vec_len links.from + 2) passes.items }
+    requires { AreNewPasses (vec_len links.from + 2) passes.items }
     ensures gathered { IfOk result (λ run. AreGathered L.site L.names (vec_len links.from + 2)
         tasks.entry.asks.now run.0.passes.items
         (map (λ list. list.items) run.0.receipts.items) run.0.fault) }
@@ -88,7 +88,7 @@ fn run_scoped<L: SiteLedger + Send + Sync, R: Threads + Wait + Sync, G: Gate + S
     gate: G,
     links: LinkEnds,
 ) -> Result<(Gathered<L>, G), RunFault>
-    requires { AreFresh (vec_len links.from + 2) passes.items }
+    requires { AreNewPasses (vec_len links.from + 2) passes.items }
     ensures gathered { IfOk result (λ run. AreGathered L.site L.names (vec_len links.from + 2)
         asks.now run.0.passes.items (map (λ list. list.items) run.0.receipts.items)
         run.0.fault) }
@@ -102,7 +102,7 @@ fn run_scoped<L: SiteLedger + Send + Sync, R: Threads + Wait + Sync, G: Gate + S
         thread::scope_env(),
         rt,
         move |scope| -> Result<(Gathered<L>, G), RunFault>
-            requires { AreFresh (vec_len links.from + 2) passes.items }
+            requires { AreNewPasses (vec_len links.from + 2) passes.items }
             ensures gathered { IfOk result (λ run. AreGathered L.site L.names
                 (vec_len links.from + 2) asks.entry.now run.0.passes.items
                 (map (λ list. list.items) run.0.receipts.items) run.0.fault) }
@@ -159,7 +159,7 @@ fn run_desk<L: SiteLedger + Send + Sync, R: Threads + Wait + Sync, G: Gate + Sen
     gate: G,
     links: LinkEnds,
 ) -> Result<SiteEnd<G>, RunFault>
-    requires passes { AreFresh (vec_len links.from + 2) passes.items }
+    requires passes { AreNewPasses (vec_len links.from + 2) passes.items }
     requires all { desk.passes ≡ vec_len links.from + 2 }
     requires most { L.limit ≡ MOST_STEPS }
     requires new { IsNew L.base }

@@ -1,7 +1,7 @@
 //! The threads of a site: they are started, and joined again.
 ghost use Rattle.std.specs.Prelude.{◌≡◌, ℕ, ◌+◌, ◌<◌, ◌≤◌, None, IfErr, IfOk, OnOk, length};
 ghost use Rattle.std.specs.Prelude.{map, slice_index_or, vec_capacity, vec_len};
-ghost use Rattle.site_desk.specs.Passes.{AreFresh, fresh_pass};
+ghost use Rattle.site_desk.specs.Passes.{AreNewPasses, new_pass};
 ghost use Rattle.site_desk.specs.Ports.{HasDoneAll};
 ghost use Rattle.site_journal.specs.Settling.{list_of};
 ghost use Rattle.site_worker.specs.Gates.{IsGated};
@@ -25,12 +25,12 @@ use std::thread::{Promise, PromisedHandle, Scope, Threads};
 struct CutsOf;
 
 impl<L: SiteLedger> Promise<Worked<L>> for CutsOf {
-    ghost use Rattle.site_desk.specs.Passes.{fresh_pass};
+    ghost use Rattle.site_desk.specs.Passes.{new_pass};
     ghost use Rattle.site_desk.specs.Ports.{HasDoneAll};
     ghost use Rattle.site_worker.specs.Working.{HaveSent};
 
     ghost kept_by = { λ promise worked.
-        HasDoneAll L.site L.names (fresh_pass 1) worked.receipts.items worked.pass
+        HasDoneAll L.site L.names (new_pass 1) worked.receipts.items worked.pass
         × HaveSent worked.receipts.items worked.fault };
 }
 
@@ -41,12 +41,12 @@ pub(crate) struct TakesOf {
 }
 
 impl<L: SiteLedger> Promise<Worked<L>> for TakesOf {
-    ghost use Rattle.site_desk.specs.Passes.{fresh_pass};
+    ghost use Rattle.site_desk.specs.Passes.{new_pass};
     ghost use Rattle.site_desk.specs.Ports.{HasDoneAll};
     ghost use Rattle.site_worker.specs.Working.{HaveTaken};
 
     ghost kept_by = { λ promise worked.
-        HasDoneAll L.site L.names (fresh_pass promise.ordinal) worked.receipts.items worked.pass
+        HasDoneAll L.site L.names (new_pass promise.ordinal) worked.receipts.items worked.pass
         × HaveTaken worked.receipts.items };
 }
 
@@ -66,13 +66,13 @@ struct AsksOf<'a, G> {
 
 impl<'a, L: SiteLedger, G: Gate + Drop> Promise<Asked<L, G>> for AsksOf<'a, G> {
     ghost use Rattle.std.specs.Prelude.{◌≡◌, None, length};
-    ghost use Rattle.site_desk.specs.Passes.{fresh_pass};
+    ghost use Rattle.site_desk.specs.Passes.{new_pass};
     ghost use Rattle.site_desk.specs.Ports.{HasDoneAll};
     ghost use Rattle.site_worker.specs.Gates.{IsGated};
     ghost use Rattle.site_worker.specs.Working.{AnswerFront};
 
     ghost kept_by = { λ promise asked.
-        HasDoneAll L.site L.names (fresh_pass 0) asked.worked.receipts.items asked.worked.pass
+        HasDoneAll L.site L.names (new_pass 0) asked.worked.receipts.items asked.worked.pass
         × AnswerFront L.site L.names promise.asks.now asked.worked.receipts.items
         × (asked.worked.fault ≡ None
         → length asked.worked.receipts.items ≡ length promise.asks.now)
@@ -93,10 +93,10 @@ pub(crate) fn start_takers<'s, 'e: 's, L: SiteLedger + Send + Sync, R: Wait + Sy
     links: Vec<LinkReceiver>,
     takers: &mut Takers<L>,
 ) -> Result<(), RunFault>
-    requires fresh { AreFresh (vec_len links + 2) passes.old.items }
+    requires passes { AreNewPasses (vec_len links + 2) passes.old.items }
     requires none { vec_len takers.old ≡ 0 }
     requires room { vec_len links ≤ vec_capacity takers.old }
-    ensures passes { OnOk result (AreFresh 2 passes.new.items) }
+    ensures passes { OnOk result (AreNewPasses 2 passes.new.items) }
     ensures number { OnOk result (vec_len takers.new ≡ vec_len links) }
     ensures ordinals { OnOk result ((k : ℕ) (none : _) → k < vec_len takers.new
         → (slice_index_or takers.new.items k none).promise.ordinal + k ≡ vec_len links + 1) }
@@ -111,8 +111,8 @@ pub(crate) fn start_takers<'s, 'e: 's, L: SiteLedger + Send + Sync, R: Wait + Sy
             ordinal: pass.ordinal(),
         };
         let take = move || -> Worked<L>
-            requires { pass ≡ fresh_pass pass.ordinal }
-            ensures done { HasDoneAll L.site L.names (fresh_pass pass.ordinal)
+            requires { pass ≡ new_pass pass.ordinal }
+            ensures done { HasDoneAll L.site L.names (new_pass pass.ordinal)
                 result.receipts.items result.pass }
             ensures took { HaveTaken result.receipts.items }
         { take_all(rt, alloc, desk, pass, link) };
@@ -175,8 +175,8 @@ fn ask_with<L: SiteLedger, R: Wait, G: Gate + Drop>(
     gate: G,
     rope: &Rope,
 ) -> Asked<L, G>
-    requires { pass ≡ fresh_pass 0 }
-    ensures worked { HasDoneAll L.site L.names (fresh_pass 0) result.worked.receipts.items
+    requires { pass ≡ new_pass 0 }
+    ensures worked { HasDoneAll L.site L.names (new_pass 0) result.worked.receipts.items
         result.worked.pass }
     ensures answers { AnswerFront L.site L.names asks.now result.worked.receipts.items }
     ensures all { result.worked.fault ≡ None
@@ -207,13 +207,13 @@ fn start_sender<'s, 'e: 's, L: SiteLedger + Send + Sync, R: Wait + Sync>(
     tasks: Tasks<'s>,
     links: Vec<LinkSender>,
 ) -> Result<PromisedHandle<Worked<L>, CutsOf>, RunFault>
-    requires { pass ≡ fresh_pass 1 }
+    requires { pass ≡ new_pass 1 }
     ensures { IfErr result (λ fault. fault ≡ RunFault.NoThread) }
 {
     let Tasks { plan, rope, .. } = tasks;
     let send = move || -> Worked<L>
-        requires { pass ≡ fresh_pass 1 }
-        ensures done { HasDoneAll L.site L.names (fresh_pass 1) result.receipts.items result.pass }
+        requires { pass ≡ new_pass 1 }
+        ensures done { HasDoneAll L.site L.names (new_pass 1) result.receipts.items result.pass }
         ensures sent { HaveSent result.receipts.items result.fault }
     { send_all(rt, alloc, desk, pass, links, plan, rope) };
     match scope.spawn_with(CutsOf, send) {
@@ -235,7 +235,7 @@ fn start_asker<'s, 'e: 's, L: SiteLedger + Send + Sync, R: Wait + Sync, G: Gate 
     tasks: Tasks<'s>,
     gate: G,
 ) -> Result<PromisedHandle<Asked<L, G>, AsksOf<'s, G>>, RunFault>
-    requires { pass ≡ fresh_pass 0 }
+    requires { pass ≡ new_pass 0 }
     ensures asks { IfOk result (λ asker. asker.promise.asks.now ≡ tasks.entry.asks.now) }
     ensures gate { IfOk result (λ asker. asker.promise.gate.value ≡ gate) }
     ensures fault { IfErr result (λ fault. fault ≡ RunFault.NoThread) }
@@ -246,8 +246,8 @@ fn start_asker<'s, 'e: 's, L: SiteLedger + Send + Sync, R: Wait + Sync, G: Gate 
         gate: Snapshot::of(&gate),
     };
     let ask = move || -> Asked<L, G>
-        requires { pass ≡ fresh_pass 0 }
-        ensures worked { HasDoneAll L.site L.names (fresh_pass 0) result.worked.receipts.items
+        requires { pass ≡ new_pass 0 }
+        ensures worked { HasDoneAll L.site L.names (new_pass 0) result.worked.receipts.items
             result.worked.pass }
         ensures answers { AnswerFront L.site L.names asks.entry.now result.worked.receipts.items }
         ensures all { result.worked.fault ≡ None
@@ -282,8 +282,8 @@ pub(crate) fn ask_and_send<
     gate: G,
     links: Vec<LinkSender>,
 ) -> Result<(Asked<L, G>, Worked<L>), RunFault>
-    requires { AreFresh 2 passes.items }
-    ensures asked { IfOk result (λ both. HasDoneAll L.site L.names (fresh_pass 0)
+    requires { AreNewPasses 2 passes.items }
+    ensures asked { IfOk result (λ both. HasDoneAll L.site L.names (new_pass 0)
         both.0.worked.receipts.items both.0.worked.pass) }
     ensures answers { IfOk result (λ both.
         AnswerFront L.site L.names tasks.entry.asks.now both.0.worked.receipts.items) }
@@ -292,7 +292,7 @@ pub(crate) fn ask_and_send<
     ensures gated { IfOk result (λ both. IsGated G.called gate
         (length both.0.worked.receipts.items) both.0.worked.fault both.0.gate) }
     ensures cut { IfOk result (λ both.
-        HasDoneAll L.site L.names (fresh_pass 1) both.1.receipts.items both.1.pass) }
+        HasDoneAll L.site L.names (new_pass 1) both.1.receipts.items both.1.pass) }
     ensures sent { IfOk result (λ both. HaveSent both.1.receipts.items both.1.fault) }
     ensures fault { IfErr result (λ fault. fault ≡ RunFault.NoThread) }
 {

@@ -9,13 +9,13 @@ use Rattle.site_pumps.proofs.outward.drive.Goals as goal
 use Rattle.site_pumps.proofs.outward.drive.Goals.{in-None, in-Some+then-not-wait}
 
 pub loop-init : goal.loop-init
-loop-init g c = let fresh = c.requires.fresh in record {
-  cuts = (0, omega arith, ([], refl, ap (map (λ (r : Receipt). r.deed)) fresh.0));
-  under_way = at_start_of _ _ _ _ _ fresh.0 fresh.2 fresh.1;
-  few = omega (arith, fresh.2);
-  run = run_none g.P.Port.makes _ _ fresh.0;
+loop-init g c = let new = c.requires.new in record {
+  cuts = (0, omega arith, ([], refl, ap (map (λ (r : Receipt). r.deed)) new.0));
+  under_way = at_start_of _ _ _ _ _ new.0 new.2 new.1;
+  few = omega (arith, new.2);
+  run = run_none g.P.Port.makes _ _ new.0;
   ordinal = refl;
-  share = omega (arith, fresh.3);
+  share = omega (arith, new.3);
 }
 
 pub loop-preserved : goal.loop-preserved

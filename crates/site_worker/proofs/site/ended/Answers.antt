@@ -10,7 +10,7 @@ unreachable-requires g c = c.in-Err.ensures.wrong (worked_all g.L.SiteLedger.sit
 pub returns-clause-end : goal.returns-clause-end
 returns-clause-end g c = λ number asks is. record {
   own_site = c.in-Ok.ensures.site;
-  begun = record { limit = c.in-Ok.ensures.limit ∙ c.requires.most; new = λ fresh. new_same _ _ c.requires.new (c.in-Ok.ensures.begun fresh) };
+  begun = record { limit = c.in-Ok.ensures.limit ∙ c.requires.most; new = λ whole. new_same _ _ c.requires.new (c.in-Ok.ensures.begun whole) };
   passes = worked_number _ _ 0 _ _ is.worked ∙ is.count;
   count = c.in-Ok.ensures.count ∙ worked_shares _ _ 0 _ _ is.worked;
   own = worked_own _ _ 0 _ _ is.worked;
