@@ -65,14 +65,14 @@ module _ (names_of_queues : List (List ℕ)) (sites : ℕ) (h : Knowledge) (o : 
   -- what is asserted then is new, or was asserted
   asserted_next : (dot : Dot) (m : Member) → Contains (all_asserted (o ∷ h)) (dot, m) → (Contains (asserted_by o) (dot, m) × IsNewDot names_of_queues sites h o dot m) ⊎ Contains (all_asserted h) (dot, m)
   asserted_next dot m here = elim (Contains-append_cases (asserted_by o) (all_asserted h) (dot, m) here) [
-    | inl a ↦ fresh a (next.asserted dot m a)
+    | inl a ↦ by a (next.asserted dot m a)
     | inr b ↦ inr b
   ]
     where
-      fresh : Contains (asserted_by o) (dot, m) → (IsNewDot names_of_queues sites h o dot m ⊎ Contains (all_asserted h) (dot, m))
+      by : Contains (asserted_by o) (dot, m) → (IsNewDot names_of_queues sites h o dot m ⊎ Contains (all_asserted h) (dot, m))
           → (Contains (asserted_by o) (dot, m) × IsNewDot names_of_queues sites h o dot m) ⊎ Contains (all_asserted h) (dot, m)
-      fresh a (inl new) = inl (a, new)
-      fresh a (inr was) = inr was
+      by a (inl new) = inl (a, new)
+      by a (inr was) = inr was
 
   -- what is known then is new, or was known
   known_next : (dot : Dot) → set.contains (known_dots (o ∷ h)) dot ≡ true → ((m : Member) × IsNewDot names_of_queues sites h o dot m) ⊎ (set.contains (known_dots h) dot ≡ true)

@@ -10,7 +10,7 @@ use Rattle.dots.specs.Orders.{dot_cmp}
 use Rattle.dots.specs.DotSets.{is_older}
 use Rattle.operations.specs.Operations.{Operation, Setting, Add, Write, Remove, Count, asserted_by}
 use Rattle.operations.specs.Knowledge.{Knowledge, all_asserted, is_named, known_dots, member_of, names}
-use Rattle.general_lemmas.proofs.Membership.{any_in, cases_in, first_in, in_part, nothing_in, only_in, part_in}
+use Rattle.general_lemmas.proofs.Membership.{any_in, first_in, in_part, nothing_in, only_in, part_in}
 use Rattle.operations.proofs.JoinedKnowledge.{member_in}
 use Rattle.operations.proofs.VisibleLaws.{visible_from, visible_parts}
 use Rattle.replica.specs.SiteViews.{count_used, greatest, time_used}
@@ -18,20 +18,13 @@ use Rattle.replica.specs.Steps.{SiteKnowledge}
 use Rattle.replica.specs.MadeOperations.{IsAddAt, IsMadeAt, IsWriteAt}
 use Rattle.sites_world.specs.Histories.{IsHistory, IsOf, IsSiteIn, Makes, stamp_of}
 use Rattle.replica.proofs.MadeLimits.{map_in}
+use Rattle.replica.proofs.WrittenChanges.{one_of_greatest}
 use Rattle.sites_world.proofs.Lists.{none_some, one_some}
 use Rattle.sites_world.proofs.Dots.{is-asserted, member_is, older_than}
 use Rattle.sites_world.proofs.Parts.{asserted_part, known_asserted, known_named, known_part, named_part}
 use Rattle.sites_world.proofs.GrownHistories.{IsNewDot, IsNext, makes_pair}
 
 -- ---- numbers that a site has used
-
--- no number of a list is above the greatest
-pub below_greatest : {X : Type 0} (f : X → ℕ) (xs : List X) (x : X) → Contains xs x → f x ≤ greatest f xs
-below_greatest f [] x here = absurd (nothing_in x here)
-below_greatest f (y ∷ ys) x here = elim (cases_in y ys x here) [
-  | inl e ↦ let same = ap f e in omega (arith, same)
-  | inr r ↦ let rest = below_greatest f ys x r in omega (arith, rest)
-]
 
 -- an operation with a stamp of a site is of that site
 pub stamped_of : (site : ℕ) (o : Operation) (stamp : Stamp) → stamp_of o ≡ Some stamp → stamp.site ≡ site → IsOf site o
@@ -70,7 +63,7 @@ module _ (names_of_queues : List (List ℕ)) (sites site : ℕ) (h : Knowledge) 
   stamp_new : (o p : Operation) (time : ℕ) (stamp : Stamp) → Contains h p → stamp_of p ≡ Some stamp → stamp.site ≡ site → greatest (time_used site) s.known < time → stamp.time ≡ time → ⊥
   stamp_new o p time stamp here e is later same =
       let known = own.own p here (stamped_of site p stamp e is) in
-      let used = below_greatest (time_used site) s.known p known in
+      let used = one_of_greatest (time_used site) s.known p known in
       let is_time = stamped_time site p stamp e is in
       omega (arith, used, is_time, later, same)
 
@@ -79,7 +72,7 @@ module _ (names_of_queues : List (List ℕ)) (sites site : ℕ) (h : Knowledge) 
   count-used q is at =
       let w = made.made q is in
       let known = own.own w.add w.is (subst (λ n. IsOf n w.add) at w.at_site) in
-      let used = below_greatest (count_used site) s.known w.add known in
+      let used = one_of_greatest (count_used site) s.known w.add known in
       let is_count = makes_count site w.add q w.makes at in
       omega (arith, used, is_count)
 

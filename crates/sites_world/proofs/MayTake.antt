@@ -32,12 +32,13 @@ use Rattle.replica.specs.Shows.{KnowsNonePast}
 use Rattle.replica.specs.SiteViews.{count_used, greatest, time_used}
 use Rattle.replica.specs.Steps.{SiteKnowledge}
 use Rattle.replica.specs.Taking.{HasDotPast, HasFieldPast, HasStampPast, HasStrangeMember, HasStrangeTotal, HasTotalPast, IsNotMine, IsWrittenPast, SpeaksOfStrangeQueue}
+use Rattle.replica.proofs.WrittenChanges.{one_of_greatest}
 use Rattle.sites_world.specs.Histories.{IsHistory, IsOf, IsPartOf, IsSiteIn, stamp_of}
 use Rattle.sites_world.specs.Telling.{MayBeTaken}
 use Rattle.sites_world.specs.WorldStates.{IsSiteOf}
 use Rattle.sites_world.proofs.Lists.{none_some}
 use Rattle.sites_world.proofs.Dots.{is-asserted}
-use Rattle.sites_world.proofs.MadeHistories.{below_greatest, count-used, stamped_of, stamped_time}
+use Rattle.sites_world.proofs.MadeHistories.{count-used, stamped_of, stamped_time}
 use Rattle.sites_world.proofs.Parts.{IsStamped, asserted_part, both_part, consistent_part, known_asserted, known_part, label_stamped, pause_stamped, penalty_stamped, ring_stamped, set_by}
 
 -- ---- what a delta says, its knowledge says
@@ -106,7 +107,7 @@ module _ (names_of_queues : List (List ℕ)) (sites site : ℕ) (h : Knowledge) 
   time_below : (o : Operation) (stamp : Stamp) → Contains k o → stamp_of o ≡ Some stamp → stamp.site ≡ site → stamp.time ≤ greatest (time_used site) s.known
   time_below o stamp here e is =
       let known = own.own o (part o here) (stamped_of site o stamp e is) in
-      let used = below_greatest (time_used site) s.known o known in
+      let used = one_of_greatest (time_used site) s.known o known in
       let time = stamped_time site o stamp e is in
       omega (arith, used, time)
 

@@ -138,9 +138,9 @@ one_more x ms rest = elim (cases_Bool (set.contains (set.from_list {R = member_c
       | inr later ↦ rest.all m later
     ];
   }
-  | inr fresh ↦ record {
+  | inr unseen ↦ record {
     list = x ∷ rest.list;
-    many = ap (λ n. suc n) rest.many ∙ sym (grown ∙ ap by fresh ∙ omega arith);
+    many = ap (λ n. suc n) rest.many ∙ sym (grown ∙ ap by unseen ∙ omega arith);
     all = λ m here. elim (cases_in x ms m here) [
       | inl e ↦ subst (Contains (x ∷ rest.list)) e (first_in x rest.list)
       | inr later ↦ later_in x rest.list m (rest.all m later)

@@ -50,7 +50,7 @@ pub record IsFrameOf (place : ℕ) (frame : Frame) (entry : Entry) : Type 0 wher
   pub ranges : IsInRanges frame
 
 -- no place of a site's state or of its buffer is retired
-pub record IsFresh (state : SiteState) : Type 0 where
+pub record HasNoneRetired (state : SiteState) : Type 0 where
   pub state_is : state.state.members.retired ≡ 0
   pub pending_is : state.pending.members.retired ≡ 0
 

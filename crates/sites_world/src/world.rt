@@ -6,8 +6,8 @@ ghost use Rattle.replica.specs.Site.{SiteState};
 ghost use Rattle.sites_world.specs.Conditions.{EventsLead, EventLeads};
 ghost use Rattle.sites_world.specs.Outcomes.{changes_nothing};
 ghost use Rattle.sites_world.specs.Worlds.{IsReached, World as world_of_operations, new_world};
-ghost use Rattle.sites_world.specs.WorldStates.{HasHappened, HaveHappened, IsFresh, IsSiteOf};
-ghost use Rattle.sites_world.specs.WorldStates.{IsUnchanged, IsWorld, StandsForWorld};
+ghost use Rattle.sites_world.specs.WorldStates.{HasHappened, HasNoneRetired, HaveHappened};
+ghost use Rattle.sites_world.specs.WorldStates.{IsSiteOf, IsUnchanged, IsWorld, StandsForWorld};
 ghost use Rattle.replica.specs.Steps.{new_site};
 
 use crate::run::{frame_at, happen, run_all};
@@ -48,8 +48,8 @@ fn new_sites(alloc: Global, sites: u16, list: &QueueList) -> Result<Vec<Replica>
     ensures count { IfOk result (λ made. length made.items ≡ sites) }
     ensures each { IfOk result (λ made. (site : ℕ) (state : SiteState)
         → slice_get made.items site ≡ Some state → IsSiteOf list.now site state new_site) }
-    ensures fresh { IfOk result (λ made. (site : ℕ) (state : SiteState)
-        → slice_get made.items site ≡ Some state → IsFresh state) }
+    ensures none_retired { IfOk result (λ made. (site : ℕ) (state : SiteState)
+        → slice_get made.items site ≡ Some state → HasNoneRetired state) }
 {
     let mut made = Vec::new(alloc);
     for number in 0..sites {
@@ -66,8 +66,8 @@ impl World {
     pub fn new(alloc: Global, sites: u16, list: &QueueList) -> Result<World, WorldFault>
         ensures names { IfOk result (λ world. world.names ≡ list.now) }
         ensures count { IfOk result (λ world. length world.sites ≡ sites) }
-        ensures fresh { IfOk result (λ world. (site : ℕ) (state : SiteState)
-            → slice_get world.sites site ≡ Some state → IsFresh state) }
+        ensures none_retired { IfOk result (λ world. (site : ℕ) (state : SiteState)
+            → slice_get world.sites site ≡ Some state → HasNoneRetired state) }
         ensures meaning { IfOk result (λ world. StandsForWorld world (new_world sites)) }
         ensures bad_sites { (result ≡ Err WorldFault.BadSites) ↔ ((sites ≡ 0) ⊎ (SITES < sites)) }
     {
