@@ -7,7 +7,7 @@ ghost use Rattle.member_orset.specs.Gathering.{AreNext, AreOfSite, IsGreatest, I
 use crate::piece::Piece;
 use dots::{Dot, MOST_COUNT, SiteId};
 
-// Given dots, and whether they rise.
+// Given dots, and whether they are several that rise. One alone isn't searched for.
 #[derive(Clone, Copy)]
 pub(crate) struct GivenDots<'a> {
     pub(crate) list: &'a [Dot],
@@ -22,7 +22,7 @@ impl<'a> GivenDots<'a> {
     {
         GivenDots {
             list,
-            rise: list.is_sorted(),
+            rise: list.len() > 1 && list.is_sorted(),
         }
     }
 
