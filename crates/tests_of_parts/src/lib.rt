@@ -1,4 +1,4 @@
-//! Tests of what a site's state is made of, by their public calls: values, arenas, contexts, registers, totals, sets of members and deltas.
+//! Tests of what a site's state is made of, by their public calls: values, arenas, devectors, contexts, registers, totals, sets of members and deltas.
 //! This crate has no code of its own.
 #![tactic(auto)]
 
@@ -10,6 +10,8 @@ mod cell_ids;
 mod contexts;
 #[cfg(test)]
 mod deltas;
+#[cfg(test)]
+mod devectors;
 #[cfg(test)]
 mod member_sets;
 #[cfg(test)]

@@ -1,0 +1,63 @@
+//! Devectors: lists with room at both ends.
+use devector::Devector;
+use std::process::Abort;
+
+// Puts an item in at a place, for which there must be room.
+fn insert(rt: &impl Abort, items: &mut Devector<u32>, place: usize, item: u32) {
+    assert!(rt; place <= items.len() && items.len() < items.room());
+    items.insert(place, item);
+}
+
+// Takes out the item at a place, and asserts what it is.
+fn remove(rt: &impl Abort, items: &mut Devector<u32>, place: usize, want: u32) {
+    assert!(rt; place < items.len());
+    assert_eq!(rt; items.remove(place), want);
+}
+
+// Asserts what the items are, and for how many there is room.
+fn assert_items(rt: &impl Abort, items: &Devector<u32>, want: &[u32], room: usize) {
+    assert!(rt; items.as_slice() == want);
+    assert_eq!(rt; items.room(), room);
+}
+
+// A room of six is filled from both ends and in the middle, and used again from the front on.
+#[test]
+fn items_go_in_and_come_out_at_each_place(rt: HostRuntime) {
+    let mut items: Devector<u32> = Devector::new(rt.alloc());
+    assert!(rt; items.reserve(6).is_ok());
+    for item in [30, 20, 10] {
+        insert(&rt, &mut items, 0, item);
+    }
+    insert(&rt, &mut items, 3, 40);
+    insert(&rt, &mut items, 1, 15);
+    insert(&rt, &mut items, 4, 35);
+    assert_items(&rt, &items, &[10, 15, 20, 30, 35, 40], 6);
+    remove(&rt, &mut items, 1, 15);
+    remove(&rt, &mut items, 3, 35);
+    remove(&rt, &mut items, 0, 10);
+    insert(&rt, &mut items, 3, 50);
+    insert(&rt, &mut items, 4, 60);
+    assert_items(&rt, &items, &[20, 30, 40, 50, 60], 6);
+    assert!(rt; items.len() < items.room());
+    items.push(70);
+    assert_items(&rt, &items, &[20, 30, 40, 50, 60, 70], 6);
+}
+
+// What comes out in front leaves room for what goes in behind, however often.
+#[test]
+fn a_queue_stays_in_its_room(rt: HostRuntime) {
+    let mut items: Devector<u32> = Devector::new(rt.alloc());
+    assert!(rt; items.reserve(4).is_ok());
+    for item in 0..3 {
+        insert(&rt, &mut items, item as usize, item);
+    }
+    for item in 3..1000 {
+        insert(&rt, &mut items, 3, item);
+        remove(&rt, &mut items, 0, item - 3);
+    }
+    assert_items(&rt, &items, &[997, 998, 999], 4);
+    assert!(rt; items.len() < items.room());
+    items.append_slice(&[1000]);
+    let items = Devector::from_vec(items.into_vec());
+    assert_items(&rt, &items, &[997, 998, 999, 1000], 4);
+}
