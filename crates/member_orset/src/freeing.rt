@@ -1,7 +1,6 @@
 //! Cells that are freed, and the lists without their ids.
 ghost use Rattle.std.specs.Prelude.{◌≡◌, ◌≤◌, Bool, filter};
 ghost use Rattle.std.specs.FinMap as map;
-ghost use Rattle.std.specs.Vec.{vec_capacity};
 ghost use Rattle.dots.specs.Values.{Dot as dot_value};
 ghost use Rattle.member_orset.specs.Freed.{AreChosen, AreFreed, with_cells};
 ghost use Rattle.member_orset.specs.PlacedStates.{ArePlaced};
@@ -9,6 +8,7 @@ ghost use Rattle.member_orset.specs.PlacedStates.{ArePlaced};
 use crate::live_dot::LiveDot;
 use crate::placed::Placed;
 use crate::placed_cells::PlacedCells;
+use devector::Devector;
 use dots::Dot;
 use op_arena::{Arena, CellId};
 
@@ -34,9 +34,9 @@ pub(crate) fn free_cells<const LAST: u32, F: Fn(Dot) -> bool>(
 }
 
 // Leaves out the dots that have no cell.
-pub(crate) fn keep_dots<const LAST: u32>(cells: &Arena<LiveDot, LAST>, dots: &mut Vec<Placed>)
+pub(crate) fn keep_dots<const LAST: u32>(cells: &Arena<LiveDot, LAST>, dots: &mut Devector<Placed>)
     ensures kept { dots.new.items ≡ with_cells cells.now.held dots.old.items }
-    ensures capacity { vec_capacity dots.new ≡ vec_capacity dots.old }
+    ensures room { dots.new.room ≡ dots.old.room }
 {
     dots.retain(
         |placed: &Placed| -> bool
@@ -46,10 +46,10 @@ pub(crate) fn keep_dots<const LAST: u32>(cells: &Arena<LiveDot, LAST>, dots: &mu
 }
 
 // Leaves out the ids that have no cell.
-pub(crate) fn keep_ids<const LAST: u32>(cells: &PlacedCells<LAST>, ids: &mut Vec<CellId>)
+pub(crate) fn keep_ids<const LAST: u32>(cells: &PlacedCells<LAST>, ids: &mut Devector<CellId>)
     ensures kept { ids.new.items
         ≡ filter (λ id. map.contains_key cells.now.held id) ids.old.items }
-    ensures capacity { vec_capacity ids.new ≡ vec_capacity ids.old }
+    ensures room { ids.new.room ≡ ids.old.room }
 {
     ids.retain(
         |id: &CellId| -> bool

@@ -20,8 +20,8 @@ use crate::places::LAST_GENERATION;
 use causal_context::{Context, ContextFault, Run};
 use dots::{Dot, MOST_RUNS};
 
-// Up to so many dots come, or die, one by one, since to search a place for each and to move what stands behind it takes less
-// then than to walk all.
+// Up to so many dots come, or die, one by one, since to search a place for each and to move what stands before it or behind
+// it takes less then than to walk all.
 const FEW: usize = 8;
 
 // How many live dots aren't known.

@@ -11,7 +11,6 @@ mod edits;
 mod freeing;
 mod gathered;
 mod given_dots;
-mod insertion;
 mod join_fault;
 mod joining;
 mod known_runs;

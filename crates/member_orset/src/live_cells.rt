@@ -19,7 +19,6 @@ ghost use Rattle.member_orset.specs.PlacedStates.{IsPlaced, cells_of};
 use crate::cells_lent::Cells;
 use crate::dots_lent::Dots;
 use crate::freeing::keep_ids;
-use crate::insertion::put_in;
 use crate::live_dot::LiveDot;
 use crate::member_ids::{copy_members, list_members, merge_members};
 use crate::member_index::MemberIndex;
@@ -30,6 +29,7 @@ use crate::places::LAST_GENERATION;
 use crate::rows_lent::Rows;
 use crate::taken_cells::TakenCells;
 use crate::{Cell, Row};
+use devector::Devector;
 use dots::{Dot, Member, Memory};
 use lww_registers::Fields;
 use op_arena::{ArenaFault, CellId};
@@ -41,7 +41,7 @@ use std::marker::Model;
 pub(crate) struct LiveCells<const LAST: u32> {
     placed: PlacedCells<LAST>,
     // The ids in the order of their cells' members, and then of their dots.
-    members: Vec<CellId>,
+    members: Devector<CellId>,
 }
 
 impl<const LAST: u32> Model for LiveCells<LAST> {
@@ -51,10 +51,9 @@ impl<const LAST: u32> Model for LiveCells<LAST> {
 
     ghost coded = { live_code };
 
-    ghost use Rattle.std.specs.Vec.{vec_capacity};
     ghost use Rattle.member_orset.specs.PlacedStates.{AreIndexed, live_state};
 
-    ghost view = { λ l. live_state l.placed (vec_capacity l.members) };
+    ghost view = { λ l. live_state l.placed l.members.room };
 
     ghost invariant = { λ l. AreIndexed l.placed l.members.items };
 }
@@ -68,7 +67,7 @@ impl<const LAST: u32> LiveCells<LAST> {
     {
         LiveCells {
             placed: PlacedCells::new(alloc),
-            members: Vec::new(alloc),
+            members: Devector::new(alloc),
         }
     }
 
@@ -81,7 +80,10 @@ impl<const LAST: u32> LiveCells<LAST> {
         ensures spent { result.spent ≡ placed.entry.spent }
     {
         list_members(&placed, &mut members);
-        LiveCells { placed, members }
+        LiveCells {
+            placed,
+            members: Devector::from_vec(members),
+        }
     }
 
     // The allocator that it grows with.
@@ -101,7 +103,7 @@ impl<const LAST: u32> LiveCells<LAST> {
     pub(crate) fn room(&self) -> usize
         ensures { result ≡ self.now.room }
     {
-        self.placed.room().min(self.members.capacity())
+        self.placed.room().min(self.members.room())
     }
 
     // How many places aren't used again.
@@ -155,7 +157,7 @@ impl<const LAST: u32> LiveCells<LAST> {
     {
         MemberIndex {
             cells: &self.placed,
-            ids: &self.members,
+            ids: self.members.as_slice(),
         }
     }
 
@@ -201,11 +203,11 @@ impl<const LAST: u32> LiveCells<LAST> {
         };
         let index = MemberIndex {
             cells: &self.placed,
-            ids: &self.members,
+            ids: self.members.as_slice(),
         };
         let listed = index.place_for(&cell);
         let id = self.placed.insert(place, cell);
-        put_in(&mut self.members, listed, id);
+        self.members.insert(listed, id);
         id
     }
 
@@ -222,7 +224,7 @@ impl<const LAST: u32> LiveCells<LAST> {
         };
         let index = MemberIndex {
             cells: &self.placed,
-            ids: &self.members,
+            ids: self.members.as_slice(),
         };
         let listed = index.place_for(self.placed.cell_at(place));
         self.members.remove(listed);
@@ -238,12 +240,10 @@ impl<const LAST: u32> LiveCells<LAST> {
             ≡ option_or (map.get self.old.live q) (map.get others.entry.live q) }
         ensures ids { HaveGrown self.old self.new }
     {
-        let LiveCells {
-            placed,
-            mut members,
-        } = others;
-        self.placed.append(placed, &mut members);
-        merge_members(&self.placed, &mut self.members, &members);
+        let LiveCells { placed, members } = others;
+        let mut ids = members.into_vec();
+        self.placed.append(placed, &mut ids);
+        merge_members(&self.placed, &mut self.members, &ids);
     }
 
     // Lets the dots be live no more that a test passes. Each list of ids is walked once.
@@ -280,9 +280,9 @@ impl<const LAST: u32> LiveCells<LAST> {
         let placed = self.placed.copy()?;
         let index = MemberIndex {
             cells: &self.placed,
-            ids: &self.members,
+            ids: self.members.as_slice(),
         };
-        let members = copy_members(self.allocator(), index, &placed)?;
+        let members = Devector::from_vec(copy_members(self.allocator(), index, &placed)?);
         Ok(LiveCells { placed, members })
     }
 

@@ -1,5 +1,5 @@
 //! The index of members: the ids of the live dots, in the order of their cells' members and then of their dots.
-ghost use Rattle.std.specs.Prelude.{◌≡◌, ◌≤◌, ◌+◌, ◌++◌, [], IfOk, IsSomeAnd, Some, length, vec_len};
+ghost use Rattle.std.specs.Prelude.{◌≡◌, ◌≤◌, ◌+◌, ◌++◌, [], IfOk, IsSomeAnd, Some, length};
 ghost use Rattle.std.specs.FinMap as map;
 ghost use Rattle.std.specs.List.Sorted.{IsPermutation, IsSorted, IsStrictlySortedBy};
 ghost use Rattle.std.specs.Ordering.{is_le};
@@ -10,6 +10,7 @@ ghost use Rattle.member_orset.specs.PlacedStates.{AreHeld, AreIndexed, cells_at,
 
 use crate::member_index::MemberIndex;
 use crate::placed_cells::PlacedCells;
+use devector::Devector;
 use dots::Memory;
 use op_arena::CellId;
 use std::alloc::Global;
@@ -63,30 +64,30 @@ pub(crate) fn list_members<const LAST: u32>(cells: &PlacedCells<LAST>, members: 
 }
 
 // Merges ids that rise by their cells into others that do, in room that is there. It goes from the back, and stops where
-// none of them is left, so that nothing before them is touched.
+// none of them is left, so that nothing before them is read.
 pub(crate) fn merge_members<const LAST: u32>(
     cells: &PlacedCells<LAST>,
-    own: &mut Vec<CellId>,
+    own: &mut Devector<CellId>,
     others: &[CellId],
 )
     requires own { IsStrictlySortedBy (id_order cells.now.held) own.old.items }
     requires others { IsStrictlySortedBy (id_order cells.now.held) others.now }
     requires apart { AreUntied (id_order cells.now.held) own.old.items others.now }
-    requires room { vec_len own.old + length others.now ≤ vec_capacity own.old }
+    requires room { length own.old.items + length others.now ≤ own.old.room }
     ensures same { IsPermutation (own.old.items ++ others.now) own.new.items }
     ensures rises { IsStrictlySortedBy (id_order cells.now.held) own.new.items }
-    ensures capacity { vec_capacity own.old ≤ vec_capacity own.new }
+    ensures room { own.old.room ≤ own.new.room }
 {
-    let mut kept = own.len();
     let mut left = others.len();
-    let _ = own.extend_from_slice(others); // there is room, so that it can't fail
+    own.append_slice(others);
+    let mut end = own.len();
     while left > 0 {
-        let place = kept + left - 1;
-        if kept > 0 && order_of(cells, others[left - 1], own[kept - 1]).is_lt() {
-            own[place] = own[kept - 1];
-            kept -= 1;
+        let kept = end - left;
+        end -= 1;
+        if kept > 0 && order_of(cells, others[left - 1], own.as_slice()[kept - 1]).is_lt() {
+            own.set(end, own.as_slice()[kept - 1]);
         } else {
-            own[place] = others[left - 1];
+            own.set(end, others[left - 1]);
             left -= 1;
         }
     }

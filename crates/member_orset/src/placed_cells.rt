@@ -20,13 +20,13 @@ ghost use Rattle.member_orset.specs.PlacedStates.{AreIndexed, IsPlaced, cells_of
 ghost use Rattle.member_orset.specs.PlacedLists.{id_entries, is_placed};
 
 use crate::freeing::{free_cells, keep_dots};
-use crate::insertion::put_in;
 use crate::live_dot::LiveDot;
 use crate::moving::move_cells;
 use crate::placed::Placed;
 use crate::placed_dots::PlacedDots;
 use crate::placed_lists::merge_dots;
 use crate::taken_cells::TakenCells;
+use devector::Devector;
 use dots::{Dot, Memory};
 use lww_registers::Fields;
 use op_arena::{Arena, ArenaFault, CellId};
@@ -37,7 +37,7 @@ use std::marker::Model;
 // The live dots in their order, each with the id of its cell, and the cells in the arena.
 #[derive(Drop)]
 pub(crate) struct PlacedCells<const LAST: u32> {
-    dots: Vec<Placed>,
+    dots: Devector<Placed>,
     cells: Arena<LiveDot, LAST>,
 }
 
@@ -48,14 +48,13 @@ impl<const LAST: u32> Model for PlacedCells<LAST> {
 
     ghost coded = { placed_code };
 
-    ghost use Rattle.std.specs.Prelude.{◌+◌, min, vec_len};
-    ghost use Rattle.std.specs.Vec.{vec_capacity};
+    ghost use Rattle.std.specs.Prelude.{◌+◌, length, min};
 
     ghost view = { λ p. record {
       dots = p.dots.items;
       held = p.cells.held;
       spent = p.cells.spent;
-      room = min (vec_capacity p.dots) (vec_len p.dots + p.cells.spare);
+      room = min p.dots.room (length p.dots.items + p.cells.spare);
     } };
 
     ghost invariant = { λ p. ArePlaced p.dots.items p.cells.held p.cells.spent };
@@ -86,14 +85,14 @@ impl<const LAST: u32> PlacedCells<LAST> {
         ensures valid { IsPlaced result }
     {
         PlacedCells {
-            dots: Vec::new(alloc),
+            dots: Devector::new(alloc),
             cells: Arena::new(alloc),
         }
     }
 
     // The allocator that it grows with.
     pub(crate) fn allocator(&self) -> Global {
-        *self.dots.allocator()
+        self.dots.allocator()
     }
 
     // How many dots are placed.
@@ -112,7 +111,7 @@ impl<const LAST: u32> PlacedCells<LAST> {
         ensures { result ≡ self.now.room }
     {
         self.dots
-            .capacity()
+            .room()
             .min(self.dots.len() + self.cells.spare() as usize)
     }
 
@@ -128,7 +127,9 @@ impl<const LAST: u32> PlacedCells<LAST> {
         ensures value { result.list.now ≡ self.now.dots }
         ensures valid { IsPlaced self.now }
     {
-        PlacedDots { list: &self.dots }
+        PlacedDots {
+            list: self.dots.as_slice(),
+        }
     }
 
     // The place of a dot, or, where it isn't placed, the place where it would go in.
@@ -153,7 +154,7 @@ impl<const LAST: u32> PlacedCells<LAST> {
         requires { place < length self.now.dots }
         ensures { (p : placed_dot) → result ≡ (slice_index_or self.now.dots place p).id }
     {
-        self.dots[place].id
+        self.dots.as_slice()[place].id
     }
 
     // The cell at a place.
@@ -161,7 +162,7 @@ impl<const LAST: u32> PlacedCells<LAST> {
         requires { place < length self.now.dots }
         ensures { (d : live_dot) → result.now ≡ slice_index_or (cells_of self.now) place d }
     {
-        self.cells.get(self.dots[place].id).unwrap()
+        self.cells.get(self.dots.as_slice()[place].id).unwrap()
     }
 
     // The cell of an id, where it has one.
@@ -211,7 +212,7 @@ impl<const LAST: u32> PlacedCells<LAST> {
     {
         let dot = cell.dot;
         let id = self.cells.place(cell);
-        put_in(&mut self.dots, place, Placed { dot, id });
+        self.dots.insert(place, Placed { dot, id });
         id
     }
 
@@ -244,7 +245,7 @@ impl<const LAST: u32> PlacedCells<LAST> {
         ensures room { self.old.room + length self.new.dots ≤ self.new.room + length self.old.dots }
         ensures valid { IsPlaced self.new }
     {
-        free_cells(&mut self.cells, &self.dots, dies);
+        free_cells(&mut self.cells, self.dots.as_slice(), dies);
         keep_dots(&self.cells, &mut self.dots);
     }
 
@@ -264,7 +265,7 @@ impl<const LAST: u32> PlacedCells<LAST> {
         ensures room { self.new.room ≡ self.old.room }
         ensures valid { IsPlaced self.new }
     {
-        let id = self.dots[place].id;
+        let id = self.dots.as_slice()[place].id;
         join_held(&mut self.cells, id, fields);
     }
 
@@ -298,10 +299,8 @@ impl<const LAST: u32> PlacedCells<LAST> {
         ensures room { self.old.room ≤ self.new.room }
         ensures valid { IsPlaced self.new }
     {
-        let PlacedCells {
-            mut dots,
-            mut cells,
-        } = others;
+        let PlacedCells { dots, mut cells } = others;
+        let mut dots = dots.into_vec();
         move_cells(&mut self.cells, &mut cells, members, &mut dots);
         dots.sort_unstable_by_key(|placed| placed.dot);
         merge_dots(&mut self.dots, &dots);
@@ -313,7 +312,7 @@ impl<const LAST: u32> PlacedCells<LAST> {
     {
         let PlacedCells { dots, cells } = self;
         TakenCells {
-            dots: VecDeque::from_vec(dots),
+            dots: VecDeque::from_vec(dots.into_vec()),
             cells,
         }
     }

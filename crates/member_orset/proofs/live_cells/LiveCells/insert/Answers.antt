@@ -1,6 +1,5 @@
-use Rattle.std.proofs.Common.{◌≡◌, ◌≤◌, length, min, vec_len, lit<, rules, arith, sym, ap, subst, ◌∙◌}
+use Rattle.std.proofs.Common.{◌≡◌, ◌≤◌, length, min, lit<, arith, sym, ap, subst, ◌∙◌}
 use Rattle.std.specs.FinMap as map
-use Rattle.std.specs.Vec.{vec_capacity}
 use Rattle.member_orset.specs.CellIds.{IsNew}
 use Rattle.member_orset.specs.Index.{IsPlaceFor, listing}
 use Rattle.member_orset.specs.PlacedStates.{AreIndexed, listed_at}
@@ -21,36 +20,34 @@ pub insert-id-requires : goal.insert-id-requires
 insert-id-requires g c =
     let s = c.self.inside.placed in
     let count : length s.dots ≡ map.len c.args.self.now.live = sym (len_live s.dots s.held s.spent c.self.invariant.placed) ∙ ap (λ x. map.len x.live) c.self.view_is in
-    let room : min s.room (vec_capacity c.self.inside.members) ≡ c.args.self.now.room = ap (λ x. x.room) c.self.view_is in
+    let room : min s.room c.self.inside.members.room ≡ c.args.self.now.room = ap (λ x. x.room) c.self.view_is in
     (lit< tt, (c.in-Err.ensures.missed, omega (arith, count, room, c.requires.room)))
 
 pub invariant_of-index : goal.invariant_of-index
-invariant_of-index g c = record { indexed = subst (AreIndexed c.self.inside.placed) (sym c.deref.ensures.value) c.self.invariant }
+invariant_of-index g c = record { indexed = subst (AreIndexed c.self.inside.placed) (sym c.as_slice.ensures) c.self.invariant }
 
-pub put_in-requires-clause-within : goal.put_in-requires-clause-within
-put_in-requires-clause-within g c =
+pub insert-requires-clause-within : goal.insert-requires-clause-within
+insert-requires-clause-within g c =
     let s = c.self.inside.placed in
     let ids = c.self.inside.members.items in
-    let at = subst (λ xs. IsPlaceFor (listed_at s.held xs) (listing c.args.cell) c.place_for-listed.result) c.deref.ensures.value c.place_for-listed.ensures in
+    let at = subst (λ xs. IsPlaceFor (listed_at s.held xs) (listing c.args.cell) c.place_for-listed.result) c.as_slice.ensures c.place_for-listed.ensures in
     let within : c.place_for-listed.result ≤ length (listed_at s.held ids) = at.within in
-    let len : vec_len c.self.inside.members ≡ length ids = search rules in
-    omega (arith, within, len, as_long s.held ids c.self.invariant.held)
+    omega (arith, within, as_long s.held ids c.self.invariant.held)
 
-pub put_in-requires-clause-room : goal.put_in-requires-clause-room
-put_in-requires-clause-room g c =
+pub insert-requires-clause-room : goal.insert-requires-clause-room
+insert-requires-clause-room g c =
     let s = c.self.inside.placed in
     let count : length s.dots ≡ map.len c.args.self.now.live = sym (len_live s.dots s.held s.spent c.self.invariant.placed) ∙ ap (λ x. map.len x.live) c.self.view_is in
-    let room : min s.room (vec_capacity c.self.inside.members) ≡ c.args.self.now.room = ap (λ x. x.room) c.self.view_is in
-    let len : vec_len c.self.inside.members ≡ length c.self.inside.members.items = search rules in
-    omega (arith, count, room, len, members_count s c.self.inside.members.items c.self.invariant, c.requires.room)
+    let room : min s.room c.self.inside.members.room ≡ c.args.self.now.room = ap (λ x. x.room) c.self.view_is in
+    omega (arith, count, room, members_count s c.self.inside.members.items c.self.invariant, c.requires.room)
 
 pub invariant_of-self : goal.invariant_of-self
 invariant_of-self g c =
     let s = c.self.inside.placed in
     let t = c.insert-id.new.self in
     let ids = c.self.inside.members.items in
-    let at = subst (λ xs. IsPlaceFor (listed_at s.held xs) (listing c.args.cell) c.place_for-listed.result) c.deref.ensures.value c.place_for-listed.ensures in
-    subst (AreIndexed t) (sym c.put_in.ensures.items)
+    let at = subst (λ xs. IsPlaceFor (listed_at s.held xs) (listing c.args.cell) c.place_for-listed.result) c.as_slice.ensures c.place_for-listed.ensures in
+    subst (AreIndexed t) (sym c.insert.ensures.items)
     (indexed_more s t ids c.self.invariant c.in-Err.place c.args.cell c.insert-id.result c.in-Err.ensures.missed c.insert-id.ensures.free c.insert-id.ensures.held c.place_for-listed.result c.insert-id.ensures.cells c.insert-id.ensures.valid at)
 
 pub returns-clause-live : goal.returns-clause-live

@@ -1,6 +1,5 @@
-use Rattle.std.proofs.Common.{◌≡◌, ◌+◌, ◌<◌, ◌≤◌, length, min, vec_len, lit<, rules, arith, sym, ap, subst, ◌∙◌}
+use Rattle.std.proofs.Common.{◌≡◌, ◌+◌, ◌<◌, ◌≤◌, length, min, lit<, arith, sym, ap, subst, ◌∙◌}
 use Rattle.std.specs.FinMap as map
-use Rattle.std.specs.Vec.{vec_capacity}
 use Rattle.std.proofs.lemmas.List.Edits.{length-remove}
 use Rattle.op_arena.specs.Ids.{id_of}
 use Rattle.dots.specs.Orders.{dot_cmp}
@@ -35,7 +34,7 @@ returns-in_default-clause-spent g c =
     (ap (λ o. spent_with o s.spent) (sym (no_id s.dots s.held s.spent c.self.invariant.placed c.args.dot c.in_default.field-0 c.in_default.ensures.missed)))
 
 pub invariant_of-index : goal.invariant_of-index
-invariant_of-index g c = record { indexed = subst (AreIndexed c.self.inside.placed) (sym c.deref.ensures.value) c.self.invariant }
+invariant_of-index g c = record { indexed = subst (AreIndexed c.self.inside.placed) (sym c.as_slice.ensures) c.self.invariant }
 
 pub cell_at-requires : goal.cell_at-requires
 cell_at-requires g c =
@@ -48,11 +47,10 @@ remove-requires g c =
     let ids = c.self.inside.members.items in
     let none : Placed = record { dot = c.args.dot; id = id_of 0 0 } in
     let own = cell s ids c.self.invariant c.args.dot c.in-Ok.place none c.in-Ok.ensures.found in
-    let is = subst (λ x. IsPlaceFor (listed_at s.held c.deref.result.now) (listing x) c.place_for-listed.result) (c.cell_at.ensures (no_cell c.args.dot)) c.place_for-listed.ensures in
-    let at = subst (λ xs. IsPlaceFor (listed_at s.held xs) (listing own) c.place_for-listed.result) c.deref.ensures.value is in
+    let is = subst (λ x. IsPlaceFor (listed_at s.held c.as_slice.result.now) (listing x) c.place_for-listed.result) (c.cell_at.ensures (no_cell c.args.dot)) c.place_for-listed.ensures in
+    let at = subst (λ xs. IsPlaceFor (listed_at s.held xs) (listing own) c.place_for-listed.result) c.as_slice.ensures is in
     let inside : c.place_for-listed.result < length ids = stands_in s ids c.self.invariant c.args.dot c.in-Ok.place none c.in-Ok.ensures.found c.place_for-listed.result at in
-    let len : vec_len c.self.inside.members ≡ length ids = search rules in
-    omega (arith, inside, len)
+    inside
 
 pub remove-requires-2 : goal.remove-requires-2
 remove-requires-2 g c =
@@ -66,8 +64,8 @@ invariant_of-self g c =
     let ids = c.self.inside.members.items in
     let none : Placed = record { dot = c.args.dot; id = id_of 0 0 } in
     let own = cell s ids c.self.invariant c.args.dot c.in-Ok.place none c.in-Ok.ensures.found in
-    let is = subst (λ x. IsPlaceFor (listed_at s.held c.deref.result.now) (listing x) c.place_for-listed.result) (c.cell_at.ensures (no_cell c.args.dot)) c.place_for-listed.ensures in
-    let at = subst (λ xs. IsPlaceFor (listed_at s.held xs) (listing own) c.place_for-listed.result) c.deref.ensures.value is in
+    let is = subst (λ x. IsPlaceFor (listed_at s.held c.as_slice.result.now) (listing x) c.place_for-listed.result) (c.cell_at.ensures (no_cell c.args.dot)) c.place_for-listed.ensures in
+    let at = subst (λ xs. IsPlaceFor (listed_at s.held xs) (listing own) c.place_for-listed.result) c.as_slice.ensures is in
     subst (AreIndexed t) (sym c.remove.ensures.items)
     (indexed_less s ids c.self.invariant c.args.dot c.in-Ok.place none c.in-Ok.ensures.found c.place_for-listed.result at t (c.remove-2.ensures.held none) c.remove-2.ensures.cells c.remove-2.ensures.valid)
 
@@ -97,7 +95,7 @@ returns-clause-room g c =
     let count : length s.dots ≡ map.len c.args.self.now.live = sym (len_live s.dots s.held s.spent c.self.invariant.placed) ∙ ap (λ x. map.len x.live) c.self.view_is in
     let after : map.len (live_of (cells_of t)) ≡ length t.dots = len_live t.dots t.held t.spent c.remove-2.ensures.valid in
     let less : length t.dots + 1 ≡ length s.dots = ap (λ ds. length ds + 1) c.remove-2.ensures.dots ∙ length-remove s.dots c.in-Ok.place (within_dots s.dots s.held s.spent c.self.invariant.placed c.args.dot c.in-Ok.place c.in-Ok.ensures.found) in
-    let room : min s.room (vec_capacity c.self.inside.members) ≡ c.args.self.now.room = ap (λ x. x.room) c.self.view_is in
-    let kept : vec_capacity c.remove.new.self ≡ vec_capacity c.self.inside.members = c.remove.ensures.capacity in
+    let room : min s.room c.self.inside.members.room ≡ c.args.self.now.room = ap (λ x. x.room) c.self.view_is in
+    let kept : c.remove.new.self.room ≡ c.self.inside.members.room = c.remove.ensures.room in
     let own : s.room ≤ t.room + 1 = c.remove-2.ensures.room in
     omega (arith, count, after, less, room, kept, own)

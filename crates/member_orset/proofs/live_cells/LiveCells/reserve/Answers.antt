@@ -1,7 +1,6 @@
-use Rattle.std.proofs.Common.{◌≡◌, ◌+◌, ◌≤◌, ◌<◌, true, length, min, vec_len, is_ok, rules, arith, sym, ap, subst, ◌∙◌}
+use Rattle.std.proofs.Common.{◌≡◌, ◌+◌, ◌≤◌, ◌<◌, true, length, min, is_ok, arith, sym, ap, subst, ◌∙◌}
 use Rattle.std.specs.Prelude.{OnOk}
 use Rattle.std.specs.FinMap as map
-use Rattle.std.specs.Vec.{vec_capacity}
 use Rattle.std.proofs.lemmas.Result.{err_from_is_err_and}
 use Rattle.member_orset.specs.CellIds.{retired_of}
 use Rattle.member_orset.specs.Members.{most_places}
@@ -23,7 +22,7 @@ pub returns-in_err-reserve-clause-had_room : goal.returns-in_err-reserve-clause-
 returns-in_err-reserve-clause-had_room g c h =
     let s = c.self.inside.placed in
     let count : length s.dots ≡ map.len c.args.self.now.live = sym (len_live s.dots s.held s.spent c.self.invariant.placed) ∙ ap (λ x. map.len x.live) c.self.view_is in
-    let room : min s.room (vec_capacity c.self.inside.members) ≡ c.args.self.now.room = ap (λ x. x.room) c.self.view_is in
+    let room : min s.room c.self.inside.members.room ≡ c.args.self.now.room = ap (λ x. x.room) c.self.view_is in
     let ok : is_ok c.reserve.result ≡ true = c.reserve.ensures.had_room (omega (arith, h, count, room)) in
     let no = sym (ap is_ok c.in_err-reserve.was) ∙ ok in
     absurd (cc)
@@ -32,11 +31,10 @@ pub returns-clause-room : goal.returns-clause-room
 returns-clause-room g c =
     let s = c.self.inside.placed in
     let count : length s.dots ≡ map.len c.args.self.now.live = sym (len_live s.dots s.held s.spent c.self.invariant.placed) ∙ ap (λ x. map.len x.live) c.self.view_is in
-    let len : vec_len c.self.inside.members ≡ length c.self.inside.members.items = search rules in
     elim c.match-reserve.branch [
-      | in-Ok w ↦ subst (λ r. OnOk r (map.len c.args.self.now.live + c.args.more ≤ min c.reserve.new.self.room (vec_capacity c.reserve-2.new.self))) (sym w.result-is)
-          (omega (arith, count, len, members_count s c.self.inside.members.items c.self.invariant, c.in_ok-reserve.ensures.room, w.in-Ok.ensures.ok, c.reserve-2.ensures.len))
-      | in-Err w ↦ subst (λ r. OnOk r (map.len c.args.self.now.live + c.args.more ≤ min c.reserve.new.self.room (vec_capacity c.reserve-2.new.self))) (sym w.result-is) tt
+      | in-Ok w ↦ subst (λ r. OnOk r (map.len c.args.self.now.live + c.args.more ≤ min c.reserve.new.self.room c.reserve-2.new.self.room)) (sym w.result-is)
+          (omega (arith, count, members_count s c.self.inside.members.items c.self.invariant, c.in_ok-reserve.ensures.room, w.in-Ok.ensures.room))
+      | in-Err w ↦ subst (λ r. OnOk r (map.len c.args.self.now.live + c.args.more ≤ min c.reserve.new.self.room c.reserve-2.new.self.room)) (sym w.result-is) tt
     ]
 
 pub returns-clause-full : goal.returns-clause-full
@@ -52,9 +50,8 @@ pub returns-clause-had_room : goal.returns-clause-had_room
 returns-clause-had_room g c h =
     let s = c.self.inside.placed in
     let count : length s.dots ≡ map.len c.args.self.now.live = sym (len_live s.dots s.held s.spent c.self.invariant.placed) ∙ ap (λ x. map.len x.live) c.self.view_is in
-    let room : min s.room (vec_capacity c.self.inside.members) ≡ c.args.self.now.room = ap (λ x. x.room) c.self.view_is in
-    let len : vec_len c.self.inside.members ≡ length c.self.inside.members.items = search rules in
-    let ok : is_ok c.reserve-2.result ≡ true = c.reserve-2.ensures.succeeds (omega (arith, h, count, room, len, members_count s c.self.inside.members.items c.self.invariant)) in
+    let room : min s.room c.self.inside.members.room ≡ c.args.self.now.room = ap (λ x. x.room) c.self.view_is in
+    let ok : is_ok c.reserve-2.result ≡ true = c.reserve-2.ensures.had_room (omega (arith, h, count, room, members_count s c.self.inside.members.items c.self.invariant)) in
     elim c.match-reserve.branch [
       | in-Ok w ↦ ap is_ok w.result-is
       | in-Err w ↦ absurd (let no = sym (ap is_ok w.in-Err.is) ∙ ok in cc)

@@ -1,6 +1,5 @@
 use Rattle.std.proofs.Common.{◌≡◌, ◌+◌, ◌≤◌, length, min, sym, ap, subst, arith}
 use Rattle.std.specs.FinMap as map
-use Rattle.std.specs.Vec.{vec_capacity}
 use Rattle.std.proofs.lemmas.List.Sums.{count_by-le-length, length-filter}
 use Rattle.member_orset.specs.declared.placed.Placed.{Placed}
 use Rattle.member_orset.specs.Joining.{IsThinned}
@@ -20,10 +19,10 @@ returns-clause-thinned g c test computes =
     let u = c.thin.new.self in
     let p = λ (q : Placed). map.contains_key u.held q.id in
     let fewer : length u.dots ≤ length s.dots = omega (arith, ap length c.thin.ensures.dots, length-filter p s.dots, count_by-le-length p s.dots) in
-    let room : min s.room (vec_capacity c.self.inside.members) + length u.dots ≤ min u.room (vec_capacity c.keep_ids.new.ids) + length s.dots =
-    omega (arith, c.thin.ensures.room, c.keep_ids.ensures.capacity, fewer) in
-    subst (λ l. IsThinned test l (live_state u (vec_capacity c.keep_ids.new.ids))) c.self.view_is
-    (thinned_once s c.self.inside.members.items c.self.invariant u c.thin.ensures.freed c.thin.ensures.valid test (c.thin.ensures.chosen test computes) (vec_capacity c.self.inside.members) (vec_capacity c.keep_ids.new.ids) room)
+    let room : min s.room c.self.inside.members.room + length u.dots ≤ min u.room c.keep_ids.new.ids.room + length s.dots =
+    omega (arith, c.thin.ensures.room, c.keep_ids.ensures.room, fewer) in
+    subst (λ l. IsThinned test l (live_state u c.keep_ids.new.ids.room)) c.self.view_is
+    (thinned_once s c.self.inside.members.items c.self.invariant u c.thin.ensures.freed c.thin.ensures.valid test (c.thin.ensures.chosen test computes) c.self.inside.members.room c.keep_ids.new.ids.room room)
 
 pub returns-clause-few : goal.returns-clause-few
 returns-clause-few g c =

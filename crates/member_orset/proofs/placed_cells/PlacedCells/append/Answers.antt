@@ -1,7 +1,6 @@
-use Rattle.std.proofs.Common.{◌≡◌, ◌+◌, ◌++◌, length, lit<, min, rules, of_calls, vec_len, sym, ap, subst, ◌∙◌, arith}
+use Rattle.std.proofs.Common.{◌≡◌, ◌+◌, ◌++◌, length, lit<, min, rules, of_calls, sym, ap, subst, ◌∙◌, arith}
 use Rattle.std.specs.FinMap as map
 use Rattle.std.specs.List.Sorted.{IsPermutation, IsStrictlySortedBy}
-use Rattle.std.specs.Vec.{vec_capacity}
 use Rattle.std.proofs.lemmas.Fn.{always_returns_same}
 use Rattle.std.proofs.lemmas.List.{length-append}
 use Rattle.std.proofs.lemmas.List.Sorted.{length_permutation}
@@ -20,8 +19,7 @@ move_cells-requires g c =
     let own = ap (λ s. s.room) c.self.view_is in
     let dots = ap (λ s. length s.dots) c.self.view_is in
     let theirs = ap (λ s. length s.dots) c.others.view_is in
-    let len : vec_len c.self.inside.dots ≡ length c.self.inside.dots.items = search rules in
-    (lit< tt, (x.held, (ids_differ c.others.inside.cells.held c.args.members.now.items x.held x.index.rises, (sym many, omega (arith, many, own, dots, theirs, len, c.requires.room)))))
+    (lit< tt, (x.held, (ids_differ c.others.inside.cells.held c.args.members.now.items x.held x.index.rises, (ap length c.into_vec-dots.ensures.items ∙ sym many, omega (arith, many, own, dots, theirs, c.requires.room)))))
 
 pub merge_dots-requires-clause-own : goal.merge_dots-requires-clause-own
 merge_dots-requires-clause-own g c = sorted_rise c.self.inside.dots.items c.self.invariant.sorted
@@ -53,8 +51,7 @@ merge_dots-requires-clause-room g c =
     let ids = c.args.members.now.items in
     let s = c.self.inside in
     let x = subst (λ o. AreIndexed o ids) (sym c.others.view_is) c.requires.index in
-    let room : min (vec_capacity s.dots) (vec_len s.dots + s.cells.spare) ≡ c.args.self.now.room = ap (λ s. s.room) c.self.view_is in
-    let len : vec_len s.dots ≡ length s.dots.items = search rules in
+    let room : min s.dots.room (length s.dots.items + s.cells.spare) ≡ c.args.self.now.room = ap (λ s. s.room) c.self.view_is in
     let dots = ap (λ s. length s.dots) c.self.view_is in
     let theirs = ap (λ s. length s.dots) c.others.view_is in
     let sorted : length c.deref.result.now ≡ length c.sort_unstable_by_key.new.self.items = ap length c.deref.ensures.value in
@@ -62,7 +59,7 @@ merge_dots-requires-clause-room g c =
     let fresh : length c.move_cells.new.dots.items ≡ length ids =
     as_many_fresh o.dots.items o.cells.held o.cells.spent c.others.invariant ids x.held (ids_differ o.cells.held ids x.held x.index.rises) s.cells.held s.cells.spent c.move_cells.new.cells.held c.move_cells.new.dots.items
     c.move_cells.new.ids.items c.move_cells.ensures.moved in
-    omega (arith, room, len, dots, theirs, sorted, many, fresh, members_count _ ids x, c.requires.room)
+    omega (arith, room, dots, theirs, sorted, many, fresh, members_count _ ids x, c.requires.room)
 
 pub invariant_of-self : goal.invariant_of-self
 invariant_of-self g c =
@@ -84,9 +81,7 @@ returns-clause-room g c =
     let ids = c.args.members.now.items in
     let s = c.self.inside in
     let x = subst (λ o. AreIndexed o ids) (sym c.others.view_is) c.requires.index in
-    let room : min (vec_capacity s.dots) (vec_len s.dots + s.cells.spare) ≡ c.args.self.now.room = ap (λ s. s.room) c.self.view_is in
-    let len : vec_len s.dots ≡ length s.dots.items = search rules in
-    let now : vec_len c.merge_dots.new.own ≡ length c.merge_dots.new.own.items = search rules in
+    let room : min s.dots.room (length s.dots.items + s.cells.spare) ≡ c.args.self.now.room = ap (λ s. s.room) c.self.view_is in
     let all = length_permutation (s.dots.items ++ c.deref.result.now) c.merge_dots.new.own.items c.merge_dots.ensures.same in
     let both = length-append s.dots.items c.deref.result.now in
     let sorted : length c.deref.result.now ≡ length c.sort_unstable_by_key.new.self.items = ap length c.deref.ensures.value in
@@ -94,7 +89,7 @@ returns-clause-room g c =
     let fresh : length c.move_cells.new.dots.items ≡ length ids =
     as_many_fresh o.dots.items o.cells.held o.cells.spent c.others.invariant ids x.held (ids_differ o.cells.held ids x.held x.index.rises) s.cells.held s.cells.spent c.move_cells.new.cells.held c.move_cells.new.dots.items
     c.move_cells.new.ids.items c.move_cells.ensures.moved in
-    omega (arith, room, len, now, all, both, sorted, many, fresh, c.move_cells.ensures.spare, c.merge_dots.ensures.capacity)
+    omega (arith, room, all, both, sorted, many, fresh, c.move_cells.ensures.spare, c.merge_dots.ensures.room)
 
 pub returns-clause-valid : goal.returns-clause-valid
 returns-clause-valid g c = invariant_of-self g c

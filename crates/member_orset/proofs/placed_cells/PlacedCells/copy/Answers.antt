@@ -1,4 +1,4 @@
-use Rattle.std.proofs.Common.{◌≡◌, ℕ, ◌+◌, ◌≤◌, ◌<◌, List, [], ◌∷◌, ◌++◌, length, get_or, take, vec_len, lit<, rules, arith, sym, ap, subst, ◌∙◌}
+use Rattle.std.proofs.Common.{◌≡◌, ℕ, ◌+◌, ◌≤◌, ◌<◌, List, [], ◌∷◌, ◌++◌, length, get_or, take, lit<, arith, sym, ap, subst, ◌∙◌}
 use Rattle.std.specs.List.{insert}
 use Rattle.std.specs.Ordering.{is_lt}
 use Rattle.std.proofs.lemmas.List.{get_or-take, length-take-le, take_all, take_more}
@@ -36,9 +36,8 @@ insert-requires g c =
     let v = c.loop-place.invariant in
     let i = c.loop-place.place in
     let cell = c.copy-in-loop-place.result in
-    let len : vec_len c.self.inside.dots ≡ length c.self.inside.dots.items = search rules in
     let dots : length c.self.inside.dots.items ≡ length s.dots = ap (λ x. length x.dots) c.self.view_is in
-    let inside : i < length s.dots = omega (arith, len, dots, c.loop-place-test.true, c.len-place-end.ensures) in
+    let inside : i < length s.dots = omega (arith, dots, c.loop-place-test.true, c.len-place-end.ensures.value) in
     let long : length (cells_of s) ≡ length s.dots = as_long s.dots s.held v.own.there in
     let within : i < length (cells_of s) = omega (arith, inside, long) in
     let is : cell ≡ get_or (cells_of s) i cell = c.copy-in-loop-place.ensures ∙ c.cell_at.ensures cell in
@@ -51,9 +50,8 @@ loop-place-preserved g c =
     let v = c.loop-place.invariant in
     let i = c.loop-place.place in
     let cell = c.copy-in-loop-place.result in
-    let len : vec_len c.self.inside.dots ≡ length c.self.inside.dots.items = search rules in
     let dots : length c.self.inside.dots.items ≡ length s.dots = ap (λ x. length x.dots) c.self.view_is in
-    let within : i < length (cells_of s) = omega (arith, len, dots, c.loop-place-test.true, c.len-place-end.ensures, as_long s.dots s.held v.own.there) in
+    let within : i < length (cells_of s) = omega (arith, dots, c.loop-place-test.true, c.len-place-end.ensures.value, as_long s.dots s.held v.own.there) in
     let is : cell ≡ get_or (cells_of s) i cell = c.copy-in-loop-place.ensures ∙ c.cell_at.ensures cell in
     let room : length s.dots ≤ c.insert.new.self.room = omega (arith, v.room, c.insert.ensures.room) in
     record {
@@ -68,6 +66,5 @@ pub returns-clause-cells : goal.returns-clause-cells
 returns-clause-cells g c =
     let s = c.args.self.now in
     let v = c.loop-place.invariant in
-    let len : vec_len c.self.inside.dots ≡ length c.self.inside.dots.items = search rules in
     let dots : length c.self.inside.dots.items ≡ length s.dots = ap (λ x. length x.dots) c.self.view_is in
-    v.cells ∙ take_all c.loop-place.place (cells_of s) (omega (arith, len, dots, c.loop-place-test.false, c.len-place-end.ensures, as_long s.dots s.held v.own.there))
+    v.cells ∙ take_all c.loop-place.place (cells_of s) (omega (arith, dots, c.loop-place-test.false, c.len-place-end.ensures.value, as_long s.dots s.held v.own.there))

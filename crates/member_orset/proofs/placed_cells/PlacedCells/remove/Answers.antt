@@ -12,8 +12,8 @@ invariant_of-self g c =
     let s = c.self.inside in
     let e = c.remove-placed.result in
     let within : c.args.place < length s.dots.items = subst (λ x. c.args.place < length x.dots) (sym c.self.view_is) c.requires in
-    same_placed _ _ _ _ _ _ c.remove-placed.ensures.items (c.take.ensures.held ∙ ap (λ p. map.remove s.cells.held p.id) c.remove-placed.ensures.value)
-    (c.take.ensures.spent ∙ ap (λ o. cond (is_some o) (set.insert s.cells.spent e.id) s.cells.spent) c.unwrap.ensures ∙ ap (λ p. set.insert s.cells.spent p.id) c.remove-placed.ensures.value)
+    same_placed _ _ _ _ _ _ c.remove-placed.ensures.items (c.take.ensures.held ∙ ap (λ p. map.remove s.cells.held p.id) (c.remove-placed.ensures.value e))
+    (c.take.ensures.spent ∙ ap (λ o. cond (is_some o) (set.insert s.cells.spent e.id) s.cells.spent) c.unwrap.ensures ∙ ap (λ p. set.insert s.cells.spent p.id) (c.remove-placed.ensures.value e))
     (less_placed s.dots.items s.cells.held s.cells.spent c.self.invariant c.args.place e within)
 
 pub returns-clause-value : goal.returns-clause-value
@@ -21,7 +21,7 @@ returns-clause-value g c d =
     let s = c.self.inside in
     let e = c.remove-placed.result in
     let within : c.args.place < length s.dots.items = subst (λ x. c.args.place < length x.dots) (sym c.self.view_is) c.requires in
-    same_some _ _ (sym c.unwrap.ensures ∙ c.take.ensures.value ∙ ap (λ p. map.get s.cells.held p.id) c.remove-placed.ensures.value ∙ cell_there s.dots.items s.cells.held c.self.invariant.there c.args.place e d within)
+    same_some _ _ (sym c.unwrap.ensures ∙ c.take.ensures.value ∙ ap (λ p. map.get s.cells.held p.id) (c.remove-placed.ensures.value e) ∙ cell_there s.dots.items s.cells.held c.self.invariant.there c.args.place e d within)
     ∙ ap (λ x. get_or (cells_of x) c.args.place d) c.self.view_is
 
 pub returns-clause-cells : goal.returns-clause-cells
@@ -29,7 +29,7 @@ returns-clause-cells g c =
     let s = c.self.inside in
     let e = c.remove-placed.result in
     let within : c.args.place < length s.dots.items = subst (λ x. c.args.place < length x.dots) (sym c.self.view_is) c.requires in
-    (λ k. cells_at ((c.take.ensures.held ∙ ap (λ p. map.remove s.cells.held p.id) c.remove-placed.ensures.value) k) (ids_of (c.remove-placed.ensures.items k)))
+    (λ k. cells_at ((c.take.ensures.held ∙ ap (λ p. map.remove s.cells.held p.id) (c.remove-placed.ensures.value e)) k) (ids_of (c.remove-placed.ensures.items k)))
     ∙ less_cells s.dots.items s.cells.held s.cells.spent c.self.invariant c.args.place e within
     ∙ ap (λ x. remove (cells_of x) c.args.place) c.self.view_is
 
