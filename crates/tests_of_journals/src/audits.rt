@@ -1,54 +1,27 @@
 //! Audits of journals: the list of events that they are, or why there is none.
-use crate::asks::{SALES, add, frame_of, list, request, status};
+use crate::asks::{
+    SALES, add, called, cut, frame, journal, journal_of, knows, list, shown, status, take,
+};
 use crate::frames::{ADDED, OLD_ADDED};
-use dots::Bytes;
 use site_audit::{AuditFault, Event, audit};
 use site_journal::Journaled;
 use sites_world::World;
-use status_report::report;
 use std::alloc::Global;
 use std::process::Abort;
 
-// The queue of sites that are of another list.
-const OTHER: &[u8] = b"other";
-
-// The journal of a site that knows nothing, of the queue of this name.
-fn journal(rt: &impl Abort, alloc: Global, site: u16, queue: &[u8]) -> Journaled {
-    crate::asks::journal(rt, alloc, site, queue, 20)
-}
-
 // Adds a member, and gives the frame of all that is in the buffer then.
-fn added(rt: &impl Abort, journal: &mut Journaled, interface: &[u8]) -> Bytes {
+fn added(rt: &impl Abort, journal: &mut Journaled, interface: &[u8]) -> Vec<u8> {
     let asked = add(rt, interface);
-    assert!(rt; journal.call(0, &asked).is_ok());
+    drop(called(rt, journal, 0, &asked));
     drop(asked);
-    frame_of(rt, journal.cut(0).ok().expect(rt, "a step"))
+    frame(rt, journal, 0)
 }
 
 // Asks for a status.
 fn ask_status(rt: &impl Abort, alloc: Global, journal: &mut Journaled) {
     let asked = status(alloc);
-    assert!(rt; journal.call(0, &asked).is_ok());
+    drop(called(rt, journal, 0, &asked));
     drop(asked);
-}
-
-// Lets a site take a frame.
-fn take(rt: &impl Abort, journal: &mut Journaled, bytes: Vec<u8>) {
-    assert!(rt; journal.take(0, bytes).is_ok());
-}
-
-// Lets a site take a frame that others take too.
-fn take_copy(rt: &impl Abort, journal: &mut Journaled, frame: &Bytes) {
-    take(rt, journal, frame.copy().expect(rt, "memory").into_vec());
-}
-
-// Changes a byte of a frame, which was this before.
-fn changed(rt: &impl Abort, frame: Bytes, place: usize, was: u8, byte: u8) -> Vec<u8> {
-    let mut bytes = frame.into_vec();
-    assert!(rt; place < bytes.len());
-    assert!(rt; bytes[place] == was);
-    bytes[place] = byte;
-    bytes
 }
 
 // Asserts that an audit of two journals finds this fault.
@@ -65,84 +38,90 @@ fn assert_no_run(
     drop(journals);
 }
 
-#[test]
-fn no_journals_are_no_events(rt: HostRuntime) {
-    let events = audit(rt.alloc(), &[]).ok().expect(&rt, "events");
-    assert!(rt; events.is_empty());
+// Asserts that journals of these two sites, of which the second is of the queue of this name, are not those of all sites in order.
+fn assert_wrong_sites(rt: &impl Abort, alloc: Global, first: u16, second: u16, queue: &[u8]) {
+    let first = journal(rt, alloc, first);
+    let second = journal_of(rt, alloc, second, queue, 20);
+    assert_no_run(rt, alloc, first, second, AuditFault::WrongSites);
 }
 
 #[test]
-fn a_checkpointed_journal_is_not_whole(rt: HostRuntime) {
+fn journals_are_whole_of_one_list_and_in_order(rt: HostRuntime) {
     let alloc = rt.alloc();
-    let first = journal(&rt, alloc, 0, SALES);
-    let mut second = journal(&rt, alloc, 1, SALES);
+    let events = audit(alloc, &[]).ok().expect(&rt, "events");
+    assert!(rt; events.is_empty());
+    drop(events);
+    assert_wrong_sites(&rt, alloc, 0, 1, b"other");
+    assert_wrong_sites(&rt, alloc, 1, 0, SALES);
+    assert_wrong_sites(&rt, alloc, 0, 2, SALES);
+    let mut second = journal(&rt, alloc, 1);
     assert!(rt; second.whole(0).is_ok());
     assert!(rt; second.checkpoint().is_ok());
+    let first = journal(&rt, alloc, 0);
     assert_no_run(&rt, alloc, first, second, AuditFault::NotFresh(1));
 }
 
-#[test]
-fn journals_are_of_one_list_and_in_order(rt: HostRuntime) {
-    let alloc = rt.alloc();
-    for (first, second, queue) in [(0, 1, OTHER), (1, 0, SALES), (0, 2, SALES)] {
-        let first = journal(&rt, alloc, first, SALES);
-        let second = journal(&rt, alloc, second, queue);
-        assert_no_run(&rt, alloc, first, second, AuditFault::WrongSites);
-    }
+// The first frame of site 0, of which a byte is changed that was this before.
+fn changed(rt: &impl Abort, alloc: Global, place: usize, was: u8, byte: u8) -> Vec<u8> {
+    let mut bytes = Vec::from_slice(alloc, ADDED).expect(rt, "memory");
+    assert!(rt; place < bytes.len());
+    assert!(rt; bytes[place] == was);
+    bytes[place] = byte;
+    bytes
 }
 
-#[test]
-fn a_frame_whose_number_was_changed_is_in_no_run(rt: HostRuntime) {
-    let alloc = rt.alloc();
-    let mut first = journal(&rt, alloc, 0, SALES);
-    let mut second = journal(&rt, alloc, 1, SALES);
-    let frame = added(&rt, &mut first, b"SIP/0");
-    take(&rt, &mut second, changed(&rt, frame, 15, 1, 9));
-    assert_no_run(&rt, alloc, first, second, AuditFault::NoRun(1, 0));
-}
-
-// No site of today makes the bytes of version 1, though one may take them.
-#[test]
-fn a_frame_of_an_older_version_is_a_step_and_in_no_run(rt: HostRuntime) {
-    let alloc = rt.alloc();
-    let mut first = journal(&rt, alloc, 0, SALES);
-    let mut second = journal(&rt, alloc, 1, SALES);
-    let frame = added(&rt, &mut first, b"SIP/1");
+// Asserts that the journal of site 1, which took bytes at this step, is in no run with that of site 0, which has made another frame.
+fn assert_foreign(rt: &impl Abort, alloc: Global, second: Journaled, step: u64) {
+    let mut first = journal(rt, alloc, 0);
+    let frame = added(rt, &mut first, b"SIP/1");
     assert!(rt; frame.as_slice() == ADDED);
     drop(frame);
-    let old = Vec::from_slice(alloc, OLD_ADDED).expect(&rt, "memory");
-    take(&rt, &mut second, old);
-    assert!(rt; second.len() == 1 && second.replica().rows(0).next().is_some());
-    assert_no_run(&rt, alloc, first, second, AuditFault::NoRun(1, 0));
+    assert_no_run(rt, alloc, first, second, AuditFault::NoRun(1, step));
 }
 
-// Asserts that two sites report another status.
-fn assert_differ(rt: &impl Abort, alloc: Global, first: &Journaled, second: &Journaled) {
-    let request = request(alloc);
-    let own = report(alloc, first.replica(), &request).expect(rt, "memory");
-    let told = report(alloc, second.replica(), &request).expect(rt, "memory");
+// Asserts that site 1 takes bytes that no site has made, which is a step, and in no run.
+fn assert_in_no_run(rt: &impl Abort, alloc: Global, bytes: &[u8]) {
+    let mut second = journal(rt, alloc, 1);
+    take(rt, alloc, &mut second, 0, bytes);
+    assert!(rt; second.len() == 1 && knows(second.replica()));
+    assert_foreign(rt, alloc, second, 0);
+}
+
+// Asserts that a site doesn't show what one shows that has added SIP/1 with defaults.
+fn assert_differs(rt: &impl Abort, alloc: Global, second: &Journaled) {
+    let mut first = journal(rt, alloc, 0);
+    drop(added(rt, &mut first, b"SIP/1"));
+    let own = shown(rt, alloc, first.replica());
+    drop(first);
+    let told = shown(rt, alloc, second.replica());
     assert!(rt; own.as_slice() != told.as_slice());
 }
 
 #[test]
-fn a_frame_whose_penalty_was_changed_is_in_no_run(rt: HostRuntime) {
+fn a_frame_that_no_site_has_made_is_a_step_and_in_no_run(rt: HostRuntime) {
     let alloc = rt.alloc();
-    let mut first = journal(&rt, alloc, 0, SALES);
-    let mut second = journal(&rt, alloc, 1, SALES);
-    let frame = added(&rt, &mut first, b"SIP/0");
-    assert!(rt; second.cut(0).is_ok());
-    take(&rt, &mut second, changed(&rt, frame, 71, 0, 7));
-    assert_differ(&rt, alloc, &first, &second);
+    // The frame's number is another.
+    let bytes = changed(&rt, alloc, 15, 1, 9);
+    assert_in_no_run(&rt, alloc, &bytes);
+    drop(bytes);
+    // No site of today makes the bytes of version 1, though one may take them.
+    assert_in_no_run(&rt, alloc, OLD_ADDED);
+    // The penalty is another, which a report shows.
+    let bytes = changed(&rt, alloc, 71, 0, 7);
+    let mut second = journal(&rt, alloc, 1);
+    drop(cut(&rt, &mut second, 0));
+    take(&rt, alloc, &mut second, 0, &bytes);
+    drop(bytes);
+    assert_differs(&rt, alloc, &second);
     ask_status(&rt, alloc, &mut second);
-    assert_no_run(&rt, alloc, first, second, AuditFault::NoRun(1, 1));
+    assert_foreign(&rt, alloc, second, 1);
 }
 
 // Asserts that a site of a world reports what a journal's replica does.
 fn assert_same(rt: &impl Abort, alloc: Global, world: &World, journal: &Journaled) {
-    let request = request(alloc);
     let replica = world.replica(journal.base().site()).expect(rt, "a site");
-    let told = report(alloc, replica, &request).expect(rt, "memory");
-    let own = report(alloc, journal.replica(), &request).expect(rt, "memory");
+    let told = shown(rt, alloc, replica);
+    let own = shown(rt, alloc, journal.replica());
     assert!(rt; told.as_slice() == own.as_slice());
 }
 
@@ -158,23 +137,31 @@ fn assert_explains(rt: &impl Abort, alloc: Global, journals: &[Journaled], event
     drop(list);
 }
 
+// The journals of three sites, of whose frames some are lost, and others come twice, late or in another order.
+fn three(rt: &impl Abort, alloc: Global) -> [Journaled; 3] {
+    let mut first = journal(rt, alloc, 0);
+    let mut second = journal(rt, alloc, 1);
+    let mut third = journal(rt, alloc, 2);
+    let early = added(rt, &mut first, b"SIP/0");
+    let late = added(rt, &mut first, b"SIP/3");
+    drop(added(rt, &mut second, b"SIP/1"));
+    let other = added(rt, &mut third, b"SIP/2");
+    take(rt, alloc, &mut third, 0, &late);
+    take(rt, alloc, &mut third, 0, &early);
+    take(rt, alloc, &mut third, 0, &late);
+    take(rt, alloc, &mut first, 0, &other);
+    take(rt, alloc, &mut second, 0, &late);
+    ask_status(rt, alloc, &mut second);
+    drop(early);
+    drop(late);
+    drop(other);
+    [first, second, third]
+}
+
 #[test]
 fn frames_that_are_lost_repeated_and_reordered_are_one_run(rt: HostRuntime) {
     let alloc = rt.alloc();
-    let mut first = journal(&rt, alloc, 0, SALES);
-    let mut second = journal(&rt, alloc, 1, SALES);
-    let mut third = journal(&rt, alloc, 2, SALES);
-    let early = added(&rt, &mut first, b"SIP/0");
-    let late = added(&rt, &mut first, b"SIP/3");
-    drop(added(&rt, &mut second, b"SIP/1"));
-    let other = added(&rt, &mut third, b"SIP/2");
-    for frame in [&late, &early, &late] {
-        take_copy(&rt, &mut third, frame);
-    }
-    take_copy(&rt, &mut first, &other);
-    take_copy(&rt, &mut second, &late);
-    ask_status(&rt, alloc, &mut second);
-    let journals = [first, second, third];
+    let journals = three(&rt, alloc);
     let events = audit(alloc, &journals).ok().expect(&rt, "events");
     assert!(rt; events.len() == 14);
     assert_explains(&rt, alloc, &journals, events.as_slice());

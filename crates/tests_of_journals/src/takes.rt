@@ -3,10 +3,10 @@
 ghost use Rattle.std.specs.Prelude.{◌≡◌};
 ghost use Rattle.site_journal.specs.Journals.{IsOfSite};
 
-use crate::asks::SALES;
+use crate::asks::{SALES, cut, journal, journal_of, knows, take};
 use crate::frames::{ADDED, GREATEST, NOT_RUNG, NOTHING, OLD_ADDED, REMOVED, TOUCHING};
 use site_desk::{Pass, SiteDesk, SiteLedger, close};
-use site_journal::{DecodeFault, DeskFault, Journaled, StepDeed, TakeFault};
+use site_journal::{DecodeFault, DeskFault, Journaled, TakeFault};
 use std::alloc::Global;
 use std::marker::Brand;
 use std::process::Abort;
@@ -80,14 +80,6 @@ fn spoiled(rt: &impl Abort, alloc: Global, row: &Spoiled) -> Vec<u8> {
     joined(rt, alloc, &[front, row.2, rest, row.3])
 }
 
-// The journal of a site that knows nothing, of the queue `sales`.
-fn journal(rt: &impl Abort, alloc: Global, site: u16) -> Journaled
-    ensures begun { result.count ≡ 0 }
-    ensures site { IsOfSite result.base.site result.base.names result }
-{
-    crate::asks::journal(rt, alloc, site, SALES, 5)
-}
-
 // Asserts that bytes come back as they are for this fault, and that the journal has the one step that it had.
 fn assert_refused(
     rt: &impl Abort,
@@ -100,52 +92,50 @@ fn assert_refused(
     let (told, back) = journal.take(7, given).err().expect(rt, "a fault");
     assert!(rt; told == fault);
     assert!(rt; back.as_slice() == bytes);
+    drop(back);
     assert!(rt; journal.len() == 1);
     assert!(rt; journal.steps().len() == 1);
 }
 
-#[test]
-fn bytes_that_are_no_frame_are_no_step(rt: HostRuntime) {
-    let alloc = rt.alloc();
-    let mut own = journal(&rt, alloc, 0);
-    assert!(rt; own.cut(7).is_ok());
-    for row in SPOILED {
-        let bytes = spoiled(&rt, alloc, row);
-        assert_refused(&rt, alloc, &mut own, &bytes, DeskFault::Decode(row.4));
+// The journal of site 0, which has cut where there is nothing to cut.
+fn journal_of_a_step(rt: &impl Abort, alloc: Global) -> Journaled {
+    let mut own = journal(rt, alloc, 0);
+    drop(cut(rt, &mut own, 7));
+    own
+}
+
+// Asserts that each front of a frame comes back.
+fn assert_fronts(rt: &impl Abort, alloc: Global, journal: &mut Journaled, frame: &[u8]) {
+    let truncated = DeskFault::Decode(DecodeFault::Truncated);
+    for len in 0..frame.len() {
+        assert_refused(rt, alloc, journal, &frame[..len], truncated);
     }
-    drop(own);
 }
 
 #[test]
 fn a_front_of_a_frame_is_no_step(rt: HostRuntime) {
     let alloc = rt.alloc();
-    let truncated = DeskFault::Decode(DecodeFault::Truncated);
-    let mut own = journal(&rt, alloc, 0);
-    assert!(rt; own.cut(7).is_ok());
-    for frame in [
-        ADDED, OLD_ADDED, REMOVED, NOT_RUNG, NOTHING, TOUCHING, GREATEST,
-    ] {
-        for len in 0..frame.len() {
-            assert_refused(&rt, alloc, &mut own, &frame[..len], truncated);
-        }
-    }
+    let mut own = journal_of_a_step(&rt, alloc);
+    assert_fronts(&rt, alloc, &mut own, ADDED);
+    assert_fronts(&rt, alloc, &mut own, OLD_ADDED);
+    assert_fronts(&rt, alloc, &mut own, REMOVED);
+    assert_fronts(&rt, alloc, &mut own, NOT_RUNG);
+    assert_fronts(&rt, alloc, &mut own, NOTHING);
+    assert_fronts(&rt, alloc, &mut own, TOUCHING);
+    assert_fronts(&rt, alloc, &mut own, GREATEST);
     drop(own);
 }
 
 #[test]
 fn a_site_takes_a_frame_of_another_alone(rt: HostRuntime) {
     let alloc = rt.alloc();
-    let mut own = journal(&rt, alloc, 0);
-    assert!(rt; own.cut(7).is_ok());
+    let mut own = journal_of_a_step(&rt, alloc);
     let refused = DeskFault::Take(TakeFault::NotMine);
     assert_refused(&rt, alloc, &mut own, ADDED, refused);
     drop(own);
     let mut other = journal(&rt, alloc, 1);
-    let bytes = Vec::from_slice(alloc, ADDED).expect(&rt, "memory");
-    let step = other.take(7, bytes).ok().expect(&rt, "a step");
-    assert!(rt; matches!(step.deed, StepDeed::Took(_)));
-    assert!(rt; other.len() == 1 && other.replica().rows(0).next().is_some());
-    drop(step);
+    take(&rt, alloc, &mut other, 7, ADDED);
+    assert!(rt; other.len() == 1 && knows(other.replica()));
     drop(other);
 }
 
@@ -162,14 +152,35 @@ fn assert_desk_refuses<L: SiteLedger, R: Abort + Wait>(
     let (told, back) = desk.take(rt, pass, given).err().expect(rt, "a fault");
     assert!(rt; told == fault);
     assert!(rt; back.as_slice() == bytes);
+    drop(back);
 }
 
-// Asserts that a desk gives bytes that are no frame back, and its own frame, and does no step.
-fn assert_takes_none<L: SiteLedger, R: Abort + Wait>(
+// Asserts that a desk and a journal give back bytes that are no frame, and a frame of their own site.
+fn assert_both_refuse<L: SiteLedger, R: Abort + Wait>(
+    rt: &R,
+    alloc: Global,
+    desk: &SiteDesk<L>,
+    pass: &mut Pass<L>,
+    journal: &mut Journaled,
+) {
+    for row in SPOILED {
+        let bytes = spoiled(rt, alloc, row);
+        let fault = DeskFault::Decode(row.4);
+        assert_refused(rt, alloc, journal, &bytes, fault);
+        assert_desk_refuses(rt, alloc, desk, pass, &bytes, fault);
+        drop(bytes);
+    }
+    let fault = DeskFault::Take(TakeFault::NotMine);
+    assert_desk_refuses(rt, alloc, desk, pass, ADDED, fault);
+}
+
+// Asserts that a desk of the first journal, and the second, do no step upon bytes that they give back.
+fn assert_none_taken<L: SiteLedger, R: Abort + Wait>(
     rt: &R,
     alloc: Global,
     blank: Blank,
     journal: Journaled,
+    other: &mut Journaled,
 )
     requires name { blank.name ≡ L.name }
     requires ledger { blank.parts ≡ L.parts }
@@ -179,17 +190,10 @@ fn assert_takes_none<L: SiteLedger, R: Abort + Wait>(
     requires limit { journal.limit ≡ L.limit }
     requires base { journal.base ≡ L.base }
 {
-    let Ok((desk, mut passes)) = SiteDesk::<L>::new(alloc, blank, journal, 1) else {
-        rt.panic("memory");
-    };
+    let made = SiteDesk::<L>::new(alloc, blank, journal, 1).ok();
+    let (desk, mut passes) = made.expect(rt, "memory");
     let mut pass = passes.pop().expect(rt, "a pass");
-    for row in SPOILED {
-        let bytes = spoiled(rt, alloc, row);
-        let fault = DeskFault::Decode(row.4);
-        assert_desk_refuses(rt, alloc, &desk, &mut pass, &bytes, fault);
-    }
-    let fault = DeskFault::Take(TakeFault::NotMine);
-    assert_desk_refuses(rt, alloc, &desk, &mut pass, ADDED, fault);
+    assert_both_refuse(rt, alloc, &desk, &mut pass, other);
     assert!(rt; pass.seen() == 0);
     passes.push(pass).expect(rt, "memory");
     let own = close(desk, passes).ok().expect(rt, "a journal");
@@ -198,8 +202,10 @@ fn assert_takes_none<L: SiteLedger, R: Abort + Wait>(
 }
 
 #[test]
-fn a_desk_takes_no_bytes_that_are_no_frame(rt: HostRuntime) {
+fn bytes_that_are_no_frame_are_no_step(rt: HostRuntime) {
     let alloc = rt.alloc();
-    let own = journal(&rt, alloc, 0);
-    assert_takes_none::<Brand, HostRuntime>(&rt, alloc, Blank::new(1), own);
+    let own = journal_of(&rt, alloc, 0, SALES, 5);
+    let mut other = journal_of_a_step(&rt, alloc);
+    assert_none_taken::<Brand, HostRuntime>(&rt, alloc, Blank::new(1), own, &mut other);
+    drop(other);
 }
