@@ -1,5 +1,7 @@
+//! Links: how many items they hold, what comes back, and when they end; and helpers that send and receive.
 ghost use Rattle.std.specs.Prelude.{◌≡◌, ◌≤◌};
 
+use crate::gates::{MANY_TURNS, comes};
 use site_links::{LinkReceiver, LinkSender, compare, pair};
 use std::alloc::Global;
 use std::process::Abort;
@@ -9,7 +11,7 @@ use std::thread;
 use std::thread::Threads;
 
 // Both ends of a link that holds `capacity` items.
-fn link(rt: &impl Abort, alloc: Global, capacity: usize) -> (LinkSender, LinkReceiver)
+pub(crate) fn link(rt: &impl Abort, alloc: Global, capacity: usize) -> (LinkSender, LinkReceiver)
     requires some { 1 ≤ capacity }
     requires most { capacity ≤ 1024 }
     ensures { result.1.link ≡ result.0.link }
@@ -18,7 +20,7 @@ fn link(rt: &impl Abort, alloc: Global, capacity: usize) -> (LinkSender, LinkRec
 }
 
 // Sends an item, which must be taken.
-fn send<R: Abort + Wait>(rt: &R, alloc: Global, sender: &mut LinkSender, item: &[u8])
+pub(crate) fn send<R: Abort + Wait>(rt: &R, alloc: Global, sender: &mut LinkSender, item: &[u8])
     ensures { sender.new.link ≡ sender.old.link }
 {
     let bytes = Vec::from_slice(alloc, item).expect(rt, "memory");
@@ -44,16 +46,6 @@ fn items_are_counted_at_both_ends(rt: HostRuntime) {
 }
 
 #[test]
-fn a_link_ends_once_its_sender_is_gone(rt: HostRuntime) {
-    let (mut sender, mut receiver) = link(&rt, rt.alloc(), 2);
-    send(&rt, rt.alloc(), &mut sender, b"a");
-    drop(sender);
-    receive(&rt, &mut receiver, b"a");
-    assert!(rt; receiver.recv(&rt).is_none() && receiver.ended());
-    drop(receiver);
-}
-
-#[test]
 fn bytes_come_back_once_the_receiver_is_gone(rt: HostRuntime) {
     let (mut sender, receiver) = link(&rt, rt.alloc(), 1);
     drop(receiver);
@@ -65,28 +57,30 @@ fn bytes_come_back_once_the_receiver_is_gone(rt: HostRuntime) {
     drop(sender);
 }
 
-#[test]
-fn as_many_items_wait_as_the_link_holds(rt: HostRuntime) {
-    let (mut sender, mut receiver) = link(&rt, rt.alloc(), 1_024);
+// Sends all numbers below 1,024, and lets the sender go.
+fn send_numbers<R: Abort + Wait>(rt: &R, alloc: Global, sender: LinkSender) {
+    let mut sender = sender;
     for number in 0..1_024u16 {
-        send(&rt, rt.alloc(), &mut sender, &number.to_be_bytes());
-    }
-    for number in 0..1_024u16 {
-        receive(&rt, &mut receiver, &number.to_be_bytes());
+        send(rt, alloc, &mut sender, &number.to_be_bytes());
     }
     drop(sender);
+}
+
+// Receives all numbers below 1,024, behind which the link ends.
+fn receive_numbers<R: Abort + Wait>(rt: &R, receiver: LinkReceiver) {
+    let mut receiver = receiver;
+    for number in 0..1_024u16 {
+        receive(rt, &mut receiver, &number.to_be_bytes());
+    }
+    assert!(rt; receiver.recv(rt).is_none() && receiver.ended());
     drop(receiver);
 }
 
-// Whether a number comes to be so great within ten million turns.
-fn comes(number: &AtomicU64, wanted: u64) -> bool {
-    for _ in 0..10_000_000u32 {
-        if number.load(Ordering::SeqCst) >= wanted {
-            return true;
-        }
-        thread::yield_now();
-    }
-    false
+#[test]
+fn as_many_items_wait_as_the_link_holds_and_then_it_ends(rt: HostRuntime) {
+    let (sender, receiver) = link(&rt, rt.alloc(), 1_024);
+    send_numbers(&rt, rt.alloc(), sender);
+    receive_numbers(&rt, receiver);
 }
 
 // Sends three items, and tells the number of each before it is sent.
@@ -102,7 +96,7 @@ fn send_three<R: Abort + Wait>(rt: &R, alloc: Global, sender: LinkSender, begun:
 // Receives three items, some turns after the second of them is sent.
 fn receive_late<R: Abort + Wait>(rt: &R, receiver: LinkReceiver, begun: &AtomicU64) {
     let mut receiver = receiver;
-    assert!(rt; comes(begun, 1));
+    assert!(rt; comes(begun, 1, MANY_TURNS));
     for _ in 0..65_536u32 {
         thread::yield_now();
     }

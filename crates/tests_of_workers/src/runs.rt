@@ -2,7 +2,8 @@
 ghost use Rattle.std.specs.Prelude.{◌≡◌};
 
 use crate::asks::{add, list, sales, status};
-use replica::{Command, QueueList};
+use crate::gates::{MANY_TURNS, MeetingGate};
+use replica::{Command, QueueList, Replica};
 use site_worker::{
     AuditFault, Deed, DeskFault, Gate, Journaled, LinkPlan, Receipt, RunFault, SiteEnd, SiteWork,
     StepDeed, audit, run_sites, settle,
@@ -12,47 +13,25 @@ use status_report::{Ask, report};
 use std::alloc::Global;
 use std::process::Abort;
 use std::sync::Wait;
-use std::sync::atomic::{AtomicBool, Ordering};
-use std::thread;
+use std::sync::atomic::AtomicU64;
 use std::thread::Threads;
 
-// Says at the first ask that it is called, and then waits for the other gate's word for at most a number of turns.
-#[derive(Drop)]
-struct MeetingGate<'a> {
-    mine: &'a AtomicBool,
-    theirs: &'a AtomicBool,
-    turns: u32,
-    saw: bool,
-}
-
-// Whether a word comes within `turns` turns.
-fn comes(word: &AtomicBool, turns: u32) -> bool {
-    for _ in 0..turns {
-        if word.load(Ordering::SeqCst) {
-            return true;
-        }
-        thread::yield_now();
-    }
-    false
-}
-
-impl<'a> Gate for MeetingGate<'a> {
-    ghost called = { λ old turn new. new.turns ≡ old.turns };
-
-    fn inside(&mut self, turn: u64) {
-        if turn == 0 {
-            self.mine.store(true, Ordering::SeqCst);
-            self.saw = comes(self.theirs, self.turns);
-        }
-    }
+// Lets sites run.
+fn ran<R: Threads + Wait + Sync, G: Gate + Send + Drop>(
+    rt: &R,
+    alloc: Global,
+    list: &QueueList,
+    works: Vec<SiteWork<G>>,
+) -> Result<Vec<SiteEnd<G>>, RunFault> {
+    run_sites(rt, alloc, list, works)
 }
 
 // The work of a site that asks for a status.
 fn meeting<'a>(
     rt: &impl Abort,
     alloc: Global,
-    mine: &'a AtomicBool,
-    theirs: &'a AtomicBool,
+    mine: &'a AtomicU64,
+    theirs: &'a AtomicU64,
 ) -> SiteWork<MeetingGate<'a>> {
     let mut asks = Vec::new(alloc);
     asks.push(Ask::Status(status(alloc))).expect(rt, "memory");
@@ -62,7 +41,7 @@ fn meeting<'a>(
         gate: MeetingGate {
             mine,
             theirs,
-            turns: 10_000_000,
+            turns: MANY_TURNS,
             saw: false,
         },
     }
@@ -70,7 +49,7 @@ fn meeting<'a>(
 
 // Whether the gates of two sites see each other.
 fn both_meet<R: Abort + Threads + Wait + Sync>(rt: &R, alloc: Global) -> bool {
-    let (one, other) = (AtomicBool::new(false), AtomicBool::new(false));
+    let (one, other) = (AtomicU64::new(0), AtomicU64::new(0));
     let mut works = Vec::new(alloc);
     works
         .push(meeting(rt, alloc, &one, &other))
@@ -79,7 +58,7 @@ fn both_meet<R: Abort + Threads + Wait + Sync>(rt: &R, alloc: Global) -> bool {
         .push(meeting(rt, alloc, &other, &one))
         .expect(rt, "memory");
     let list = list(rt, alloc);
-    let ends = run_sites(rt, alloc, &list, works).expect(rt, "ends");
+    let ends = ran(rt, alloc, &list, works).expect(rt, "ends");
     drop(list);
     let mut met = true;
     for end in ends.as_slice() {
@@ -121,16 +100,6 @@ impl Gate for TurnsGate {
             self.turns = turn.wrapping_add(1);
         }
     }
-}
-
-// Lets sites run.
-fn ran<R: Threads + Wait + Sync>(
-    rt: &R,
-    alloc: Global,
-    list: &QueueList,
-    works: Vec<SiteWork<TurnsGate>>,
-) -> Result<Vec<SiteEnd<TurnsGate>>, RunFault> {
-    run_sites(rt, alloc, list, works)
 }
 
 // The work of a site with these asks and these deeds.
@@ -184,38 +153,48 @@ fn assert_takes(rt: &impl Abort, lists: &[Vec<Receipt>], others: &[u8]) {
     }
 }
 
+// Asserts that the receipts of a site, one of three, settle its journal.
+fn assert_settled(rt: &impl Abort, end: &SiteEnd<TurnsGate>) {
+    assert!(rt; end.receipts.len() == 4);
+    assert!(rt; settle(&end.journal, end.receipts.as_slice()).is_ok());
+}
+
 // Asserts what a site ends with that had two asks, of three sites: each ask is a cut, and there are one more and a frame of all.
 fn assert_end(rt: &impl Abort, end: &SiteEnd<TurnsGate>, site: u8, others: &[u8]) {
     assert!(rt; end.fault.is_none() && end.gate.site == site && end.gate.turns == 2);
+    assert_settled(rt, end);
     assert!(rt; end.receipts.len() == 4);
     assert!(rt; end.receipts[0].len() == 2);
     assert!(rt; end.receipts[1].len() == 4);
     let lists = end.receipts.get(2..).expect(rt, "lists");
     assert_takes(rt, lists, others);
-    assert!(rt; settle(&end.journal, end.receipts.as_slice()).is_ok());
+}
+
+// Whether there is memory for the report of a site, which then is what sites show that came to the same.
+fn is_shown(rt: &impl Abort, alloc: Global, replica: &Replica) -> bool {
+    let request = status(alloc);
+    let Ok(shown) = report(alloc, replica, &request) else {
+        return false;
+    };
+    assert!(rt; shown.as_slice() == REPORT.as_bytes());
+    true
 }
 
 // Whether there is memory for the reports of journals, each of which then is what sites show that came to the same.
 fn is_reported(rt: &impl Abort, alloc: Global, journals: &[Journaled]) -> bool {
-    let request = status(alloc);
     for journal in journals {
-        let Ok(shown) = report(alloc, journal.replica(), &request) else {
+        if !is_shown(rt, alloc, journal.replica()) {
             return false;
-        };
-        assert!(rt; shown.as_slice() == REPORT.as_bytes());
-        drop(shown);
+        }
     }
     true
 }
 
 // Asserts that the sites of journals show in a world what sites show that came to the same.
 fn assert_shown(rt: &impl Abort, alloc: Global, world: &World, journals: &[Journaled]) {
-    let request = status(alloc);
     for journal in journals {
         let replica = world.replica(journal.base().site()).expect(rt, "a site");
-        let told = report(alloc, replica, &request).expect(rt, "memory");
-        assert!(rt; told.as_slice() == REPORT.as_bytes());
-        drop(told);
+        assert!(rt; is_shown(rt, alloc, replica));
     }
 }
 
@@ -347,8 +326,7 @@ fn each_site_sends_by_its_own_plan(rt: HostRuntime) {
 
 // Asserts that a site's receipts settle its journal, which is put behind others, whatever it lacked memory for. Whether it did.
 fn is_stopped(rt: &impl Abort, end: SiteEnd<TurnsGate>, journals: &mut Vec<Journaled>) -> bool {
-    assert!(rt; end.receipts.len() == 4);
-    assert!(rt; settle(&end.journal, end.receipts.as_slice()).is_ok());
+    assert_settled(rt, &end);
     let fault = end.fault;
     assert!(rt; matches!(fault, None | Some(DeskFault::Memory)));
     journals.push(journal_of(end)).expect(rt, "memory");

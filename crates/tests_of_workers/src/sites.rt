@@ -1,4 +1,4 @@
-//! Sites that know nothing, and their desks, for tests.
+//! Sites of the queue `sales` and their journals, and what desks are asked and closed with.
 ghost use Rattle.std.specs.Prelude.{◌≡◌};
 ghost use Rattle.site_journal.specs.Journals.{IsOfSite};
 
@@ -6,12 +6,11 @@ use crate::asks::{list, status};
 use dots::SiteId;
 use replica::Replica;
 use site_desk::{CloseFault, Pass, SiteDesk, SiteLedger, close};
-use site_journal::{Journaled, Receipt, StepDeed};
+use site_journal::{Journaled, Receipt, StepDeed, settle};
 use status_report::{Answer, Ask};
 use std::alloc::Global;
 use std::process::Abort;
 use std::sync::Wait;
-use std::sync::ledger::Blank;
 
 // A site that knows nothing, of the queue `sales`.
 pub(crate) fn replica(rt: &impl Abort, alloc: Global, site: u16) -> Replica {
@@ -30,39 +29,8 @@ pub(crate) fn journal_of(rt: &impl Abort, alloc: Global, replica: Replica, limit
     }
 }
 
-// The journal of site 0 that knows nothing, in which `limit` steps may stand.
-pub(crate) fn journal(rt: &impl Abort, alloc: Global, limit: u32) -> Journaled
-    ensures begun { result.count ≡ 0 }
-    ensures site { IsOfSite result.base.site result.base.names result }
-{
-    journal_of(rt, alloc, replica(rt, alloc, 0), limit)
-}
-
-// A desk over a journal, and its two passes.
-pub(crate) fn desk_of_two<L: SiteLedger>(
-    rt: &impl Abort,
-    alloc: Global,
-    blank: Blank,
-    journal: Journaled,
-) -> (SiteDesk<L>, Pass<L>, Pass<L>)
-    requires name { blank.name ≡ L.name }
-    requires ledger { blank.parts ≡ L.parts }
-    requires two { blank.parts ≡ 2 }
-    requires begun { journal.count ≡ 0 }
-    requires site { IsOfSite L.site L.names journal }
-    requires limit { journal.limit ≡ L.limit }
-    requires base { journal.base ≡ L.base }
-{
-    let made = SiteDesk::new(alloc, blank, journal, 2).ok();
-    let (desk, mut passes) = made.expect(rt, "memory");
-    let second = passes.pop().expect(rt, "a pass");
-    let first = passes.pop().expect(rt, "a pass");
-    drop(passes);
-    (desk, first, second)
-}
-
 // The journal of a desk that is closed with both of its passes.
-pub(crate) fn closed<L: SiteLedger>(
+fn closed<L: SiteLedger>(
     rt: &impl Abort,
     alloc: Global,
     desk: SiteDesk<L>,
@@ -73,6 +41,38 @@ pub(crate) fn closed<L: SiteLedger>(
     passes.push(first).expect(rt, "memory");
     passes.push(second).expect(rt, "memory");
     close(desk, passes).ok().expect(rt, "a journal")
+}
+
+// Closes a desk with both of its passes, and asserts how long its journal is then, and how many of its steps were before its base.
+pub(crate) fn assert_closed<L: SiteLedger>(
+    rt: &impl Abort,
+    alloc: Global,
+    desk: SiteDesk<L>,
+    first: Pass<L>,
+    second: Pass<L>,
+    len: u64,
+    start: u64,
+) {
+    let journal = closed(rt, alloc, desk, first, second);
+    assert!(rt; journal.len() == len && journal.start() == start);
+    drop(journal);
+}
+
+// Closes a desk with both of its passes, and asserts that the receipts of these settle its journal, which has so many steps.
+pub(crate) fn assert_settled<L: SiteLedger>(
+    rt: &impl Abort,
+    alloc: Global,
+    desk: SiteDesk<L>,
+    first: Pass<L>,
+    second: Pass<L>,
+    receipts: [Vec<Receipt>; 2],
+    len: u64,
+) {
+    let journal = closed(rt, alloc, desk, first, second);
+    assert!(rt; journal.len() == len);
+    assert!(rt; settle(&journal, &receipts).is_ok());
+    drop(receipts);
+    drop(journal);
 }
 
 // A desk that isn't closed with one of its two passes, and the pass, which have both come back.
@@ -91,6 +91,18 @@ pub(crate) fn kept_open<L: SiteLedger>(
     (desk, pass)
 }
 
+// The receipt of what a pass asks.
+pub(crate) fn called<L: SiteLedger, R: Abort + Wait>(
+    rt: &R,
+    desk: &SiteDesk<L>,
+    pass: &mut Pass<L>,
+    ask: Ask,
+) -> Receipt {
+    let receipt = desk.call(rt, pass, &ask).ok().expect(rt, "a receipt");
+    drop(ask);
+    receipt
+}
+
 // The receipt of a status that a pass asks.
 pub(crate) fn asked<L: SiteLedger, R: Abort + Wait>(
     rt: &R,
@@ -98,10 +110,7 @@ pub(crate) fn asked<L: SiteLedger, R: Abort + Wait>(
     desk: &SiteDesk<L>,
     pass: &mut Pass<L>,
 ) -> Receipt {
-    let ask = Ask::Status(status(alloc));
-    let receipt = desk.call(rt, pass, &ask).ok().expect(rt, "a receipt");
-    drop(ask);
-    receipt
+    called(rt, desk, pass, Ask::Status(status(alloc)))
 }
 
 // Whether a receipt has a report in which these bytes stand.

@@ -1,0 +1,176 @@
+//! Tests of desks with two passes, of their ports, and of pumps that work by these.
+ghost use Rattle.std.specs.Prelude.{◌≡◌};
+ghost use Rattle.site_journal.specs.Journals.{IsOfSite};
+
+use crate::asks::add;
+use crate::desks::{assert_adds, assert_closes, assert_excludes, assert_fills};
+use crate::ports::{assert_answers, assert_pumps, assert_takes};
+use crate::schedules::{Schedule, assert_sends};
+use crate::sites::{journal_of, replica};
+use replica::Replica;
+use site_desk::{SiteDesk, SiteLedger};
+use site_journal::{Journaled, StepDeed};
+use site_pumps::Deed;
+use status_report::{Answer, ask};
+use std::alloc::Global;
+use std::marker::Brand;
+use std::process::Abort;
+use std::sync::Wait;
+use std::sync::ledger::Blank;
+use std::thread::Threads;
+
+// What is asserted of a desk.
+#[derive(Drop)]
+enum Trial<'a> {
+    Closes,
+    Fills,
+    Adds,
+    Excludes,
+    Answers,
+    Pumps,
+    // Takes this frame.
+    Takes(&'a [u8]),
+    Sends(Schedule<'a>),
+}
+
+// Makes a desk of a journal, and asserts what is tried of it.
+fn assert_holds<L: SiteLedger + Send + Sync, R: Abort + Threads + Wait + Sync>(
+    rt: &R,
+    alloc: Global,
+    blank: Blank,
+    journal: Journaled,
+    trial: Trial<'_>,
+)
+    requires name { blank.name ≡ L.name }
+    requires ledger { blank.parts ≡ L.parts }
+    requires two { blank.parts ≡ 2 }
+    requires begun { journal.count ≡ 0 }
+    requires site { IsOfSite L.site L.names journal }
+    requires limit { journal.limit ≡ L.limit }
+    requires base { journal.base ≡ L.base }
+{
+    let made = SiteDesk::<L>::new(alloc, blank, journal, 2).ok();
+    let (desk, mut passes) = made.expect(rt, "memory");
+    let second = passes.pop().expect(rt, "a pass");
+    let first = passes.pop().expect(rt, "a pass");
+    drop(passes);
+    match trial {
+        Trial::Closes => assert_closes(rt, alloc, desk, first, second),
+        Trial::Fills => assert_fills(rt, alloc, desk, first, second),
+        Trial::Adds => assert_adds(rt, alloc, desk, first, second),
+        Trial::Excludes => assert_excludes(rt, alloc, desk, first, second),
+        Trial::Answers => assert_answers(rt, alloc, desk, first, second),
+        Trial::Pumps => assert_pumps(rt, alloc, desk, first, second),
+        Trial::Takes(frame) => assert_takes(rt, alloc, desk, first, second, frame),
+        Trial::Sends(schedule) => assert_sends(rt, alloc, desk, first, second, schedule),
+    }
+}
+
+// Asserts what is tried of the desk of a site, in whose journal `limit` steps may stand.
+fn assert_of<R: Abort + Threads + Wait + Sync>(
+    rt: &R,
+    alloc: Global,
+    replica: Replica,
+    limit: u32,
+    trial: Trial<'_>,
+) {
+    let journal = journal_of(rt, alloc, replica, limit);
+    assert_holds::<Brand, R>(rt, alloc, Blank::new(2), journal, trial);
+}
+
+// Asserts what is tried of the desk of site 0, which knows nothing.
+fn assert_fresh<R: Abort + Threads + Wait + Sync>(
+    rt: &R,
+    alloc: Global,
+    limit: u32,
+    trial: Trial<'_>,
+) {
+    assert_of(rt, alloc, replica(rt, alloc, 0), limit, trial);
+}
+
+#[test]
+fn a_desk_is_closed_with_all_of_its_passes(rt: HostRuntime) {
+    assert_fresh(&rt, rt.alloc(), 5, Trial::Closes);
+}
+
+#[test]
+fn two_passes_fill_a_journal(rt: HostRuntime) {
+    assert_fresh(&rt, rt.alloc(), 20_000, Trial::Fills);
+}
+
+#[test]
+fn two_threads_find_what_they_have_added(rt: HostRuntime) {
+    assert_fresh(&rt, rt.alloc(), 20, Trial::Adds);
+}
+
+#[test]
+fn a_gate_is_called_under_the_lock(rt: HostRuntime) {
+    assert_fresh(&rt, rt.alloc(), 20, Trial::Excludes);
+}
+
+#[test]
+fn a_port_answers_as_its_desk(rt: HostRuntime) {
+    assert_fresh(&rt, rt.alloc(), 2, Trial::Answers);
+}
+
+#[test]
+fn a_pump_works_by_its_pass(rt: HostRuntime) {
+    assert_fresh(&rt, rt.alloc(), 20, Trial::Pumps);
+}
+
+// The frame in which site 0 says that it has added SIP/1.
+fn frame_of_an_add(rt: &impl Abort, alloc: Global) -> Vec<u8> {
+    let mut first = journal_of(rt, alloc, replica(rt, alloc, 0), 2);
+    let ask = add(rt, b"SIP/1", 0);
+    assert!(rt; first.call(0, &ask).is_ok());
+    drop(ask);
+    let cut = first.cut(0).ok().expect(rt, "a step");
+    drop(first);
+    match cut.deed {
+        StepDeed::Cut(Some(bytes)) => bytes.into_vec(),
+        _ => rt.panic("another deed"),
+    }
+}
+
+// Site 1, which has added SIP/9.
+fn knowing(rt: &impl Abort, alloc: Global) -> Replica {
+    let mut replica = replica(rt, alloc, 1);
+    let done = ask(alloc, &mut replica, add(rt, b"SIP/9", 0));
+    assert!(rt; matches!(done, Answer::Done));
+    drop(done);
+    replica
+}
+
+#[test]
+fn a_desk_takes_frames_of_another_site(rt: HostRuntime) {
+    let alloc = rt.alloc();
+    let frame = frame_of_an_add(&rt, alloc);
+    assert_of(&rt, alloc, knowing(&rt, alloc), 5, Trial::Takes(&frame));
+}
+
+// Asserts what a pump with this plan sends, and when.
+fn assert_schedule<R: Abort + Threads + Wait + Sync>(
+    rt: &R,
+    alloc: Global,
+    plan: &[Deed],
+    wanted: &[u64],
+    places: &[usize],
+) {
+    let schedule = Schedule {
+        plan,
+        wanted,
+        places,
+    };
+    assert_fresh(rt, alloc, 1_000, Trial::Sends(schedule));
+}
+
+#[test]
+fn frames_are_sent_as_the_plan_says_and_before_the_next_ring(rt: HostRuntime) {
+    use Deed::{Deliver, Hold, Lose, Twice};
+    let alloc = rt.alloc();
+    let plan = [Hold, Deliver, Twice];
+    assert_schedule(&rt, alloc, &plan, &[0, 0, 2, 4], &[1, 0, 2, 2, 3, 4]);
+    assert_schedule(&rt, alloc, &[Hold, Lose], &[0, 0, 1], &[0, 2, 3]);
+    assert_schedule(&rt, alloc, &[], &[0, 1, 2], &[0, 1, 2, 3]);
+    assert_schedule(&rt, alloc, &[Lose], &[0, 0, 0, 0, 0], &[5]);
+}
