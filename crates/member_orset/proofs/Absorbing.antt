@@ -12,20 +12,20 @@ use Rattle.operations.specs.Conditions.{ConditionsAgree}
 use Rattle.dots.proofs.DotOrder.{dots_total}
 use Rattle.dots.proofs.KeySets.{len_of_keys}
 use Rattle.op_arena.specs.Ids.{Id}
-use Rattle.member_orset.specs.CellIds.{AreOfTheDead, IdsFollow}
-use Rattle.member_orset.specs.Joining.{AgreeWith, IsJoinedWith, IsThinned, dead_there, holding_joined, holding_with}
-use Rattle.member_orset.specs.LiveLists.{HoldingsAgree}
-use Rattle.member_orset.specs.LiveStates.{LiveState}
-use Rattle.member_orset.specs.Members.{AreKept, CanBeJoined, HasField, Holding, Members, both_joined, cells_joined, condition_at, joined_dots}
+use Rattle.live_cells.specs.CellIds.{IdsFollow}
+use Rattle.member_orset.specs.Joining.{AgreeWith, IsJoinedWith, dead_there, holding_joined, holding_with, HoldingsAgree}
+use Rattle.live_cells.specs.LiveStates.{LiveState, IsThinned}
+use Rattle.member_orset.specs.Members.{AreKept, CanBeJoined, HasField, Members, both_joined, cells_joined, condition_at, joined_dots, AreOfTheDead}
 use Rattle.member_orset.proofs.Agreeing.{agree_back}
 use Rattle.member_orset.proofs.Deaths.{still_dead}
 use Rattle.member_orset.proofs.FieldReadings.{joined_field}
-use Rattle.member_orset.proofs.IdSteps.{follow_grown}
+use Rattle.live_cells.proofs.IdSteps.{follow_grown}
 use Rattle.member_orset.proofs.JoinedSets.{contains_joined}
 use Rattle.member_orset.proofs.Joins.{conditions_at, of_either}
 use Rattle.member_orset.proofs.LiveIds.{unnamed}
 use Rattle.member_orset.proofs.MapEntries.{entry_is}
 use Rattle.member_orset.proofs.Thinning.{shrinks}
+use Rattle.live_cells.specs.Holdings.{Holding}
 
 -- dropping what is dead there and taking in what is live there is the join of what is live
 both_ways : (o p : Option Holding) (a b : Bool) → holding_with (if (b && not (is_some p)) then None else o) a p ≡ holding_joined o a p b

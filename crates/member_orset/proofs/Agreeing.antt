@@ -6,10 +6,10 @@ use Rattle.std.specs.FinSet as set
 use Rattle.dots.specs.Values.{Dot}
 use Rattle.operations.specs.Registers.{RegistersAgree, Entry, InConflict}
 use Rattle.operations.specs.Conditions.{Condition, ConditionsAgree, Dead, DotFields, FieldsAgree, FieldsInConflict, Live}
-use Rattle.member_orset.specs.Members.{CanBeJoined, Conflicts, ConditionsConflict, Holding, Members, condition_at, condition_of}
-use Rattle.member_orset.specs.LiveLists.{HoldingsAgree, HoldingsConflict}
-use Rattle.member_orset.specs.Joining.{IsTold}
+use Rattle.member_orset.specs.Members.{CanBeJoined, Conflicts, ConditionsConflict, Members, condition_at, condition_of}
+use Rattle.member_orset.specs.Joining.{IsTold, HoldingsAgree, HoldingsConflict}
 use Rattle.member_orset.proofs.MapEntries.{entry_in, entry_is}
+use Rattle.live_cells.specs.Holdings.{Holding}
 
 -- registers that agree aren't in conflict
 apart : {T : Type 0} (x y : Option (Entry T)) → RegistersAgree x y → InConflict x y → ⊥

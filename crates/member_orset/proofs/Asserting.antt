@@ -21,12 +21,12 @@ use Rattle.dots.proofs.OneMoreDot.{insert_known}
 use Rattle.member_orset.specs.declared.join_fault.JoinFault.{JoinFault}
 use Rattle.member_orset.specs.declared.join_fault.JoinFault.TheVariants.{Conflict}
 use Rattle.member_orset.specs.Refusals.{IsRefusedAssert}
-use Rattle.member_orset.specs.Members.{AreKept, ConditionsConflict, HasField, Holding, Members, cells_with, condition_at, condition_of}
-use Rattle.member_orset.specs.LiveLists.{HoldingsAgree, HoldingsConflict}
-use Rattle.member_orset.specs.LiveStates.{fields_met, met_with}
+use Rattle.member_orset.specs.Members.{AreKept, ConditionsConflict, HasField, Members, cells_with, condition_at, condition_of}
 use Rattle.member_orset.proofs.Agreeing.{conditions_apart, conflict_at}
-use Rattle.member_orset.proofs.DotTests.{one_dot, same_itself}
+use Rattle.live_cells.proofs.DotTests.{one_dot, same_itself}
 use Rattle.member_orset.proofs.FieldReadings.{joined_field}
+use Rattle.live_cells.specs.Holdings.{Holding}
+use Rattle.member_orset.specs.Joining.{HoldingsAgree, HoldingsConflict, fields_met, met_with}
 
 -- what an answer leaves, and what it says
 pub either : {E : Type 0} (r : Result (Unit {0}) E) (A : Type 0) → OnOk r A → OnErr r A → A

@@ -13,11 +13,12 @@ use Rattle.dots.proofs.DotCounts.{dots_few}
 use Rattle.dots.proofs.DotOrder.{dots_exact, dots_total}
 use Rattle.op_arena.specs.Ids.{id_cmp}
 use Rattle.op_arena.proofs.IdOrder.{ids_exact, ids_total}
-use Rattle.member_orset.specs.declared.places.TheConstants.{LAST_GENERATION}
-use Rattle.member_orset.specs.CellIds.{AreOfTheDead, IdMap, IdSet, IdsFollow, dead_among, retired_of}
-use Rattle.member_orset.specs.LiveStates.{fields_met, met_with}
-use Rattle.member_orset.specs.Members.{AreKept, Holding, most_retired}
-use Rattle.member_orset.proofs.DotTests.{one_dot}
+use Rattle.live_cells.specs.declared.places.TheConstants.{LAST_GENERATION}
+use Rattle.live_cells.specs.CellIds.{IdMap, IdSet, IdsFollow, retired_of}
+use Rattle.member_orset.specs.Members.{AreKept, most_retired, AreOfTheDead, dead_among}
+use Rattle.live_cells.proofs.DotTests.{one_dot}
+use Rattle.member_orset.specs.Joining.{fields_met, met_with}
+use Rattle.live_cells.specs.Holdings.{Holding}
 
 -- sets of dots
 abbrev Dots : Type 0

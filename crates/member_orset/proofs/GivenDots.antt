@@ -14,8 +14,8 @@ use Rattle.dots.specs.Values.{Dot}
 use Rattle.dots.specs.Orders.{dot_cmp}
 use Rattle.dots.proofs.DotOrder.{dots_total}
 use Rattle.member_orset.specs.Gathering.{AreNext, AreOfSite, IsGreatest, LiesPast, is_given}
-use Rattle.member_orset.proofs.DotTests.{one_dot, same_itself}
-use Rattle.member_orset.proofs.Pieces.{lt_dots}
+use Rattle.live_cells.proofs.DotTests.{one_dot, same_itself}
+use Rattle.live_cells.proofs.Pieces.{lt_dots}
 use Rattle.member_orset.proofs.SeenDots.{any_has}
 
 -- each is given

@@ -12,15 +12,16 @@ use Rattle.std.proofs.Math.Bool.{or-false, or-true}
 use Rattle.dots.specs.Values.{Dot}
 use Rattle.dots.specs.Orders.{dot_cmp}
 use Rattle.dots.proofs.DotOrder.{dots_total, dots_exact}
-use Rattle.member_orset.specs.declared.placed.Placed.{Placed}
+use Rattle.live_cells.specs.declared.placed.Placed.{Placed}
 use Rattle.member_orset.specs.Joining.{dead_there, holding_joined}
 use Rattle.member_orset.specs.LiveDots.{live_dots_without}
-use Rattle.member_orset.specs.Members.{Holding, Members, both_joined, cells_joined, is_live, joined_dots}
-use Rattle.member_orset.specs.PlacedLists.{id_entries, is_placed}
-use Rattle.member_orset.proofs.Counts.{AreNew, add, contains_add, len_add}
-use Rattle.member_orset.proofs.DotTests.{apart_after, one_dot, same_itself}
+use Rattle.member_orset.specs.Members.{Members, both_joined, cells_joined, is_live, joined_dots}
+use Rattle.live_cells.specs.PlacedLists.{id_entries, is_placed}
+use Rattle.live_cells.proofs.Counts.{AreNew, add, contains_add, len_add}
+use Rattle.live_cells.proofs.DotTests.{apart_after, one_dot, same_itself}
 use Rattle.member_orset.proofs.Joins.{stays_live}
-use Rattle.member_orset.proofs.PlacedOrder.{Rise, rise_head, rise_tail}
+use Rattle.live_cells.proofs.PlacedOrder.{Rise, rise_head, rise_tail}
+use Rattle.live_cells.specs.Holdings.{Holding}
 
 -- the dots that pass a test, of live dots that rise
 module _ (test : Dot → Bool) where

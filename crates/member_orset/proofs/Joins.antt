@@ -2,8 +2,9 @@
 use Rattle.std.proofs.Common.{◌≡◌, Bool, true, false, ◌&&◌, ◌||◌, Option, Some, None, is_some, refl, subst}
 use Rattle.std.proofs.lemmas.Option.{same_Some}
 use Rattle.operations.specs.Conditions.{condition_joined, fields_joined}
-use Rattle.member_orset.specs.Members.{Holding, condition_at, is_live}
+use Rattle.member_orset.specs.Members.{condition_at, is_live}
 use Rattle.member_orset.specs.Joining.{holding_joined}
+use Rattle.live_cells.specs.Holdings.{Holding}
 
 -- conditions by what is live, joined
 pub conditions_at : (o p : Option Holding) (a b : Bool) → condition_at (holding_joined o a p b) (a || b) ≡ condition_joined (condition_at o a) (condition_at p b)

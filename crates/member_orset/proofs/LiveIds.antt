@@ -2,12 +2,12 @@
 use Rattle.std.proofs.Common.{◌≡◌, false, Option, Some, None, is_some, refl, sym, ap, ◌∙◌}
 use Rattle.std.specs.FinMap as map
 use Rattle.std.specs.Option.{option_map}
-use Rattle.member_orset.specs.declared.cell.Cell.{Cell}
-use Rattle.member_orset.specs.Reads.{cell_read}
+use Rattle.live_cells.specs.declared.cell.Cell.{Cell}
+use Rattle.live_cells.specs.Holdings.{cell_read}
 use Rattle.dots.specs.Values.{Dot}
 use Rattle.dots.specs.Orders.{dot_cmp}
-use Rattle.member_orset.specs.CellIds.{IdMap}
-use Rattle.member_orset.specs.Members.{Holding}
+use Rattle.live_cells.specs.CellIds.{IdMap}
+use Rattle.live_cells.specs.Holdings.{Holding}
 
 none_of : {X : Type 0} (o : Option X) → is_some o ≡ false → o ≡ None
 none_of None h = refl

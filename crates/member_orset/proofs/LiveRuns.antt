@@ -9,13 +9,13 @@ use Rattle.dots.specs.Values.{Dot}
 use Rattle.dots.specs.Orders.{dot_cmp}
 use Rattle.dots.proofs.DotOrder.{dots_exact, dots_total}
 use Rattle.general_lemmas.proofs.Membership.{any_in}
-use Rattle.member_orset.specs.declared.placed.Placed.{Placed}
-use Rattle.member_orset.specs.LiveRuns.{IsLiveRun}
-use Rattle.member_orset.specs.PlacedLists.{is_placed}
-use Rattle.member_orset.proofs.DotTests.{same_tied}
-use Rattle.member_orset.proofs.Pieces.{lt_dots, more_on}
-use Rattle.member_orset.proofs.PlacedOrder.{Rise}
-use Rattle.member_orset.proofs.Rising as rising
+use Rattle.live_cells.specs.declared.placed.Placed.{Placed}
+use Rattle.live_cells.specs.LiveRuns.{IsLiveRun}
+use Rattle.live_cells.specs.PlacedLists.{is_placed}
+use Rattle.live_cells.proofs.DotTests.{same_tied}
+use Rattle.live_cells.proofs.Pieces.{lt_dots, more_on}
+use Rattle.live_cells.proofs.PlacedOrder.{Rise}
+use Rattle.live_cells.proofs.Rising as rising
 
 no_lesser_site : (s t c n : ℕ) → (nat_lt s t || (nat_eq s t && nat_lt c n)) ≡ true → s ≤ t
 no_lesser_site s t c n h = grind (arith, nat_tests)

@@ -12,7 +12,7 @@ use Rattle.dots.proofs.DotOrder.{dots_total, dots_exact}
 use Rattle.general_lemmas.proofs.Membership.{first_in, later_in}
 use Rattle.general_lemmas.proofs.SortedEntries.{find_at}
 use Rattle.general_lemmas.proofs.TruthTables.{fact}
-use Rattle.member_orset.proofs.DotTests.{one_dot}
+use Rattle.live_cells.proofs.DotTests.{one_dot}
 
 module _ {V : Type 0} where
   -- each entry is given by the map

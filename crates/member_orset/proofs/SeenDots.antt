@@ -17,7 +17,7 @@ use Rattle.dots.proofs.OneMoreDot.{dot_before, run_count_insert}
 use Rattle.dots.proofs.Runs.{contains_set_of}
 use Rattle.general_lemmas.proofs.TruthTables.{or_swap}
 use Rattle.causal_context.specs.Contexts.{IsRunWithinLimits}
-use Rattle.member_orset.proofs.DotTests.{one_dot}
+use Rattle.live_cells.proofs.DotTests.{one_dot}
 use Rattle.member_orset.specs.Reads.{seen_dots}
 use Rattle.member_orset.specs.Gathering.{AreToName, IsGreatest, is_given, is_to_name, part_before, runs_after}
 

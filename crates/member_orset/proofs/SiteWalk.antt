@@ -1,10 +1,6 @@
 -- The walk over the dots of a site: what is passed, and how far dots are given or dead.
 use Rattle.std.proofs.Common.{◌≡◌, ℕ, ◌≤◌, ◌<◌, Bool, true, false, not, ◌&&◌, ◌||◌, List, length, get_or, sym, ap, subst, ◌∙◌, arith}
-use Rattle.std.specs.List.{AllWithin}
-use Rattle.std.specs.List.Sorted.{IsPartitionedBy}
 use Rattle.std.specs.FinSet as sets
-use Rattle.std.proofs.lemmas.Bool.{false_from_ne_true}
-use Rattle.std.proofs.lemmas.List.{get_or_default}
 use Rattle.dots.specs.Values.{Dot}
 use Rattle.dots.specs.Orders.{dot_cmp}
 use Rattle.dots.specs.DotSets.{IsRunsOf, Run, in_runs}
@@ -13,14 +9,6 @@ use Rattle.member_orset.specs.Gathering.{AreToName, IsPiece, is_given, is_to_nam
 
 abbrev at : ℕ → ℕ → Dot
 at site count = record { site = site; count = count }
-
--- a list of which the elements that pass a test come first
-module _ {X : Type 0} (p : X → Bool) (xs : List X) where
-  -- one that doesn't: none does from there on
-  pub passed_all : (i : ℕ) (x : X) → IsPartitionedBy p xs → i < length xs → x ≡ get_or xs i x → p x ≡ false → AllWithin (λ y. p y ≡ false) xs i (length xs)
-  passed_all i x parted l is h k d lo hi =
-      let here : p (get_or xs i d) ≡ false = subst (λ y. p y ≡ false) (is ∙ get_or_default xs i x d l) h in
-      false_from_ne_true (p (get_or xs k d)) (λ t. let early = parted i k d lo hi t in absurd (cc))
 
 module _ (known : sets.FinSet dot_cmp) (live : Dot → Bool) (given : List Dot) (site first last : ℕ) (p : Piece)
     (given_is : IsPiece (λ n. is_given given (at site n)) first last p) where

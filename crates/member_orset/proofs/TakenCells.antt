@@ -9,15 +9,15 @@ use Rattle.dots.specs.Values.{Dot}
 use Rattle.dots.specs.Orders.{dot_cmp}
 use Rattle.general_lemmas.proofs.Membership.{first_in}
 use Rattle.general_lemmas.proofs.TruthTables.{fact}
-use Rattle.member_orset.specs.declared.live_dot.LiveDot.{LiveDot}
-use Rattle.member_orset.specs.Joining.{AgreeWith, HaveGrown, IsJoinedWith, IsTakenIn, holding_with}
-use Rattle.member_orset.specs.LiveLists.{HoldingsAgree, entry_of, holding}
-use Rattle.member_orset.specs.LiveStates.{LiveState}
-use Rattle.member_orset.specs.Members.{Holding}
-use Rattle.member_orset.proofs.DotTests.{one_dot, same_tied}
-use Rattle.member_orset.proofs.IdSteps.{grown_same, grown_twice}
+use Rattle.live_cells.specs.declared.live_dot.LiveDot.{LiveDot}
+use Rattle.member_orset.specs.Joining.{AgreeWith, IsJoinedWith, IsTakenIn, holding_with, HoldingsAgree}
+use Rattle.live_cells.specs.LiveLists.{entry_of, holding}
+use Rattle.live_cells.specs.LiveStates.{LiveState, HaveGrown}
+use Rattle.live_cells.proofs.DotTests.{one_dot, same_tied}
+use Rattle.live_cells.proofs.IdSteps.{grown_same, grown_twice}
 use Rattle.member_orset.proofs.MapEntries.{entry_is}
 use Rattle.member_orset.proofs.Taking.{none_behind}
+use Rattle.live_cells.specs.Holdings.{Holding}
 
 abbrev pub Entries : Type 0
 Entries = List (Dot × Holding)

@@ -14,17 +14,17 @@ use Rattle.dots.proofs.DotOrder.{dots_total}
 use Rattle.general_lemmas.proofs.Membership.{in_any}
 use Rattle.general_lemmas.proofs.SortedEntries.{find_below, rising_head, rising_tail}
 use Rattle.op_arena.specs.Ids.{Id}
-use Rattle.member_orset.specs.declared.live_dot.LiveDot.{LiveDot}
-use Rattle.member_orset.specs.declared.placed.Placed.{Placed}
-use Rattle.member_orset.specs.CellIds.{IsNew}
-use Rattle.member_orset.specs.Joining.{HaveGrown, IsJoinedWith, IsTakenIn, holding_with}
-use Rattle.member_orset.specs.LiveLists.{holding}
-use Rattle.member_orset.specs.LiveStates.{HasTakenDot, LiveState}
-use Rattle.member_orset.specs.Members.{Holding}
-use Rattle.member_orset.specs.PlacedLists.{is_placed}
+use Rattle.live_cells.specs.declared.live_dot.LiveDot.{LiveDot}
+use Rattle.live_cells.specs.declared.placed.Placed.{Placed}
+use Rattle.live_cells.specs.CellIds.{IsNew}
+use Rattle.member_orset.specs.Joining.{IsJoinedWith, IsTakenIn, holding_with}
+use Rattle.live_cells.specs.LiveLists.{holding}
+use Rattle.live_cells.specs.LiveStates.{HasTakenDot, LiveState, HaveGrown}
+use Rattle.live_cells.specs.PlacedLists.{is_placed}
 use Rattle.member_orset.proofs.Asserting.{len_again, len_one_more}
-use Rattle.member_orset.proofs.DotTests.{one_dot}
-use Rattle.member_orset.proofs.IdSteps.{grown_same, look}
+use Rattle.live_cells.proofs.DotTests.{one_dot}
+use Rattle.live_cells.proofs.IdSteps.{grown_same, look}
+use Rattle.live_cells.specs.Holdings.{Holding}
 
 -- where its dot is live here too
 pub taken_joined : (known : Dot → Bool) (s t : LiveState) (c : LiveDot) → HasTakenDot s.live c.dot c.fields t.live → t.ids ≡ s.ids → t.spent ≡ s.spent → s.room ≤ t.room → IsTakenIn known s c t

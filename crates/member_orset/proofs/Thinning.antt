@@ -9,13 +9,13 @@ use Rattle.dots.specs.Values.{Dot}
 use Rattle.dots.specs.Orders.{dot_cmp}
 use Rattle.dots.specs.DotSets.{Run, in_run}
 use Rattle.dots.proofs.DotOrder.{dots_total}
-use Rattle.member_orset.specs.CellIds.{IdMap, IdSet, IdsFollow}
-use Rattle.member_orset.specs.Joining.{IsFirstDead, IsThinned, dead_in_run}
-use Rattle.member_orset.specs.LiveStates.{LiveState, spent_with}
-use Rattle.member_orset.specs.Members.{Holding}
-use Rattle.member_orset.proofs.DotTests.{one_dot, same_tied}
-use Rattle.member_orset.proofs.IdSteps.{Shrinks, follow_remove, follow_same, follow_shrunk}
+use Rattle.live_cells.specs.CellIds.{IdMap, IdSet, IdsFollow}
+use Rattle.member_orset.specs.Joining.{IsFirstDead, dead_in_run}
+use Rattle.live_cells.specs.LiveStates.{LiveState, spent_with, IsThinned}
+use Rattle.live_cells.proofs.DotTests.{one_dot, same_tied}
+use Rattle.live_cells.proofs.IdSteps.{Shrinks, follow_remove, follow_same, follow_shrunk}
 use Rattle.member_orset.proofs.LiveIds.{unnamed}
+use Rattle.live_cells.specs.Holdings.{Holding}
 
 -- nothing is dropped
 pub thinned_none : (dead : Dot → Bool) (s : LiveState) → ((q : Dot) → dead q ≡ false) → IsThinned dead s s

@@ -1,5 +1,5 @@
--- What is live where two sets are joined.
-use Rattle.std.specs.Prelude.{ℕ, ◌≡◌, ◌≤◌, ◌<◌, ◌+◌, Bool, true, false, not, ◌&&◌, Option, Some, None, List, Contains, if◌then◌else◌}
+-- What is live where two sets are joined, or one dot is, and where they are the same.
+use Rattle.std.specs.Prelude.{ℕ, ◌≡◌, ◌≢◌, ◌≤◌, ◌<◌, ◌+◌, ◌⊎◌, Bool, true, false, not, ◌&&◌, Option, Some, None, List, Contains, if◌then◌else◌}
 use Rattle.std.specs.List.{All}
 use Rattle.std.specs.FinMap as map
 use Rattle.std.specs.FinSet as set
@@ -7,13 +7,11 @@ use Rattle.std.specs.Ordering.{eq_by_cmp}
 use Rattle.dots.specs.Values.{Dot}
 use Rattle.dots.specs.DotSets.{Run, in_run}
 use Rattle.dots.specs.Orders.{dot_cmp}
-use Rattle.operations.specs.Conditions.{fields_joined}
-use Rattle.op_arena.specs.Ids.{Id}
-use Rattle.member_orset.specs.declared.live_dot.LiveDot.{LiveDot}
-use Rattle.member_orset.specs.CellIds.{IdsFollow, IsNew}
-use Rattle.member_orset.specs.Members.{Holding}
-use Rattle.member_orset.specs.LiveLists.{HoldingsAgree, HoldingsConflict, holding}
-use Rattle.member_orset.specs.LiveStates.{LiveState}
+use Rattle.operations.specs.Conditions.{DotFields, FieldsAgree, FieldsInConflict, fields_joined}
+use Rattle.live_cells.specs.declared.live_dot.LiveDot.{LiveDot}
+use Rattle.live_cells.specs.LiveLists.{holding}
+use Rattle.live_cells.specs.LiveStates.{HaveGrown, LiveState}
+use Rattle.live_cells.specs.Holdings.{Holding}
 
 -- what stays live of a dot that one side knows or not, and the other: live on both sides it is joined, and live on one it
 -- stays where the other doesn't know it
@@ -21,6 +19,16 @@ abbrev pub holding_joined : Option Holding → Bool → Option Holding → Bool 
 holding_joined (Some h) known (Some g) known_there = Some (h.0, fields_joined h.1 g.1)
 holding_joined (Some h) known None known_there = if known_there then None else Some h
 holding_joined None known live_there known_there = if known then None else live_there
+
+-- what is live agrees with what a dot is to be joined with, in member and fields
+abbrev pub HoldingsAgree : Option Holding → Holding → Type 0
+HoldingsAgree None g = Unit {0}
+HoldingsAgree (Some h) g = (h.0 ≡ g.0) × FieldsAgree h.1 g.1
+
+-- or it doesn't
+abbrev pub HoldingsConflict : Option Holding → Holding → Type 0
+HoldingsConflict None g = ⊥
+HoldingsConflict (Some h) g = (h.0 ≢ g.0) ⊎ FieldsInConflict h.1 g.1
 
 -- what is live of each dot agrees with an entry of it
 abbrev pub AgreeWith : map.FinMap dot_cmp Holding → List (Dot × Holding) → Type 0
@@ -59,19 +67,6 @@ abbrev pub IsNextDead : Run → map.FinMap dot_cmp Holding → ℕ → map.FinMa
 IsNextDead run there first live None = (n : ℕ) → first ≤ n → n ≤ run.last → (map.contains_key live (record { site = run.site; count = n }) && not (map.contains_key there (record { site = run.site; count = n }))) ≡ false
 IsNextDead run there first live (Some dot) = IsFirstDead run there first live dot
 
--- the dots that pass a test are live no more, and nothing else has changed
-pub record IsThinned (dead : Dot → Bool) (old new : LiveState) : Type 0 where
-  pub live : (q : Dot) → map.get new.live q ≡ (if dead q then None else map.get old.live q)
-  pub ids : (q : Dot) → map.get new.ids q ≡ (if dead q then None else map.get old.ids q)
-  pub follow : IdsFollow old.ids old.spent new.ids new.spent
-  pub room : old.room + map.len new.live ≤ new.room + map.len old.live
-
--- dots have become live, with ids that no dot had before, and the others have theirs as before
-pub record HaveGrown (old new : LiveState) : Type 0 where
-  pub kept : (q : Dot) (id : Id) → map.get old.ids q ≡ Some id → map.get new.ids q ≡ Some id
-  pub fresh : (q : Dot) (id : Id) → map.get old.ids q ≡ None → map.get new.ids q ≡ Some id → IsNew old.ids old.spent old.spent id
-  pub spent : new.spent ≡ old.spent
-
 -- what is live of a dot once what is live of it there, if anything, was taken in
 abbrev pub holding_with : Option Holding → Bool → Option Holding → Option Holding
 holding_with live known None = live
@@ -88,3 +83,16 @@ pub record IsTakenIn (known : Dot → Bool) (old : LiveState) (cell : LiveDot) (
 pub record IsJoinedWith (known : Dot → Bool) (old : LiveState) (there : map.FinMap dot_cmp Holding) (new : LiveState) : Type 0 where
   pub live : (q : Dot) → map.get new.live q ≡ holding_with (map.get old.live q) (known q) (map.get there q)
   pub ids : HaveGrown old new
+
+-- live dots where the fields of one of them are joined with others
+abbrev pub met_with : map.FinMap dot_cmp Holding → Dot → DotFields → Option Holding → map.FinMap dot_cmp Holding
+met_with live dot fields None = live
+met_with live dot fields (Some h) = map.insert live dot (h.0, fields_joined h.1 fields)
+
+-- live dots where the fields of a dot are joined with others, if it is live
+abbrev pub fields_met : map.FinMap dot_cmp Holding → Dot → DotFields → map.FinMap dot_cmp Holding
+fields_met live dot fields = met_with live dot fields (map.get live dot)
+
+-- what is live there is live here, with the same member and fields
+abbrev pub HasAll : map.FinMap dot_cmp Holding → map.FinMap dot_cmp Holding → Type 0
+HasAll live there = (dot : Dot) (h : Holding) → map.get there dot ≡ Some h → map.get live dot ≡ Some h

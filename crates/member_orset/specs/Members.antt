@@ -1,7 +1,6 @@
 -- What contracts see of a set of members: the dots that it knows, the live ones with member and fields, and, aside of
 -- what it means, how much room it has.
-use Rattle.std.specs.Prelude.{ℕ, ◌≡◌, ◌≢◌, ◌≤◌, ◌+◌, ◌⊎◌, Bool, true, false, Option, Some, None, Result, Ok, Err, refl, if◌then◌else◌}
-use Rattle.std.specs.Option.{option_map, option_map_or}
+use Rattle.std.specs.Prelude.{ℕ, ◌≡◌, ◌≢◌, ◌≤◌, ◌+◌, ◌⊎◌, Bool, true, false, not, Option, Some, None, Result, Ok, Err, refl, if◌then◌else◌}
 use Rattle.std.specs.FinMap as map
 use Rattle.std.specs.FinSet as set
 use Rattle.std.specs.Ordering.{eq_by_cmp}
@@ -17,12 +16,9 @@ use Rattle.operations.specs.Codes.{member_code, fields_code}
 use Rattle.dots.specs.WithinLimits.{AreDots}
 use Rattle.op_arena.specs.Ids.{Id, id_code}
 use Rattle.member_orset.specs.declared.join_fault.JoinFault.{JoinFault}
-use Rattle.member_orset.specs.declared.places.TheConstants.{LAST_GENERATION}
-use Rattle.member_orset.specs.CellIds.{AreIdsApart, AreOfTheDead, IdMap, IdSet, IdsFollow, retired_of}
-
--- the member and the fields of a live dot
-abbrev pub Holding : Type 0
-Holding = Member × DotFields
+use Rattle.live_cells.specs.declared.places.TheConstants.{LAST_GENERATION}
+use Rattle.live_cells.specs.CellIds.{AreIdsApart, IdMap, IdSet, IdsFollow, retired_of}
+pub use Rattle.live_cells.specs.Holdings.{Holding, IsPresentIn, view_of}
 
 -- A set of members. A known dot that isn't live is dead; of the others nothing is known. The rest says nothing of members:
 -- the ids of the live dots, those of dots that are live no more, how many places of dead dots aren't used again, and for
@@ -86,6 +82,14 @@ pub record AreKept (known : set.FinSet dot_cmp) (live : map.FinMap dot_cmp Holdi
   pub heard : (dot : Dot) (h : Holding) → map.get live dot ≡ Some h → set.contains known dot ≡ true
   pub set : (dot : Dot) (h : Holding) → map.get live dot ≡ Some h → HasField h.1
 
+-- the dots that are known and not live
+unfoldable pub dead_among : set.FinSet dot_cmp → (Dot → Bool) → set.FinSet dot_cmp
+dead_among known live = set.retain known (λ dot. not (live dot))
+
+-- there are at most as many spent ids as dead dots
+abbrev pub AreOfTheDead : set.FinSet dot_cmp → (Dot → Bool) → IdSet → Type 0
+AreOfTheDead known live spent = set.len spent ≤ set.len (dead_among known live)
+
 -- what a set keeps, with its spent ids: they are at most as many as the dead dots
 pub record IsSet (known : set.FinSet dot_cmp) (live : map.FinMap dot_cmp Holding) (spent : IdSet) : Type 0 where
   pub kept : AreKept known live
@@ -96,10 +100,6 @@ pub record HasId (s : Members) (id : Id) (h : Holding) : Type 0 where
   pub dot : Dot
   pub named : map.get s.ids dot ≡ Some id
   pub live : map.get s.live dot ≡ Some h
-
--- the greatest number of places of cells
-abbrev pub most_places : ℕ
-most_places = 1048576
 
 -- the greatest number of places that aren't used again: each had 2 ^ 32 dots, and there are 2 ^ 46 dots
 abbrev pub most_retired : ℕ
@@ -116,14 +116,6 @@ pub record IsWithinLimits (s : Members) : Type 0 where
   pub named : (dot : Dot) → map.contains_key s.ids dot ≡ map.contains_key s.live dot
   pub apart : AreIdsApart s.ids s.spent
   pub worn : s.retired ≡ retired_of LAST_GENERATION s.spent
-
--- what is read of live dots: they are the visible ones, with the member and the fields that are held
-abbrev pub view_of : map.FinMap dot_cmp Holding → DotView
-view_of live = record {
-  visible = set.from_list (map.keys live);
-  member = λ dot. option_map (λ h. h.0) (map.get live dot);
-  fields = λ dot. option_map_or (λ h. h.1) (map.get live dot) no_fields;
-}
 
 -- what is read of a set
 abbrev pub dot_view_of : Members → DotView
@@ -154,12 +146,6 @@ cells_with s dot = live_with (map.len s.live) (set.contains s.known dot)
 pub record Conflicts (s t : Members) : Type 0 where
   pub dot : Dot
   pub conflict : ConditionsConflict (condition_of s dot) (condition_of t dot)
-
--- a dot that is live with a member
-pub record IsPresentIn (dots : map.FinMap dot_cmp Holding) (member : Member) : Type 0 where
-  pub dot : Dot
-  pub fields : DotFields
-  pub live : map.get dots dot ≡ Some (member, fields)
 
 -- a set has such a dot
 abbrev pub IsPresent : Members → Member → Type 0

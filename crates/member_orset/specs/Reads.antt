@@ -5,12 +5,8 @@ use Rattle.std.specs.FinSet as set
 use Rattle.dots.specs.Values.{Dot}
 use Rattle.dots.specs.Orders.{dot_cmp}
 use Rattle.dots.specs.DotSets.{is_older}
-use Rattle.member_orset.specs.declared.cell.Cell.{Cell}
-use Rattle.member_orset.specs.Members.{Members, Holding}
-
--- what a lent cell shows
-abbrev pub cell_read : Cell → Holding
-cell_read c = (c.member.now, c.fields.now)
+use Rattle.member_orset.specs.Members.{Members}
+pub use Rattle.live_cells.specs.Holdings.{cell_read}
 
 -- given dots, with the dead ones that are older: known, and not live
 unfoldable pub seen_dots : set.FinSet dot_cmp → (Dot → Bool) → List Dot → set.FinSet dot_cmp

@@ -1,12 +1,10 @@
 //! Whether what is live in two sets can be joined.
 ghost use Rattle.std.specs.Prelude.{◌≡◌, ◌↔◌, IsTrue, IsFalse};
 ghost use Rattle.std.specs.FinMap as map;
-ghost use Rattle.member_orset.specs.LiveLists.{HoldingsAgree, HoldingsConflict};
-ghost use Rattle.member_orset.specs.Joining.{IsTold};
+ghost use Rattle.member_orset.specs.Joining.{HoldingsAgree, HoldingsConflict, IsTold};
 
-use crate::live_cells::LiveCells;
-use crate::places::LAST_GENERATION;
 use dots::{Dot, Member};
+use live_cells::{LAST_GENERATION, LiveCells};
 use lww_registers::Fields;
 
 // Whether both are the same member.

@@ -4,15 +4,15 @@ ghost use Rattle.std.specs.FinMap as map;
 ghost use Rattle.dots.specs.Orders.{dot_cmp};
 ghost use Rattle.dots.specs.DotSets.{run_count};
 ghost use Rattle.member_orset.specs.LiveDots.{dead_dots};
-ghost use Rattle.member_orset.specs.PlacedLists.{is_placed};
+ghost use Rattle.live_cells.specs.PlacedLists.{is_placed};
 
 use crate::gathered::Gathered;
 use crate::given_dots::GivenDots;
 use crate::known_runs::KnownRuns;
-use crate::placed_dots::PlacedDots;
 use crate::site_walk::gather_site;
 use causal_context::{Context, ContextFault};
 use dots::{Dot, MOST_COUNT, MOST_RUNS, SiteId};
+use live_cells::PlacedDots;
 use std::alloc::Global;
 
 // The dots of a site that a context has and that aren't live.

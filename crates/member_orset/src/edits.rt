@@ -5,16 +5,15 @@ ghost use Rattle.std.specs.FinMap as map;
 ghost use Rattle.std.specs.FinSet as set;
 ghost use Rattle.dots.specs.DotSets.{run_count};
 ghost use Rattle.operations.specs.Conditions.{FieldsAgree};
-ghost use Rattle.member_orset.specs.CellIds.{IdsFollow};
-ghost use Rattle.member_orset.specs.LiveStates.{AreLive, fields_met};
+ghost use Rattle.live_cells.specs.CellIds.{IdsFollow};
+ghost use Rattle.live_cells.specs.LiveStates.{AreLive};
 ghost use Rattle.member_orset.specs.Members.{live_with};
+ghost use Rattle.member_orset.specs.Joining.{fields_met};
 
 use crate::JoinFault;
-use crate::live_cells::LiveCells;
-use crate::live_dot::LiveDot;
-use crate::places::LAST_GENERATION;
 use causal_context::{Context, ContextFault};
 use dots::{Dot, MOST_LIVE, MOST_RUNS};
+use live_cells::{LAST_GENERATION, LiveCells, LiveDot};
 use lww_registers::Fields;
 
 // Adds a dot to those that are known.

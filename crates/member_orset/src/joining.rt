@@ -7,18 +7,15 @@ ghost use Rattle.std.specs.FinSet as set;
 ghost use Rattle.dots.specs.Values.{Dot};
 ghost use Rattle.dots.specs.DotSets.{run_count};
 ghost use Rattle.causal_context.specs.Contexts.{IsPrepared};
-ghost use Rattle.member_orset.specs.LiveLists.{HoldingsAgree, holding};
-ghost use Rattle.member_orset.specs.Joining.{AgreeWith, IsJoinedWith, IsNextDead, IsTakenIn};
-ghost use Rattle.member_orset.specs.Joining.{IsThinned, dead_in_run, dead_there};
+ghost use Rattle.live_cells.specs.LiveLists.{holding};
+ghost use Rattle.live_cells.specs.LiveStates.{IsThinned};
+ghost use Rattle.member_orset.specs.Joining.{AgreeWith, HoldingsAgree, IsJoinedWith, IsNextDead};
+ghost use Rattle.member_orset.specs.Joining.{IsTakenIn, dead_in_run, dead_there};
 
 use crate::JoinFault;
-use crate::live_cells::LiveCells;
-use crate::live_dot::LiveDot;
-use crate::placed::Placed;
-use crate::placed_dots::PlacedDots;
-use crate::places::LAST_GENERATION;
 use causal_context::{Context, ContextFault, Run};
 use dots::{Dot, MOST_RUNS};
+use live_cells::{LAST_GENERATION, LiveCells, LiveDot, Placed, PlacedDots};
 
 // Up to so many dots come, or die, one by one, since to search a place for each and to move what stands before it or behind
 // it takes less then than to walk all.

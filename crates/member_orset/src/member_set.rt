@@ -7,8 +7,8 @@ ghost use Rattle.dots.specs.Values.{Dot};
 ghost use Rattle.dots.specs.DotSets.{run_count};
 ghost use Rattle.operations.specs.Rows.{dots_of, row_of, rows_of};
 ghost use Rattle.operations.specs.Conditions.{Live, Dead};
-ghost use Rattle.member_orset.specs.CellIds.{dead_among, retired_of};
-ghost use Rattle.member_orset.specs.Members.{CanBeJoined, Conflicts, HasField, HasId};
+ghost use Rattle.live_cells.specs.CellIds.{retired_of};
+ghost use Rattle.member_orset.specs.Members.{CanBeJoined, Conflicts, HasField, HasId, dead_among};
 ghost use Rattle.member_orset.specs.Members.{IsJoinOf, IsPrepared, IsPresent, IsSet};
 ghost use Rattle.member_orset.specs.Members.{IsRefusedFor, IsUnchanged, IsWithinLimits, KeepsIds};
 ghost use Rattle.member_orset.specs.Members.{SaysTheSame, cells_joined, most_retired};
@@ -16,21 +16,20 @@ ghost use Rattle.member_orset.specs.Members.{condition_of, dot_view_of, joined_a
 ghost use Rattle.member_orset.specs.LiveDots.{dead_dots_of, live_dots_without};
 ghost use Rattle.member_orset.specs.Refusals.{IsRefusedAssert, IsRefusedJoin, IsRefusedKill};
 ghost use Rattle.operations.specs.Views.{row_view};
-ghost use Rattle.member_orset.specs.Reads.{cell_read, dots_seen_below};
+ghost use Rattle.member_orset.specs.Reads.{dots_seen_below};
+ghost use Rattle.live_cells.specs.Holdings.{cell_read};
 
 use crate::agreement::{agrees_with, cells_agree};
 use crate::dead::gather_dead;
 use crate::edits::{bring, has_place, learn, meet};
 use crate::given_dots::GivenDots;
 use crate::joining::{count_kept, count_unknown, drop_dead, make_room, take_all};
-use crate::live_cells::LiveCells;
-use crate::live_dot::LiveDot;
-use crate::places::LAST_GENERATION;
 use crate::sameness::{are_same_cells, is_same_context};
 use crate::seen::gather;
 use crate::{Cell, Cells, Dots, JoinFault, Row, Rows};
 use causal_context::{Context, ContextFault};
 use dots::{Dot, MOST_LIVE, MOST_RUNS, Member, Memory, SiteId};
+use live_cells::{LAST_GENERATION, LiveCells, LiveDot};
 use lww_registers::Fields;
 use op_arena::CellId;
 use std::alloc::Global;
@@ -53,9 +52,9 @@ impl Model for MemberSet {
 
     ghost coded = { members_code };
 
-    ghost use Rattle.member_orset.specs.CellIds.{retired_of};
+    ghost use Rattle.live_cells.specs.CellIds.{retired_of};
     ghost use Rattle.member_orset.specs.Members.{IsSet};
-    ghost use Rattle.member_orset.specs.declared.places.TheConstants.{LAST_GENERATION};
+    ghost use Rattle.live_cells.specs.declared.places.TheConstants.{LAST_GENERATION};
 
     ghost view = { λ s. record {
       known = s.context.dots;

@@ -1,13 +1,12 @@
 //! Whether two contexts, or all that is live in two sets, are one.
 ghost use Rattle.std.specs.Prelude.{◌≡◌, ◌↔◌, IsTrue, Some};
 ghost use Rattle.std.specs.FinMap as map;
-ghost use Rattle.member_orset.specs.LiveStates.{HasAll};
+ghost use Rattle.member_orset.specs.Joining.{HasAll};
 
 use crate::agreement::is_same_member;
-use crate::live_cells::LiveCells;
-use crate::places::LAST_GENERATION;
 use causal_context::Context;
 use dots::{Dot, Member};
+use live_cells::{LAST_GENERATION, LiveCells};
 use lww_registers::Fields;
 
 // Whether both know the same dots.

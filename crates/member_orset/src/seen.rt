@@ -4,16 +4,16 @@ ghost use Rattle.std.specs.List.{All};
 ghost use Rattle.std.specs.FinMap as map;
 ghost use Rattle.dots.specs.Orders.{dot_cmp};
 ghost use Rattle.dots.specs.DotSets.{run_count};
-ghost use Rattle.member_orset.specs.PlacedLists.{is_placed};
+ghost use Rattle.live_cells.specs.PlacedLists.{is_placed};
 ghost use Rattle.member_orset.specs.Reads.{seen_dots};
 
 use crate::gathered::Gathered;
 use crate::given_dots::GivenDots;
 use crate::known_runs::KnownRuns;
-use crate::placed_dots::PlacedDots;
 use crate::site_walk::gather_site;
 use causal_context::{Context, ContextFault};
 use dots::{Dot, MOST_RUNS, SITES, SiteId};
+use live_cells::PlacedDots;
 use std::alloc::Global;
 
 // Between which numbers the sites of the given dots lie: from the first on, and before the second.

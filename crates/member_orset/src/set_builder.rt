@@ -1,20 +1,16 @@
-ghost use Rattle.std.specs.Prelude.{◌≡◌, ◌<◌, ◌≤◌, [], IfOk, IsSome, OnErr, OnOk, length, true};
+ghost use Rattle.std.specs.Prelude.{◌≡◌, ◌<◌, IfOk, IsSome, OnErr, OnOk, true};
 ghost use Rattle.std.specs.FinMap as map;
 ghost use Rattle.std.specs.FinSet as set;
-ghost use Rattle.std.specs.Vec.{vec_capacity};
 ghost use Rattle.std.specs.declared.cmp.Ordering.TheVariants.{Less};
 ghost use Rattle.dots.specs.Values.{Dot};
 ghost use Rattle.dots.specs.Orders.{dot_cmp};
-ghost use Rattle.member_orset.specs.CellIds.{IsNew};
+ghost use Rattle.live_cells.specs.CellIds.{IsNew};
 ghost use Rattle.member_orset.specs.Members.{HasField, SaysTheSame};
 
 use crate::MemberSet;
-use crate::live_cells::LiveCells;
-use crate::live_dot::LiveDot;
-use crate::placed_cells::PlacedCells;
-use crate::places::LAST_GENERATION;
 use causal_context::Context;
 use dots::{Dot, MOST_LIVE, Member, Memory};
+use live_cells::{CellsBuilder, LAST_GENERATION, LiveDot};
 use lww_registers::Fields;
 use op_arena::CellId;
 use std::alloc::Global;
@@ -25,9 +21,7 @@ use std::marker::Model;
 #[derive(Drop)]
 pub struct SetBuilder {
     context: Context,
-    placed: PlacedCells<LAST_GENERATION>,
-    // It is empty, and has room for the ids of all cells.
-    members: Vec<CellId>,
+    cells: CellsBuilder<LAST_GENERATION>,
 }
 
 impl Model for SetBuilder {
@@ -37,54 +31,22 @@ impl Model for SetBuilder {
 
     ghost coded = { members_code };
 
-    ghost use Rattle.std.specs.Prelude.{min};
-    ghost use Rattle.std.specs.FinMap as map;
-    ghost use Rattle.std.specs.Vec.{vec_capacity};
-    ghost use Rattle.member_orset.specs.CellIds.{retired_of};
-    ghost use Rattle.member_orset.specs.LiveLists.{live_of};
-    ghost use Rattle.member_orset.specs.PlacedLists.{id_entries};
-    ghost use Rattle.member_orset.specs.PlacedStates.{cells_of};
-    ghost use Rattle.member_orset.specs.declared.places.TheConstants.{LAST_GENERATION};
+    ghost use Rattle.live_cells.specs.CellIds.{retired_of};
+    ghost use Rattle.live_cells.specs.declared.places.TheConstants.{LAST_GENERATION};
 
     ghost view = { λ b. record {
       known = b.context.dots;
-      live = live_of (cells_of b.placed);
-      ids = map.from_sorted (id_entries b.placed.dots);
-      spent = b.placed.spent;
-      retired = retired_of LAST_GENERATION b.placed.spent;
-      cell_room = min b.placed.room (vec_capacity b.members);
+      live = b.cells.live;
+      ids = b.cells.ids;
+      spent = b.cells.spent;
+      retired = retired_of LAST_GENERATION b.cells.spent;
+      cell_room = b.cells.room;
       run_room = b.context.room;
     } };
 
     ghost use Rattle.member_orset.specs.Members.{AreKept};
-    ghost use Rattle.member_orset.specs.PlacedStates.{AreUnlisted};
 
-    ghost invariant = { λ b.
-        AreKept b.context.dots (live_of (cells_of b.placed))
-        × AreUnlisted b.placed b.members.items (vec_capacity b.members) };
-}
-
-// Makes room for one more cell, and in an empty list for the ids of all cells.
-fn make_room(
-    placed: &mut PlacedCells<LAST_GENERATION>,
-    members: &mut Vec<CellId>,
-) -> Result<(), Memory>
-    requires { members.old.items ≡ [] }
-    ensures cells { OnOk result (length placed.new.dots < placed.new.room) }
-    ensures index { OnOk result (length placed.new.dots < vec_capacity members.new) }
-    ensures dots { placed.new.dots ≡ placed.old.dots }
-    ensures held { placed.new.held ≡ placed.old.held }
-    ensures spent { placed.new.spent ≡ placed.old.spent }
-    ensures empty { members.new.items ≡ [] }
-    ensures capacity { vec_capacity members.old ≤ vec_capacity members.new }
-{
-    if placed.reserve(1).is_err() {
-        return Err(Memory);
-    }
-    match members.reserve(placed.len() + 1) {
-        Ok(()) => Ok(()),
-        Err(_) => Err(Memory),
-    }
+    ghost invariant = { λ b. AreKept b.context.dots b.cells.live };
 }
 
 impl SetBuilder {
@@ -97,8 +59,7 @@ impl SetBuilder {
     {
         SetBuilder {
             context,
-            placed: PlacedCells::new(alloc),
-            members: Vec::new(alloc),
+            cells: CellsBuilder::new(alloc),
         }
     }
 
@@ -144,14 +105,15 @@ impl SetBuilder {
         ensures err { OnErr result (self.new.live ≡ self.old.live) }
         ensures err_ids { OnErr result (self.new.ids ≡ self.old.ids) }
     {
-        make_room(&mut self.placed, &mut self.members)?;
         let cell = LiveDot {
             dot,
             member,
             fields,
         };
-        let end = self.placed.len();
-        Ok(self.placed.insert(end, cell))
+        match self.cells.put(cell) {
+            Ok(id) => Ok(id),
+            Err(_) => Err(Memory),
+        }
     }
 
     /// The set: the given dots are live, with the ids that were answered, and the others of the context dead. It takes no
@@ -162,11 +124,7 @@ impl SetBuilder {
         ensures spent { result.spent ≡ set.empty }
         ensures retired { result.retired ≡ 0 }
     {
-        let SetBuilder {
-            context,
-            placed,
-            members,
-        } = self;
-        MemberSet::of(context, LiveCells::of(placed, members))
+        let SetBuilder { context, cells } = self;
+        MemberSet::of(context, cells.finish())
     }
 }

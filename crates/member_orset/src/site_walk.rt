@@ -7,18 +7,17 @@ ghost use Rattle.std.specs.FinSet as set;
 ghost use Rattle.dots.specs.Orders.{dot_cmp};
 ghost use Rattle.dots.specs.DotSets.{IsRunsOf, in_runs};
 ghost use Rattle.causal_context.specs.RunLists.{is_below};
-ghost use Rattle.member_orset.specs.PlacedLists.{is_placed};
+ghost use Rattle.live_cells.specs.PlacedLists.{is_placed};
 ghost use Rattle.member_orset.specs.Gathering.{AreToName, IsAhead, IsGathered, IsPiece};
 ghost use Rattle.member_orset.specs.Gathering.{is_to_name, part_before};
 
 use crate::gathered::Gathered;
 use crate::given_dots::GivenDots;
 use crate::known_runs::{KnownRuns, ends_before};
-use crate::live_runs::live_run_end;
 use crate::piece::Piece;
-use crate::placed_dots::PlacedDots;
 use causal_context::Run;
 use dots::Dot;
+use live_cells::{PlacedDots, live_run_end};
 
 // A walk over the dots of a site up to a last one: the dot that it has come to, how many runs end before it, and how many
 // live dots lie before it.

@@ -13,7 +13,7 @@ use Rattle.operations.specs.Knowledge.{is_dot}
 use Rattle.general_lemmas.proofs.Counting.{positive, within}
 use Rattle.dots.proofs.DotOrder.{dots_exact, dots_total}
 use Rattle.dots.proofs.RunCounts.{contains_run_ends}
-use Rattle.member_orset.proofs.DotTests.{one_dot, same_itself, same_tied}
+use Rattle.live_cells.proofs.DotTests.{one_dot, same_itself, same_tied}
 use Rattle.replica.proofs.SeenOnce.{AreOnce}
 
 -- sets of dots

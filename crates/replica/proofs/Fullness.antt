@@ -30,8 +30,8 @@ use Rattle.dots.proofs.RunCounts.{run_count_runs}
 use Rattle.general_lemmas.proofs.TruthTables.{or_swap}
 use Rattle.dots.proofs.Unions.{union_empty}
 use Rattle.member_orset.specs.LiveDots.{dead_dots, dead_dots_of, live_dots_without}
-use Rattle.member_orset.proofs.Counts.{AreNew, add, contains_add, len_add}
-use Rattle.member_orset.proofs.DotTests.{one_dot, same_itself}
+use Rattle.live_cells.proofs.Counts.{AreNew, add, contains_add, len_add}
+use Rattle.live_cells.proofs.DotTests.{one_dot, same_itself}
 use Rattle.member_orset.specs.Members.{Holding, IsWithinLimits, both_joined, cells_joined, condition_at, condition_of, is_live, joined_dots, runs_joined}
 use Rattle.member_orset.specs.Reads.{dots_seen_below, seen_dots}
 use Rattle.delta.specs.DeltaStates.{DeltaState}

@@ -20,7 +20,7 @@ use Rattle.general_lemmas.proofs.Membership.{any_in, in_any}
 use Rattle.operations.proofs.TotalsLaws.{keys_total, one_key}
 use Rattle.causal_context.specs.Contexts.{IsRunWithinLimits}
 use Rattle.member_orset.specs.Members.{Holding, Members}
-use Rattle.member_orset.proofs.DotTests.{one_dot}
+use Rattle.live_cells.proofs.DotTests.{one_dot}
 use Rattle.site_totals.specs.Raising.{number_of}
 use Rattle.replica.specs.Taking.{CountsMore, HasDotPast, HasFieldPast, HasMemberPast, HasStampPast, HasStrangeMember, HasStrangeTotal, HasTotalPast, IsEntryPast, IsWrittenPast}
 use Rattle.replica.proofs.Found.{any_of, given, listed, of_any}

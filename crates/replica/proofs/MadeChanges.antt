@@ -32,7 +32,7 @@ use Rattle.general_lemmas.proofs.Membership.{any_map, in_any, nothing_in, only_i
 use Rattle.operations.proofs.TotalsLaws.{by_numbers, get_single_some, is_key, joined_empty, joined_comm}
 use Rattle.dots.proofs.Unions.{union_comm, union_empty}
 use Rattle.member_orset.specs.Members.{Holding, condition_at}
-use Rattle.member_orset.proofs.DotTests.{one_dot}
+use Rattle.live_cells.proofs.DotTests.{one_dot}
 use Rattle.site_totals.specs.Raising.{alone}
 use Rattle.delta.specs.DeltaStates.{DeltaState}
 use Rattle.delta.specs.Standing.{IsDeltaOf}

@@ -16,7 +16,7 @@ use Rattle.general_lemmas.proofs.Filters.{filter_in}
 use Rattle.general_lemmas.proofs.Membership.{any_in, in_any, in_some, nothing_in, some_in}
 use Rattle.operations.proofs.RowLaws.{dot_of}
 use Rattle.operations.proofs.WithinLimitsLaws.{one_dot}
-use Rattle.member_orset.proofs.DotTests.{same_itself}
+use Rattle.live_cells.proofs.DotTests.{same_itself}
 use Rattle.replica.specs.Changes.{Change, Meaning, Makes, AddMember, RemoveMember, SetField, CountCall, add_at, count_at, meaning, meaning_of_setting, remove_of, where_absent, within_limits, write_at}
 use Rattle.replica.specs.MadeOperations.{IsMadeAt, IsRemoveAt}
 use Rattle.replica.specs.Queues.{number_of}

@@ -14,7 +14,7 @@ use Rattle.general_lemmas.proofs.Membership.{any_in, same_tests}
 use Rattle.operations.proofs.AlikeViews.{filter_map_same}
 use Rattle.operations.proofs.JoinedKnowledge.{field_both, fields_right, member_both, member_in, member_some}
 use Rattle.operations.proofs.VisibleLaws.{visible_from, visible_parts}
-use Rattle.member_orset.proofs.DotTests.{same_itself}
+use Rattle.live_cells.proofs.DotTests.{same_itself}
 use Rattle.replica.proofs.MadeChanges.{field_asserted}
 use Rattle.replica.proofs.SeenLists.{IsOwn, member_rises, of_member, same_rising, to_member}
 

@@ -22,7 +22,7 @@ use Rattle.dots.proofs.MemberOrder.{members_total}
 use Rattle.general_lemmas.proofs.Membership.{first_in, in_any, nothing_in}
 use Rattle.member_orset.specs.Members.{Holding, IsPresent, IsWithinLimits}
 use Rattle.member_orset.specs.Reads.{dots_seen_below}
-use Rattle.member_orset.proofs.DotTests.{one_dot}
+use Rattle.live_cells.proofs.DotTests.{one_dot}
 use Rattle.replica.specs.declared.planned.Planned.{Planned}
 use Rattle.replica.specs.declared.refusal.Refusal.{Refusal}
 use Rattle.replica.specs.declared.refusal.Refusal.TheVariants.{AlreadyThere, MembersFull}

@@ -13,7 +13,7 @@ use Rattle.operations.specs.Knowledge.{is_dot}
 use Rattle.dots.proofs.DotOrder.{dots_total}
 use Rattle.member_orset.specs.Members.{Holding, Members}
 use Rattle.member_orset.specs.Reads.{dots_seen_below, seen_dots}
-use Rattle.member_orset.proofs.DotTests.{same_itself}
+use Rattle.live_cells.proofs.DotTests.{same_itself}
 
 -- the given dots are among those that are seen
 pub given_seen : (s : Members) (given : List Dot) (q : Dot) → list_any (is_dot q) given ≡ true → set.contains (dots_seen_below s given) q ≡ true

@@ -32,7 +32,7 @@ use Rattle.general_lemmas.proofs.Membership.{any_in, any_map, cases_in, first_in
 use Rattle.general_lemmas.proofs.SortedEntries.{below_first}
 use Rattle.general_lemmas.proofs.TruthTables.{equal_of, less_of, truth}
 use Rattle.member_orset.specs.Members.{Holding, Members, dot_view_of}
-use Rattle.member_orset.proofs.DotTests.{after, one_dot, same_itself}
+use Rattle.live_cells.proofs.DotTests.{after, one_dot, same_itself}
 use Rattle.replica.specs.DotLists.{DotsRise, dots_below}
 use Rattle.replica.specs.SiteViews.{dots_seen, with_interface}
 use Rattle.replica.specs.Writing.{written_to}

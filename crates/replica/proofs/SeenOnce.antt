@@ -19,7 +19,7 @@ use Rattle.operations.proofs.AlikeViews.{listed_in, own_visible}
 use Rattle.dots.proofs.DotOrder.{dots_exact, dots_total}
 use Rattle.general_lemmas.proofs.ItemOrder.{in_order_rises, units}
 use Rattle.general_lemmas.proofs.Membership.{cases_in, first_in, in_some, later_in, nothing_in}
-use Rattle.member_orset.proofs.DotTests.{apart_after}
+use Rattle.live_cells.proofs.DotTests.{apart_after}
 use Rattle.delta.specs.DeltaStates.{DeltaState}
 use Rattle.replica.specs.Site.{SiteState, view_of}
 use Rattle.replica.specs.SiteViews.{dots_seen, older_dots, with_interface}

@@ -21,7 +21,7 @@ use Rattle.operations.specs.Operations.{Field, Operation, asserted_by, label_fie
 use Rattle.operations.specs.Registers.{join_of}
 use Rattle.operations.specs.Rows.{DotView, MemberRow, dot_view, dots_of, member_fields, row_if, row_of, row_of_fields}
 use Rattle.operations.proofs.KnownLaws.{known_dot}
-use Rattle.member_orset.proofs.DotTests.{one_dot, same_itself}
+use Rattle.live_cells.proofs.DotTests.{one_dot, same_itself}
 use Rattle.replica.specs.Changes.{Meaning, Makes, AddMember, RemoveMember, add_at, meaning, remove_of, where_absent, where_present, within_limits}
 use Rattle.replica.specs.Queues.{number_of}
 use Rattle.replica.specs.SetFields.{fields_added}

@@ -25,7 +25,7 @@ use Rattle.operations.specs.Rows.{DotView, dot_view, dots_of, is_of, member_fiel
 use Rattle.operations.proofs.AlikeViews.{filter_map_same}
 use Rattle.operations.proofs.RegisterLaws.{joined_self, stamps_total}
 use Rattle.operations.proofs.RowLaws.{has_row}
-use Rattle.member_orset.proofs.DotTests.{one_dot, same_itself}
+use Rattle.live_cells.proofs.DotTests.{one_dot, same_itself}
 use Rattle.replica.specs.Changes.{Meaning, Makes, SetField, meaning, meaning_of_setting, time_in, time_of, time_replaced, where_present, within_limits, write_at}
 use Rattle.replica.specs.Queues.{number_of}
 use Rattle.replica.specs.Shows.{IsSetOn, ShowsSetting, member_at, row_in, row_with}

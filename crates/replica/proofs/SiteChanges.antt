@@ -20,7 +20,7 @@ use Rattle.operations.specs.Operations.{entry_under}
 use Rattle.operations.specs.Totals.{key_cmp}
 use Rattle.general_lemmas.proofs.Membership.{in_any, only_in}
 use Rattle.dots.proofs.DotOrder.{dots_total}
-use Rattle.member_orset.proofs.DotTests.{one_dot}
+use Rattle.live_cells.proofs.DotTests.{one_dot}
 use Rattle.site_totals.specs.Raising.{alone}
 use Rattle.member_orset.specs.Members.{Holding, IsWithinLimits, condition_at, condition_of}
 use Rattle.member_orset.specs.Reads.{dots_seen_below}

@@ -6,7 +6,7 @@ use Rattle.std.specs.FinSet as set
 use Rattle.operations.specs.Conditions.{condition_joined, ConditionsAgree}
 use Rattle.dots.specs.DotSets.{run_count}
 use Rattle.operations.specs.Totals.{join_of}
-use Rattle.member_orset.specs.CellIds.{IdsFollow}
+use Rattle.live_cells.specs.CellIds.{IdsFollow}
 use Rattle.member_orset.specs.Members.{KeepsIds, condition_at, condition_of, cells_joined, is_live, joined_dots, runs_joined}
 use Rattle.delta.specs.DeltaStates.{DeltaState, IsSame, IsUnchanged}
 use Rattle.delta.specs.Joining.{AreInAgreement, IsJoinOf}

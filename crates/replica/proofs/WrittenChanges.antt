@@ -19,7 +19,7 @@ use Rattle.operations.specs.Operations.{Setting, SetPenalty, SetPause, SetLabel,
 use Rattle.general_lemmas.proofs.Membership.{any_map, cases_in, first_in, in_any, in_find, later_in, nothing_in}
 use Rattle.member_orset.specs.Members.{Holding, IsWithinLimits, condition_of}
 use Rattle.member_orset.specs.Reads.{dots_seen_below}
-use Rattle.member_orset.proofs.DotTests.{one_dot}
+use Rattle.live_cells.proofs.DotTests.{one_dot}
 use Rattle.delta.specs.DeltaStates.{DeltaState}
 use Rattle.replica.specs.SetFields.{fields_written}
 use Rattle.replica.specs.Changes.{time_in, time_of, time_replaced}

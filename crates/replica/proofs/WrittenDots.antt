@@ -23,7 +23,7 @@ use Rattle.dots.proofs.KeySets.{len_of_keys}
 use Rattle.general_lemmas.proofs.Membership.{first_in, in_any, later_in}
 use Rattle.general_lemmas.proofs.TruthTables.{less_of}
 use Rattle.member_orset.specs.Members.{Holding, Members}
-use Rattle.member_orset.proofs.DotTests.{one_dot}
+use Rattle.live_cells.proofs.DotTests.{one_dot}
 use Rattle.replica.specs.DotLists.{DotsRise}
 use Rattle.replica.specs.Writing.{written_to}
 use Rattle.replica.proofs.DotCounts.{once_few}

@@ -3,11 +3,9 @@ use Rattle.std.specs.FinMap as map
 use Rattle.std.proofs.lemmas.List.Elements.{All-cons}
 use Rattle.dots.specs.Values.{Dot}
 use Rattle.general_lemmas.proofs.Membership.{first_in, later_in}
-use Rattle.member_orset.specs.Members.{Holding}
-use Rattle.member_orset.specs.LiveLists.{HoldingsAgree}
-use Rattle.member_orset.specs.Reads.{cell_read}
-use Rattle.member_orset.specs.Joining.{AgreeWith}
+use Rattle.member_orset.specs.Joining.{AgreeWith, HoldingsAgree}
 use Rattle.member_orset.proofs.agreement.cells_agree.Goals as goal
+use Rattle.live_cells.specs.Holdings.{Holding, cell_read}
 
 pub loop-dot-init : goal.loop-dot-init
 loop-dot-init c =

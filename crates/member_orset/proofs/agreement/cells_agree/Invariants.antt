@@ -2,9 +2,9 @@
 use Rattle.std.proofs.Common.{Contains}
 use Rattle.std.specs.FinMap as map
 use Rattle.dots.specs.Values.{Dot}
-use Rattle.member_orset.specs.Members.{Holding}
 use Rattle.member_orset.specs.Joining.{AgreeWith}
 use Rattle.member_orset.proofs.agreement.cells_agree.Given as goal
+use Rattle.live_cells.specs.Holdings.{Holding}
 
 abbrev pub invariant-loop-dot : goal.invariant-loop-dot
 invariant-loop-dot l = record {

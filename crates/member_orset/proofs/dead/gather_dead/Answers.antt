@@ -1,6 +1,6 @@
 use Rattle.std.proofs.Common.{◌+◌, ap, sym, subst, ◌∙◌, arith}
 use Rattle.member_orset.specs.LiveDots.{dead_dots}
-use Rattle.member_orset.specs.PlacedLists.{is_placed}
+use Rattle.live_cells.specs.PlacedLists.{is_placed}
 use Rattle.member_orset.specs.Gathering.{AreToName, IsGathered, part_before}
 use Rattle.member_orset.proofs.DeadDots.{all_before_next, dead_to_name, none_earlier}
 use Rattle.member_orset.proofs.dead.gather_dead.Goals as goal

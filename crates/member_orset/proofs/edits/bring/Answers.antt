@@ -1,7 +1,7 @@
 use Rattle.std.proofs.Common.{◌≡◌, None, sym, ap, subst, ◌∙◌}
 use Rattle.std.specs.FinMap as map
-use Rattle.member_orset.specs.CellIds.{IdMap, IdSet, IdsFollow, IsNew}
-use Rattle.member_orset.proofs.IdSteps.{follow_insert}
+use Rattle.live_cells.specs.CellIds.{IdMap, IdSet, IdsFollow, IsNew}
+use Rattle.live_cells.proofs.IdSteps.{follow_insert}
 use Rattle.member_orset.proofs.edits.bring.Goals as goal
 
 pub returns-clause-ids : goal.returns-clause-ids

@@ -1,9 +1,19 @@
-use Rattle.std.proofs.Common.{◌≡◌, ◌<◌, ◌≤◌, refl, subst, sym, ◌∙◌, arith}
+use Rattle.std.proofs.Common.{◌≡◌, ℕ, ◌<◌, ◌≤◌, refl, subst, sym, ◌∙◌, arith}
 use Rattle.std.specs.FinSet as set
 use Rattle.dots.specs.declared.limits.TheConstants.{MOST_RUNS}
+use Rattle.dots.specs.Values.{Dot}
+use Rattle.dots.specs.Orders.{dot_cmp}
 use Rattle.dots.specs.DotSets.{run_count}
-use Rattle.member_orset.proofs.Changes.{runs_with_self}
+use Rattle.dots.proofs.DotOrder.{dots_total, dots_exact}
+use Rattle.std.proofs.Math.Bool.{or_self}
 use Rattle.member_orset.proofs.edits.fault_without_room.Goals as goal
+
+-- a dot that a set and itself have with one more
+union_self : (known : set.FinSet dot_cmp) → set.union known known ≡ known
+union_self known = set.same_set dots_total dots_exact _ _ (λ q. set.contains-union dots_total known known q ∙ or_self (set.contains known q))
+
+runs_with_self : (known : set.FinSet dot_cmp) (d : Dot) (site count : ℕ) → site ≡ d.site → count ≡ d.count → run_count (set.insert (set.union known known) (record { site = site; count = count })) ≡ run_count (set.insert known d)
+runs_with_self known d site count s n = λ i. run_count (set.insert (union_self known i) (record { site = s i; count = n i }))
 
 pub returns-then-runs_with-clause-full : goal.returns-then-runs_with-clause-full
 returns-then-runs_with-clause-full c =

@@ -1,7 +1,7 @@
 -- Those that are left, and those of the runs so far, are all.
 use Rattle.std.proofs.Common.{◌≡◌, ◌+◌, length, take}
 use Rattle.std.specs.List.{count_by}
-use Rattle.member_orset.proofs.RunCounts.{dead_in_runs}
+use Rattle.live_cells.proofs.RunCounts.{dead_in_runs}
 use Rattle.member_orset.proofs.joining.count_kept.Given as goal
 
 abbrev pub invariant-loop-run : goal.invariant-loop-run

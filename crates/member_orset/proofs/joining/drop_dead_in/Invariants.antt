@@ -1,8 +1,9 @@
 -- Of the counts so far those are dropped that are dead there.
 use Rattle.std.proofs.Common.{◌+◌, ◌-◌, ◌≤◌, ◌&&◌}
 use Rattle.std.specs.Prelude.{nat_lt}
-use Rattle.member_orset.specs.Joining.{IsThinned, dead_in_run}
+use Rattle.member_orset.specs.Joining.{dead_in_run}
 use Rattle.member_orset.proofs.joining.drop_dead_in.Given as goal
+use Rattle.live_cells.specs.LiveStates.{IsThinned}
 
 abbrev pub invariant-loop-dot : goal.invariant-loop-dot
 invariant-loop-dot l = record {

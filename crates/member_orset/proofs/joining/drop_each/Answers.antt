@@ -3,11 +3,12 @@ use Rattle.std.specs.FinMap as map
 use Rattle.dots.specs.Values.{Dot}
 use Rattle.dots.specs.DotSets.{in_run, in_runs}
 use Rattle.std.proofs.lemmas.List.{take_all}
-use Rattle.member_orset.specs.Joining.{IsThinned, dead_in_run}
-use Rattle.member_orset.proofs.Counts.{runs_more}
-use Rattle.member_orset.proofs.RunCounts.{dead_in_runs, spread}
+use Rattle.member_orset.specs.Joining.{dead_in_run}
+use Rattle.live_cells.proofs.Counts.{runs_more}
+use Rattle.live_cells.proofs.RunCounts.{dead_in_runs, spread}
 use Rattle.member_orset.proofs.Thinning.{thinned_twice}
 use Rattle.member_orset.proofs.joining.drop_each.Goals as goal
+use Rattle.live_cells.specs.LiveStates.{IsThinned}
 
 pub loop-run-preserved : goal.loop-run-preserved
 loop-run-preserved c =

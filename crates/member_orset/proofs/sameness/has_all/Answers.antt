@@ -4,10 +4,9 @@ use Rattle.std.specs.FinMap as map
 use Rattle.std.proofs.lemmas.List.Elements.{All-cons}
 use Rattle.dots.specs.Values.{Dot}
 use Rattle.general_lemmas.proofs.Membership.{first_in, later_in}
-use Rattle.member_orset.specs.Members.{Holding}
-use Rattle.member_orset.specs.Reads.{cell_read}
 use Rattle.member_orset.proofs.MapEntries.{entry_in, entry_is}
 use Rattle.member_orset.proofs.sameness.has_all.Goals as goal
+use Rattle.live_cells.specs.Holdings.{Holding, cell_read}
 
 pub loop-dot-init : goal.loop-dot-init
 loop-dot-init c =

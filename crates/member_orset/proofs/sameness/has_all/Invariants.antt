@@ -3,8 +3,8 @@ use Rattle.std.proofs.Common.{◌≡◌, Contains, Some}
 use Rattle.std.specs.List.{All}
 use Rattle.std.specs.FinMap as map
 use Rattle.dots.specs.Values.{Dot}
-use Rattle.member_orset.specs.Members.{Holding}
 use Rattle.member_orset.proofs.sameness.has_all.Given as goal
+use Rattle.live_cells.specs.Holdings.{Holding}
 
 abbrev pub invariant-loop-dot : goal.invariant-loop-dot
 invariant-loop-dot l = record {

@@ -1,6 +1,6 @@
 use Rattle.std.proofs.Common.{◌≡◌, ◌+◌, ◌≤◌, ◌<◌, inl, inr, ap, sym, subst, ◌∙◌, arith}
 use Rattle.std.proofs.lemmas.Bool.{cases_lt}
-use Rattle.member_orset.specs.PlacedLists.{is_placed}
+use Rattle.live_cells.specs.PlacedLists.{is_placed}
 use Rattle.member_orset.specs.Reads.{seen_dots}
 use Rattle.member_orset.specs.Gathering.{AreToName, IsGathered, IsGreatest, part_before}
 use Rattle.member_orset.proofs.SeenDots.{known_zero, no_part, none_of_site, seen_sites, seen_to_name, whole_part}

@@ -2,7 +2,7 @@ use Rattle.std.proofs.Common.{ℕ, ◌≡◌, ◌+◌, ◌-◌, ◌≤◌, Bool,
 use Rattle.std.specs.FinSet as set
 use Rattle.dots.specs.DotSets.{IsRunsOf, dots_between, run_count, set_of}
 use Rattle.dots.proofs.Runs.{runs_of_set}
-use Rattle.member_orset.specs.PlacedLists.{is_placed}
+use Rattle.live_cells.specs.PlacedLists.{is_placed}
 use Rattle.member_orset.specs.Gathering.{IsGathered, IsPiece, is_to_name, part_before, runs_after}
 use Rattle.member_orset.proofs.SeenDots.{before_it, from_one, next_site, none_past, part_inside, part_outside, runs_grown}
 use Rattle.member_orset.proofs.SiteWalk.{piece_of}

@@ -4,7 +4,7 @@ use Rattle.std.proofs.Common.{◌≡◌, ◌≤◌, ◌+◌, ◌-◌, ◌*◌, �
 use Rattle.std.specs.FinSet as set
 use Rattle.dots.specs.Orders.{dot_cmp}
 use Rattle.dots.specs.DotSets.{IsRunsOf}
-use Rattle.member_orset.specs.PlacedLists.{is_placed}
+use Rattle.live_cells.specs.PlacedLists.{is_placed}
 use Rattle.member_orset.specs.Gathering.{AreToName, IsGathered, part_before}
 use Rattle.member_orset.proofs.site_walk.gather_site.Given as goal
 

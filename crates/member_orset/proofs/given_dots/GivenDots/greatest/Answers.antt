@@ -4,8 +4,9 @@ use Rattle.std.proofs.lemmas.List.{take_all}
 use Rattle.std.proofs.lemmas.List.Elements.{All-more, All-same, All-weaker}
 use Rattle.dots.specs.Values.{Dot}
 use Rattle.member_orset.specs.Gathering.{is_given}
+use Rattle.live_cells.proofs.Pieces.{differs, agrees}
 use Rattle.member_orset.proofs.GivenDots.{greatest_among}
-use Rattle.member_orset.proofs.Pieces.{differs, agrees, given_before, given_now}
+use Rattle.member_orset.proofs.RunPieces.{given_before, given_now}
 use Rattle.member_orset.proofs.given_dots.GivenDots.greatest.Goals as goal
 
 abbrev Least : ℕ → Dot → Type 0

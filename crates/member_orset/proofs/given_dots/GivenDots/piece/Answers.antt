@@ -5,8 +5,8 @@ use Rattle.std.proofs.lemmas.List.Elements.{All-more, All-same, All-weaker}
 use Rattle.std.proofs.lemmas.List.Folds.{list_any_none}
 use Rattle.dots.specs.Values.{Dot}
 use Rattle.dots.specs.Orders.{dot_cmp}
+use Rattle.live_cells.proofs.Pieces.{agrees, differs}
 use Rattle.member_orset.specs.Gathering.{LiesPast, is_given}
-use Rattle.member_orset.proofs.Pieces.{agrees, differs}
 use Rattle.member_orset.proofs.SeenDots.{not_this}
 use Rattle.member_orset.proofs.given_dots.GivenDots.piece.Goals as goal
 

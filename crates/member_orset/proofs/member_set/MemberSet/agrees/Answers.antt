@@ -1,10 +1,10 @@
 use Rattle.std.proofs.Common.{ap, subst}
 use Rattle.std.specs.FinMap as map
 use Rattle.dots.specs.Orders.{dot_cmp}
-use Rattle.member_orset.specs.Members.{Holding}
 use Rattle.member_orset.specs.Joining.{IsTold}
 use Rattle.member_orset.proofs.Agreeing.{told}
 use Rattle.member_orset.proofs.member_set.MemberSet.agrees.Goals as goal
+use Rattle.live_cells.specs.Holdings.{Holding}
 
 pub returns-clause-agree : goal.returns-clause-agree
 returns-clause-agree c =

@@ -4,14 +4,14 @@ use Rattle.std.specs.FinSet as set
 use Rattle.dots.specs.declared.limits.TheConstants.{MOST_LIVE, MOST_RUNS}
 use Rattle.operations.specs.Conditions.{Live}
 use Rattle.dots.specs.DotSets.{run_count}
-use Rattle.member_orset.specs.CellIds.{IdsFollow}
-use Rattle.member_orset.specs.LiveLists.{HoldingsAgree, HoldingsConflict}
-use Rattle.member_orset.specs.LiveStates.{fields_met}
-use Rattle.member_orset.specs.Members.{HasField, Holding, IsSet, Members, cells_with, condition_at, joined_at, live_with}
+use Rattle.live_cells.specs.CellIds.{IdsFollow}
+use Rattle.member_orset.specs.Members.{HasField, IsSet, Members, cells_with, condition_at, joined_at, live_with}
 use Rattle.member_orset.proofs.Asserting.{brought_conditions, either, known_already, len_one_more, met_conditions, on_err, on_err_both, on_ok_both, refused_conflict, refused_none, unknown_not_live}
-use Rattle.member_orset.proofs.IdSteps.{follow_same}
+use Rattle.live_cells.proofs.IdSteps.{follow_same}
 use Rattle.member_orset.proofs.KeptSets.{set_brought, set_met, set_same}
 use Rattle.member_orset.proofs.member_set.MemberSet.assert.Goals as goal
+use Rattle.member_orset.specs.Joining.{HoldingsAgree, HoldingsConflict, fields_met}
+use Rattle.live_cells.specs.Holdings.{Holding}
 
 pub returns-then-not-agrees_with-clause-refusals : goal.returns-then-not-agrees_with-clause-refusals
 returns-then-not-agrees_with-clause-refusals c =

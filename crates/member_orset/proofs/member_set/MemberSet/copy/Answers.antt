@@ -1,7 +1,7 @@
 use Rattle.std.proofs.Common.{sym, subst}
 use Rattle.member_orset.specs.Members.{AreKept}
 use Rattle.member_orset.proofs.KeptSets.{set_unspent}
-use Rattle.member_orset.proofs.SpentIds.{none_retired}
+use Rattle.live_cells.proofs.SpentIds.{none_retired}
 use Rattle.member_orset.proofs.member_set.MemberSet.copy.Goals as goal
 
 pub invariant_of-result : goal.invariant_of-result

@@ -4,7 +4,7 @@ use Rattle.std.proofs.lemmas.Result.{IfOk-weaker}
 use Rattle.dots.specs.declared.limits.TheConstants.{MOST_RUNS}
 use Rattle.dots.specs.DotSets.{run_count}
 use Rattle.member_orset.specs.LiveDots.{dead_dots, dead_dots_of}
-use Rattle.member_orset.specs.PlacedLists.{is_placed}
+use Rattle.live_cells.specs.PlacedLists.{is_placed}
 use Rattle.member_orset.proofs.member_set.MemberSet.dead_of.Goals as goal
 
 pub returns-clause-ok : goal.returns-clause-ok

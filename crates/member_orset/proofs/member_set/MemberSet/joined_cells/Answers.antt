@@ -2,7 +2,7 @@ use Rattle.std.proofs.Common.{not, sym, ap, ◌+◌, ◌∙◌}
 use Rattle.std.specs.List.{count_by}
 use Rattle.std.specs.FinMap as map
 use Rattle.std.specs.FinSet as set
-use Rattle.member_orset.specs.declared.placed.Placed.{Placed}
+use Rattle.live_cells.specs.declared.placed.Placed.{Placed}
 use Rattle.member_orset.specs.Joining.{dead_there}
 use Rattle.member_orset.specs.Members.{Members}
 use Rattle.member_orset.proofs.JoinedSets.{counted_joined}

@@ -1,5 +1,5 @@
 use Rattle.member_orset.proofs.KeptSets.{set_none}
-use Rattle.member_orset.proofs.SpentIds.{none_retired}
+use Rattle.live_cells.proofs.SpentIds.{none_retired}
 use Rattle.member_orset.proofs.member_set.MemberSet.new.Goals as goal
 
 pub invariant_of-result : goal.invariant_of-result

@@ -1,9 +1,9 @@
 use Rattle.std.proofs.Common.{ℕ, ◌≤◌, ◌+◌, ◌*◌, sym, subst, arith}
 use Rattle.std.specs.FinMap as map
 use Rattle.std.specs.FinSet as set
-use Rattle.member_orset.specs.CellIds.{dead_among, retired_of}
-use Rattle.member_orset.specs.Members.{Members, most_retired}
-use Rattle.member_orset.specs.declared.places.TheConstants.{LAST_GENERATION}
+use Rattle.live_cells.specs.CellIds.{retired_of}
+use Rattle.member_orset.specs.Members.{Members, most_retired, dead_among}
+use Rattle.live_cells.specs.declared.places.TheConstants.{LAST_GENERATION}
 use Rattle.member_orset.proofs.KeptSets.{set_rested}
 use Rattle.member_orset.proofs.member_set.MemberSet.retired.Goals as goal
 

@@ -1,8 +1,9 @@
 use Rattle.std.proofs.Common.{◌≡◌, ◌<◌, true, length, sym, ap, subst, ◌∙◌, arith}
 use Rattle.std.specs.List.{AllWithin}
 use Rattle.causal_context.specs.RunLists.{is_below}
-use Rattle.member_orset.proofs.Pieces.{past_runs, runs_elsewhere, runs_later, differs, agrees}
+use Rattle.live_cells.proofs.Pieces.{differs, agrees}
 use Rattle.member_orset.proofs.site_walk.SiteWalk.known_piece.Goals as goal
+use Rattle.member_orset.proofs.RunPieces.{past_runs, runs_elsewhere, runs_later}
 
 pub returns-then-place-runs : goal.returns-then-place-runs
 returns-then-place-runs c = record {

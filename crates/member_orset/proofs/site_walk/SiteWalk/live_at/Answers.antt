@@ -1,6 +1,6 @@
 use Rattle.std.proofs.Common.{inl, inr, arith}
 use Rattle.std.proofs.lemmas.Bool.{cases_lt}
-use Rattle.member_orset.proofs.Pieces.{dots_ahead}
+use Rattle.live_cells.proofs.Pieces.{dots_ahead}
 use Rattle.member_orset.proofs.site_walk.SiteWalk.live_at.Goals as goal
 
 pub returns-then-not-is_passed-clause-before : goal.returns-then-not-is_passed-clause-before

@@ -1,10 +1,10 @@
 use Rattle.std.proofs.Common.{◌≡◌, ◌≢◌, ◌<◌, length, get_or, sym, ap, ◌∙◌, arith, true≢false}
 use Rattle.std.proofs.lemmas.List.{get_or_default}
 use Rattle.dots.proofs.DotOrder.{same_dot}
-use Rattle.member_orset.specs.PlacedLists.{is_placed}
-use Rattle.member_orset.proofs.DotTests.{one_dot, same_tied}
+use Rattle.live_cells.specs.PlacedLists.{is_placed}
+use Rattle.live_cells.proofs.DotTests.{one_dot, same_tied}
 use Rattle.member_orset.proofs.LiveRuns.{run_placed}
-use Rattle.member_orset.proofs.Pieces.{agrees, beyond, differs, dots_elsewhere, dots_later, next_dot, past_dots}
+use Rattle.live_cells.proofs.Pieces.{agrees, beyond, differs, dots_elsewhere, dots_later, next_dot, past_dots}
 use Rattle.member_orset.proofs.site_walk.SiteWalk.live_piece.Goals as goal
 
 pub returns-then-below-dots : goal.returns-then-below-dots

@@ -1,6 +1,6 @@
 use Rattle.std.proofs.Common.{refl}
 use Rattle.std.proofs.lemmas.Bool.{not-false, not-true}
-use Rattle.member_orset.specs.PlacedLists.{is_placed}
+use Rattle.live_cells.specs.PlacedLists.{is_placed}
 use Rattle.member_orset.proofs.SiteWalk.{all_given, all_known, none_known}
 use Rattle.member_orset.proofs.site_walk.SiteWalk.piece.Goals as goal
 

@@ -1,9 +1,9 @@
 use Rattle.std.proofs.Common.{sym, ◌∙◌}
 use Rattle.causal_context.specs.RunLists.{is_below}
 use Rattle.causal_context.proofs.Places.{partitioned}
-use Rattle.member_orset.proofs.Pieces.{runs_ahead}
-use Rattle.member_orset.proofs.SiteWalk.{passed_all}
 use Rattle.member_orset.proofs.site_walk.SiteWalk.run_at.Goals as goal
+use Rattle.member_orset.proofs.RunPieces.{runs_ahead}
+use Rattle.live_cells.proofs.PlacedOrder.{passed_all}
 
 pub loop-passed-init : goal.loop-passed-init
 loop-passed-init c =

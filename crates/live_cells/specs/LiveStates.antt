@@ -1,0 +1,77 @@
+-- What contracts see of live dots: the member and the fields of each, its id, the ids that are spent, and room.
+use Rattle.std.specs.Prelude.{ℕ, ◌≡◌, ◌≤◌, ◌+◌, ◌*◌, Bool, Option, Some, None, refl, if◌then◌else◌}
+use Rattle.std.specs.FinMap as map
+use Rattle.std.specs.FinSet as set
+use Rattle.std.specs.Coded.{Coded, code_by, coded×, coded_ℕ}
+use Rattle.dots.specs.Values.{Dot}
+use Rattle.dots.specs.Orders.{dot_cmp}
+use Rattle.dots.specs.DotSets.{dot_code}
+use Rattle.operations.specs.Codes.{member_code, fields_code}
+use Rattle.operations.specs.Conditions.{DotFields, FieldsAgree, fields_joined}
+use Rattle.op_arena.specs.Ids.{Id, id_code}
+use Rattle.live_cells.specs.CellIds.{AreIdsApart, IdMap, IdSet, IdsFollow, IsNew, retired_of}
+use Rattle.live_cells.specs.Holdings.{Holding}
+
+-- the live dots with member and fields, the id of each, the ids of dots that are live no more, and for how many live dots
+-- there is room in all
+pub record LiveState : Type 0 where
+  pub live : map.FinMap dot_cmp Holding
+  pub ids : IdMap
+  pub spent : IdSet
+  pub room : ℕ
+
+-- it is stored as the tuple of these
+abbrev pub live_code : Coded LiveState
+live_code =
+    code_by (map.FinMap dot_cmp Holding × (IdMap × (IdSet × ℕ)))
+    (coded× (map.code dot_code (coded× member_code fields_code)) (coded× (map.code dot_code id_code) (coded× (set.code id_code) coded_ℕ)))
+    (λ s. (s.live, (s.ids, (s.spent, s.room))))
+    (λ p. record { live = p.0; ids = p.1.0; spent = p.1.1.0; room = p.1.1.1 }) (λ _. refl)
+
+-- the greatest number of places of cells
+abbrev pub most_places : ℕ
+most_places = 1048576
+
+-- what holds of live dots, whatever was done: each has an id, which is its own and not spent; with the places that aren't used
+-- again they are few enough; and each of those places has spent an id in each of its generations
+pub record AreLive (last : ℕ) (s : LiveState) : Type 0 where
+  pub named : (dot : Dot) → map.contains_key s.ids dot ≡ map.contains_key s.live dot
+  pub apart : AreIdsApart s.ids s.spent
+  pub places : retired_of last s.spent + map.len s.live ≤ most_places
+  pub worn : retired_of last s.spent * (last + 1) ≤ set.len s.spent
+
+-- spent ids with that of a dot, where it has one
+abbrev pub spent_with : Option Id → IdSet → IdSet
+spent_with None spent = spent
+spent_with (Some id) spent = set.insert spent id
+
+-- the live dot that has an id, and what it holds
+pub record HasId (s : LiveState) (id : Id) (h : Holding) : Type 0 where
+  pub dot : Dot
+  pub named : map.get s.ids dot ≡ Some id
+  pub live : map.get s.live dot ≡ Some h
+
+-- a live dot whose fields agree with others
+pub record TakesFields (live : map.FinMap dot_cmp Holding) (dot : Dot) (fields : DotFields) : Type 0 where
+  pub before : Holding
+  pub held : map.get live dot ≡ Some before
+  pub agree : FieldsAgree before.1 fields
+
+-- its fields are joined with them
+pub record HasTakenDot (live : map.FinMap dot_cmp Holding) (dot : Dot) (fields : DotFields) (after : map.FinMap dot_cmp Holding) : Type 0 where
+  pub before : Holding
+  pub held : map.get live dot ≡ Some before
+  pub now : after ≡ map.insert live dot (before.0, fields_joined before.1 fields)
+
+-- the dots that pass a test are live no more, and nothing else has changed
+pub record IsThinned (dead : Dot → Bool) (old new : LiveState) : Type 0 where
+  pub live : (q : Dot) → map.get new.live q ≡ (if dead q then None else map.get old.live q)
+  pub ids : (q : Dot) → map.get new.ids q ≡ (if dead q then None else map.get old.ids q)
+  pub follow : IdsFollow old.ids old.spent new.ids new.spent
+  pub room : old.room + map.len new.live ≤ new.room + map.len old.live
+
+-- dots have become live, with ids that no dot had before, and the others have theirs as before
+pub record HaveGrown (old new : LiveState) : Type 0 where
+  pub kept : (q : Dot) (id : Id) → map.get old.ids q ≡ Some id → map.get new.ids q ≡ Some id
+  pub fresh : (q : Dot) (id : Id) → map.get old.ids q ≡ None → map.get new.ids q ≡ Some id → IsNew old.ids old.spent old.spent id
+  pub spent : new.spent ≡ old.spent

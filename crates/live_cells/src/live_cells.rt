@@ -1,0 +1,332 @@
+ghost use Rattle.std.specs.Prelude.{◌≡◌, ◌+◌, ◌<◌, ◌≤◌, ◌↔◌, ◌≢◌, [], IsOk, IsTrue, length};
+ghost use Rattle.std.specs.Prelude.{Bool, IfOk, IfSome, IsSome, OnOk, Err, None};
+ghost use Rattle.std.specs.Option.{option_map, option_or};
+ghost use Rattle.std.specs.FinMap as map;
+ghost use Rattle.std.specs.FinSet as set;
+ghost use Rattle.std.specs.Vec.{vec_capacity};
+ghost use Rattle.dots.specs.Values.{Dot};
+ghost use Rattle.operations.specs.Rows.{dots_of, row_of, rows_of};
+ghost use Rattle.operations.specs.Views.{row_view};
+ghost use Rattle.live_cells.specs.CellIds.{IsNew, retired_of};
+ghost use Rattle.live_cells.specs.LiveLists.{live_of};
+ghost use Rattle.live_cells.specs.LiveStates.{AreLive, HasId, HasTakenDot, TakesFields, spent_with};
+ghost use Rattle.live_cells.specs.PlacedLists.{id_entries, is_placed};
+ghost use Rattle.live_cells.specs.PlacedStates.{IsPlaced, cells_of};
+ghost use Rattle.live_cells.specs.LiveStates.{HaveGrown, IsThinned, most_places};
+ghost use Rattle.live_cells.specs.Holdings.{IsPresentIn, view_of, cell_read};
+
+use crate::cells_lent::Cells;
+use crate::dots_lent::Dots;
+use crate::freeing::keep_ids;
+use crate::live_dot::LiveDot;
+use crate::member_ids::{copy_members, list_members, merge_members};
+use crate::member_index::MemberIndex;
+use crate::member_rows::row_in;
+use crate::placed_cells::PlacedCells;
+use crate::placed_dots::PlacedDots;
+use crate::places::LAST_GENERATION;
+use crate::rows_lent::Rows;
+use crate::taken_cells::TakenCells;
+use crate::{Cell, Row};
+use devector::Devector;
+use dots::{Dot, Member, Memory};
+use lww_registers::Fields;
+use op_arena::{ArenaFault, CellId};
+use std::alloc::Global;
+use std::marker::Model;
+
+/// The live dots of a set, each with its member and fields: found by dot, by member and by id. Their cells stand in an arena
+/// of at most 1,048,576 places, where one of generation `LAST` isn't used again once its dot is live no more. While a dot is
+/// live it has an id, which no other dot ever has.
+#[derive(Drop)]
+pub struct LiveCells<const LAST: u32> {
+    placed: PlacedCells<LAST>,
+    // The ids in the order of their cells' members, and then of their dots.
+    members: Devector<CellId>,
+}
+
+impl<const LAST: u32> Model for LiveCells<LAST> {
+    ghost use Rattle.live_cells.specs.LiveStates.{LiveState, live_code};
+
+    ghost Value = { LiveState };
+
+    ghost coded = { live_code };
+
+    ghost use Rattle.live_cells.specs.PlacedStates.{AreIndexed, live_state};
+
+    ghost view = { λ l. live_state l.placed l.members.room };
+
+    ghost invariant = { λ l. AreIndexed l.placed l.members.items };
+}
+
+impl<const LAST: u32> LiveCells<LAST> {
+    /// No dot is live. It takes no memory.
+    pub fn new(alloc: Global) -> Self
+        ensures live { result.live ≡ map.empty }
+        ensures ids { result.ids ≡ map.empty }
+        ensures spent { result.spent ≡ set.empty }
+    {
+        LiveCells {
+            placed: PlacedCells::new(alloc),
+            members: Devector::new(alloc),
+        }
+    }
+
+    // The live dots that are placed. It makes their index in an empty list, with room for it.
+    pub(crate) fn of(placed: PlacedCells<LAST>, mut members: Vec<CellId>) -> Self
+        requires empty { members.items ≡ [] }
+        requires room { length placed.dots ≤ vec_capacity members }
+        ensures live { result.live ≡ live_of (cells_of placed.entry) }
+        ensures ids { result.ids ≡ map.from_sorted (id_entries placed.entry.dots) }
+        ensures spent { result.spent ≡ placed.entry.spent }
+    {
+        list_members(&placed, &mut members);
+        LiveCells {
+            placed,
+            members: Devector::from_vec(members),
+        }
+    }
+
+    /// The allocator that it grows with. It takes no memory, like all that only reads and has no fault.
+    pub fn allocator(&self) -> Global {
+        self.placed.allocator()
+    }
+
+    /// How many dots are live: with the places that aren't used again, at most 1,048,576.
+    pub fn len(&self) -> usize
+        ensures value { result ≡ map.len self.now.live }
+        ensures limits { AreLive LAST self.now }
+    {
+        self.placed.len()
+    }
+
+    /// For how many live dots there is room in all.
+    pub fn room(&self) -> usize
+        ensures { result ≡ self.now.room }
+    {
+        self.placed.room().min(self.members.room())
+    }
+
+    /// How many places aren't used again: each has spent an id in each of `LAST` + 1 generations.
+    pub fn retired(&self) -> u32
+        ensures { result ≡ retired_of LAST self.now.spent }
+    {
+        self.placed.retired()
+    }
+
+    /// The member and the fields of a dot, where it is live.
+    pub fn get(&self, dot: Dot) -> Option<Cell<'_>>
+        ensures { option_map cell_read result ≡ map.get self.now.live dot }
+    {
+        match self.placed.find(dot) {
+            Ok(place) => Some(self.placed.cell_at(place).lent()),
+            Err(_) => None,
+        }
+    }
+
+    /// The id of a dot, where it is live.
+    pub fn id(&self, dot: Dot) -> Option<CellId>
+        ensures { result ≡ map.get self.now.ids dot }
+    {
+        match self.placed.find(dot) {
+            Ok(place) => Some(self.placed.id_at(place)),
+            Err(_) => None,
+        }
+    }
+
+    /// The member and the fields of the live dot that has an id, where one has it: that of a spent id answers `None` for good.
+    pub fn at(&self, id: CellId) -> Option<Cell<'_>>
+        ensures some { IfSome result (λ cell. HasId self.now id (cell_read cell)) }
+        ensures none { result ≡ None → (dot : Dot) → map.get self.now.ids dot ≢ Some id }
+        ensures spent { IsTrue (set.contains self.now.spent id) → result ≡ None }
+    {
+        let cell = self.placed.cell(id)?;
+        Some(cell.lent())
+    }
+
+    /// The live dots in their order, each with its id.
+    pub fn placed(&self) -> PlacedDots<'_>
+        ensures { (dot : Dot) → is_placed result.list.now dot
+            ≡ map.contains_key self.now.live dot }
+    {
+        self.placed.placed()
+    }
+
+    // The index of members.
+    fn index(&self) -> MemberIndex<'_, LAST>
+        ensures { live_of (cells_of result.cells.now) ≡ self.now.live }
+    {
+        MemberIndex {
+            cells: &self.placed,
+            ids: self.members.as_slice(),
+        }
+    }
+
+    /// Whether some dot is live with a member.
+    pub fn contains(&self, member: &Member) -> bool
+        ensures { IsTrue result ↔ IsPresentIn self.now.live member.now }
+    {
+        self.index().has_member(member)
+    }
+
+    /// Makes room for `more` more live dots. No fault changes what is live. 1 `Full`, exactly where the live dots, the places
+    /// that aren't used again and `more` together are more than 1,048,576, and then nothing has grown; 2 `Memory`, which is
+    /// never wanted where there is room.
+    pub fn reserve(&mut self, more: usize) -> Result<(), ArenaFault>
+        ensures room { OnOk result (map.len self.old.live + more ≤ self.new.room) }
+        ensures full { (result ≡ Err ArenaFault.Full)
+            ↔ (most_places < retired_of LAST self.old.spent + map.len self.old.live + more) }
+        ensures had_room { map.len self.old.live + more ≤ self.old.room → IsOk result }
+        ensures live { self.new.live ≡ self.old.live }
+        ensures ids { self.new.ids ≡ self.old.ids }
+        ensures spent { self.new.spent ≡ self.old.spent }
+        ensures grows { self.old.room ≤ self.new.room }
+    {
+        self.placed.reserve(more)?;
+        match self.members.reserve(more) {
+            Ok(()) => Ok(()),
+            Err(_) => Err(ArenaFault::Memory),
+        }
+    }
+
+    /// Lets a dot be live that isn't, in room that is there, and answers its id, which no dot had before. It takes no memory.
+    pub fn insert(&mut self, cell: LiveDot) -> CellId
+        requires new { map.get self.old.live cell.dot ≡ None }
+        requires room { map.len self.old.live < self.old.room }
+        ensures live { self.new.live
+            ≡ map.insert self.old.live cell.dot (cell.member, cell.fields) }
+        ensures ids { self.new.ids ≡ map.insert self.old.ids cell.dot result }
+        ensures new { IsNew self.old.ids self.old.spent self.old.spent result }
+        ensures had_none { map.get self.old.ids cell.dot ≡ None }
+        ensures spent { self.new.spent ≡ self.old.spent }
+        ensures room { self.old.room ≤ self.new.room }
+    {
+        let Err(place) = self.placed.find(cell.dot) else {
+            unreachable!()
+        };
+        let index = MemberIndex {
+            cells: &self.placed,
+            ids: self.members.as_slice(),
+        };
+        let listed = index.place_for(&cell);
+        let id = self.placed.insert(place, cell);
+        self.members.insert(listed, id);
+        id
+    }
+
+    /// Lets a dot be live no more, whose id is spent then. Nothing changes where it isn't live.
+    pub fn remove(&mut self, dot: Dot)
+        ensures live { self.new.live ≡ map.remove self.old.live dot }
+        ensures ids { self.new.ids ≡ map.remove self.old.ids dot }
+        ensures spent { self.new.spent ≡ spent_with (map.get self.old.ids dot) self.old.spent }
+        ensures room { self.old.room + map.len self.new.live
+            ≤ self.new.room + map.len self.old.live }
+    {
+        let Ok(place) = self.placed.find(dot) else {
+            return;
+        };
+        let index = MemberIndex {
+            cells: &self.placed,
+            ids: self.members.as_slice(),
+        };
+        let listed = index.place_for(self.placed.cell_at(place));
+        self.members.remove(listed);
+        self.placed.remove(place);
+    }
+
+    /// Lets live what is live there, of which nothing is live here, in room that is there. The cells are moved, the lists of
+    /// ids are merged once, and it takes no memory.
+    pub fn append(&mut self, others: Self)
+        requires apart { (q : Dot) → IsSome (map.get others.live q) → map.get self.old.live q ≡ None }
+        requires room { map.len self.old.live + map.len others.live ≤ self.old.room }
+        ensures live { (q : Dot) → map.get self.new.live q
+            ≡ option_or (map.get self.old.live q) (map.get others.entry.live q) }
+        ensures ids { HaveGrown self.old self.new }
+    {
+        let LiveCells { placed, members } = others;
+        let mut ids = members.into_vec();
+        self.placed.append(placed, &mut ids);
+        merge_members(&self.placed, &mut self.members, &ids);
+    }
+
+    /// Lets the dots be live no more that a test passes, whose ids are spent then. Each list of ids is walked once.
+    pub fn thin<F: Fn(Dot) -> bool>(&mut self, dies: F)
+        requires { F.IsAlwaysCallable dies }
+        ensures thinned { (test : Dot → Bool)
+            → ((dot : Dot) (b : Bool) → F.post dies dot b → b ≡ test dot)
+            → IsThinned test self.old self.new }
+        ensures few { map.len self.new.live ≤ map.len self.old.live }
+    {
+        self.placed.thin(dies);
+        keep_ids(&self.placed, &mut self.members);
+    }
+
+    /// Joins the fields of a live dot with others that agree with them. It takes no memory.
+    pub fn join_fields(&mut self, dot: Dot, fields: Fields)
+        requires { TakesFields self.old.live dot fields }
+        ensures live { HasTakenDot self.old.live dot fields self.new.live }
+        ensures ids { self.new.ids ≡ self.old.ids }
+        ensures spent { self.new.spent ≡ self.old.spent }
+        ensures room { self.old.room ≤ self.new.room }
+    {
+        let Ok(place) = self.placed.find(dot) else {
+            unreachable!()
+        };
+        self.placed.join_fields(place, fields);
+    }
+
+    /// The same live dots once more, in a new arena, with ids of their own, of which none is spent. The one fault is want of
+    /// memory.
+    pub fn copy(&self) -> Result<Self, Memory>
+        ensures live { IfOk result (λ copy. copy.live ≡ self.now.live) }
+        ensures spent { IfOk result (λ copy. copy.spent ≡ set.empty) }
+    {
+        let placed = self.placed.copy()?;
+        let index = MemberIndex {
+            cells: &self.placed,
+            ids: self.members.as_slice(),
+        };
+        let members = Devector::from_vec(copy_members(self.allocator(), index, &placed)?);
+        Ok(LiveCells { placed, members })
+    }
+
+    /// The cells of all live dots, to be taken one by one from the first on.
+    pub fn into_cells(self) -> TakenCells<LAST>
+        ensures { result ≡ map.entries self.entry.live }
+    {
+        let LiveCells { placed, members: _ } = self;
+        placed.into_cells()
+    }
+}
+
+impl LiveCells<LAST_GENERATION> {
+    /// The live dots in their order, each with its cell.
+    pub fn iter(&self) -> Cells<'_>
+        ensures { result ≡ map.entries self.now.live }
+    {
+        Cells::of(&self.placed)
+    }
+
+    /// The live dots of a member, in their order.
+    pub fn dots(&self, member: &Member) -> Dots<'_>
+        ensures { result ≡ dots_of (view_of self.now.live) member.now }
+    {
+        Dots::of(self.index(), member)
+    }
+
+    /// The row of a member, where it has a live dot: each field is that of the greatest stamp over its live dots, of equal
+    /// stamps that of the least dot, and its default where none is set.
+    pub fn row(&self, member: &Member) -> Option<Row<'_>>
+        ensures { option_map row_view result ≡ row_of (view_of self.now.live) member.now }
+    {
+        row_in(self.index(), member)
+    }
+
+    /// The rows of a queue, one by one: each interface that has a live dot there once, with its row, in the order of the
+    /// interfaces' bytes.
+    pub fn rows(&self, queue: u16) -> Rows<'_>
+        ensures { result ≡ rows_of (view_of self.now.live) queue }
+    {
+        Rows::of(self.index(), queue)
+    }
+}

@@ -1,0 +1,71 @@
+//! Runs of live dots: those of one site, with counts that follow one another.
+ghost use Rattle.std.specs.Prelude.{◌≡◌, ◌-◌, ◌<◌, ◌≤◌, ◌^◌, length};
+ghost use Rattle.live_cells.specs.LiveRuns.{IsLiveRun, run-prop};
+
+use crate::placed::Placed;
+
+// A run that begins at a place of live dots: the last place of it that is known, and one past that, before which it ends.
+#[derive(Drop)]
+struct LiveRun<'a> {
+    dots: &'a [Placed],
+    first: usize,
+    last: usize,
+    past: usize,
+    ghost order: { first ≤ last },
+    ghost some: { last < past },
+    ghost within: { past ≤ length dots.now },
+    ghost limit: { past < 2 ^ 63 },
+    ghost run: { IsLiveRun dots.now first last } by { run-prop dots.now first last },
+}
+
+impl<'a> LiveRun<'a> {
+    // Goes on by so many places, if the dots up to there are of the run; else it ends before.
+    fn go(&mut self, step: usize) -> bool
+        requires some { 0 < step }
+        requires within { step < self.old.past - self.old.last }
+        ensures dots { self.new.dots.now ≡ self.old.dots.now }
+        ensures first { self.new.first ≡ self.old.first }
+        ensures less { self.new.past - self.new.last < self.old.past - self.old.last }
+    {
+        let (dots, first, place) = (self.dots, self.first, self.last + step);
+        let (from, to) = (dots[first].dot, dots[place].dot);
+        if to.site() != from.site() {
+            self.past = place;
+            return false;
+        }
+        if to.count() != from.count() + (place - first) as u64 {
+            self.past = place;
+            return false;
+        }
+        self.last = place;
+        true
+    }
+}
+
+/// The last place of the run that begins at a place. It is sought by steps that double, and then by halving. Counts rise
+/// by one at least from place to place, so that what is sought is found; nothing that is said here needs it.
+pub fn live_run_end(dots: &[Placed], first: usize) -> usize
+    requires { first < length dots.now }
+    ensures least { first ≤ result }
+    ensures within { result < length dots.now }
+    ensures run { IsLiveRun dots.now first result }
+{
+    let mut run = LiveRun {
+        dots,
+        first,
+        last: first,
+        past: dots.len(),
+    };
+    let mut step: usize = 1;
+    while step < run.past - run.last {
+        if !run.go(step) {
+            break;
+        }
+        step = step.saturating_mul(2);
+    }
+    while run.past - run.last > 1 {
+        let half = (run.past - run.last) / 2;
+        let _ = run.go(half);
+    }
+    run.last
+}

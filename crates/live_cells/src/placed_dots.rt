@@ -1,0 +1,114 @@
+//! Live dots in their order, lent, each with the id of its cell.
+ghost use Rattle.std.specs.Prelude.{◌≡◌, ◌≤◌, ◌<◌, ◌+◌, ◌^◌, length, true, false, filter, not};
+ghost use Rattle.std.specs.List.{AllWithin, count_by};
+ghost use Rattle.std.specs.FinSet as set;
+ghost use Rattle.std.specs.Ordering.{is_lt};
+ghost use Rattle.dots.specs.Orders.{dot_cmp};
+ghost use Rattle.dots.specs.DotSets.{in_run, next_dot};
+ghost use Rattle.live_cells.specs.PlacedLists.{AreRising, IsNextIn};
+
+use crate::placed::Placed;
+use causal_context::{Context, Run};
+use dots::{Dot, SiteId};
+
+/// Live dots that rise, each with the id of its cell. To look among them takes no memory.
+#[derive(Clone, Copy)]
+pub struct PlacedDots<'a> {
+    /// Them, from the least on.
+    pub list: &'a [Placed],
+    ghost rise: { AreRising list.now },
+}
+
+// Whether a dot lies before that of a site and a count.
+fn lies_before(placed: &Placed, site: SiteId, count: u64) -> bool
+    ensures { result ≡ is_lt (dot_cmp placed.now.dot (record { site = site; count = count })) }
+{
+    let dot = placed.dot;
+    dot.site() < site || dot.site() == site && dot.count() < count
+}
+
+// Whether a dot lies before that of a site and a count, or is it.
+fn lies_upto(placed: &Placed, site: SiteId, count: u64) -> bool
+    ensures { result
+        ≡ is_lt (dot_cmp placed.now.dot (next_dot (record { site = site; count = count }))) }
+{
+    let dot = placed.dot;
+    dot.site() < site || dot.site() == site && dot.count() <= count
+}
+
+impl<'a> PlacedDots<'a> {
+    /// How many of them lie before a dot. They are found by halving.
+    pub fn place(self, dot: Dot) -> usize
+        ensures within { result ≤ length self.entry.list.now }
+        ensures before { AllWithin (λ p. is_lt (dot_cmp p.dot dot) ≡ true) self.entry.list.now 0
+            result }
+        ensures after { AllWithin (λ p. is_lt (dot_cmp p.dot dot) ≡ false) self.entry.list.now
+            result (length self.entry.list.now) }
+    {
+        self.list.partition_point(|placed| placed.dot < dot)
+    }
+
+    /// Whether the one at a place lies before a dot. Where it doesn't, none does from there on.
+    pub fn is_passed(self, place: usize, dot: Dot) -> bool
+        ensures within { result ≡ true → place < length self.entry.list.now }
+        ensures limit { length self.entry.list.now < 2 ^ 64 }
+        ensures here { result ≡ true
+            → AllWithin (λ p. is_lt (dot_cmp p.dot dot) ≡ true) self.entry.list.now place
+            (place + 1) }
+        ensures none { result ≡ false
+            → AllWithin (λ p. is_lt (dot_cmp p.dot dot) ≡ false) self.entry.list.now place
+            (length self.entry.list.now) }
+    {
+        if place >= self.list.len() {
+            return false;
+        }
+        self.list[place].dot < dot
+    }
+
+    /// Those of a run. They are found by halving.
+    pub fn dots_in(self, run: Run) -> &'a [Placed]
+        ensures { result.now ≡ filter (λ p. in_run p.dot run) self.entry.list.now }
+    {
+        let (site, first, last) = (run.site, run.first, run.last);
+        let start = self
+            .list
+            .partition_point(|placed| lies_before(placed, site, first));
+        let end = self
+            .list
+            .partition_point(|placed| lies_upto(placed, site, last));
+        &self.list[start..end]
+    }
+
+    /// How many of them aren't in a context. Those of each of its runs are found by halving.
+    pub fn count_outside(self, known: &Context) -> usize
+        ensures { result
+            ≡ count_by (λ p. not (set.contains known.now.dots p.dot)) self.entry.list.now }
+    {
+        let runs = known.as_slice();
+        let mut left = self.list.len();
+        for run in runs {
+            left -= self.dots_in(*run).len();
+        }
+        left
+    }
+
+    /// The first of those of a run, where there is one. It is found by halving.
+    pub fn next_in(self, run: Run) -> Option<Dot>
+        ensures { IsNextIn self.entry.list.now run.site run.first run.last result }
+    {
+        let (site, first, last) = (run.site, run.first, run.last);
+        let from = Dot::new(site, first)?;
+        let place = self.place(from);
+        if place == self.list.len() {
+            return None;
+        }
+        let dot = self.list[place].dot;
+        if dot.site() != site {
+            return None;
+        }
+        if dot.count() > last {
+            return None;
+        }
+        Some(dot)
+    }
+}

@@ -1,9 +1,0 @@
-use Rattle.std.proofs.Common.{◌≡◌, true, is_some, ap}
-use Rattle.std.specs.FinMap as map
-use Rattle.std.proofs.lemmas.List.Elements.{All-rest}
-use Rattle.member_orset.specs.PlacedStates.{ids_of}
-use Rattle.member_orset.proofs.cells_lent.CellsIterator.next.Goals as goal
-
-pub invariant_of-self-2 : goal.invariant_of-self-2
-invariant_of-self-2 c =
-    All-rest (λ id. is_some (map.get c.self.inside.cells.now.held id) ≡ true) c.in_ok-first.first.now.id (ids_of c.in_ok-first.others.now) (ids_of c.self.inside.left.now) (ap ids_of c.in_ok-first.ensures.cases.0) c.self.invariant

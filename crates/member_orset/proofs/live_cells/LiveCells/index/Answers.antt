@@ -1,6 +1,0 @@
-use Rattle.std.proofs.Common.{sym, subst}
-use Rattle.member_orset.specs.PlacedStates.{AreIndexed}
-use Rattle.member_orset.proofs.live_cells.LiveCells.index.Goals as goal
-
-pub invariant_of-result : goal.invariant_of-result
-invariant_of-result g c = record { indexed = subst (AreIndexed c.self.inside.placed) (sym c.as_slice.ensures) c.self.invariant }
