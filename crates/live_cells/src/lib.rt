@@ -7,7 +7,6 @@ mod cells_builder;
 mod cells_lent;
 mod dots_lent;
 mod freeing;
-mod insertion;
 mod latest;
 mod live_cells;
 mod live_dot;

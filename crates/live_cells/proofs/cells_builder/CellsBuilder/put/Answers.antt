@@ -1,4 +1,4 @@
-use Rattle.std.proofs.Common.{◌≡◌, ℕ, ◌+◌, ◌≤◌, ◌<◌, List, length, get_or, is_some, lit<, sym, ap, subst, ◌∙◌, refl, arith}
+use Rattle.std.proofs.Common.{◌≡◌, ℕ, ◌+◌, List, length, get_or, is_some, lit<, sym, ap, subst, ◌∙◌, refl, arith}
 use Rattle.std.specs.Prelude.{IsSome, Err}
 use Rattle.std.specs.FinMap as map
 use Rattle.std.specs.Ordering.{is_lt}
@@ -11,7 +11,7 @@ use Rattle.op_arena.specs.declared.arena_fault.ArenaFault.TheVariants.{Full}
 use Rattle.live_cells.specs.declared.live_dot.LiveDot.{LiveDot}
 use Rattle.live_cells.specs.CellIds.{IsNew, retired_of}
 use Rattle.live_cells.specs.LiveLists.{IsGap, holding, live_of}
-use Rattle.live_cells.specs.LiveStates.{LiveState, most_places}
+use Rattle.live_cells.specs.LiveStates.{LiveState}
 use Rattle.live_cells.specs.PlacedStates.{cells_at, cells_of, ids_of}
 use Rattle.live_cells.proofs.CellLists.{Rise, found_at}
 use Rattle.live_cells.proofs.LiveChanges.{ids_more, is_new, live_more}
