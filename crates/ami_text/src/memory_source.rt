@@ -40,7 +40,7 @@ impl<'a> MemorySource<'a> {
         requires { 0 < most }
         ensures bytes { result.left ≡ bytes.now }
         ensures reads { (result.most ≡ most) × (result.reads_left ≡ None) }
-        ensures fresh { (result.ended ≡ false) × (result.failed ≡ false) }
+        ensures works { (result.ended ≡ false) × (result.failed ≡ false) }
     {
         MemorySource {
             left: bytes,
@@ -56,7 +56,7 @@ impl<'a> MemorySource<'a> {
         requires { 0 < most }
         ensures bytes { result.left ≡ bytes.now }
         ensures reads { (result.most ≡ most) × (result.reads_left ≡ Some reads) }
-        ensures fresh { (result.ended ≡ false) × (result.failed ≡ false) }
+        ensures works { (result.ended ≡ false) × (result.failed ≡ false) }
     {
         MemorySource {
             left: bytes,

@@ -12,7 +12,7 @@ use Rattle.dots.proofs.DotOrder.{dots_exact}
 use Rattle.dots.proofs.KeySets.{len_of_keys}
 use Rattle.dots.proofs.Unions.{union_empty}
 use Rattle.member_orset.specs.declared.join_fault.JoinFault.{JoinFault}
-use Rattle.member_orset.specs.Members.{Members, Holding, IsWithinLimits, CanBeJoined, Conflicts, ConditionsConflict, both_joined, cells_joined, condition_at, condition_of, is_live, joined_dots, runs_joined}
+use Rattle.member_orset.specs.Members.{Members, Holding, IsWithinLimits, SetsAgree, SetsInConflict, ConditionsInConflict, both_joined, cells_joined, condition_at, condition_of, is_live, joined_dots, runs_joined}
 use Rattle.member_orset.specs.Refusals.{IsRefusedJoin}
 
 -- a call that is done
@@ -56,16 +56,16 @@ module _ (t : Members) (within : IsWithinLimits t) (nothing : t.known ≡ set.em
         ∙ (λ i. set.contains (union_is i) q && is_live (sym (joined_nothing q) i))
         ∙ live_test (map.get s.live q) (set.contains s.known q) (λ h e. (limits.held q h e).known))
 
-    no_conflict : Conflicts s t → ⊥
-    no_conflict c = with_none (condition_of s c.dot) (subst (ConditionsConflict (condition_of s c.dot)) (unknown c.dot) c.conflict)
+    no_conflict : SetsInConflict s t → ⊥
+    no_conflict c = with_none (condition_of s c.dot) (subst (ConditionsInConflict (condition_of s c.dot)) (unknown c.dot) c.conflict)
       where
-        with_none : (x : Option Condition) → ConditionsConflict x None → ⊥
+        with_none : (x : Option Condition) → ConditionsInConflict x None → ⊥
         with_none None h = h
         with_none (Some Dead) h = h
         with_none (Some (Live m f)) h = h
 
     -- it agrees with every other
-    pub agrees : CanBeJoined s t
+    pub agrees : SetsAgree s t
     agrees q = subst (ConditionsAgree (condition_of s q)) (sym (unknown q)) (agrees_with_none (condition_of s q))
 
     few_cells : MOST_LIVE < cells_joined s t → ⊥

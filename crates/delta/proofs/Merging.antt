@@ -9,16 +9,16 @@ use Rattle.operations.proofs.TotalsLaws.{joined_assoc, joined_comm, joined_empty
 use Rattle.dots.proofs.Unions.{union_assoc, union_comm, union_empty, union_same}
 use Rattle.member_orset.specs.Members.{condition_of}
 use Rattle.delta.specs.DeltaStates.{DeltaState, IsEmpty, IsSame}
-use Rattle.delta.specs.Joining.{AreInAgreement, IsJoinOf}
+use Rattle.delta.specs.Joining.{DeltasAgree, IsJoinOf}
 
-pub commutative : (x y joint turned : DeltaState) → AreInAgreement x y → IsJoinOf x y joint → IsJoinOf y x turned → IsSame joint turned
+pub commutative : (x y joint turned : DeltaState) → DeltasAgree x y → IsJoinOf x y joint → IsJoinOf y x turned → IsSame joint turned
 commutative x y joint turned agree j t = record {
   conditions = λ q. j.members.conditions q ∙ conditions_comm (condition_of x.members q) (condition_of y.members q) (agree q) ∙ sym (t.members.conditions q);
   known = j.members.known ∙ union_comm x.members.known y.members.known ∙ sym t.members.known;
   totals = j.totals ∙ joined_comm x.totals.entries y.totals.entries ∙ sym t.totals;
 }
 
-pub turned : (x y joint : DeltaState) → AreInAgreement x y → IsJoinOf x y joint → IsJoinOf y x joint
+pub turned : (x y joint : DeltaState) → DeltasAgree x y → IsJoinOf x y joint → IsJoinOf y x joint
 turned x y joint agree j = record {
   members = record {
     known = j.members.known ∙ union_comm x.members.known y.members.known;
@@ -56,7 +56,7 @@ idempotent x copy joint same j = record {
   totals = j.totals ∙ ap (totals.join_of x.totals.entries) (sym same.totals) ∙ joined_self x.totals.entries;
 }
 
-pub keeps_agreement : (x y z xy : DeltaState) → AreInAgreement x y → AreInAgreement x z → AreInAgreement y z → IsJoinOf x y xy → AreInAgreement xy z
+pub keeps_agreement : (x y z xy : DeltaState) → DeltasAgree x y → DeltasAgree x z → DeltasAgree y z → IsJoinOf x y xy → DeltasAgree xy z
 keeps_agreement x y z xy a b c j q =
     subst (λ o. ConditionsAgree o (condition_of z.members q)) (sym (j.members.conditions q)) (conditions_agree (condition_of x.members q) (condition_of y.members q) (condition_of z.members q) (a q) (b q) (c q))
 

@@ -20,7 +20,7 @@ use Rattle.operations.proofs.TraceLaws.{traces_none}
 use Rattle.operations.proofs.VisibleLaws.{visible_dot}
 use Rattle.member_orset.specs.Members.{Holding, both_joined, cells_joined, condition_at, condition_of, is_live, joined_dots, runs_joined}
 use Rattle.delta.specs.DeltaStates.{DeltaState, IsEmpty, IsSame}
-use Rattle.delta.specs.Joining.{AreInAgreement, IsJoinOf}
+use Rattle.delta.specs.Joining.{DeltasAgree, IsJoinOf}
 use Rattle.delta.specs.Standing.{IsDeltaOf}
 
 pub one_delta : (x y : DeltaState) (k : Knowledge) → IsDeltaOf x k → IsDeltaOf y k → IsSame x y
@@ -39,7 +39,7 @@ same_stands x y k same r = record {
 pub same_operations : (x : DeltaState) (k l : Knowledge) → IsConsistent k → SameOperations k l → IsDeltaOf x k → IsDeltaOf x l
 same_operations x k l = represents_same (condition_of x.members) x.members.known x.totals.entries k l
 
-pub consistent_agree : (x y : DeltaState) (k l : Knowledge) → IsConsistent (k ++ l) → IsDeltaOf x k → IsDeltaOf y l → AreInAgreement x y
+pub consistent_agree : (x y : DeltaState) (k l : Knowledge) → IsConsistent (k ++ l) → IsDeltaOf x k → IsDeltaOf y l → DeltasAgree x y
 consistent_agree x y k l one r s dot =
     subst (λ c. ConditionsAgree c (condition_of y.members dot)) (sym (r.conditions dot)) (subst (ConditionsAgree (condition_in k dot)) (sym (s.conditions dot)) (conditions_agree k l one dot))
 

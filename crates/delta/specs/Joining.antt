@@ -9,12 +9,12 @@ use Rattle.site_totals.specs.Tally.{HasRoomFor}
 use Rattle.delta.specs.DeltaStates.{DeltaState}
 
 -- deltas `d` and `e` agree: their conditions of each dot do
-abbrev pub AreInAgreement : DeltaState → DeltaState → Type 0
-AreInAgreement d e = sets.CanBeJoined d.members e.members
+abbrev pub DeltasAgree : DeltaState → DeltaState → Type 0
+DeltasAgree d e = sets.SetsAgree d.members e.members
 
 -- deltas `d` and `e` don't agree: their conditions of some dot are in conflict
-abbrev pub Disagree : DeltaState → DeltaState → Type 0
-Disagree d e = sets.Conflicts d.members e.members
+abbrev pub DeltasInConflict : DeltaState → DeltaState → Type 0
+DeltasInConflict d e = sets.SetsInConflict d.members e.members
 
 -- `joint` is the join of deltas `d` and `e`: each dot has the join of its conditions, the dots of
 -- both are known, and each total is the greater of both

@@ -2,7 +2,7 @@ ghost use Rattle.std.specs.Prelude.{◌≡◌, ◌↔◌, Err, IfErr, IfOk, IsFa
 ghost use Rattle.std.specs.FinSet as set;
 ghost use Rattle.member_orset.specs.Members.{IsWithinLimits, KeepsIds};
 ghost use Rattle.delta.specs.DeltaStates.{IsEmpty, IsSame, IsUnchanged, KeepsRoom};
-ghost use Rattle.delta.specs.Joining.{AreInAgreement, Disagree, IsJoinOf, IsPrepared, IsRefusedFor};
+ghost use Rattle.delta.specs.Joining.{DeltasAgree, DeltasInConflict, IsJoinOf, IsPrepared, IsRefusedFor};
 ghost use Rattle.delta.specs.Joining.{IsRefusedJoin};
 
 use crate::parts::{
@@ -98,8 +98,8 @@ impl Delta {
 
     /// Whether both can be joined: no dot is live in both with two members, or with a field of one stamp and two values.
     pub fn agrees(&self, other: &Delta) -> bool
-        ensures agree { IsTrue result ↔ AreInAgreement self.now other.now }
-        ensures conflict { IsFalse result ↔ Disagree self.now other.now }
+        ensures agree { IsTrue result ↔ DeltasAgree self.now other.now }
+        ensures conflict { IsFalse result ↔ DeltasInConflict self.now other.now }
     {
         self.members.agrees(&other.members)
     }

@@ -8,24 +8,24 @@ ghost use Rattle.operations.specs.Knowledge.{visible_dots};
 ghost use Rattle.operations.specs.Traces.{LeaveTraces};
 ghost use Rattle.member_orset.specs.Members.{cells_joined, runs_joined};
 ghost use Rattle.delta.specs.DeltaStates.{DeltaState, IsEmpty, IsSame};
-ghost use Rattle.delta.specs.Joining.{AreInAgreement, Disagree, IsJoinOf};
+ghost use Rattle.delta.specs.Joining.{DeltasAgree, DeltasInConflict, IsJoinOf};
 ghost use Rattle.delta.specs.Standing.{IsDeltaOf, IsReadAs};
 
 /// Deltas are joined in any order (RR-7506: states form a join semilattice). It is all the same which of two that agree is joined
 /// into the other, since what is the join one way is so the other way too, how three are grouped, and how often one is joined;
 /// what agrees with two that agree, agrees with their join; and an empty one changes nothing, whichever of both it is.
 pub fn deltas_are_joined_in_any_order()
-    ensures commutative { (x y joint turned : DeltaState) → AreInAgreement x y
+    ensures commutative { (x y joint turned : DeltaState) → DeltasAgree x y
         → IsJoinOf x y joint → IsJoinOf y x turned → IsSame joint turned }
-    ensures turned { (x y joint : DeltaState) → AreInAgreement x y
+    ensures turned { (x y joint : DeltaState) → DeltasAgree x y
         → IsJoinOf x y joint → IsJoinOf y x joint }
     ensures associative { (x y z xy yz left right : DeltaState)
         → IsJoinOf x y xy → IsJoinOf xy z left
         → IsJoinOf y z yz → IsJoinOf x yz right → IsSame left right }
     ensures idempotent { (x copy joint : DeltaState) → IsSame x copy
         → IsJoinOf x copy joint → IsSame joint x }
-    ensures keeps_agreement { (x y z xy : DeltaState) → AreInAgreement x y → AreInAgreement x z → AreInAgreement y z
-        → IsJoinOf x y xy → AreInAgreement xy z }
+    ensures keeps_agreement { (x y z xy : DeltaState) → DeltasAgree x y → DeltasAgree x z → DeltasAgree y z
+        → IsJoinOf x y xy → DeltasAgree xy z }
     ensures empty { (x nothing joint : DeltaState) → IsEmpty nothing
         → IsJoinOf x nothing joint → IsSame joint x }
     ensures into_empty { (x nothing joint : DeltaState) → IsEmpty nothing
@@ -34,7 +34,7 @@ pub fn deltas_are_joined_in_any_order()
 
 /// Deltas that agree are not in conflict: of no two deltas is both said (this project's own).
 pub fn deltas_that_agree_are_not_in_conflict()
-    ensures { (x y : DeltaState) → AreInAgreement x y → Disagree x y → ⊥ }
+    ensures { (x y : DeltaState) → DeltasAgree x y → DeltasInConflict x y → ⊥ }
 {}
 
 /// Each knowledge has a delta, and one alone: two that stand for it are the same. And what is the same stands for the same.
@@ -62,7 +62,7 @@ pub fn a_delta_is_read_as_its_knowledge()
 /// The deltas of two knowledges that are consistent together agree, so no conflict comes of what sites make.
 pub fn deltas_of_what_is_consistent_agree()
     ensures { (x y : DeltaState) (k l : Knowledge) → IsConsistent (k ++ l)
-        → IsDeltaOf x k → IsDeltaOf y l → AreInAgreement x y }
+        → IsDeltaOf x k → IsDeltaOf y l → DeltasAgree x y }
 {}
 
 /// The join of the deltas of two knowledges is the delta of both together (RR-7506: a merge stands for the union of updates). The

@@ -236,7 +236,7 @@ fn read_counted_cells(
     reader: &mut Reader<'_>,
 ) -> Result<(), DecodeFault>
     requires few { count ≤ MOST_LIVE }
-    requires fresh { builder.old.live ≡ map.empty }
+    requires empty { builder.old.live ≡ map.empty }
     ensures known { builder.new.known ≡ builder.old.known }
     ensures cells { GivesWithMemory (λ _. (builder.new.live, reader.new)) result
         (made live_of (elements_at (cell_elements version (set.contains builder.old.known)) count

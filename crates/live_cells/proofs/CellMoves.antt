@@ -14,11 +14,11 @@ use Rattle.op_arena.specs.Ids.{Id, id_cmp, id_of}
 use Rattle.live_cells.specs.declared.live_dot.LiveDot.{LiveDot}
 use Rattle.live_cells.specs.declared.placed.Placed.{Placed}
 use Rattle.live_cells.specs.CellIds.{IdSet}
-use Rattle.live_cells.specs.Moves.{AreMoved, IsDotThere, IsFresh}
+use Rattle.live_cells.specs.Moves.{AreMoved, IsDotThere, IsUnusedId}
 use Rattle.live_cells.specs.PlacedStates.{CellMap}
 use Rattle.live_cells.proofs.IdSteps.{look}
 use Rattle.live_cells.proofs.MapSteps.{apart_by, got, got_other}
-use Rattle.live_cells.proofs.PlacedChanges.{cells_kept, not_fresh, still_held}
+use Rattle.live_cells.proofs.PlacedChanges.{cells_kept, other_id, still_held}
 use Rattle.live_cells.proofs.CellsOfDots.{same_some, some_there}
 use Rattle.live_cells.proofs.Rising as rising
 
@@ -29,7 +29,7 @@ moved_none held spent there = record {
   named = All-nil (λ p. option_map (λ c. c.dot) (maps.get held p.id) ≡ Some p.dot);
   cells = refl;
   held_now = All-nil (λ id. is_some (maps.get held id) ≡ true);
-  fresh = All-nil (IsFresh held spent);
+  new_ids = All-nil (IsUnusedId held spent);
   from = All-nil (λ (p : Placed). IsDotThere there p.dot);
   kept = λ id cell e. e;
   alone = λ id cell e. inl e;
@@ -56,7 +56,7 @@ module _ (held : CellMap) (spent : IdSet) (there : CellMap) (ids : List Id) (aft
   ]
 
   still_kept : (q : Id) (c : LiveDot) → maps.get held q ≡ Some c → maps.get next q ≡ Some c
-  still_kept q c e = got_other id_cmp ids_total ids_exact after id cell q (not_fresh after id q free (ap is_some (m.kept q c e))) ∙ m.kept q c e
+  still_kept q c e = got_other id_cmp ids_total ids_exact after id cell q (other_id after id q free (ap is_some (m.kept q c e))) ∙ m.kept q c e
 
   still_alone : (q : Id) (c : LiveDot) → maps.get next q ≡ Some c → (maps.get held q ≡ Some c) ⊎ Contains (dots ++ place ∷ []) (record { dot = c.dot; id = q })
   still_alone q c e = elim (cases_Bool (eq_by_cmp id_cmp q id)) [
@@ -74,13 +74,13 @@ module _ (held : CellMap) (spent : IdSet) (there : CellMap) (ids : List Id) (aft
   moved_more = record {
     listed = map-append (λ p. p.id) dots (place ∷ []) ∙ ap (λ xs. xs ++ id ∷ []) m.listed;
     named = All-push (HasDot next) dots place
-        (All-weaker (HasDot after) (HasDot next) (λ p h. ap (option_map (λ c. c.dot)) (got_other id_cmp ids_total ids_exact after id cell p.id (not_fresh after id p.id free (some_there (maps.get after p.id) p.dot h))) ∙ h) dots m.named)
+        (All-weaker (HasDot after) (HasDot next) (λ p h. ap (option_map (λ c. c.dot)) (got_other id_cmp ids_total ids_exact after id cell p.id (other_id after id p.id free (some_there (maps.get after p.id) p.dot h))) ∙ h) dots m.named)
         (ap (option_map (λ c. c.dot)) (got id_cmp ids_total ids_exact after id cell));
     cells = filter_map-append (λ q. maps.get next q) now (id ∷ [])
         ∙ (λ k. (cells_kept after id cell now free m.held_now ∙ m.cells) k ++ cons_option ((got id_cmp ids_total ids_exact after id cell ∙ sym is) k) [])
         ∙ sym (filter_map-append (λ q. maps.get there q) ids (was ∷ []));
     held_now = All-push (λ q. is_some (maps.get next q) ≡ true) now id (still_held after id cell now free m.held_now) (ap is_some (got id_cmp ids_total ids_exact after id cell));
-    fresh = All-push (IsFresh held spent) now id m.fresh (record { free = never_held; unspent = unspent; lesser = lesser });
+    new_ids = All-push (IsUnusedId held spent) now id m.new_ids (record { free = never_held; unspent = unspent; lesser = lesser });
     from = All-push (λ (p : Placed). IsDotThere there p.dot) dots place m.from (record { id = was; cell = cell; held = is; is = refl });
     kept = still_kept;
     alone = still_alone;

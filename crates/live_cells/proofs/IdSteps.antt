@@ -141,14 +141,14 @@ follow_shrunk ids mid after spent between now a b f g = record {
 pub grown_twice : (x y z : LiveState) → HaveGrown x y → HaveGrown y z → HaveGrown x z
 grown_twice x y z f g = record {
   kept = λ q i h. g.kept q i (f.kept q i h);
-  fresh = λ q i h k. elim (look (map.get y.ids q)) [
-    | inl n ↦ let new = g.fresh q i n k in
+  new_ids = λ q i h k. elim (look (map.get y.ids q)) [
+    | inl n ↦ let new = g.new_ids q i n k in
         record {
           free = λ d e. new.free d (f.kept d i e);
           unspent = ap (λ s. set.contains s i) (sym f.spent) ∙ new.unspent;
           lesser = λ n h. ap (λ s. set.contains s (id_of i.index n)) (sym f.spent) ∙ new.lesser n h;
         }
-    | inr m ↦ subst (IsNew x.ids x.spent x.spent) (same_Some m.0 i (sym (g.kept q m.0 m.1) ∙ k)) (f.fresh q m.0 h m.1)
+    | inr m ↦ subst (IsNew x.ids x.spent x.spent) (same_Some m.0 i (sym (g.kept q m.0 m.1) ∙ k)) (f.new_ids q m.0 h m.1)
   ];
   spent = g.spent ∙ f.spent;
 }
@@ -156,7 +156,7 @@ grown_twice x y z f g = record {
 pub grown_same : (x y : LiveState) → y.ids ≡ x.ids → y.spent ≡ x.spent → HaveGrown x y
 grown_same x y e s = record {
   kept = λ q i h. ap (λ m. map.get m q) e ∙ h;
-  fresh = λ q i h k. absurd (some_none i (sym k ∙ ap (λ m. map.get m q) e ∙ h));
+  new_ids = λ q i h k. absurd (some_none i (sym k ∙ ap (λ m. map.get m q) e ∙ h));
   spent = s;
 }
 
@@ -170,7 +170,7 @@ follow_grown ids spent mid after a f g gone = record {
   ];
   new = λ d i h k.
       let none : map.get mid.ids d ≡ None = elim (a d) [ inl n ↦ n | inr e ↦ e ∙ h ] in
-      let new = g.fresh d i none k in
+      let new = g.new_ids d i none k in
       record {
         free = λ q e. elim (f.kept q i e) [
           | inl m ↦ new.free q m

@@ -25,7 +25,7 @@ use Rattle.live_cells.specs.declared.live_dot.LiveDot.{LiveDot}
 use Rattle.live_cells.specs.declared.placed.Placed.{Placed}
 use Rattle.live_cells.specs.CellIds.{IdSet}
 use Rattle.live_cells.specs.Merges.{AreUntied, placed_cmp}
-use Rattle.live_cells.specs.Moves.{AreMoved, IsDotThere, IsFresh}
+use Rattle.live_cells.specs.Moves.{AreMoved, IsDotThere, IsUnusedId}
 use Rattle.live_cells.specs.PlacedLists.{id_entries, is_placed}
 use Rattle.live_cells.specs.PlacedStates.{AreHeld, ArePlaced, CellMap, cells_at, ids_of}
 use Rattle.live_cells.proofs.DotTests.{one_dot}
@@ -62,32 +62,32 @@ in_found ps p r (k, l, is) = found_at p.dot ps k p r l (sym (ap (λ x. x.dot) is
 
 -- cells of a set there, in the order of some ids of theirs, that were moved
 module _ (others : List Placed) (there : CellMap) (gone : IdSet) (b : ArePlaced others there gone) (ids : List Id) (ids_held : AreHeld there ids) (differ : IsDistinct (eq_by_cmp id_cmp) ids)
-    (held : CellMap) (spent : IdSet) (after : CellMap) (fresh : List Placed) (now : List Id) (m : AreMoved held spent there ids after fresh now) where
-  cells_same : cells_at after (ids_of fresh) ≡ cells_at there ids
+    (held : CellMap) (spent : IdSet) (after : CellMap) (arrived : List Placed) (now : List Id) (m : AreMoved held spent there ids after arrived now) where
+  cells_same : cells_at after (ids_of arrived) ≡ cells_at there ids
   cells_same = ap (cells_at after) m.listed ∙ m.cells
 
-  pub as_many_fresh : length fresh ≡ length ids
-  as_many_fresh = sym (as_long fresh after m.named) ∙ ap length cells_same ∙ length_given (λ q. maps.get there q) ids ids_held
+  pub as_many_arrived : length arrived ≡ length ids
+  as_many_arrived = sym (as_long arrived after m.named) ∙ ap length cells_same ∙ length_given (λ q. maps.get there q) ids ids_held
 
   -- the id there of a dot that was moved
-  id_there : (k : ℕ) (p : Placed) (id : Id) → k < length fresh → find dot_cmp (get_or fresh k p).dot (id_entries others) ≡ Some (get_or ids k id)
+  id_there : (k : ℕ) (p : Placed) (id : Id) → k < length arrived → find dot_cmp (get_or arrived k p).dot (id_entries others) ≡ Some (get_or ids k id)
   id_there k p id l =
       let c = no_cell p.dot in
-      let dot : (get_or (cells_at there ids) k c).dot ≡ (get_or fresh k p).dot = ap (λ cs. (get_or cs k c).dot) (sym cells_same) ∙ dot_there fresh after m.named k p c l in
+      let dot : (get_or (cells_at there ids) k c).dot ≡ (get_or arrived k p).dot = ap (λ cs. (get_or cs k c).dot) (sym cells_same) ∙ dot_there arrived after m.named k p c l in
       ap (λ d. find dot_cmp d (id_entries others)) (sym dot)
-      ∙ b.alone (get_or ids k id) (get_or (cells_at there ids) k c) (given_at (λ q. maps.get there q) ids k id c ids_held (omega (arith, as_many_fresh)))
+      ∙ b.alone (get_or ids k id) (get_or (cells_at there ids) k c) (given_at (λ q. maps.get there q) ids k id c ids_held (omega (arith, as_many_arrived)))
 
   -- the dots that were moved differ
-  fresh_differ : IsDistinct (eq_by_cmp placed_cmp) fresh
-  fresh_differ = IsDistinct-from_apart (eq_by_cmp placed_cmp) fresh (λ i j d l n. untied dot_cmp dots_total dots_exact (get_or fresh i d).dot (get_or fresh j d).dot (λ same.
+  arrived_differ : IsDistinct (eq_by_cmp placed_cmp) arrived
+  arrived_differ = IsDistinct-from_apart (eq_by_cmp placed_cmp) arrived (λ i j d l n. untied dot_cmp dots_total dots_exact (get_or arrived i d).dot (get_or arrived j d).dot (λ same.
       let id = id_of 0 0 in
-      apart_by id_cmp ids_total ids_exact (get_or ids i id) (get_or ids j id) (apart_from_distinct (eq_by_cmp id_cmp) ids i j id differ l (omega (arith, as_many_fresh)))
+      apart_by id_cmp ids_total ids_exact (get_or ids i id) (get_or ids j id) (apart_from_distinct (eq_by_cmp id_cmp) ids i j id differ l (omega (arith, as_many_arrived)))
       (same_some _ _ (sym (id_there i d id (omega arith)) ∙ ap (λ x. find dot_cmp x (id_entries others)) same ∙ id_there j d id n))))
 
   -- so they rise once they are sorted
-  module _ (sorted : List Placed) (same : IsPermutation fresh sorted) (order : IsSortedByKey (λ p. p.dot) dot_cmp sorted) where
+  module _ (sorted : List Placed) (same : IsPermutation arrived sorted) (order : IsSortedByKey (λ p. p.dot) dot_cmp sorted) where
     sorted_differ : IsDistinct (eq_by_cmp placed_cmp) sorted
-    sorted_differ = IsDistinct-IsPermutation (eq_by_cmp placed_cmp) (eq_by_cmp_equiv placed_total).symm fresh sorted same fresh_differ
+    sorted_differ = IsDistinct-IsPermutation (eq_by_cmp placed_cmp) (eq_by_cmp_equiv placed_total).symm arrived sorted same arrived_differ
 
     rises : Rise sorted
     rises = rising.rise_steps dot_cmp dots_total dots_exact (λ p. p.dot) (λ p. p.id) sorted (λ k e l.
@@ -105,7 +105,7 @@ module _ (others : List Placed) (there : CellMap) (gone : IdSet) (b : ArePlaced 
     module _ (own : List Placed) (a : ArePlaced own held spent) (apart : (id : Id) (cell : LiveDot) → maps.get there id ≡ Some cell → is_placed own cell.dot ≡ false) where
       pub fresh_untied : AreUntied placed_cmp own sorted
       fresh_untied x y mine theirs e =
-          let moved = Contains-permutation sorted fresh y (IsPermutation-sym fresh sorted same) theirs in
+          let moved = Contains-permutation sorted arrived y (IsPermutation-sym arrived sorted same) theirs in
           let from = subst (λ (p : Placed). IsDotThere there p.dot) moved.2 (m.from moved.0 y moved.1) in
           let one : y.dot ≡ x.dot = dots_exact y.dot x.dot e in
           true≢false (sym (any_in (λ p. eq_by_cmp dot_cmp y.dot p.dot) own x mine (rising.same_tied dot_cmp dots_total dots_exact y.dot x.dot one)) ∙ ap (is_placed own) (sym from.is) ∙ apart from.id from.cell from.held)
@@ -120,12 +120,12 @@ module _ (others : List Placed) (there : CellMap) (gone : IdSet) (b : ArePlaced 
           by None is e = absurd (cc)
           by (Some c) is e = ap (option_map (λ x. x.dot)) (m.kept p.id c is) ∙ e
 
-      unspent_fresh : All (λ p. sets.contains spent p.id ≡ false) fresh
-      unspent_fresh k p l =
-          let within : k < length (ids_of fresh) = omega (arith, l, length-map fresh (λ x. x.id)) in
-          let all : All (IsFresh held spent) (ids_of fresh) = subst (All (IsFresh held spent)) (sym m.listed) m.fresh in
+      unspent_arrived : All (λ p. sets.contains spent p.id ≡ false) arrived
+      unspent_arrived k p l =
+          let within : k < length (ids_of arrived) = omega (arith, l, length-map arrived (λ x. x.id)) in
+          let all : All (IsUnusedId held spent) (ids_of arrived) = subst (All (IsUnusedId held spent)) (sym m.listed) m.new_ids in
           let it = all k p.id within in
-          ap (sets.contains spent) (sym (get_or-map (λ x. x.id) fresh k p p.id l)) ∙ it.unspent
+          ap (sets.contains spent) (sym (get_or-map (λ x. x.id) arrived k p p.id l)) ∙ it.unspent
 
       -- with those here, merged, they are placed
       pub come_placed : (merged : List Placed) → IsPermutation (own ++ sorted) merged → IsStrictlySortedBy placed_cmp merged → ArePlaced merged after spent
@@ -133,20 +133,20 @@ module _ (others : List Placed) (there : CellMap) (gone : IdSet) (b : ArePlaced 
           let r = rise_sorted merged strict in
           let counts = length_permutation (own ++ sorted) merged all in
           let both = length-append own sorted in
-          let many = length_permutation fresh sorted same in
+          let many = length_permutation arrived sorted same in
           let moved = ap length m.listed in
-          let mapped = length-map fresh (λ x. x.id) in
+          let mapped = length-map arrived (λ x. x.id) in
           let had = a.as_many in
           let count = m.count in
           record {
             sorted = r;
             there = All-permutation (HasDot after) (own ++ sorted) merged all
-                (All-append (HasDot after) own sorted (All-weaker (HasDot held) (HasDot after) still_there own a.there) (All-permutation (HasDot after) fresh sorted same m.named));
+                (All-append (HasDot after) own sorted (All-weaker (HasDot held) (HasDot after) still_there own a.there) (All-permutation (HasDot after) arrived sorted same m.named));
             alone = λ id cell e. in_found merged (record { dot = cell.dot; id = id }) r (Contains-permutation (own ++ sorted) merged (record { dot = cell.dot; id = id }) all (elim (m.alone id cell e) [
               | inl was ↦ Contains-append_left own sorted (record { dot = cell.dot; id = id }) (found_in own cell.dot id (a.alone id cell was))
-              | inr came ↦ Contains-append_right own sorted (record { dot = cell.dot; id = id }) (Contains-permutation fresh sorted (record { dot = cell.dot; id = id }) same came)
+              | inr came ↦ Contains-append_right own sorted (record { dot = cell.dot; id = id }) (Contains-permutation arrived sorted (record { dot = cell.dot; id = id }) same came)
             ]));
             as_many = omega arith;
             unspent = All-permutation (λ p. sets.contains spent p.id ≡ false) (own ++ sorted) merged all
-                (All-append (λ p. sets.contains spent p.id ≡ false) own sorted a.unspent (All-permutation (λ p. sets.contains spent p.id ≡ false) fresh sorted same unspent_fresh));
+                (All-append (λ p. sets.contains spent p.id ≡ false) own sorted a.unspent (All-permutation (λ p. sets.contains spent p.id ≡ false) arrived sorted same unspent_arrived));
           }

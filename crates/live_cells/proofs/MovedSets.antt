@@ -23,7 +23,7 @@ use Rattle.live_cells.specs.declared.placed.Placed.{Placed}
 use Rattle.live_cells.specs.Index.{Rises, is_held, is_listed, listed_cmp, listing}
 use Rattle.live_cells.specs.LiveLists.{holding, live_of}
 use Rattle.live_cells.specs.Merges.{AreUntied}
-use Rattle.live_cells.specs.Moves.{AreMoved, IsFresh}
+use Rattle.live_cells.specs.Moves.{AreMoved, IsUnusedId}
 use Rattle.live_cells.specs.PlacedLists.{id_entries, is_placed}
 use Rattle.live_cells.specs.PlacedStates.{AreHeld, AreIndexed, IsPlaced, PlacedState, cells_at, cells_of, id_order, ids_of, listed_at, live_state}
 use Rattle.live_cells.proofs.GivenItems.{given_alike, given_at, length_given, some_of}
@@ -90,7 +90,7 @@ module _ (s : PlacedState) (own : List Id) (x : AreIndexed s own) (t : PlacedSta
       ∙ ap is_some (apart cell.dot (ap is_some (its_live t.dots t.held t.spent y.placed id cell e)))
 
   -- are moved here
-  module _ (u : PlacedState) (fresh : List Placed) (now : List Id) (m : AreMoved s.held s.spent t.held ids u.held fresh now) where
+  module _ (u : PlacedState) (arrived : List Placed) (now : List Id) (m : AreMoved s.held s.spent t.held ids u.held arrived now) where
     own_held : AreHeld u.held own
     own_held = All-weaker (λ id. is_some (maps.get s.held id) ≡ true) (λ id. is_some (maps.get u.held id) ≡ true) (λ id h. let c = some_of (maps.get s.held id) h in ap is_some (m.kept id c.0 c.1)) own x.held
 
@@ -118,12 +118,12 @@ module _ (s : PlacedState) (own : List Id) (x : AreIndexed s own) (t : PlacedSta
         let c = some_of (maps.get s.held i) (subst (λ id. is_some (maps.get s.held id) ≡ true) mine.2 (x.held mine.0 i mine.1)) in
         let k = theirs.0 in
         let p : Placed = record { dot = c.0.dot; id = j } in
-        let count : length (ids_of fresh) ≡ length fresh = length-map fresh (λ a. a.id) in
+        let count : length (ids_of arrived) ≡ length arrived = length-map arrived (λ a. a.id) in
         let listed = ap length m.listed in
         let inside = theirs.1 in
-        let within : k < length fresh = omega (arith, inside, count, listed) in
-        let id : (get_or fresh k p).id ≡ j = sym (get_or-map (λ a. a.id) fresh k p j within) ∙ ap (λ js. get_or js k j) m.listed ∙ theirs.2 in
-        let d = dot_of (maps.get u.held (get_or fresh k p).id) (get_or fresh k p).dot (m.named k p within) in
+        let within : k < length arrived = omega (arith, inside, count, listed) in
+        let id : (get_or arrived k p).id ≡ j = sym (get_or-map (λ a. a.id) arrived k p j within) ∙ ap (λ js. get_or js k j) m.listed ∙ theirs.2 in
+        let d = dot_of (maps.get u.held (get_or arrived k p).id) (get_or arrived k p).dot (m.named k p within) in
         let from = m.from k p within in
         let tie : option_cmp listed_cmp (Some (listing d.0)) (Some (listing c.0)) ≡ Equal =
         (λ n. option_cmp listed_cmp (option_map listing ((sym d.1 ∙ ap (maps.get u.held) id) n)) (option_map listing (sym (m.kept i c.0 c.1) n))) ∙ e in
@@ -151,19 +151,19 @@ module _ (s : PlacedState) (own : List Id) (x : AreIndexed s own) (t : PlacedSta
           ap (maps.get (live_of (cells_of u))) (sym c.dot) ∙ its_live u.dots u.held u.spent v (get_or now i.0 c.id) c.cell here ∙ ap Some c.is
 
       -- an id here is one that was here, or was given
-      came_from : (id : Id) (c : LiveDot) → maps.get u.held id ≡ Some c → maps.get s.held id ≡ None → IsFresh s.held s.spent id × (maps.get (live_of (cells_of t)) c.dot ≢ None)
+      came_from : (id : Id) (c : LiveDot) → maps.get u.held id ≡ Some c → maps.get s.held id ≡ None → IsUnusedId s.held s.spent id × (maps.get (live_of (cells_of t)) c.dot ≢ None)
       came_from id c e none = elim (m.alone id c e) [
         | inl was ↦ absurd (let n = sym was ∙ none in cc n)
         | inr came ↦
             let p : Placed = record { dot = c.dot; id = id } in
             let k = came.0 in
             let inside = came.1 in
-            let count : length (ids_of fresh) ≡ length fresh = length-map fresh (λ a. a.id) in
+            let count : length (ids_of arrived) ≡ length arrived = length-map arrived (λ a. a.id) in
             let listed = ap length m.listed in
             let within : k < length now = omega (arith, inside, count, listed) in
-            let at : get_or now k id ≡ id = ap (λ js. get_or js k id) (sym m.listed) ∙ get_or-map (λ a. a.id) fresh k p id inside ∙ ap (λ a. a.id) came.2 in
+            let at : get_or now k id ≡ id = ap (λ js. get_or js k id) (sym m.listed) ∙ get_or-map (λ a. a.id) arrived k p id inside ∙ ap (λ a. a.id) came.2 in
             let from = m.from k p inside in (
-              subst (IsFresh s.held s.spent) at (m.fresh k id within),
+              subst (IsUnusedId s.held s.spent) at (m.new_ids k id within),
               λ n. let some = sym (its_live t.dots t.held t.spent y.placed from.id from.cell from.held) ∙ ap (maps.get (live_of (cells_of t))) (from.is ∙ ap (λ a. a.dot) came.2) ∙ n in cc some,
             )
       ]
@@ -193,7 +193,7 @@ module _ (s : PlacedState) (own : List Id) (x : AreIndexed s own) (t : PlacedSta
         kept = λ q id e.
             let c = dot_of (maps.get s.held id) q (its_cell s.dots s.held s.spent x.placed q id e) in
             ap (maps.get (ids_by u.dots)) (sym c.2) ∙ its_id u.dots u.held u.spent v id c.0 (m.kept id c.0 c.1);
-        fresh = λ q id n e.
+        new_ids = λ q id n e.
             let c = dot_of (maps.get u.held id) q (its_cell u.dots u.held u.spent v q id e) in
             elim (look (maps.get s.held id)) [
               | inl free ↦

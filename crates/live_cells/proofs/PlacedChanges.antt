@@ -29,18 +29,18 @@ use Rattle.live_cells.proofs.Rising as rising
 use Rattle.live_cells.proofs.RisingMaps.{put_finds, put_rises, removed_finds, removed_rises}
 
 -- an id is another than one that isn't held
-pub not_fresh : (held : CellMap) (id q : Id) → maps.get held id ≡ None → is_some (maps.get held q) ≡ true → q ≢ id
-not_fresh held id q free there same = let x = ap (λ y. is_some (maps.get held y)) same ∙ ap is_some free in cc
+pub other_id : (held : CellMap) (id q : Id) → maps.get held id ≡ None → is_some (maps.get held q) ≡ true → q ≢ id
+other_id held id q free there same = let x = ap (λ y. is_some (maps.get held y)) same ∙ ap is_some free in cc
 
 -- held ids have the cells that they had, where a cell is put in under an id that isn't held
 pub cells_kept : (held : CellMap) (id : Id) (cell : LiveDot) (ids : List Id) → maps.get held id ≡ None → AreHeld held ids → cells_at (maps.insert held id cell) ids ≡ cells_at held ids
 cells_kept held id cell ids free a =
     given_alike (λ q. maps.get (maps.insert held id cell) q) (λ q. maps.get held q) ids
-    (All-weaker (λ q. is_some (maps.get held q) ≡ true) (λ q. maps.get (maps.insert held id cell) q ≡ maps.get held q) (λ q h. got_other id_cmp ids_total ids_exact held id cell q (not_fresh held id q free h)) ids a)
+    (All-weaker (λ q. is_some (maps.get held q) ≡ true) (λ q. maps.get (maps.insert held id cell) q ≡ maps.get held q) (λ q h. got_other id_cmp ids_total ids_exact held id cell q (other_id held id q free h)) ids a)
 
 pub still_held : (held : CellMap) (id : Id) (cell : LiveDot) (ids : List Id) → maps.get held id ≡ None → AreHeld held ids → AreHeld (maps.insert held id cell) ids
 still_held held id cell ids free a =
-    All-weaker (λ q. is_some (maps.get held q) ≡ true) (λ q. is_some (maps.get (maps.insert held id cell) q) ≡ true) (λ q h. ap is_some (got_other id_cmp ids_total ids_exact held id cell q (not_fresh held id q free h)) ∙ h) ids a
+    All-weaker (λ q. is_some (maps.get held q) ≡ true) (λ q. is_some (maps.get (maps.insert held id cell) q) ≡ true) (λ q h. ap is_some (got_other id_cmp ids_total ids_exact held id cell q (other_id held id q free h)) ∙ h) ids a
 
 -- and one id more
 pub cells_more : (held : CellMap) (id : Id) (cell : LiveDot) (ids : List Id) (i : ℕ) → maps.get held id ≡ None → AreHeld held ids → cells_at (maps.insert held id cell) (insert ids i id) ≡ insert (cells_at held ids) i cell
@@ -85,7 +85,7 @@ module _ (dots : List Placed) (held : CellMap) (spent : IdSet) (a : ArePlaced do
     more_there : AreThere (maps.insert held id cell) (insert dots i here)
     more_there =
         All_insert (HasCell (maps.insert held id cell)) dots i here (ap (option_map (λ c. c.dot)) (got id_cmp ids_total ids_exact held id cell))
-        (All-weaker (HasCell held) (HasCell (maps.insert held id cell)) (λ p h. ap (option_map (λ c. c.dot)) (got_other id_cmp ids_total ids_exact held id cell p.id (not_fresh held id p.id free (some_there (maps.get held p.id) p.dot h))) ∙ h) dots a.there)
+        (All-weaker (HasCell held) (HasCell (maps.insert held id cell)) (λ p h. ap (option_map (λ c. c.dot)) (got_other id_cmp ids_total ids_exact held id cell p.id (other_id held id p.id free (some_there (maps.get held p.id) p.dot h))) ∙ h) dots a.there)
 
     more_alone : (q : Id) (c : LiveDot) → maps.get (maps.insert held id cell) q ≡ Some c → find dot_cmp c.dot (id_entries (insert dots i here)) ≡ Some q
     more_alone q c e =

@@ -73,5 +73,5 @@ pub record IsThinned (dead : Dot → Bool) (old new : LiveState) : Type 0 where
 -- dots have become live, with ids that no dot had before, and the others have theirs as before
 pub record HaveGrown (old new : LiveState) : Type 0 where
   pub kept : (q : Dot) (id : Id) → map.get old.ids q ≡ Some id → map.get new.ids q ≡ Some id
-  pub fresh : (q : Dot) (id : Id) → map.get old.ids q ≡ None → map.get new.ids q ≡ Some id → IsNew old.ids old.spent old.spent id
+  pub new_ids : (q : Dot) (id : Id) → map.get old.ids q ≡ None → map.get new.ids q ≡ Some id → IsNew old.ids old.spent old.spent id
   pub spent : new.spent ≡ old.spent

@@ -292,9 +292,9 @@ impl<const LAST: u32> PlacedCells<LAST> {
         requires apart { (id : Id) (cell : live_dot) → map.get others.held id ≡ Some cell
             → is_placed self.old.dots cell.dot ≡ false }
         requires room { length self.old.dots + length others.dots ≤ self.old.room }
-        ensures moved { (fresh : List placed_dot)
+        ensures moved { (arrived : List placed_dot)
             × AreMoved self.old.held self.old.spent others.entry.held members.old.items
-            self.new.held fresh members.new.items }
+            self.new.held arrived members.new.items }
         ensures spent { self.new.spent ≡ self.old.spent }
         ensures room { self.old.room ≤ self.new.room }
         ensures valid { IsPlaced self.new }

@@ -1,6 +1,6 @@
 ghost use Rattle.std.specs.Prelude.{◌≡◌, ◌↔◌, IsTrue, IsFalse};
 ghost use Rattle.std.specs.Option.{option_copied, option_map};
-ghost use Rattle.operations.specs.Registers.{RegistersAgree, InConflict, join_of};
+ghost use Rattle.operations.specs.Registers.{RegistersAgree, RegistersInConflict, join_of};
 
 use crate::FieldValue;
 use dots::Stamp;
@@ -71,7 +71,7 @@ impl<T: FieldValue> Register<T> {
     /// Whether both can be joined. `false` exactly where both have one stamp and two values.
     pub fn agrees(&self, other: &Register<T>) -> bool
         ensures agree { IsTrue result ↔ RegistersAgree self.now other.now }
-        ensures conflict { IsFalse result ↔ InConflict self.now other.now }
+        ensures conflict { IsFalse result ↔ RegistersInConflict self.now other.now }
     {
         match (&self.entry, &other.entry) {
             (Some((stamp, value)), Some((other_stamp, other_value))) => {

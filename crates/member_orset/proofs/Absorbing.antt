@@ -13,9 +13,9 @@ use Rattle.dots.proofs.DotOrder.{dots_total}
 use Rattle.dots.proofs.KeySets.{len_of_keys}
 use Rattle.op_arena.specs.Ids.{Id}
 use Rattle.live_cells.specs.CellIds.{IdsFollow}
-use Rattle.member_orset.specs.Joining.{AgreeWith, IsJoinedWith, dead_there, holding_joined, holding_with, HoldingsAgree}
+use Rattle.member_orset.specs.Joining.{EntriesAgree, IsJoinedWith, dead_there, holding_joined, holding_with, HoldingsAgree}
 use Rattle.live_cells.specs.LiveStates.{LiveState, IsThinned}
-use Rattle.member_orset.specs.Members.{AreKept, CanBeJoined, HasField, Members, both_joined, cells_joined, condition_at, joined_dots, AreOfTheDead}
+use Rattle.member_orset.specs.Members.{AreKept, SetsAgree, HasField, Members, both_joined, cells_joined, condition_at, joined_dots, AreOfTheDead}
 use Rattle.member_orset.proofs.Agreeing.{agree_back}
 use Rattle.member_orset.proofs.Deaths.{still_dead}
 use Rattle.member_orset.proofs.FieldReadings.{joined_field}
@@ -50,7 +50,7 @@ module _ (s t : Members) (heard : (q : Dot) (h : Holding) → map.get s.live q �
   mid_live q = thin.live q ∙ (λ i. if dead_there t.known t.live q then None else map.get (old_is i) q)
 
   -- what is left agrees with what is live there
-  pub left_agrees : CanBeJoined s t → AgreeWith mid.live (map.entries t.live)
+  pub left_agrees : SetsAgree s t → EntriesAgree mid.live (map.entries t.live)
   left_agrees agree k d l =
       let e = get_or (map.entries t.live) k d in
       let there : map.get t.live e.0 ≡ Some e.1 = entry_is t.live e (Contains-get_or (map.entries t.live) k d l) in

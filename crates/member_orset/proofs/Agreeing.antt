@@ -4,15 +4,15 @@ use Rattle.std.specs.Prelude.{IsTrue, IsFalse}
 use Rattle.std.specs.FinMap as map
 use Rattle.std.specs.FinSet as set
 use Rattle.dots.specs.Values.{Dot}
-use Rattle.operations.specs.Registers.{RegistersAgree, Entry, InConflict}
+use Rattle.operations.specs.Registers.{RegistersAgree, Entry, RegistersInConflict}
 use Rattle.operations.specs.Conditions.{Condition, ConditionsAgree, Dead, DotFields, FieldsAgree, FieldsInConflict, Live}
-use Rattle.member_orset.specs.Members.{CanBeJoined, Conflicts, ConditionsConflict, Members, condition_at, condition_of}
-use Rattle.member_orset.specs.Joining.{IsTold, HoldingsAgree, HoldingsConflict}
+use Rattle.member_orset.specs.Members.{SetsAgree, SetsInConflict, ConditionsInConflict, Members, condition_at, condition_of}
+use Rattle.member_orset.specs.Joining.{IsTold, HoldingsAgree, HoldingsInConflict}
 use Rattle.member_orset.proofs.MapEntries.{entry_in, entry_is}
 use Rattle.live_cells.specs.Holdings.{Holding}
 
 -- registers that agree aren't in conflict
-apart : {T : Type 0} (x y : Option (Entry T)) → RegistersAgree x y → InConflict x y → ⊥
+apart : {T : Type 0} (x y : Option (Entry T)) → RegistersAgree x y → RegistersInConflict x y → ⊥
 apart x y a c = c.two_values (a c.first c.second c.in_first c.in_second c.one_stamp)
 
 fields_apart : (x y : DotFields) → FieldsAgree x y → FieldsInConflict x y → ⊥
@@ -28,7 +28,7 @@ fields_apart x y a c = elim c [
 ]
 
 -- nor are conditions
-pub conditions_apart : (x y : Option Condition) → ConditionsAgree x y → ConditionsConflict x y → ⊥
+pub conditions_apart : (x y : Option Condition) → ConditionsAgree x y → ConditionsInConflict x y → ⊥
 conditions_apart (Some (Live m f)) (Some (Live n g)) a c = elim c [ inl o ↦ o a.0 | inr r ↦ fields_apart f g a.1 r ]
 conditions_apart (Some (Live m f)) (Some Dead) a c = c
 conditions_apart (Some (Live m f)) None a c = c
@@ -36,7 +36,7 @@ conditions_apart (Some Dead) y a c = c
 conditions_apart None y a c = c
 
 -- nor are sets
-pub sets_apart : (s t : Members) → CanBeJoined s t → Conflicts s t → ⊥
+pub sets_apart : (s t : Members) → SetsAgree s t → SetsInConflict s t → ⊥
 sets_apart s t agree c = conditions_apart (condition_of s c.dot) (condition_of t c.dot) (agree c.dot) c.conflict
 
 pub agree_at : (o p : Option Holding) (a b : Bool) → ((h : Holding) → p ≡ Some h → HoldingsAgree o h) → ConditionsAgree (condition_at o a) (condition_at p b)
@@ -51,19 +51,19 @@ pub agree_back : (o : Option Holding) (h : Holding) (a b : Bool) → ConditionsA
 agree_back None h a b c = tt
 agree_back (Some g) h a b c = c
 
-pub conflict_at : (o : Option Holding) (h : Holding) (a b : Bool) → HoldingsConflict o h → ConditionsConflict (condition_at o a) (condition_at (Some h) b)
+pub conflict_at : (o : Option Holding) (h : Holding) (a b : Bool) → HoldingsInConflict o h → ConditionsInConflict (condition_at o a) (condition_at (Some h) b)
 conflict_at None h a b c = absurd c
 conflict_at (Some g) h a b c = c
 
 -- the answer by the entries is the answer by the conditions
-pub told : (s t : Members) (r : Bool) → IsTold s.live (map.entries t.live) r → (IsTrue r ↔ CanBeJoined s t) × (IsFalse r ↔ Conflicts s t)
+pub told : (s t : Members) (r : Bool) → IsTold s.live (map.entries t.live) r → (IsTrue r ↔ SetsAgree s t) × (IsFalse r ↔ SetsInConflict s t)
 told s t true is =
-    let agree : CanBeJoined s t = λ q. agree_at (map.get s.live q) (map.get t.live q) (set.contains s.known q) (set.contains t.known q) (λ h e.
+    let agree : SetsAgree s t = λ q. agree_at (map.get s.live q) (map.get t.live q) (set.contains s.known q) (set.contains t.known q) (λ h e.
     let i = entry_in t.live q h e in subst (λ (x : Dot × Holding). HoldingsAgree (map.get s.live x.0) x.1) i.2 (is i.0 (q, h) i.1)) in
     ((λ x. agree, λ x. refl), (λ x. absurd (cc x), λ x. absurd (conditions_apart (condition_of s x.dot) (condition_of t x.dot) (agree x.dot) x.conflict)))
 told s t false is =
     let q = is.entry.0 in
     let there : map.get t.live q ≡ Some is.entry.1 = entry_is t.live is.entry is.here in
-    let conflict : ConditionsConflict (condition_of s q) (condition_of t q) =
-    subst (λ (p : Option Holding). ConditionsConflict (condition_of s q) (condition_at p (set.contains t.known q))) (sym there) (conflict_at (map.get s.live q) is.entry.1 (set.contains s.known q) (set.contains t.known q) is.conflict) in
+    let conflict : ConditionsInConflict (condition_of s q) (condition_of t q) =
+    subst (λ (p : Option Holding). ConditionsInConflict (condition_of s q) (condition_at p (set.contains t.known q))) (sym there) (conflict_at (map.get s.live q) is.entry.1 (set.contains s.known q) (set.contains t.known q) is.conflict) in
     ((λ x. absurd (cc x), λ x. absurd (conditions_apart (condition_of s q) (condition_of t q) (x q) conflict)), (λ x. record { dot = q; conflict = conflict }, λ x. refl))

@@ -21,12 +21,12 @@ use Rattle.dots.proofs.OneMoreDot.{insert_known}
 use Rattle.member_orset.specs.declared.join_fault.JoinFault.{JoinFault}
 use Rattle.member_orset.specs.declared.join_fault.JoinFault.TheVariants.{Conflict}
 use Rattle.member_orset.specs.Refusals.{IsRefusedAssert}
-use Rattle.member_orset.specs.Members.{AreKept, ConditionsConflict, HasField, Members, cells_with, condition_at, condition_of}
+use Rattle.member_orset.specs.Members.{AreKept, ConditionsInConflict, HasField, Members, cells_with, condition_at, condition_of}
 use Rattle.member_orset.proofs.Agreeing.{conditions_apart, conflict_at}
 use Rattle.live_cells.proofs.DotTests.{one_dot, same_itself}
 use Rattle.member_orset.proofs.FieldReadings.{joined_field}
 use Rattle.live_cells.specs.Holdings.{Holding}
-use Rattle.member_orset.specs.Joining.{HoldingsAgree, HoldingsConflict, fields_met, met_with}
+use Rattle.member_orset.specs.Joining.{HoldingsAgree, HoldingsInConflict, fields_met, met_with}
 
 -- what an answer leaves, and what it says
 pub either : {E : Type 0} (r : Result (Unit {0}) E) (A : Type 0) → OnOk r A → OnErr r A → A
@@ -187,10 +187,10 @@ abbrev pub Answer : Type 0
 Answer = Result (Unit {0}) JoinFault
 
 -- for a conflict
-pub refused_conflict : (s : Members) (d : Dot) (m : Member) (f : DotFields) → HoldingsConflict (map.get s.live d) (m, f) → ((h : Holding) → map.get s.live d ≡ Some h → set.contains s.known d ≡ true) → run_count s.known ≤ MOST_RUNS
+pub refused_conflict : (s : Members) (d : Dot) (m : Member) (f : DotFields) → HoldingsInConflict (map.get s.live d) (m, f) → ((h : Holding) → map.get s.live d ≡ Some h → set.contains s.known d ≡ true) → run_count s.known ≤ MOST_RUNS
     → IsRefusedAssert s d m f (λ fault. ◌≡◌ {A = Answer} (Err Conflict) (Err fault))
 refused_conflict s d m f conflict heard runs =
-    let clash : ConditionsConflict (condition_of s d) (Some (Live m f)) = conflict_at (map.get s.live d) (m, f) (set.contains s.known d) false conflict in
+    let clash : ConditionsInConflict (condition_of s d) (Some (Live m f)) = conflict_at (map.get s.live d) (m, f) (set.contains s.known d) false conflict in
     record {
       agree = λ never. absurd (never refl);
       conflict = (λ _. clash, λ _. refl);
@@ -199,7 +199,7 @@ refused_conflict s d m f conflict heard runs =
     }
   where
     known : (o : Option Holding) → map.get s.live d ≡ o → set.contains s.known d ≡ true
-    known None e = absurd (subst (λ o. HoldingsConflict o (m, f)) e conflict)
+    known None e = absurd (subst (λ o. HoldingsInConflict o (m, f)) e conflict)
     known (Some h) e = heard h e
 
 -- for none, of a known dot

@@ -10,7 +10,7 @@ use Rattle.dots.specs.Orders.{dot_cmp}
 use Rattle.general_lemmas.proofs.Membership.{first_in}
 use Rattle.general_lemmas.proofs.TruthTables.{fact}
 use Rattle.live_cells.specs.declared.live_dot.LiveDot.{LiveDot}
-use Rattle.member_orset.specs.Joining.{AgreeWith, IsJoinedWith, IsTakenIn, holding_with, HoldingsAgree}
+use Rattle.member_orset.specs.Joining.{EntriesAgree, IsJoinedWith, IsTakenIn, holding_with, HoldingsAgree}
 use Rattle.live_cells.specs.LiveLists.{entry_of, holding}
 use Rattle.live_cells.specs.LiveStates.{LiveState, HaveGrown}
 use Rattle.live_cells.proofs.DotTests.{one_dot, same_tied}
@@ -52,8 +52,8 @@ module _ (known : Dot → Bool) (old now after : LiveState) (there : map.FinMap 
   held = entry_is there (entry_of c) here
 
   -- the next cell is none of those behind it
-  fresh : find dot_cmp c.dot left ≡ None
-  fresh = none_behind t.done (entry_of c) left (ap (is_sorted dot_cmp) (sym together) ∙ fact _ (map.entries_sorted there))
+  not_left : find dot_cmp c.dot left ≡ None
+  not_left = none_behind t.done (entry_of c) left (ap (is_sorted dot_cmp) (sym together) ∙ fact _ (map.entries_sorted there))
 
   met_next : (q : Dot) → map.get now.live q ≡ met known old there q (cond (eq_by_cmp dot_cmp q c.dot) (Some (holding c)) (find dot_cmp q left))
   met_next q = t.live q ∙ ap (λ es. met known old there q (find dot_cmp q es)) split
@@ -62,7 +62,7 @@ module _ (known : Dot → Bool) (old now after : LiveState) (there : map.FinMap 
   untouched = met_next c.dot ∙ ap (λ b. met known old there c.dot (cond b (Some (holding c)) (find dot_cmp c.dot left))) (same_tied c.dot c.dot refl)
 
   -- it agrees with what is live here
-  pub next_agrees : AgreeWith old.live (map.entries there) → HoldingsAgree (map.get now.live c.dot) (holding c)
+  pub next_agrees : EntriesAgree old.live (map.entries there) → HoldingsAgree (map.get now.live c.dot) (holding c)
   next_agrees agree = subst (λ o. HoldingsAgree o (holding c)) (sym untouched) (subst (λ (e : Dot × Holding). HoldingsAgree (map.get old.live e.0) e.1) here.2 (agree here.0 (entry_of c) here.1))
 
   pub next_room : map.len now.live + 1 ≤ now.room
@@ -86,7 +86,7 @@ module _ (known : Dot → Bool) (old now after : LiveState) (there : map.FinMap 
           → (if b then holding_with (map.get now.live q) (known q) (Some (holding c)) else map.get now.live q) ≡ met known old there q (find dot_cmp q left)
       at q true same now_is =
           ap (λ o. holding_with o (known q) (Some (holding c))) now_is ∙ ap (holding_with (map.get old.live q) (known q)) (sym (ap (map.get there) (same refl) ∙ held))
-          ∙ sym (ap (met known old there q) (ap (λ d. find dot_cmp d left) (same refl) ∙ fresh))
+          ∙ sym (ap (met known old there q) (ap (λ d. find dot_cmp d left) (same refl) ∙ not_left))
       at q false same now_is = now_is
 
 -- once all are taken in

@@ -45,11 +45,11 @@ taken_joined known s t c h ids spent room =
 -- where its dot is unknown here
 pub taken_new : (known : Dot → Bool) (s t : LiveState) (c : LiveDot) (id : Id) → map.get s.ids c.dot ≡ None → map.get s.live c.dot ≡ None → known c.dot ≡ false
     → t.live ≡ map.insert s.live c.dot (holding c) → t.ids ≡ map.insert s.ids c.dot id → IsNew s.ids s.spent s.spent id → t.spent ≡ s.spent → s.room ≤ t.room → IsTakenIn known s c t
-taken_new known s t c id no_id none new live ids fresh spent room = record {
+taken_new known s t c id no_id none new live ids is_new spent room = record {
   live = λ q. ap (λ m. map.get m q) live ∙ map.get-insert dots_total s.live c.dot (holding c) q ∙ at q (eq_by_cmp dot_cmp q c.dot) (one_dot q c.dot);
   ids = record {
     kept = λ q i h. ap (λ m. map.get m q) ids ∙ map.get-insert dots_total s.ids c.dot id q ∙ stays q i h (cases_Bool (eq_by_cmp dot_cmp q c.dot));
-    fresh = λ q i h k. one q i h k (cases_Bool (eq_by_cmp dot_cmp q c.dot));
+    new_ids = λ q i h k. one q i h k (cases_Bool (eq_by_cmp dot_cmp q c.dot));
     spent = spent;
   };
   few = let more = len_one_more s.live c.dot (holding c) none in let now = ap map.len live in omega arith;
@@ -68,7 +68,7 @@ taken_new known s t c id no_id none new live ids fresh spent room = record {
 
     one : (q : Dot) (i : Id) → map.get s.ids q ≡ None → map.get t.ids q ≡ Some i → ((eq_by_cmp dot_cmp q c.dot ≡ true) ⊎ (eq_by_cmp dot_cmp q c.dot ≡ false)) → IsNew s.ids s.spent s.spent i
     one q i h k b = elim b [
-      | inl t ↦ subst (IsNew s.ids s.spent s.spent) (same id i (ap (λ x. cond x (Some id) (map.get s.ids q)) (sym t) ∙ sym (map.get-insert dots_total s.ids c.dot id q) ∙ ap (λ m. map.get m q) (sym ids) ∙ k)) fresh
+      | inl t ↦ subst (IsNew s.ids s.spent s.spent) (same id i (ap (λ x. cond x (Some id) (map.get s.ids q)) (sym t) ∙ sym (map.get-insert dots_total s.ids c.dot id q) ∙ ap (λ m. map.get m q) (sym ids) ∙ k)) is_new
       | inr f ↦ absurd (let n = sym h ∙ ap (λ x. cond x (Some id) (map.get s.ids q)) (sym f) ∙ sym (map.get-insert dots_total s.ids c.dot id q) ∙ ap (λ m. map.get m q) (sym ids) ∙ k in cc n)
     ]
       where

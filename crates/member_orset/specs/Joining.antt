@@ -26,23 +26,23 @@ HoldingsAgree None g = Unit {0}
 HoldingsAgree (Some h) g = (h.0 ≡ g.0) × FieldsAgree h.1 g.1
 
 -- or it doesn't
-abbrev pub HoldingsConflict : Option Holding → Holding → Type 0
-HoldingsConflict None g = ⊥
-HoldingsConflict (Some h) g = (h.0 ≢ g.0) ⊎ FieldsInConflict h.1 g.1
+abbrev pub HoldingsInConflict : Option Holding → Holding → Type 0
+HoldingsInConflict None g = ⊥
+HoldingsInConflict (Some h) g = (h.0 ≢ g.0) ⊎ FieldsInConflict h.1 g.1
 
 -- what is live of each dot agrees with an entry of it
-abbrev pub AgreeWith : map.FinMap dot_cmp Holding → List (Dot × Holding) → Type 0
-AgreeWith live entries = All (λ e. HoldingsAgree (map.get live e.0) e.1) entries
+abbrev pub EntriesAgree : map.FinMap dot_cmp Holding → List (Dot × Holding) → Type 0
+EntriesAgree live entries = All (λ e. HoldingsAgree (map.get live e.0) e.1) entries
 
 -- an entry is in conflict with what is live of its dot
 pub record Clash (live : map.FinMap dot_cmp Holding) (entries : List (Dot × Holding)) : Type 0 where
   pub entry : Dot × Holding
   pub here : Contains entries entry
-  pub conflict : HoldingsConflict (map.get live entry.0) entry.1
+  pub conflict : HoldingsInConflict (map.get live entry.0) entry.1
 
 -- the answer whether all entries agree with what is live of their dots
 abbrev pub IsTold : map.FinMap dot_cmp Holding → List (Dot × Holding) → Bool → Type 0
-IsTold live entries true = AgreeWith live entries
+IsTold live entries true = EntriesAgree live entries
 IsTold live entries false = Clash live entries
 
 -- whether a dot is in a run and not live there

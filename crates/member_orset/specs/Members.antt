@@ -127,12 +127,12 @@ joined_at s dot condition q =
     if eq_by_cmp dot_cmp q dot then condition_joined (condition_of s q) (Some condition) else condition_of s q
 
 -- both are live, with two members or with fields in conflict
-abbrev pub ConditionsConflict : Option Condition → Option Condition → Type 0
-ConditionsConflict (Some (Live m f)) (Some (Live n g)) = (m ≢ n) ⊎ FieldsInConflict f g
-ConditionsConflict (Some (Live m f)) (Some Dead) = ⊥
-ConditionsConflict (Some (Live m f)) None = ⊥
-ConditionsConflict (Some Dead) y = ⊥
-ConditionsConflict None y = ⊥
+abbrev pub ConditionsInConflict : Option Condition → Option Condition → Type 0
+ConditionsInConflict (Some (Live m f)) (Some (Live n g)) = (m ≢ n) ⊎ FieldsInConflict f g
+ConditionsInConflict (Some (Live m f)) (Some Dead) = ⊥
+ConditionsInConflict (Some (Live m f)) None = ⊥
+ConditionsInConflict (Some Dead) y = ⊥
+ConditionsInConflict None y = ⊥
 
 -- how many live dots there are of so many with one more, which may be known already
 abbrev pub live_with : ℕ → Bool → ℕ
@@ -143,17 +143,17 @@ abbrev pub cells_with : Members → Dot → ℕ
 cells_with s dot = live_with (map.len s.live) (set.contains s.known dot)
 
 -- a dot whose conditions in two sets are in conflict
-pub record Conflicts (s t : Members) : Type 0 where
+pub record SetsInConflict (s t : Members) : Type 0 where
   pub dot : Dot
-  pub conflict : ConditionsConflict (condition_of s dot) (condition_of t dot)
+  pub conflict : ConditionsInConflict (condition_of s dot) (condition_of t dot)
 
 -- a set has such a dot
 abbrev pub IsPresent : Members → Member → Type 0
 IsPresent s member = IsPresentIn s.live member
 
 -- both can be joined: each dot's conditions agree
-abbrev pub CanBeJoined : Members → Members → Type 0
-CanBeJoined s t = (dot : Dot) → ConditionsAgree (condition_of s dot) (condition_of t dot)
+abbrev pub SetsAgree : Members → Members → Type 0
+SetsAgree s t = (dot : Dot) → ConditionsAgree (condition_of s dot) (condition_of t dot)
 
 -- the condition of a dot that two sets leave together
 abbrev pub both_joined : Members → Members → Dot → Option Condition
@@ -180,7 +180,7 @@ runs_joined s t = run_count (set.union s.known t.known)
 -- nothing is left that could refuse the join with another set: they agree, the join is small enough, and there is room
 -- for the live dots and the runs of both
 pub record IsPrepared (s t : Members) : Type 0 where
-  pub agree : CanBeJoined s t
+  pub agree : SetsAgree s t
   pub cells : cells_joined s t ≤ MOST_LIVE
   pub runs : runs_joined s t ≤ MOST_RUNS
   pub cell_room : map.len s.live + map.len t.live ≤ s.cell_room

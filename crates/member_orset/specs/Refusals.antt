@@ -9,7 +9,7 @@ use Rattle.dots.specs.DotSets.{run_count}
 use Rattle.operations.specs.Conditions.{DotFields, Condition, Live, ConditionsAgree}
 use Rattle.member_orset.specs.declared.join_fault.JoinFault.{JoinFault}
 use Rattle.member_orset.specs.declared.join_fault.JoinFault.TheVariants.{Conflict, CellsFull, RunsFull}
-use Rattle.member_orset.specs.Members.{Members, CanBeJoined, Conflicts, ConditionsConflict}
+use Rattle.member_orset.specs.Members.{Members, SetsAgree, SetsInConflict, ConditionsInConflict}
 use Rattle.member_orset.specs.Members.{cells_joined, cells_with, condition_of, runs_joined}
 
 -- the kill of a dot is refused for too many runs alone
@@ -28,7 +28,7 @@ pub record IsRefusedAssert (s : Members) (dot : Dot) (member : Member) (fields :
   pub agree : (IsRefused Conflict → ⊥)
       → ConditionsAgree (condition_of s dot) (live_condition member fields)
   pub conflict : IsRefused Conflict
-      ↔ ConditionsConflict (condition_of s dot) (live_condition member fields)
+      ↔ ConditionsInConflict (condition_of s dot) (live_condition member fields)
   pub cells_full : IsRefused CellsFull
       ↔ (ConditionsAgree (condition_of s dot) (live_condition member fields)
       × (MOST_LIVE < cells_with s dot))
@@ -37,10 +37,10 @@ pub record IsRefusedAssert (s : Members) (dot : Dot) (member : Member) (fields :
 
 -- the join with another set is refused for these causes
 pub record IsRefusedJoin (s t : Members) (IsRefused : JoinFault → Type 0) : Type 0 where
-  pub conflict : IsRefused Conflict ↔ Conflicts s t
+  pub conflict : IsRefused Conflict ↔ SetsInConflict s t
   pub cells_full : IsRefused CellsFull
-      ↔ (CanBeJoined s t × (MOST_LIVE < cells_joined s t))
+      ↔ (SetsAgree s t × (MOST_LIVE < cells_joined s t))
   pub runs_full : IsRefused RunsFull
-      ↔ (CanBeJoined s t
+      ↔ (SetsAgree s t
       × (cells_joined s t ≤ MOST_LIVE)
       × (MOST_RUNS < runs_joined s t))

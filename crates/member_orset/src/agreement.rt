@@ -1,7 +1,7 @@
 //! Whether what is live in two sets can be joined.
 ghost use Rattle.std.specs.Prelude.{◌≡◌, ◌↔◌, IsTrue, IsFalse};
 ghost use Rattle.std.specs.FinMap as map;
-ghost use Rattle.member_orset.specs.Joining.{HoldingsAgree, HoldingsConflict, IsTold};
+ghost use Rattle.member_orset.specs.Joining.{HoldingsAgree, HoldingsInConflict, IsTold};
 
 use dots::{Dot, Member};
 use live_cells::{LAST_GENERATION, LiveCells};
@@ -24,7 +24,7 @@ pub(crate) fn agrees_with(
     ensures agree { IsTrue result
         ↔ HoldingsAgree (map.get cells.now.live dot) (member.now, fields.now) }
     ensures conflict { IsFalse result
-        ↔ HoldingsConflict (map.get cells.now.live dot) (member.now, fields.now) }
+        ↔ HoldingsInConflict (map.get cells.now.live dot) (member.now, fields.now) }
 {
     match cells.get(dot) {
         Some(cell) => is_same_member(cell.member, member) && cell.fields.agrees(fields),

@@ -9,7 +9,7 @@ ghost use Rattle.dots.specs.DotSets.{run_count};
 ghost use Rattle.causal_context.specs.Contexts.{IsPrepared};
 ghost use Rattle.live_cells.specs.LiveLists.{holding};
 ghost use Rattle.live_cells.specs.LiveStates.{IsThinned};
-ghost use Rattle.member_orset.specs.Joining.{AgreeWith, HoldingsAgree, IsJoinedWith, IsNextDead};
+ghost use Rattle.member_orset.specs.Joining.{EntriesAgree, HoldingsAgree, IsJoinedWith, IsNextDead};
 ghost use Rattle.member_orset.specs.Joining.{IsTakenIn, dead_in_run, dead_there};
 
 use crate::JoinFault;
@@ -169,7 +169,7 @@ fn take_each(
     cells: &mut LiveCells<LAST_GENERATION>,
     others: LiveCells<LAST_GENERATION>,
 )
-    requires agree { AgreeWith cells.old.live (map.entries others.live) }
+    requires agree { EntriesAgree cells.old.live (map.entries others.live) }
     requires room { map.len cells.old.live + map.len others.live ≤ cells.old.room }
     ensures { IsJoinedWith (set.contains known.now.dots) cells.old others.live cells.new }
 {
@@ -198,7 +198,7 @@ pub(crate) fn take_all(
     cells: &mut LiveCells<LAST_GENERATION>,
     others: LiveCells<LAST_GENERATION>,
 )
-    requires agree { AgreeWith cells.old.live (map.entries others.live) }
+    requires agree { EntriesAgree cells.old.live (map.entries others.live) }
     requires room { map.len cells.old.live + map.len others.live ≤ cells.old.room }
     requires heard { (q : Dot) → IsSome (map.get cells.old.live q)
         → set.contains known.now.dots q ≡ true }

@@ -8,7 +8,7 @@ ghost use Rattle.dots.specs.DotSets.{run_count};
 ghost use Rattle.operations.specs.Rows.{dots_of, row_of, rows_of};
 ghost use Rattle.operations.specs.Conditions.{Live, Dead};
 ghost use Rattle.live_cells.specs.CellIds.{retired_of};
-ghost use Rattle.member_orset.specs.Members.{CanBeJoined, Conflicts, HasField, HasId, dead_among};
+ghost use Rattle.member_orset.specs.Members.{SetsAgree, SetsInConflict, HasField, HasId, dead_among};
 ghost use Rattle.member_orset.specs.Members.{IsJoinOf, IsPrepared, IsPresent, IsSet};
 ghost use Rattle.member_orset.specs.Members.{IsRefusedFor, IsUnchanged, IsWithinLimits, KeepsIds};
 ghost use Rattle.member_orset.specs.Members.{SaysTheSame, cells_joined, most_retired};
@@ -257,8 +257,8 @@ impl MemberSet {
 
     /// Whether both can be joined: no dot is live in both with two members, or with a field of one stamp and two values.
     pub fn agrees(&self, other: &MemberSet) -> bool
-        ensures agree { IsTrue result ↔ CanBeJoined self.now other.now }
-        ensures conflict { IsFalse result ↔ Conflicts self.now other.now }
+        ensures agree { IsTrue result ↔ SetsAgree self.now other.now }
+        ensures conflict { IsFalse result ↔ SetsInConflict self.now other.now }
     {
         cells_agree(&self.cells, &other.cells)
     }

@@ -9,7 +9,7 @@ use Rattle.dots.specs.declared.label.Label.{Label}
 use Rattle.dots.specs.declared.member.Member.{Member}
 use Rattle.dots.specs.Values.{Dot, PauseState}
 use Rattle.dots.specs.Orders.{dot_cmp}
-use Rattle.operations.specs.Registers.{Entry, RegistersAgree, InConflict, IsBelow, join_of}
+use Rattle.operations.specs.Registers.{Entry, RegistersAgree, RegistersInConflict, IsBelow, join_of}
 use Rattle.dots.specs.CountedCalls.{is_zero}
 use Rattle.operations.specs.Totals.{Key, Entries, totals_of}
 use Rattle.operations.specs.Operations.{penalty_field, pause_field, label_field, ring_field}
@@ -58,7 +58,7 @@ pub record FieldsAgree (x y : DotFields) : Type 0 where
 -- fields `x` and `y` are in conflict: both have a penalty, pause, label or ring under one stamp, with
 -- two values
 abbrev pub FieldsInConflict : DotFields → DotFields → Type 0
-FieldsInConflict x y = InConflict x.penalty y.penalty ⊎ InConflict x.pause y.pause ⊎ InConflict x.label y.label ⊎ InConflict x.ring y.ring
+FieldsInConflict x y = RegistersInConflict x.penalty y.penalty ⊎ RegistersInConflict x.pause y.pause ⊎ RegistersInConflict x.label y.label ⊎ RegistersInConflict x.ring y.ring
 
 -- two live conditions agree where they have one member and fields that agree; all others agree
 abbrev pub ConditionsAgree : Option Condition → Option Condition → Type 0

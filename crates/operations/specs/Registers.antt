@@ -16,7 +16,7 @@ abbrev pub RegistersAgree : {T : Type 0} → Option (Entry T) → Option (Entry 
 RegistersAgree {T} x y = (a b : Entry T) → x ≡ Some a → y ≡ Some b → a.stamp ≡ b.stamp → a.value ≡ b.value
 
 -- registers `x` and `y` are in conflict: both hold an entry under one stamp, and these have two values
-pub record InConflict {T : Type 0} (x y : Option (Entry T)) : Type 0 where
+pub record RegistersInConflict {T : Type 0} (x y : Option (Entry T)) : Type 0 where
   pub first : Entry T
   pub second : Entry T
   pub in_first : x ≡ Some first

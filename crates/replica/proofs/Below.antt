@@ -21,7 +21,7 @@ use Rattle.site_totals.specs.Raising.{number_of}
 use Rattle.member_orset.specs.Members.{condition_at, condition_of}
 use Rattle.delta.specs.DeltaStates as deltas
 use Rattle.delta.specs.DeltaStates.{DeltaState, IsEmpty}
-use Rattle.delta.specs.Joining.{AreInAgreement, IsJoinOf}
+use Rattle.delta.specs.Joining.{DeltasAgree, IsJoinOf}
 use Rattle.replica.specs.Changing.{FieldsNewer, IsNewTo, IsNewer, IsOlder, LeavesRoom}
 use Rattle.replica.specs.Keeping.{IsBelow}
 
@@ -52,21 +52,21 @@ number_joined d x f j site queue calls =
     ∙ number_greater calls (totals_of d.totals.entries site queue) (totals_of x.totals.entries site queue)
 
 -- the first of two that agree is below their join
-pub below_joined : (e x f : DeltaState) → AreInAgreement e x → IsJoinOf e x f → IsBelow e f
+pub below_joined : (e x f : DeltaState) → DeltasAgree e x → IsJoinOf e x f → IsBelow e f
 below_joined e x f agree j = record {
   conditions = λ dot. subst (IsConditionBelow (condition_of e.members dot)) (sym (j.members.conditions dot)) (conditions_least (condition_of e.members dot) (condition_of x.members dot) (agree dot)).first;
   totals = λ site queue calls. omega (arith, number_joined e x f j site queue calls);
 }
 
 -- so is the other
-pub other_below_joined : (e x f : DeltaState) → AreInAgreement e x → IsJoinOf e x f → IsBelow x f
+pub other_below_joined : (e x f : DeltaState) → DeltasAgree e x → IsJoinOf e x f → IsBelow x f
 other_below_joined e x f agree j = record {
   conditions = λ dot. subst (IsConditionBelow (condition_of x.members dot)) (sym (j.members.conditions dot)) (conditions_least (condition_of e.members dot) (condition_of x.members dot) (agree dot)).second;
   totals = λ site queue calls. omega (arith, number_joined e x f j site queue calls);
 }
 
 -- the join of two that agree is below all that is above both
-pub joined_least : (d x f g : DeltaState) → AreInAgreement d x → IsJoinOf d x f → IsBelow d g → IsBelow x g → IsBelow f g
+pub joined_least : (d x f g : DeltaState) → DeltasAgree d x → IsJoinOf d x f → IsBelow d g → IsBelow x g → IsBelow f g
 joined_least d x f g agree j p q = record {
   conditions = λ dot.
       subst (λ c. IsConditionBelow c (condition_of g.members dot)) (sym (j.members.conditions dot))
@@ -75,7 +75,7 @@ joined_least d x f g agree j p q = record {
 }
 
 -- a delta that is below another stays so where the same is joined into both
-pub joined_keeps_below : (d e x f g : DeltaState) → IsBelow d e → AreInAgreement d x → AreInAgreement e x → IsJoinOf d x f → IsJoinOf e x g → IsBelow f g
+pub joined_keeps_below : (d e x f g : DeltaState) → IsBelow d e → DeltasAgree d x → DeltasAgree e x → IsJoinOf d x f → IsJoinOf e x g → IsBelow f g
 joined_keeps_below d e x f g p a b j k =
     joined_least d x f g a j (below_through d e g p (below_joined e x g b k)) (other_below_joined e x g b k)
 
@@ -207,7 +207,7 @@ room_below (Some (Live l k)) (Some (Live n g)) y p room m f e = by (room m f e)
     by (inr older) = inr (at older)
 
 -- what is new to a delta agrees with it
-pub new_agrees : (e x : DeltaState) → IsNewTo e x → AreInAgreement e x
+pub new_agrees : (e x : DeltaState) → IsNewTo e x → DeltasAgree e x
 new_agrees e x new dot = room_agrees (condition_of e.members dot) (condition_of x.members dot) (new.room dot)
 
 -- and is new to all below that
@@ -215,5 +215,5 @@ pub below_new : (d e x : DeltaState) → IsBelow d e → IsNewTo e x → IsNewTo
 below_new d e x p new = record { room = λ dot. room_below (condition_of d.members dot) (condition_of e.members dot) (condition_of x.members dot) (p.conditions dot) (new.room dot) }
 
 -- with which it agrees too
-pub below_agrees : (d e x : DeltaState) → IsBelow d e → IsNewTo e x → AreInAgreement d x
+pub below_agrees : (d e x : DeltaState) → IsBelow d e → IsNewTo e x → DeltasAgree d x
 below_agrees d e x p new = new_agrees d x (below_new d e x p new)

@@ -7,7 +7,7 @@ use Rattle.operations.specs.Operations.{Operation}
 use Rattle.member_orset.specs.Members.{IsWithinLimits, cells_joined, runs_joined}
 use Rattle.delta.specs.DeltaStates as deltas
 use Rattle.delta.specs.DeltaStates.{DeltaState}
-use Rattle.delta.specs.Joining.{AreInAgreement}
+use Rattle.delta.specs.Joining.{DeltasAgree}
 use Rattle.delta.specs.Standing.{IsDeltaOf}
 use Rattle.replica.specs.declared.refusal.Refusal.{Refusal}
 use Rattle.replica.specs.declared.refusal.Refusal.TheVariants.{NoSuchQueue, AlreadyThere, NotThere, MembersFull, Exhausted, TotalFull, Memory}
@@ -124,7 +124,7 @@ stays old new x count time r made u v = record {
   frames = made.frames;
 }
 
-module _ (old new : SiteState) (x : DeltaState) (o : Operation) (count time : ℕ) (agrees : AreInAgreement old.state x) (agrees_pending : AreInAgreement old.pending x)
+module _ (old new : SiteState) (x : DeltaState) (o : Operation) (count time : ℕ) (agrees : DeltasAgree old.state x) (agrees_pending : DeltasAgree old.pending x)
     (limits : IsWithinLimits old.state.members) (limits_pending : IsWithinLimits old.pending.members) (there : IsWithinLimits x.members) (stands : IsDeltaOf x (o ∷ []))
     (exhausted : is_exhausted o ≡ false) (past_total : is_past_total o ≡ false)
     (counted : count ≡ max (count_used old.site o) old.last_count) (timed : time ≡ max (time_used old.site o) old.last_time) where

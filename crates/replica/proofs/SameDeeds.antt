@@ -9,10 +9,10 @@ use Rattle.operations.specs.Rows.{rows_of as rows_read}
 use Rattle.operations.specs.Totals.{join_of, sum_of, totals_of}
 use Rattle.site_totals.specs.Raising.{number_of as number_of_calls}
 use Rattle.member_orset.specs.Members as sets
-use Rattle.member_orset.specs.Members.{ConditionsConflict, cells_joined, condition_of, is_live, joined_dots, runs_joined}
+use Rattle.member_orset.specs.Members.{ConditionsInConflict, cells_joined, condition_of, is_live, joined_dots, runs_joined}
 use Rattle.delta.specs.DeltaStates.{DeltaState, IsEmpty, IsSame}
 use Rattle.delta.specs.Frames.{IsSameFrame}
-use Rattle.delta.specs.Joining.{Disagree, IsJoinOf}
+use Rattle.delta.specs.Joining.{DeltasInConflict, IsJoinOf}
 use Rattle.delta.specs.declared.frame.Frame.{Frame}
 use Rattle.delta.proofs.StandingDeltas.{one_delta}
 use Rattle.replica.specs.declared.refusal.Refusal.{Refusal}
@@ -128,12 +128,12 @@ module _ (s t : SiteState) (same : IsSameSite s t) where
   }
 
   -- what disagrees with one, and may be heard, does with the other
-  pub conflict_same : (d : DeltaState) → MayHear s d × Disagree s.state d → MayHear t d × Disagree t.state d
+  pub conflict_same : (d : DeltaState) → MayHear s d × DeltasInConflict s.state d → MayHear t d × DeltasInConflict t.state d
   conflict_same d (hears, disagree) = (
     hear_same d hears,
     record {
       dot = disagree.dot;
-      conflict = subst (λ c. ConditionsConflict c (condition_of d.members disagree.dot)) (same.state.conditions disagree.dot) disagree.conflict;
+      conflict = subst (λ c. ConditionsInConflict c (condition_of d.members disagree.dot)) (same.state.conditions disagree.dot) disagree.conflict;
     },
   )
 

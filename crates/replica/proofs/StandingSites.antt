@@ -9,7 +9,7 @@ use Rattle.general_lemmas.proofs.Membership.{cases_in, nothing_in}
 use Rattle.operations.proofs.StandingJoins.{represents_none}
 use Rattle.delta.specs.DeltaStates as deltas
 use Rattle.delta.specs.DeltaStates.{DeltaState, IsEmpty, IsSame}
-use Rattle.delta.specs.Joining.{AreInAgreement, IsJoinOf}
+use Rattle.delta.specs.Joining.{DeltasAgree, IsJoinOf}
 use Rattle.delta.specs.Standing.{IsDeltaOf}
 use Rattle.delta.proofs.Merging.{turned}
 use Rattle.delta.proofs.ShownDeltas.{read_as}
@@ -167,7 +167,7 @@ greatest_both f [] ys = omega arith
 greatest_both f (x ∷ xs) ys = let rest = greatest_both f xs ys in omega (arith, rest)
 
 -- a site that has taken a frame stands for that with what it stood for, where the frame has no later numbers of its own
-pub taken_stands : (old new : SiteState) (s : SiteKnowledge) (frame : DeltaState) (k : Knowledge) → StandsFor old s → IsDeltaOf frame k → AreInAgreement old.state frame → IsJoinOf old.state frame new.state
+pub taken_stands : (old new : SiteState) (s : SiteKnowledge) (frame : DeltaState) (k : Knowledge) → StandsFor old s → IsDeltaOf frame k → DeltasAgree old.state frame → IsJoinOf old.state frame new.state
     → new.site ≡ old.site → IsSame old.pending new.pending → new.last_count ≡ old.last_count → new.last_time ≡ old.last_time → new.frames ≡ old.frames
     → greatest (count_used old.site) k ≤ old.last_count → greatest (time_used old.site) k ≤ old.last_time
     → StandsFor new (record { known = k ++ s.known; buffer = s.buffer; frames = s.frames })

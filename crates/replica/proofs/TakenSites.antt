@@ -19,7 +19,7 @@ use Rattle.member_orset.specs.declared.join_fault.JoinFault.TheVariants as join
 use Rattle.member_orset.specs.Members.{Holding, IsWithinLimits, cells_joined, condition_at, condition_of, runs_joined}
 use Rattle.delta.specs.DeltaStates as deltas
 use Rattle.delta.specs.DeltaStates.{DeltaState}
-use Rattle.delta.specs.Joining.{AreInAgreement, IsJoinOf, IsPrepared, IsRefusedJoin}
+use Rattle.delta.specs.Joining.{DeltasAgree, IsJoinOf, IsPrepared, IsRefusedJoin}
 use Rattle.delta.specs.Standing.{IsDeltaOf}
 use Rattle.delta.proofs.StandingDeltas.{cells_both, runs_both}
 use Rattle.replica.specs.declared.take_fault.TakeFault.{TakeFault}
@@ -76,7 +76,7 @@ in_queues n d none = record {
     at q within = omega arith
 
 -- what a replica keeps stays where it takes what it may hear
-pub taken_kept : (s : SiteState) (d state : DeltaState) → IsKept s → MayHear s d → AreInAgreement s.state d → IsJoinOf s.state d state
+pub taken_kept : (s : SiteState) (d state : DeltaState) → IsKept s → MayHear s d → DeltasAgree s.state d → IsJoinOf s.state d state
     → IsKept (record { site = s.site; names = s.names; state = state; pending = s.pending; last_count = s.last_count; last_time = s.last_time; frames = s.frames })
 taken_kept s d state kept hears agree j = record {
   own_dots = dots_joined s.site s.last_count s.state d state kept.own_dots (up_to s.site s.last_count d (λ past. hears.own (inl (inl past)))) j;
@@ -93,7 +93,7 @@ taken_kept s d state kept hears agree j = record {
 -- ---- what was prepared agrees
 
 -- what a delta has prepared agrees with it, also where nothing is known
-pub prepared_agrees : (state d : DeltaState) → IsWithinLimits d.members → IsPrepared state d → AreInAgreement state d
+pub prepared_agrees : (state d : DeltaState) → IsWithinLimits d.members → IsPrepared state d → DeltasAgree state d
 prepared_agrees state d limits ready dot = by (map.get d.members.live dot) (set.contains d.members.known dot) refl refl
   where
     agree : set.contains d.members.known dot ≡ true → ConditionsAgree (condition_of state.members dot) (condition_of d.members dot)
@@ -105,7 +105,7 @@ prepared_agrees state d limits ready dot = by (map.get d.members.live dot) (set.
     by None false e f = subst (ConditionsAgree (condition_of state.members dot)) (sym (λ i. condition_at (e i) (f i))) (agrees_with_none (condition_of state.members dot))
 
 -- what agrees with a delta that says the same agrees with the one before
-pub agrees_before : (old same d : DeltaState) → deltas.IsUnchanged old same → AreInAgreement same d → AreInAgreement old d
+pub agrees_before : (old same d : DeltaState) → deltas.IsUnchanged old same → DeltasAgree same d → DeltasAgree old d
 agrees_before old same d u agree dot = subst (λ c. ConditionsAgree c (condition_of d.members dot)) (unchanged_condition old same u dot) (agree dot)
 
 -- a delta says the same as it does
@@ -168,7 +168,7 @@ module _ (s : SiteState) (d : DeltaState) where
       refusals_heard (λ f. ⊥) (λ f. r ≡ Err f) hears refused (λ f. (λ p. absurd p, λ e. absurd (cc))) (λ p. p) (λ p. p)
 
   -- and the site may take it
-  pub may_take : MayHear s d → AreInAgreement s.state d → (r : Result (Unit {0}) JoinFault) (u : Unit {0}) → r ≡ Ok u → IsRefusedJoin s.state d (λ f. r ≡ Err f) → MayTake s d
+  pub may_take : MayHear s d → DeltasAgree s.state d → (r : Result (Unit {0}) JoinFault) (u : Unit {0}) → r ≡ Ok u → IsRefusedJoin s.state d (λ f. r ≡ Err f) → MayTake s d
   may_take hears agree r u done refused = record {
     joins = record { hears = hears; agree = agree };
     cells = few;

@@ -9,7 +9,7 @@ use Rattle.operations.specs.Totals.{join_of}
 use Rattle.live_cells.specs.CellIds.{IdsFollow}
 use Rattle.member_orset.specs.Members.{KeepsIds, condition_at, condition_of, cells_joined, is_live, joined_dots, runs_joined}
 use Rattle.delta.specs.DeltaStates.{DeltaState, IsSame, IsUnchanged}
-use Rattle.delta.specs.Joining.{AreInAgreement, IsJoinOf}
+use Rattle.delta.specs.Joining.{DeltasAgree, IsJoinOf}
 use Rattle.delta.proofs.Sameness.{says_the_same}
 use Rattle.replica.specs.declared.refusal.Refusal.{Refusal}
 use Rattle.replica.specs.declared.refusal.Refusal.TheVariants.{NoSuchQueue, AlreadyThere, NotThere, MembersFull, Exhausted, TotalFull, Memory}
@@ -41,11 +41,11 @@ copy_joined d x copy e same j = record {
 }
 
 -- a delta that agrees with one agrees with its copy
-pub copy_agrees : (d x copy : DeltaState) → IsSame x copy → AreInAgreement d x → AreInAgreement d copy
+pub copy_agrees : (d x copy : DeltaState) → IsSame x copy → DeltasAgree d x → DeltasAgree d copy
 copy_agrees d x copy same agree = λ dot. subst (ConditionsAgree (condition_of d.members dot)) (same.conditions dot) (agree dot)
 
 -- a delta that says the same agrees as before
-pub unchanged_agrees : (d same x : DeltaState) → IsUnchanged d same → AreInAgreement d x → AreInAgreement same x
+pub unchanged_agrees : (d same x : DeltaState) → IsUnchanged d same → DeltasAgree d x → DeltasAgree same x
 unchanged_agrees d same x u agree = λ dot.
     subst (λ c. ConditionsAgree c (condition_of x.members dot)) (λ i. condition_at (map.get (sym u.members.live i) dot) (set.contains (sym u.members.known i) dot)) (agree dot)
 

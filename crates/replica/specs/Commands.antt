@@ -6,7 +6,7 @@ use Rattle.dots.specs.Values.{Dot}
 use Rattle.operations.specs.Operations.{Operation, Setting}
 use Rattle.member_orset.specs.Members.{KeepsIds}
 use Rattle.delta.specs.DeltaStates.{DeltaState}
-use Rattle.delta.specs.Joining.{AreInAgreement, IsJoinOf}
+use Rattle.delta.specs.Joining.{DeltasAgree, IsJoinOf}
 use Rattle.delta.specs.Standing.{IsDeltaOf}
 use Rattle.replica.specs.declared.refusal.Refusal.{Refusal}
 use Rattle.replica.specs.declared.refusal.Refusal.TheVariants.{AlreadyThere, Memory, NoSuchQueue, NotThere, TotalFull}
@@ -18,7 +18,7 @@ use Rattle.replica.specs.Site.{SiteState, IsUnchanged, view_of}
 pub record HasJoined (old : DeltaState) (o : Operation) (new : DeltaState) : Type 0 where
   pub change : DeltaState
   pub stands : IsDeltaOf change (o ∷ [])
-  pub agrees : AreInAgreement old change
+  pub agrees : DeltasAgree old change
   pub joined : IsJoinOf old change new
   pub ids : KeepsIds old.members new.members
 

@@ -23,7 +23,7 @@ pub record HasCut (old : SiteState) (frame : Frame) (new : SiteState) : Type 0 w
   pub names : new.names ≡ old.names
   pub state : new.state ≡ old.state
   pub pending : IsEmpty new.pending
-  pub fresh : new.pending.members.retired ≡ 0
+  pub none_retired : new.pending.members.retired ≡ 0
   pub last_count : new.last_count ≡ old.last_count
   pub last_time : new.last_time ≡ old.last_time
   pub frames : new.frames ≡ suc old.frames
@@ -32,7 +32,7 @@ pub record HasCut (old : SiteState) (frame : Frame) (new : SiteState) : Type 0 w
 pub record HasCopied (old : SiteState) (frame : Frame) (new : SiteState) : Type 0 where
   pub heading : IsNextOf old frame
   pub delta : IsSame old.state frame.delta
-  pub fresh : frame.delta.members.retired ≡ 0
+  pub none_retired : frame.delta.members.retired ≡ 0
   pub site : new.site ≡ old.site
   pub names : new.names ≡ old.names
   pub state : new.state ≡ old.state

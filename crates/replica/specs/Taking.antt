@@ -16,7 +16,7 @@ use Rattle.member_orset.specs.declared.join_fault.JoinFault.{JoinFault}
 use Rattle.member_orset.specs.declared.join_fault.JoinFault.TheVariants as join
 use Rattle.site_totals.specs.Raising.{number_of}
 use Rattle.delta.specs.DeltaStates.{DeltaState}
-use Rattle.delta.specs.Joining.{AreInAgreement, Disagree, IsJoinOf}
+use Rattle.delta.specs.Joining.{DeltasAgree, DeltasInConflict, IsJoinOf}
 use Rattle.delta.specs.declared.frame.Frame.{Frame}
 use Rattle.replica.specs.declared.take_fault.TakeFault.{TakeFault}
 use Rattle.replica.specs.declared.take_fault.TakeFault.TheVariants.{NoSuchQueue, NotMine, Conflict, CellsFull, RunsFull, Memory}
@@ -108,7 +108,7 @@ pub record MayHear (s : SiteState) (d : DeltaState) : Type 0 where
 -- and both can be joined
 pub record MayJoin (s : SiteState) (d : DeltaState) : Type 0 where
   pub hears : MayHear s d
-  pub agree : AreInAgreement s.state d
+  pub agree : DeltasAgree s.state d
 
 -- and the join has few enough live dots and runs, so the site may take the delta
 pub record MayTake (s : SiteState) (d : DeltaState) : Type 0 where
@@ -120,7 +120,7 @@ pub record MayTake (s : SiteState) (d : DeltaState) : Type 0 where
 pub record IsRefusedTake (s : SiteState) (d : DeltaState) (IsRefused : TakeFault → Type 0) : Type 0 where
   pub no_such_queue : IsRefused NoSuchQueue ↔ SpeaksOfStrangeQueue (length s.names) d
   pub not_mine : IsRefused NotMine ↔ ((SpeaksOfStrangeQueue (length s.names) d → ⊥) × IsNotMine s d)
-  pub conflict : IsRefused Conflict ↔ (MayHear s d × Disagree s.state d)
+  pub conflict : IsRefused Conflict ↔ (MayHear s d × DeltasInConflict s.state d)
   pub cells_full : IsRefused CellsFull
       ↔ (MayJoin s d × (MOST_LIVE < cells_joined s.state.members d.members))
   pub runs_full : IsRefused RunsFull

@@ -66,7 +66,7 @@ fn write_all(
     fields: &Fields,
 ) -> Result<(), Memory>
     requires field { HasField fields.now }
-    requires fresh { builder.old.live ≡ map.empty }
+    requires empty { builder.old.live ≡ map.empty }
     requires rise { DotsRise dots.now }
     requires live { All (λ dot. map.contains_key members.now.live dot ≡ true) dots.now }
     requires known { (q : Dot) → list_any (is_dot q) dots.now ≡ true

@@ -2,7 +2,7 @@
 ghost use Rattle.std.specs.Prelude.{◌≡◌, ◌⊎◌, OnOk, OnErr, IsErrOf};
 ghost use Rattle.member_orset.specs.Members.{IsWithinLimits};
 ghost use Rattle.delta.specs.DeltaStates.{IsUnchanged};
-ghost use Rattle.delta.specs.Joining.{AreInAgreement, IsPrepared};
+ghost use Rattle.delta.specs.Joining.{DeltasAgree, IsPrepared};
 ghost use Rattle.replica.specs.Fitting.{BothTakeIn, HasRoomFor, IsTooFullFor};
 
 use crate::Refusal;
@@ -23,7 +23,7 @@ fn refusal_of(fault: JoinFault) -> Refusal
 
 // Makes room for a change in a delta that agrees with it.
 fn make_room(delta: &mut Delta, change: &Delta) -> Result<(), Refusal>
-    requires { AreInAgreement delta.old change.now }
+    requires { DeltasAgree delta.old change.now }
     ensures ready { OnOk result (IsPrepared delta.new change.now) }
     ensures room { OnOk result (HasRoomFor delta.old change.now) }
     ensures full { IsErrOf result Refusal.MembersFull → IsTooFullFor delta.old change.now }
@@ -44,8 +44,8 @@ pub(crate) fn join_both(
     pending: &mut Delta,
     change: Delta,
 ) -> Result<(), Refusal>
-    requires state { AreInAgreement state.old change }
-    requires pending { AreInAgreement pending.old change }
+    requires state { DeltasAgree state.old change }
+    requires pending { DeltasAgree pending.old change }
     ensures both { BothTakeIn state.old pending.old change state.new pending.new result }
     ensures limits { OnOk result
         (IsWithinLimits state.new.members × IsWithinLimits pending.new.members) }

@@ -10,7 +10,7 @@ ghost use Rattle.member_orset.specs.Members.{cells_joined, runs_joined};
 ghost use Rattle.delta.specs.declared.frame.Frame.{Frame};
 ghost use Rattle.delta.specs.DeltaStates.{DeltaState, IsEmpty, IsSame};
 ghost use Rattle.delta.specs.Frames.{IsInRanges, IsSameFrame, frame_of};
-ghost use Rattle.delta.specs.Joining.{Disagree};
+ghost use Rattle.delta.specs.Joining.{DeltasInConflict};
 ghost use Rattle.delta.specs.Standing.{IsDeltaOf};
 ghost use Rattle.replica.specs.declared.command.Command.{Command};
 ghost use Rattle.replica.specs.declared.refusal.Refusal.{Refusal};
@@ -197,7 +197,7 @@ pub fn sites_that_say_the_same_do_the_same()
     ensures not_mine { (s t : SiteState) (d : DeltaState) → IsSameSite s t → IsNotMine s d
         → IsNotMine t d }
     ensures conflict { (s t : SiteState) (d : DeltaState) → IsSameSite s t
-        → MayHear s d × Disagree s.state d → MayHear t d × Disagree t.state d }
+        → MayHear s d × DeltasInConflict s.state d → MayHear t d × DeltasInConflict t.state d }
     ensures cells_full { (s t : SiteState) (d : DeltaState) → IsSameSite s t
         → MayJoin s d × (MOST_LIVE < cells_joined s.state.members d.members)
         → MayJoin t d × (MOST_LIVE < cells_joined t.state.members d.members) }

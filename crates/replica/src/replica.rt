@@ -77,7 +77,7 @@ impl Replica {
         ensures last_count { result.last_count ≡ 0 }
         ensures last_time { result.last_time ≡ 0 }
         ensures frames { result.frames ≡ 0 }
-        ensures fresh { (result.state.members.retired ≡ 0) × (result.pending.members.retired ≡ 0) }
+        ensures none_retired { (result.state.members.retired ≡ 0) × (result.pending.members.retired ≡ 0) }
         ensures meaning { StandsFor result new_site }
     {
         let _ = list.len(); // so that it is known what holds of them
@@ -175,7 +175,7 @@ impl Replica {
     /// want of memory.
     pub fn copy(&self) -> Result<Replica, Memory>
         ensures same { IfOk result (λ copy. IsSameSite self.now copy) }
-        ensures fresh { IfOk result (λ copy.
+        ensures none_retired { IfOk result (λ copy.
             (copy.state.members.retired ≡ 0) × (copy.pending.members.retired ≡ 0)) }
     {
         let list = self.list.copy()?;

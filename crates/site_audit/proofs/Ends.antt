@@ -38,11 +38,11 @@ replicated (suc n) x zero lt = refl
 replicated (suc n) x (suc i) lt = replicated n x i (omega (arith, lt))
 
 -- before the first event each site has been given nothing
-module _ (journals : List JournalState) (sites : AreSites journals) (fresh : (site : ℕ) (j : JournalState) → slice_get journals site ≡ Some j → IsFromNew j)
+module _ (journals : List JournalState) (sites : AreSites journals) (whole : (site : ℕ) (j : JournalState) → slice_get journals site ≡ Some j → IsFromNew j)
     (legal : (site : ℕ) (j : JournalState) → slice_get journals site ≡ Some j → IsJournal j) where
   begun_at : (site : ℕ) (j : JournalState) → slice_get journals site ≡ Some j → IsSiteAt journals [] site 0 j
   begun_at site j known =
-      let new = (fresh site j known).base in
+      let new = (whole site j known).base in
       record {
         given = record { within = omega arith; given = take_none j.steps };
         s = new_site;

@@ -9,7 +9,7 @@ pub enum AuditFault {
     WrongSites,
     /// The first site whose journal hasn't all that the site did: steps were dropped, or it began from a replica that wasn't new.
     #[error("the journal of site {0} isn't whole")]
-    NotFresh(u16),
+    NotWhole(u16),
     /// The least site that has steps left where no event gives any site its next, and the position of its first that is left.
     #[error("no run: site {0}, position {1}")]
     NoRun(u16, u64),

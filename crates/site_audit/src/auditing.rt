@@ -56,7 +56,7 @@ fn is_from_new(journal: &Journaled) -> bool
 // The first site whose journal hasn't all that the site did, if there is one.
 fn first_stale(journals: &[Journaled]) -> Option<usize>
     ensures stale { IfSome result (λ site. IsFirstStale journals.now site) }
-    ensures fresh { IfNone result ((site : ℕ) (j : JournalState)
+    ensures whole { IfNone result ((site : ℕ) (j : JournalState)
         → slice_get journals.now site ≡ Some j → IsFromNew j) }
     ensures legal { IfNone result ((site : ℕ) (j : JournalState)
         → slice_get journals.now site ≡ Some j → IsJournal j) }
@@ -94,7 +94,7 @@ fn least_left(journals: &[Journaled], at: &[usize]) -> Option<usize>
 /// that the bytes there spell; behind the last event each site knows what its replica stands for. No journals give no events. The list
 /// has one event for each step, in an order of the audit's own. No frame is decoded: one that is taken is found by its bytes among
 /// those that were made, and so not where they are of an older version. Faults, in order: 1 `WrongSites`, exactly where the journals
-/// aren't those of the sites 0, 1, .. in order, or have two lists of queues; 2 `NotFresh`, exactly where a journal hasn't all that its
+/// aren't those of the sites 0, 1, .. in order, or have two lists of queues; 2 `NotWhole`, exactly where a journal hasn't all that its
 /// site did, with the first such site; 3 `NoRun`, with a site and a position, where some list of events is stuck: it gives that site its
 /// steps before the position and not all, each lesser site all of its own, each other its first ones, and no further event gives any
 /// site its next; 4 `Memory` (this project's own).
@@ -102,7 +102,7 @@ pub fn audit(alloc: Global, journals: &[Journaled]) -> Result<Vec<Event>, AuditF
     ensures run { IfOk result (λ events. IsRun journals.now events.items) }
     ensures none { journals.now ≡ [] → IsOkAnd result (λ events. events.items ≡ []) }
     ensures wrong_sites { (result ≡ Err AuditFault.WrongSites) ↔ (AreSites journals.now → ⊥) }
-    ensures not_fresh { (site : ℕ) → (result ≡ Err (AuditFault.NotFresh site))
+    ensures not_whole { (site : ℕ) → (result ≡ Err (AuditFault.NotWhole site))
         ↔ (AreSites journals.now × IsFirstStale journals.now site) }
     ensures no_run { (site position : ℕ) → result ≡ Err (AuditFault.NoRun site position)
         → (events : List Event) × IsStuck journals.now site position events }
@@ -114,7 +114,7 @@ pub fn audit(alloc: Global, journals: &[Journaled]) -> Result<Vec<Event>, AuditF
         return Err(AuditFault::WrongSites);
     }
     if let Some(site) = first_stale(journals) {
-        return Err(AuditFault::NotFresh(site as u16));
+        return Err(AuditFault::NotWhole(site as u16));
     }
     let mut replay = Replay::begin(alloc, journals.len())?;
     search(journals, &mut replay)?;

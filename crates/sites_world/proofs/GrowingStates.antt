@@ -18,7 +18,7 @@ use Rattle.site_totals.specs.Raising.{number_of}
 use Rattle.member_orset.specs.Members.{condition_at, condition_of}
 use Rattle.delta.specs.DeltaStates as deltas
 use Rattle.delta.specs.DeltaStates.{DeltaState, IsSame}
-use Rattle.delta.specs.Joining.{AreInAgreement, IsJoinOf}
+use Rattle.delta.specs.Joining.{DeltasAgree, IsJoinOf}
 use Rattle.delta.specs.declared.frame.Frame.{Frame}
 use Rattle.replica.specs.declared.refusal.Refusal.{Refusal}
 use Rattle.replica.specs.declared.take_fault.TakeFault.TheVariants as take_fault
@@ -76,7 +76,7 @@ greater_second Completed p q = grind arith
 greater_second Abandoned p q = grind arith
 
 -- the join of two says all that each does
-module _ (d e joint : DeltaState) (agree : AreInAgreement d e) (is : IsJoinOf d e joint) where
+module _ (d e joint : DeltaState) (agree : DeltasAgree d e) (is : IsJoinOf d e joint) where
   known_either : (dot : Dot) → (set.contains d.members.known dot || set.contains e.members.known dot) ≡ true → set.contains joint.members.known dot ≡ true
   known_either dot some = ap (λ dots. set.contains dots dot) is.members.known ∙ set.contains-union dots_total d.members.known e.members.known dot ∙ some
 

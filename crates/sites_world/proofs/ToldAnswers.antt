@@ -2,7 +2,7 @@
 use Rattle.delta.specs.Frames.{IsInRanges}
 use Rattle.std.proofs.Common.{◌≡◌, ◌⊎◌, inl, inr, ℕ, List, [], ◌∷◌, ◌++◌, length, Some, Ok, refl, sym, ap, subst, ◌∙◌}
 use Rattle.delta.specs.DeltaStates.{DeltaState}
-use Rattle.delta.specs.Joining.{Disagree}
+use Rattle.delta.specs.Joining.{DeltasInConflict}
 use Rattle.delta.specs.Standing.{IsDeltaOf}
 use Rattle.delta.specs.declared.frame.Frame.{Frame}
 use Rattle.replica.specs.declared.refusal.Refusal.{Refusal}
@@ -77,7 +77,7 @@ told_frame new s old pool after frame stands framed maker ranges grown = inl (
 -- ---- frames that were taken
 
 pub told_fault : (old new : SiteState) (s : SiteKnowledge) (k : Knowledge) (d : DeltaState) (fault : TakeFault) → MayBeTaken old k → IsDeltaOf d k → StandsFor old s → IsUnchanged old new
-    → (fault ≡ take_fault.NoSuchQueue → SpeaksOfStrangeQueue (length old.names) d) → (fault ≡ take_fault.NotMine → IsNotMine old d) → (fault ≡ take_fault.Conflict → Disagree old.state d)
+    → (fault ≡ take_fault.NoSuchQueue → SpeaksOfStrangeQueue (length old.names) d) → (fault ≡ take_fault.NotMine → IsNotMine old d) → (fault ≡ take_fault.Conflict → DeltasInConflict old.state d)
     → IsMeantFault fault (step old.site old.names s (Take k)).1 → IsTakenSo new s (step old.site old.names s (Take k)) (take_fault_told fault)
 told_fault old new s k d take_fault.NoSuchQueue may is stands same strange mine conflict meant = absurd (may.queues d is (strange refl))
 told_fault old new s k d take_fault.NotMine may is stands same strange mine conflict meant = absurd (may.own d is (mine refl))

@@ -13,7 +13,7 @@ use Rattle.operations.specs.OperationLimits.{AreWithinLimits}
 use Rattle.site_totals.specs.Raising.{number_of}
 use Rattle.member_orset.specs.Members.{condition_of, dot_view_of}
 use Rattle.delta.specs.DeltaStates.{DeltaState}
-use Rattle.delta.specs.Joining.{AreInAgreement}
+use Rattle.delta.specs.Joining.{DeltasAgree}
 use Rattle.delta.specs.Standing.{IsDeltaOf}
 use Rattle.delta.specs.declared.frame.Frame.{Frame}
 use Rattle.replica.specs.Shows.{KnowsNonePast}
@@ -55,7 +55,7 @@ HoldFewCells = (state : WorldState) (d : DeltaState) → IsWorld state → IsHel
 
 -- any two deltas that are held in one world agree
 abbrev pub HeldAgree : Type 0
-HeldAgree = (state : WorldState) (x y : DeltaState) → IsWorld state → IsHeldIn state x → IsHeldIn state y → AreInAgreement x y
+HeldAgree = (state : WorldState) (x y : DeltaState) → IsWorld state → IsHeldIn state x → IsHeldIn state y → DeltasAgree x y
 
 -- a delta that is held in a world stands for operations that are all within their limits
 abbrev pub HoldWithinLimits : Type 0

@@ -15,7 +15,7 @@ use Rattle.operations.specs.Operations.{Operation}
 use Rattle.operations.specs.Rows.{DotView, dot_view}
 use Rattle.operations.specs.Knowledge.{IsConsistent, Knowledge, SameOperations, member_of, visible_dots}
 use Rattle.delta.specs.DeltaStates.{DeltaState, IsSame}
-use Rattle.delta.specs.Joining.{AreInAgreement, IsJoinOf}
+use Rattle.delta.specs.Joining.{DeltasAgree, IsJoinOf}
 use Rattle.delta.specs.Standing.{IsDeltaOf}
 use Rattle.replica.specs.Steps.{SiteKnowledge}
 use Rattle.status_report.specs.declared.asks.Ask.TheVariants.{Status}
@@ -46,9 +46,9 @@ abbrev pub AreConsistentTogether : Type 0
 AreConsistentTogether = (names : List (List ℕ)) (sites : ℕ) (w : World) (k l : Knowledge) → IsReached names sites w → IsIn w k → IsIn w l → IsConsistent (k ++ l)
 
 -- deltas of any two knowledges of one world agree
-abbrev pub DeltasAgree : Type 0
-DeltasAgree = (names : List (List ℕ)) (sites : ℕ) (w : World) (k l : Knowledge) (x y : DeltaState) → IsReached names sites w → IsIn w k → IsIn w l
-    → IsDeltaOf x k → IsDeltaOf y l → AreInAgreement x y
+abbrev pub WorldDeltasAgree : Type 0
+WorldDeltasAgree = (names : List (List ℕ)) (sites : ℕ) (w : World) (k l : Knowledge) (x y : DeltaState) → IsReached names sites w → IsIn w k → IsIn w l
+    → IsDeltaOf x k → IsDeltaOf y l → DeltasAgree x y
 
 -- deltas of any two knowledges of one world are joined in either order, with the same result
 abbrev pub DeltasCommute : Type 0

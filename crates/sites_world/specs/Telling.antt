@@ -4,7 +4,7 @@ use Rattle.sites_world.specs.declared.event.Event.TheVariants as event
 use Rattle.std.specs.Prelude.{ℕ, ◌≡◌, ◌⊎◌, true, List, [], ◌∷◌, ◌++◌, length, Err, ⊤, ◌<◌}
 use Rattle.operations.specs.Knowledge.{Knowledge}
 use Rattle.delta.specs.DeltaStates.{DeltaState}
-use Rattle.delta.specs.Joining.{Disagree}
+use Rattle.delta.specs.Joining.{DeltasInConflict}
 use Rattle.delta.specs.Standing.{IsDeltaOf}
 use Rattle.delta.specs.declared.frame.Frame.{Frame}
 use Rattle.replica.specs.declared.refusal.Refusal.TheVariants as refusal
@@ -62,7 +62,7 @@ IsTakenSo new s after o = ((o ≡ Took (take_told after.1)) × StandsFor new aft
 pub record MayBeTaken (state : SiteState) (k : Knowledge) : Type 0 where
   pub queues : (d : DeltaState) → IsDeltaOf d k → SpeaksOfStrangeQueue (length state.names) d → ⊥
   pub own : (d : DeltaState) → IsDeltaOf d k → IsNotMine state d → ⊥
-  pub agrees : (d : DeltaState) → IsDeltaOf d k → Disagree state.state d → ⊥
+  pub agrees : (d : DeltaState) → IsDeltaOf d k → DeltasInConflict state.state d → ⊥
   pub none_later : HasNoneLater state k
 
 -- an event at a site that knew `s` has happened as `h`, what it does in the world of operations: `o` is its outcome,

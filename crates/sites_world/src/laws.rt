@@ -13,7 +13,7 @@ ghost use Rattle.sites_world.specs.Holding.{LeadAllGrows, LeadsGrow, MayJoinFram
 ghost use Rattle.sites_world.specs.Holding.{RunsGrow, TakenStaysKnown, TakenStaysSaid};
 ghost use Rattle.sites_world.specs.Outcomes.{changes_nothing};
 ghost use Rattle.sites_world.specs.Promises.{AddAtTheirSites, AreConsistentTogether};
-ghost use Rattle.sites_world.specs.Promises.{DeltasAgree, DeltasCommute, EventsKeepLimits};
+ghost use Rattle.sites_world.specs.Promises.{WorldDeltasAgree, DeltasCommute, EventsKeepLimits};
 ghost use Rattle.sites_world.specs.Promises.{HaveOneAddADot, HaveOutcomes, WorldsAreWithinLimits};
 ghost use Rattle.sites_world.specs.Promises.{GiveSameAnswer, HaveHistories, HaveOneDotASite};
 ghost use Rattle.sites_world.specs.Promises.{HaveFewLiveDots, HaveFewVisibleDots, TakesGive};
@@ -61,7 +61,7 @@ pub fn knowledges_of_a_world_are_consistent_together()
 /// joined into the other (RR-7506: states form a join semilattice). That it makes no difference how any deltas are grouped and how
 /// often one is joined are laws of `delta`.
 pub fn deltas_of_a_world_agree()
-    ensures agree { DeltasAgree }
+    ensures agree { WorldDeltasAgree }
     ensures commute { DeltasCommute }
 {}
 

@@ -9,10 +9,10 @@ use Rattle.delta_codec.proofs.elements.read_counted_cells.Goals as goal
 
 pub loop-init : goal.loop-init
 loop-init c = record {
-  cells = let start : c.args.count - 0 ≡ c.args.count = omega arith in rw (start, c.requires.fresh) refl;
+  cells = let start : c.args.count - 0 ≡ c.args.count = omega arith in rw (start, c.requires.empty) refl;
   known = refl;
-  behind = behind_none None c.args.builder.now.live c.requires.fresh;
-  few = few_none c.args.builder.now.live c.requires.fresh;
+  behind = behind_none None c.args.builder.now.live c.requires.empty;
+  few = few_none c.args.builder.now.live c.requires.empty;
 }
 
 pub returns-in_err-read_cell-clause-cells : goal.returns-in_err-read_cell-clause-cells

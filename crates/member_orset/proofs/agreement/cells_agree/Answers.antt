@@ -3,7 +3,7 @@ use Rattle.std.specs.FinMap as map
 use Rattle.std.proofs.lemmas.List.Elements.{All-cons}
 use Rattle.dots.specs.Values.{Dot}
 use Rattle.general_lemmas.proofs.Membership.{first_in, later_in}
-use Rattle.member_orset.specs.Joining.{AgreeWith, HoldingsAgree}
+use Rattle.member_orset.specs.Joining.{EntriesAgree, HoldingsAgree}
 use Rattle.member_orset.proofs.agreement.cells_agree.Goals as goal
 use Rattle.live_cells.specs.Holdings.{Holding, cell_read}
 
@@ -11,7 +11,7 @@ pub loop-dot-init : goal.loop-dot-init
 loop-dot-init c =
     let all = c.into_iter-dot-iterator.ensures.into_iter_gives ∙ c.iter-dot-items.ensures in
     record {
-      agree = λ a. subst (AgreeWith c.args.cells.now.live) all a;
+      agree = λ a. subst (EntriesAgree c.args.cells.now.live) all a;
       among = λ e h. subst (λ (es : List (Dot × Holding)). Contains es e) all h;
     }
 
@@ -22,7 +22,7 @@ loop-dot-preserved c =
     let rest = c.next.new.self in
     let steps = c.in-Some.ensures.steps in
     record {
-      agree = λ a. c.loop-dot.invariant.agree (subst (AgreeWith live) (sym steps) (All-cons (λ (e : Dot × Holding). HoldingsAgree (map.get live e.0) e.1) x rest (c.agrees_with.ensures.agree.0 c.if-not-agrees_with.false) a));
+      agree = λ a. c.loop-dot.invariant.agree (subst (EntriesAgree live) (sym steps) (All-cons (λ (e : Dot × Holding). HoldingsAgree (map.get live e.0) e.1) x rest (c.agrees_with.ensures.agree.0 c.if-not-agrees_with.false) a));
       among = λ e h. c.loop-dot.invariant.among e (subst (λ (es : List (Dot × Holding)). Contains es e) (sym steps) (later_in x rest e h));
     }
 
@@ -36,4 +36,4 @@ returns-then-not-agrees_with c =
     }
 
 pub returns : goal.returns
-returns c = c.loop-dot.invariant.agree (subst (AgreeWith c.args.cells.now.live) (sym c.in-None.ensures.steps.0) (λ k d l. absurd (omega arith)))
+returns c = c.loop-dot.invariant.agree (subst (EntriesAgree c.args.cells.now.live) (sym c.in-None.ensures.steps.0) (λ k d l. absurd (omega arith)))

@@ -10,8 +10,8 @@ use Rattle.replica.proofs.changes.write_all.Goals.{in-Some+in_ok-cell, in_defaul
 pub loop-dot-init : goal.loop-dot-init
 loop-dot-init c = record {
   known = refl;
-  live = λ q. ap (λ m. map.get m q) c.requires.fresh ∙ map.get-empty dot_cmp q;
-  few = let e = ap map.len c.requires.fresh ∙ map.len-empty dot_cmp Holding in omega (arith, e);
+  live = λ q. ap (λ m. map.get m q) c.requires.empty ∙ map.get-empty dot_cmp q;
+  few = let e = ap map.len c.requires.empty ∙ map.len-empty dot_cmp Holding in omega (arith, e);
 }
 
 pub cell-requires-clause-greater : goal.cell-requires-clause-greater

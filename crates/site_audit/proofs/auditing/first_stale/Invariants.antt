@@ -6,7 +6,7 @@ use Rattle.site_audit.proofs.auditing.first_stale.Given as goal
 -- so it is of the journals so far
 abbrev pub invariant-loop-place : goal.invariant-loop-place
 invariant-loop-place l = record {
-  fresh : (site : ℕ) (j : JournalState) → site < l.place → slice_get l.journals site ≡ Some j → IsFromNew j;
+  whole : (site : ℕ) (j : JournalState) → site < l.place → slice_get l.journals site ≡ Some j → IsFromNew j;
   legal : (site : ℕ) (j : JournalState) → site < l.place → slice_get l.journals site ≡ Some j → IsJournal j;
 }
 

@@ -17,7 +17,7 @@ loop-number-preserved c = record {
     unused : (site : ℕ) (state : SiteState) → (((slice_get c.loop-number.made.items site ≡ Some state) × (site < length c.loop-number.made.items)) ⊎ ((site ≡ length c.loop-number.made.items) × (state ≡ c.new-in-loop-number.result)))
         → HasNoneRetired state
     unused site state (inl p) = c.loop-number.invariant.none_retired site state p.0
-    unused site state (inr p) = subst HasNoneRetired (sym p.1) (record { state_is = c.new-in-loop-number.ensures.fresh.0; pending_is = c.new-in-loop-number.ensures.fresh.1 })
+    unused site state (inr p) = subst HasNoneRetired (sym p.1) (record { state_is = c.new-in-loop-number.ensures.none_retired.0; pending_is = c.new-in-loop-number.ensures.none_retired.1 })
 
     new : IsSiteOf c.args.list.now c.loop-number.number c.new-in-loop-number.result new_site
     new = record { site = c.new-in-loop-number.ensures.site ∙ subst (λ o. IfSome o (λ n. n ≡ c.loop-number.number)) c.unwrap-site.ensures c.new.ensures.value; names_are = c.new-in-loop-number.ensures.names ∙ c.in_ok-names.ensures; stands = c.new-in-loop-number.ensures.meaning }

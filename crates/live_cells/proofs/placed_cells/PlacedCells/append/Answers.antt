@@ -8,7 +8,7 @@ use Rattle.live_cells.specs.Merges.{AreUntied, placed_cmp}
 use Rattle.live_cells.specs.PlacedLists.{is_placed}
 use Rattle.live_cells.specs.PlacedStates.{AreIndexed, ArePlaced}
 use Rattle.live_cells.proofs.LiveChanges.{members_count}
-use Rattle.live_cells.proofs.MovedCells.{as_many_fresh, come_placed, fresh_untied, sorted_rise, sorted_rises}
+use Rattle.live_cells.proofs.MovedCells.{as_many_arrived, come_placed, fresh_untied, sorted_rise, sorted_rises}
 use Rattle.live_cells.proofs.MovedIndex.{ids_differ}
 use Rattle.live_cells.proofs.placed_cells.PlacedCells.append.Goals as goal
 
@@ -56,10 +56,10 @@ merge_dots-requires-clause-room g c =
     let theirs = ap (λ s. length s.dots) c.others.view_is in
     let sorted : length c.deref.result.now ≡ length c.sort_unstable_by_key.new.self.items = ap length c.deref.ensures.value in
     let many = length_permutation c.move_cells.new.dots.items c.sort_unstable_by_key.new.self.items c.sort_unstable_by_key.ensures.permutation in
-    let fresh : length c.move_cells.new.dots.items ≡ length ids =
-    as_many_fresh o.dots.items o.cells.held o.cells.spent c.others.invariant ids x.held (ids_differ o.cells.held ids x.held x.index.rises) s.cells.held s.cells.spent c.move_cells.new.cells.held c.move_cells.new.dots.items
+    let arrived : length c.move_cells.new.dots.items ≡ length ids =
+    as_many_arrived o.dots.items o.cells.held o.cells.spent c.others.invariant ids x.held (ids_differ o.cells.held ids x.held x.index.rises) s.cells.held s.cells.spent c.move_cells.new.cells.held c.move_cells.new.dots.items
     c.move_cells.new.ids.items c.move_cells.ensures.moved in
-    omega (arith, room, dots, theirs, sorted, many, fresh, members_count _ ids x, c.requires.room)
+    omega (arith, room, dots, theirs, sorted, many, arrived, members_count _ ids x, c.requires.room)
 
 pub invariant_of-self : goal.invariant_of-self
 invariant_of-self g c =
@@ -86,10 +86,10 @@ returns-clause-room g c =
     let both = length-append s.dots.items c.deref.result.now in
     let sorted : length c.deref.result.now ≡ length c.sort_unstable_by_key.new.self.items = ap length c.deref.ensures.value in
     let many = length_permutation c.move_cells.new.dots.items c.sort_unstable_by_key.new.self.items c.sort_unstable_by_key.ensures.permutation in
-    let fresh : length c.move_cells.new.dots.items ≡ length ids =
-    as_many_fresh o.dots.items o.cells.held o.cells.spent c.others.invariant ids x.held (ids_differ o.cells.held ids x.held x.index.rises) s.cells.held s.cells.spent c.move_cells.new.cells.held c.move_cells.new.dots.items
+    let arrived : length c.move_cells.new.dots.items ≡ length ids =
+    as_many_arrived o.dots.items o.cells.held o.cells.spent c.others.invariant ids x.held (ids_differ o.cells.held ids x.held x.index.rises) s.cells.held s.cells.spent c.move_cells.new.cells.held c.move_cells.new.dots.items
     c.move_cells.new.ids.items c.move_cells.ensures.moved in
-    omega (arith, room, all, both, sorted, many, fresh, c.move_cells.ensures.spare, c.merge_dots.ensures.room)
+    omega (arith, room, all, both, sorted, many, arrived, c.move_cells.ensures.spare, c.merge_dots.ensures.room)
 
 pub returns-clause-valid : goal.returns-clause-valid
 returns-clause-valid g c = invariant_of-self g c

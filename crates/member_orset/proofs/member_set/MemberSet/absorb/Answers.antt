@@ -3,7 +3,7 @@ use Rattle.std.specs.FinMap as map
 use Rattle.std.specs.FinSet as set
 use Rattle.dots.specs.Orders.{dot_cmp}
 use Rattle.live_cells.specs.CellIds.{IdsFollow}
-use Rattle.member_orset.specs.Joining.{AgreeWith, IsJoinedWith, dead_there}
+use Rattle.member_orset.specs.Joining.{EntriesAgree, IsJoinedWith, dead_there}
 use Rattle.member_orset.specs.Members.{IsSet, Members, condition_at, AreOfTheDead}
 use Rattle.member_orset.proofs.Absorbing.{conditions_after, dead_after, follow_after, held_after, left_agrees}
 use Rattle.member_orset.proofs.member_set.MemberSet.absorb.Goals as goal
@@ -15,7 +15,7 @@ take_all-requires-clause-agree c =
     let s = c.args.self.now in
     let t = c.args.other in
     let live : c.other.inside.cells.live ≡ t.live = ap (λ (x : Members). x.live) c.other.view_is in
-    subst (λ (m : map.FinMap dot_cmp Holding). AgreeWith c.drop_dead.new.cells.live (map.entries m)) (sym live)
+    subst (λ (m : map.FinMap dot_cmp Holding). EntriesAgree c.drop_dead.new.cells.live (map.entries m)) (sym live)
     (left_agrees s t
     (λ q h e. ap (λ (x : Members). set.contains x.known q) (sym c.self.view_is) ∙ c.self.invariant.kept.heard q h (ap (λ (x : Members). map.get x.live q) c.self.view_is ∙ e))
     (λ q h e. ap (λ (x : Members). set.contains x.known q) (sym c.other.view_is) ∙ c.other.invariant.kept.heard q h (ap (λ (x : Members). map.get x.live q) c.other.view_is ∙ e))

@@ -10,7 +10,7 @@ use Rattle.member_orset.proofs.Asserting.{brought_conditions, either, known_alre
 use Rattle.live_cells.proofs.IdSteps.{follow_same}
 use Rattle.member_orset.proofs.KeptSets.{set_brought, set_met, set_same}
 use Rattle.member_orset.proofs.member_set.MemberSet.assert.Goals as goal
-use Rattle.member_orset.specs.Joining.{HoldingsAgree, HoldingsConflict, fields_met}
+use Rattle.member_orset.specs.Joining.{HoldingsAgree, HoldingsInConflict, fields_met}
 use Rattle.live_cells.specs.Holdings.{Holding}
 
 pub returns-then-not-agrees_with-clause-refusals : goal.returns-then-not-agrees_with-clause-refusals
@@ -19,7 +19,7 @@ returns-then-not-agrees_with-clause-refusals c =
     let value = c.runs.ensures.value in
     let few : run_count c.self.inside.context.dots ≤ MOST_RUNS = omega arith in
     refused_conflict c.args.self.now c.args.dot c.args.member.now c.args.fields.now
-    (subst (λ (t : Members). HoldingsConflict (map.get t.live c.args.dot) (c.args.member.now, c.args.fields.now)) c.self.view_is (c.agrees_with.ensures.conflict.0 c.if-not-agrees_with.true))
+    (subst (λ (t : Members). HoldingsInConflict (map.get t.live c.args.dot) (c.args.member.now, c.args.fields.now)) c.self.view_is (c.agrees_with.ensures.conflict.0 c.if-not-agrees_with.true))
     (λ h e. ap (λ (t : Members). set.contains t.known c.args.dot) (sym c.self.view_is) ∙ c.self.invariant.kept.heard c.args.dot h (ap (λ (t : Members). map.get t.live c.args.dot) c.self.view_is ∙ e))
     (subst (λ (t : Members). run_count t.known ≤ MOST_RUNS) c.self.view_is few)
 

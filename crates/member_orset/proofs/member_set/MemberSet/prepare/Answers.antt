@@ -1,14 +1,14 @@
 use Rattle.std.proofs.Common.{◌≤◌, refl, sym, ap, ◌∙◌, arith, true≢false}
 use Rattle.std.specs.FinMap as map
 use Rattle.dots.specs.declared.limits.TheConstants.{MOST_LIVE}
-use Rattle.member_orset.specs.Members.{CanBeJoined, Members, cells_joined}
+use Rattle.member_orset.specs.Members.{SetsAgree, Members, cells_joined}
 use Rattle.member_orset.proofs.Asserting.{on_ok_both}
 use Rattle.member_orset.proofs.Preparing.{prepared_for}
 use Rattle.member_orset.proofs.member_set.MemberSet.prepare.Goals as goal
 
 pub returns-then-not-agrees-clause-refusals : goal.returns-then-not-agrees-clause-refusals
 returns-then-not-agrees-clause-refusals c =
-    let no : CanBeJoined c.args.self.now c.args.other.now → ⊥ = λ agree. true≢false (sym (c.agrees.ensures.agree.1 agree) ∙ c.if-not-agrees.true) in
+    let no : SetsAgree c.args.self.now c.args.other.now → ⊥ = λ agree. true≢false (sym (c.agrees.ensures.agree.1 agree) ∙ c.if-not-agrees.true) in
     record {
       conflict = (λ _. c.agrees.ensures.conflict.0 c.if-not-agrees.true, λ _. refl);
       cells_full = (λ e. absurd (cc e), λ h. absurd (no h.0));

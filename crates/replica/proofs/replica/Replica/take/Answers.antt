@@ -1,5 +1,5 @@
 use Rattle.std.proofs.Common.{◌≡◌, Err, IsOk, ap, inl, inr, subst, sym, true≢false}
-use Rattle.delta.specs.Joining.{AreInAgreement, IsJoinOf, IsPrepared, IsRefusedJoin}
+use Rattle.delta.specs.Joining.{DeltasAgree, IsJoinOf, IsPrepared, IsRefusedJoin}
 use Rattle.member_orset.specs.Members.{KeepsIds}
 use Rattle.replica.specs.declared.take_fault.TakeFault.{TakeFault}
 use Rattle.replica.specs.Site.{SiteState}
@@ -80,7 +80,7 @@ returns-clause-may c =
     let kept = c.in_default-prepare.ensures.kept in
     let refused = subst (λ (r : SiteState). IsRefusedJoin r.state d (λ f. c.prepare.result ≡ Err f)) c.self.view_is c.prepare.ensures.refusals in
     let agree = agrees_before c.self.inside.state c.prepare.new.self d kept (prepared_agrees c.prepare.new.self d others c.in_default-prepare.ensures.ready) in
-    may_take s d c.in_default.ensures.heard (subst (λ (r : SiteState). AreInAgreement r.state d) c.self.view_is agree) c.prepare.result c.in_default-prepare.field-0 c.in_default-prepare.is refused
+    may_take s d c.in_default.ensures.heard (subst (λ (r : SiteState). DeltasAgree r.state d) c.self.view_is agree) c.prepare.result c.in_default-prepare.field-0 c.in_default-prepare.is refused
 
 pub returns-clause-meaning : goal.returns-clause-meaning
 returns-clause-meaning c = λ s k stands says later.
@@ -90,7 +90,7 @@ returns-clause-meaning c = λ s k stands says later.
     let kept = c.in_default-prepare.ensures.kept in
     let refused = subst (λ (r : SiteState). IsRefusedJoin r.state d (λ f. c.prepare.result ≡ Err f)) c.self.view_is c.prepare.ensures.refusals in
     let agree = agrees_before c.self.inside.state c.prepare.new.self d kept (prepared_agrees c.prepare.new.self d others c.in_default-prepare.ensures.ready) in
-    let agrees = subst (λ (r : SiteState). AreInAgreement r.state d) c.self.view_is agree in
+    let agrees = subst (λ (r : SiteState). DeltasAgree r.state d) c.self.view_is agree in
     let may = may_take old d c.in_default.ensures.heard agrees c.prepare.result c.in_default-prepare.field-0 c.in_default-prepare.is refused in
     let joined = unchanged_joined c.self.inside.state c.prepare.new.self d c.absorb.new.self kept c.absorb.ensures.joined in
     let ids = unchanged_ids c.self.inside.state c.prepare.new.self c.absorb.new.self kept c.absorb.ensures.ids in

@@ -8,7 +8,7 @@ returns-clause-meaning c = λ s stands.
     (record {
       heading = record { maker = refl; number = omega arith };
       delta = c.in-Ok.ensures.same;
-      fresh = c.in-Ok.ensures.retired;
+      none_retired = c.in-Ok.ensures.retired;
       site = refl;
       names = refl;
       state = refl;
