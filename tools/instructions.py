@@ -14,8 +14,8 @@ import sys
 from typing import Callable, NamedTuple
 
 from workloads import (
-    added_and_more, cells, counted_calls, dead_between, lines_of_64_sites, lines_of_statuses, live, members, of_frames, paused, penalized, removed,
-    reports_of_totals, runs, statuses, taken, totals,
+    added_and_more, cells, counted_calls, dead_between, lines_of_64_sites, lines_of_statuses, live, members, of_frames, paused,
+    paused_everywhere, penalized, removed, reports_of_totals, runs, statuses, taken, totals,
 )
 
 
@@ -52,6 +52,8 @@ ROWS = commands(256, 25_000) + commands(15_000, 75_000) + [
     Counted("call_beside_16384_totals", 1_000, 5_500, lambda: counted_calls(1_000)),
     Counted("queue_of_report_of_16384_totals", 2_560, 3_300, lambda: reports_of_totals(10)),
     Counted("member_of_report_of_16384", 16_384, 1_850, lambda: statuses(1, 16_384)),
+    Counted("dot_of_pause_of_256", 256, 12_000, lambda: paused_everywhere(64, 4)),
+    Counted("dot_of_pause_of_16384", 16_384, 12_000, lambda: paused_everywhere(64, 256)),
     Counted("line_of_64_sites", 20_000, 10_000, lines_of_64_sites),
     Counted("line_of_status_of_10", 10_000, 30_500, lambda: lines_of_statuses(10_000, 10)),
     frames("encode_cell", 16_384, 250, "encode", cells(0, 16_384)),

@@ -227,6 +227,13 @@ def reports_of_totals(often):
     return of_script(64, 256 * often, counted_everywhere(), often * ["0 ami Action: QueueStatus"], QUEUES)
 
 
+def paused_everywhere(sites, queues):
+    """The first of so many sites, each of which has added one interface to so many queues, pauses it in all queues."""
+    start = [f"{site} ami Action: QueueAdd|Queue: {queue}|Interface: {0:05}" for site in range(sites) for queue in QUEUES[:queues]]
+    start += [f"{site} cut" for site in range(1, sites)] + takes([0], range(sites - 1))
+    return of_script(sites, sites * queues, start, [paused(0, 0)], QUEUES)
+
+
 def lines_of_statuses(often, count):
     """A site of so many members is asked for its status so often."""
     return of_script(1, often, [added(0, it) for it in range(count)], often * ["0 ami Action: QueueStatus"])
