@@ -1,4 +1,4 @@
-ghost use Rattle.std.specs.Prelude.{◌≡◌, ◌+◌, ◌<◌, ◌≤◌, ◌↔◌, [], Err, IfOk, IsSome, OnErr, OnOk, length};
+ghost use Rattle.std.specs.Prelude.{◌≡◌, ◌+◌, ◌<◌, ◌≤◌, ◌↔◌, [], Err, IfOk, IsOk, IsSome, OnErr, OnOk, length};
 ghost use Rattle.std.specs.FinMap as map;
 ghost use Rattle.std.specs.FinSet as set;
 ghost use Rattle.std.specs.Vec.{vec_capacity};
@@ -52,6 +52,9 @@ fn make_room<const LAST: u32>(
     ensures held { placed.new.held ≡ placed.old.held }
     ensures spent { placed.new.spent ≡ placed.old.spent }
     ensures empty { members.new.items ≡ [] }
+    ensures had_room { length placed.old.dots < placed.old.room
+        → length placed.old.dots < vec_capacity members.old → IsOk result }
+    ensures room { placed.old.room ≤ placed.new.room }
     ensures capacity { vec_capacity members.old ≤ vec_capacity members.new }
 {
     placed.reserve(1)?;
@@ -67,6 +70,7 @@ impl<const LAST: u32> CellsBuilder<LAST> {
         ensures live { result.live ≡ map.empty }
         ensures ids { result.ids ≡ map.empty }
         ensures spent { result.spent ≡ set.empty }
+        ensures room { result.room ≡ 0 }
     {
         CellsBuilder {
             placed: PlacedCells::new(alloc),
@@ -74,8 +78,8 @@ impl<const LAST: u32> CellsBuilder<LAST> {
         }
     }
 
-    /// Lets a dot be live that is greater than those before, and answers its id. No fault changes what is live. 1 `Full`,
-    /// exactly where 1,048,576 dots are live; 2 `Memory`.
+    /// Lets a dot be live that is greater than those before, and answers its id. No fault changes what is live, and the cell
+    /// is dropped then. 1 `Full`, exactly where 1,048,576 dots are live; 2 `Memory`, which doesn't come where there is room.
     pub fn put(&mut self, cell: LiveDot) -> Result<CellId, ArenaFault>
         requires { (q : Dot) → IsSome (map.get self.old.live q) → dot_cmp q cell.dot ≡ Less }
         ensures ok { OnOk result (
@@ -83,7 +87,10 @@ impl<const LAST: u32> CellsBuilder<LAST> {
             ) }
         ensures id { IfOk result (λ id. self.new.ids ≡ map.insert self.old.ids cell.dot id) }
         ensures new { IfOk result (λ id. IsNew self.old.ids self.old.spent self.new.spent id) }
+        ensures last { IfOk result (λ id. id.generation ≤ LAST) }
+        ensures had_room { map.len self.old.live < self.old.room → IsOk result }
         ensures full { (result ≡ Err ArenaFault.Full) ↔ (most_places ≤ map.len self.old.live) }
+        ensures grows { self.old.room ≤ self.new.room }
         ensures spent { self.new.spent ≡ self.old.spent }
         ensures err { OnErr result (self.new.live ≡ self.old.live) }
         ensures err_ids { OnErr result (self.new.ids ≡ self.old.ids) }

@@ -65,6 +65,7 @@ impl<const LAST: u32> LiveCells<LAST> {
         ensures live { result.live ≡ map.empty }
         ensures ids { result.ids ≡ map.empty }
         ensures spent { result.spent ≡ set.empty }
+        ensures room { result.room ≡ 0 }
     {
         LiveCells {
             placed: PlacedCells::new(alloc),
@@ -100,9 +101,10 @@ impl<const LAST: u32> LiveCells<LAST> {
         self.placed.len()
     }
 
-    /// For how many live dots there is room in all.
+    /// For how many live dots there is room in all: with the places that aren't used again, at most 1,048,576.
     pub fn room(&self) -> usize
-        ensures { result ≡ self.now.room }
+        ensures value { result ≡ self.now.room }
+        ensures limit { retired_of LAST self.now.spent + result ≤ most_places }
     {
         self.placed.room().min(self.members.room())
     }
@@ -146,8 +148,9 @@ impl<const LAST: u32> LiveCells<LAST> {
 
     /// The live dots in their order, each with its id.
     pub fn placed(&self) -> PlacedDots<'_>
-        ensures { (dot : Dot) → is_placed result.list.now dot
+        ensures dots { (dot : Dot) → is_placed result.list.now dot
             ≡ map.contains_key self.now.live dot }
+        ensures ids { map.from_sorted (id_entries result.list.now) ≡ self.now.ids }
     {
         self.placed.placed()
     }
@@ -170,8 +173,8 @@ impl<const LAST: u32> LiveCells<LAST> {
     }
 
     /// Makes room for `more` more live dots. No fault changes what is live. 1 `Full`, exactly where the live dots, the places
-    /// that aren't used again and `more` together are more than 1,048,576, and then nothing has grown; 2 `Memory`, which is
-    /// never wanted where there is room.
+    /// that aren't used again and `more` together are more than 1,048,576; 2 `Memory`, which is never wanted where there is
+    /// room, and after which there may be more room than before.
     pub fn reserve(&mut self, more: usize) -> Result<(), ArenaFault>
         ensures room { OnOk result (map.len self.old.live + more ≤ self.new.room) }
         ensures full { (result ≡ Err ArenaFault.Full)
@@ -197,6 +200,7 @@ impl<const LAST: u32> LiveCells<LAST> {
             ≡ map.insert self.old.live cell.dot (cell.member, cell.fields) }
         ensures ids { self.new.ids ≡ map.insert self.old.ids cell.dot result }
         ensures new { IsNew self.old.ids self.old.spent self.old.spent result }
+        ensures last { result.generation ≤ LAST }
         ensures had_none { map.get self.old.ids cell.dot ≡ None }
         ensures spent { self.new.spent ≡ self.old.spent }
         ensures room { self.old.room ≤ self.new.room }
@@ -242,6 +246,7 @@ impl<const LAST: u32> LiveCells<LAST> {
         ensures live { (q : Dot) → map.get self.new.live q
             ≡ option_or (map.get self.old.live q) (map.get others.entry.live q) }
         ensures ids { HaveGrown self.old self.new }
+        ensures room { self.old.room ≤ self.new.room }
     {
         let LiveCells { placed, members } = others;
         let mut ids = members.into_vec();

@@ -42,8 +42,8 @@ impl<'a> LiveRun<'a> {
     }
 }
 
-/// The last place of the run that begins at a place. It is sought by steps that double, and then by halving. Counts rise
-/// by one at least from place to place, so that what is sought is found; nothing that is said here needs it.
+/// A place up to which the dots from a place on are a run: the last one, where dots rise. It is sought by steps that double,
+/// and then by halving. No clause says that it is the last one: what reads runs is right also where one is told in parts.
 pub fn live_run_end(dots: &[Placed], first: usize) -> usize
     requires { first < length dots.now }
     ensures least { first ≤ result }

@@ -82,6 +82,7 @@ impl<const LAST: u32> PlacedCells<LAST> {
         ensures dots { result.dots ≡ [] }
         ensures held { result.held ≡ map.empty }
         ensures spent { result.spent ≡ set.empty }
+        ensures room { result.room ≡ 0 }
         ensures valid { IsPlaced result }
     {
         PlacedCells {
@@ -108,7 +109,8 @@ impl<const LAST: u32> PlacedCells<LAST> {
 
     // For how many dots there is room in all.
     pub(crate) fn room(&self) -> usize
-        ensures { result ≡ self.now.room }
+        ensures value { result ≡ self.now.room }
+        ensures limit { retired_of LAST self.now.spent + result ≤ most_places }
     {
         self.dots
             .room()
@@ -207,6 +209,7 @@ impl<const LAST: u32> PlacedCells<LAST> {
         ensures unspent { set.contains self.old.spent result ≡ false }
         ensures lesser { (generation : ℕ) → generation < result.generation
             → set.contains self.old.spent (id_of result.index generation) ≡ true }
+        ensures last { result.generation ≤ LAST }
         ensures room { self.old.room ≤ self.new.room }
         ensures valid { IsPlaced self.new }
     {

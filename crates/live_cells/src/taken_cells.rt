@@ -38,6 +38,7 @@ impl<const LAST: u32> TakenCells<LAST> {
     /// The cell of the first dot that is left, where there is one.
     pub fn take_first(&mut self) -> Option<LiveDot>
         ensures none { result ≡ None → self.old ≡ [] }
+        ensures ended { result ≡ None → self.new ≡ [] }
         ensures some { IfSome result (λ cell. self.old ≡ entry_of cell ∷ self.new) }
     {
         let placed = self.dots.pop_front()?;

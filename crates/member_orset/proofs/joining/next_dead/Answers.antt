@@ -12,7 +12,7 @@ returns-in_err-dot c =
     let there = c.args.there.now.live in
     let site = ap (λ r. r.site) c.run.view_is in
     let last = ap (λ r. r.last) c.run.view_is in
-    let same = c.placed.ensures in
+    let same = c.placed.ensures.dots in
     subst (IsNextDead c.args.run there c.args.first live) (sym c.from_residual.ensures) (λ n lo hi.
     subst (λ s. (map.contains_key live (record { site = s; count = n }) && not (map.contains_key there (record { site = s; count = n }))) ≡ false) site
     (elim (cases_lt n c.loop-from.from) [
@@ -29,7 +29,7 @@ returns-then-is_none c =
     let f = c.in_ok-dot.ensures in
     let site = ap (λ r. r.site) c.run.view_is in
     let last = ap (λ r. r.last) c.run.view_is in
-    let same = c.placed.ensures in
+    let same = c.placed.ensures.dots in
     record {
       site_is = f.site_is ∙ site;
       least = let a = c.loop-from.invariant.least in let b = f.least in omega arith;
@@ -50,7 +50,7 @@ loop-from-preserved c =
     let dot = c.in_ok-dot.dot in
     let f = c.in_ok-dot.ensures in
     let count = c.count-from.ensures.value in
-    let same = c.placed.ensures in
+    let same = c.placed.ensures.dots in
     record {
       least = let a = c.loop-from.invariant.least in let b = f.least in omega arith;
       none = λ n lo hi. elim (cases_lt n c.loop-from.from) [

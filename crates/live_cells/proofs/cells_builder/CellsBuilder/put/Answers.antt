@@ -1,5 +1,6 @@
-use Rattle.std.proofs.Common.{◌≡◌, ℕ, ◌+◌, List, length, get_or, is_some, lit<, sym, ap, subst, ◌∙◌, refl, arith}
+use Rattle.std.proofs.Common.{◌≡◌, ℕ, ◌+◌, true, List, length, get_or, is_ok, is_some, lit<, min, sym, ap, subst, ◌∙◌, refl, arith}
 use Rattle.std.specs.Prelude.{IsSome, Err}
+use Rattle.std.specs.Vec.{vec_capacity}
 use Rattle.std.specs.FinMap as map
 use Rattle.std.specs.Ordering.{is_lt}
 use Rattle.std.specs.declared.cmp.Ordering.TheVariants.{Less}
@@ -112,6 +113,15 @@ returns-in_err-make_room-clause-full g c =
           let full = c.make_room.ensures.full.1 (omega (arith, none, count, h)) in
           cc (full, p.1, there),
     )
+
+pub returns-in_err-make_room-clause-had_room : goal.returns-in_err-make_room-clause-had_room
+returns-in_err-make_room-clause-had_room g c h =
+    let s = c.self.inside.placed in
+    let count : length s.dots ≡ map.len c.args.self.now.live = sym (len_live s.dots s.held s.spent c.self.invariant.placed) ∙ ap (λ (x : LiveState). map.len x.live) c.self.view_is in
+    let room : min s.room (vec_capacity c.self.inside.members) ≡ c.args.self.now.room = ap (λ (x : LiveState). x.room) c.self.view_is in
+    let ok : is_ok c.make_room.result ≡ true = c.make_room.ensures.had_room (omega (arith, h, count, room)) (omega (arith, h, count, room)) in
+    let no = sym (ap is_ok c.in_err-make_room.was) ∙ ok in
+    absurd (cc)
 
 pub returns-clause-full : goal.returns-clause-full
 returns-clause-full g c =

@@ -7,8 +7,8 @@ use Rattle.live_cells.proofs.LiveMaps.{named}
 use Rattle.live_cells.proofs.PlacedOrder.{placed_named}
 use Rattle.live_cells.proofs.live_cells.LiveCells.placed.Goals as goal
 
-pub returns : goal.returns
-returns g c q =
+pub returns-clause-dots : goal.returns-clause-dots
+returns-clause-dots g c q =
     let s = c.self.inside.placed in
     ap (λ ds. is_placed ds q) c.placed.ensures.value
     ∙ placed_named s.dots (map.from_sorted (id_entries s.dots)) (sym (map.entries-from_sorted dot_cmp (id_entries s.dots) (truth _ c.self.invariant.placed.sorted))) q

@@ -20,5 +20,5 @@ returns c =
     (λ q h e. ap (λ (x : Members). set.contains x.known q) (sym c.self.view_is) ∙ c.self.invariant.kept.heard q h (ap (λ (x : Members). map.get x.live q) c.self.view_is ∙ e))
     (λ q h e. ap (λ (x : Members). set.contains x.known q) (sym c.other.view_is) ∙ c.other.invariant.kept.heard q h (ap (λ (x : Members). map.get x.live q) c.other.view_is ∙ e))
     ps qs c.placed.result.rise c.placed-2.result.rise
-    ((λ i q. c.placed.ensures q i) ∙ ap (λ (x : Members). map.contains_key x.live) c.self.view_is)
-    ((λ i q. c.placed-2.ensures q i) ∙ ap (λ (x : Members). map.contains_key x.live) c.other.view_is))
+    ((λ i q. c.placed.ensures.dots q i) ∙ ap (λ (x : Members). map.contains_key x.live) c.self.view_is)
+    ((λ i q. c.placed-2.ensures.dots q i) ∙ ap (λ (x : Members). map.contains_key x.live) c.other.view_is))

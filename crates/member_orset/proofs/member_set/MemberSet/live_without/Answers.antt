@@ -8,4 +8,4 @@ pub returns : goal.returns
 returns c =
     c.count_outside.ensures
     ∙ sym (counted_without c.args.self.now c.args.dead.now.dots c.placed.result.list.now c.placed.result.rise
-    ((λ i q. c.placed.ensures q i) ∙ ap (λ (t : Members). map.contains_key t.live) c.self.view_is))
+    ((λ i q. c.placed.ensures.dots q i) ∙ ap (λ (t : Members). map.contains_key t.live) c.self.view_is))
