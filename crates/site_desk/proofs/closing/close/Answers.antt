@@ -1,0 +1,8 @@
+use Rattle.std.proofs.Common.{IsTrue, refl, subst, sym}
+use Rattle.site_desk.specs.Passes.{AreAll}
+use Rattle.site_desk.proofs.closing.close.Goals as goal
+
+pub returns-clause-all : goal.returns-clause-all
+returns-clause-all g c =
+    let all = c.are_all.ensures.0 (subst IsTrue (sym c.if-not-are_all.false) refl) in
+    rw (← c.desk.view_is) (subst (AreAll c.desk.inside.passes) c.as_slice.ensures.value all)
