@@ -8,8 +8,9 @@ ghost use Rattle.std.specs.Vec.{vec_capacity};
 use std::alloc::{AllocError, Global};
 use std::marker::Model;
 
-/// Items in their order, in one piece of memory, with room before them and behind them. What goes in or comes out moves the items
-/// before it or those behind it, whichever are fewer, as far as there is room on that side.
+/// Items of a type that can be copied, in their order, in one piece of memory, with room before them and behind them.
+/// What comes out moves the items before it or those behind it, whichever are fewer; so does what goes in, where there
+/// is room on that side.
 #[derive(Drop)]
 pub struct Devector<T> {
     items: Vec<T>,
@@ -113,8 +114,8 @@ impl<T: Copy> Devector<T> {
         self.items[self.first + place] = item;
     }
 
-    /// Makes room for `more` more items, of which the room before the first one is a part. The one fault is want of memory, which
-    /// changes nothing.
+    /// Makes room for `more` more items; the room before the first one counts too. The one fault is want of memory,
+    /// which changes nothing, and doesn't come where there is room.
     pub fn reserve(&mut self, more: usize) -> Result<(), AllocError>
         ensures room { OnOk result (length self.old.items + more ≤ self.new.room) }
         ensures had_room { length self.old.items + more ≤ self.old.room → IsOk result }
@@ -193,8 +194,8 @@ impl<T: Copy> Devector<T> {
         self.insert(self.len(), item);
     }
 
-    /// Puts items in behind the others, in room that is there. It takes no memory. Where the room behind the others is too little, they
-    /// are all moved to the front of theirs.
+    /// Puts items in behind those that are there, in room that is there. It takes no memory. Where the room behind is
+    /// too little, those that are there are first moved to the front of the memory.
     pub fn append_slice(&mut self, others: &[T])
         requires { length self.old.items + length others.now ≤ self.old.room }
         ensures items { self.new.items ≡ self.old.items ++ others.now }
@@ -225,7 +226,8 @@ impl<T: Copy> Devector<T> {
         }
     }
 
-    /// Leaves out the items that a test doesn't pass. It tests each once, in their order, and moves the others to the front.
+    /// Leaves out the items that don't pass a test. It tests each once, in their order, and moves the others to the
+    /// front of the memory.
     pub fn retain<F: FnMut(&T) -> bool>(&mut self, keep: F)
         requires { F.IsAlwaysCallable keep }
         ensures items { IsFiltered (CalledAt F.FnMut) keep self.old.items self.new.items }

@@ -63,14 +63,14 @@ pub record HasTakenDot (live : map.FinMap dot_cmp Holding) (dot : Dot) (fields :
   pub held : map.get live dot ≡ Some before
   pub now : after ≡ map.insert live dot (before.0, fields_joined before.1 fields)
 
--- the dots that pass a test are live no more, and nothing else has changed
+-- the dots that pass a test are live no more, and their ids are spent; the others are as before, and no less room is left
 pub record IsThinned (dead : Dot → Bool) (old new : LiveState) : Type 0 where
   pub live : (q : Dot) → map.get new.live q ≡ (if dead q then None else map.get old.live q)
   pub ids : (q : Dot) → map.get new.ids q ≡ (if dead q then None else map.get old.ids q)
   pub follow : IdsFollow old.ids old.spent new.ids new.spent
   pub room : old.room + map.len new.live ≤ new.room + map.len old.live
 
--- dots have become live, with ids that no dot had before, and the others have theirs as before
+-- dots have become live, with ids that no dot had before; the others have theirs as before, and the same ids are spent
 pub record HaveGrown (old new : LiveState) : Type 0 where
   pub kept : (q : Dot) (id : Id) → map.get old.ids q ≡ Some id → map.get new.ids q ≡ Some id
   pub new_ids : (q : Dot) (id : Id) → map.get old.ids q ≡ None → map.get new.ids q ≡ Some id → IsNew old.ids old.spent old.spent id

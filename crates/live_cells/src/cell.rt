@@ -6,6 +6,6 @@ use lww_registers::Fields;
 pub struct Cell<'a> {
     /// The member.
     pub member: &'a Member,
-    /// Its fields, of which at least one is set.
+    /// Its fields. In a member set at least one of them is set.
     pub fields: &'a Fields,
 }

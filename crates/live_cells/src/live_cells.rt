@@ -37,7 +37,7 @@ use std::marker::Model;
 
 /// The live dots of a set, each with its member and fields: found by dot, by member and by id. Their cells stand in an arena
 /// of at most 1,048,576 places, where one of generation `LAST` isn't used again once its dot is live no more. While a dot is
-/// live it has an id, which no other dot ever has.
+/// live it has an id, which no other dot here ever has. What only reads and has no fault takes no memory.
 #[derive(Drop)]
 pub struct LiveCells<const LAST: u32> {
     placed: PlacedCells<LAST>,
@@ -88,7 +88,7 @@ impl<const LAST: u32> LiveCells<LAST> {
         }
     }
 
-    /// The allocator that it grows with. It takes no memory, like all that only reads and has no fault.
+    /// The allocator that it grows with.
     pub fn allocator(&self) -> Global {
         self.placed.allocator()
     }
@@ -136,7 +136,7 @@ impl<const LAST: u32> LiveCells<LAST> {
         }
     }
 
-    /// The member and the fields of the live dot that has an id, where one has it: that of a spent id answers `None` for good.
+    /// The member and the fields of the live dot that has an id, where one has it. A spent id answers `None` for good.
     pub fn at(&self, id: CellId) -> Option<Cell<'_>>
         ensures some { IfSome result (λ cell. HasId self.now id (cell_read cell)) }
         ensures none { result ≡ None → (dot : Dot) → map.get self.now.ids dot ≢ Some id }
@@ -238,7 +238,8 @@ impl<const LAST: u32> LiveCells<LAST> {
         self.placed.remove(place);
     }
 
-    /// Lets live what is live there, of which nothing is live here, in room that is there. The cells are moved, the lists of
+    /// Lets live what is live in others, of which nothing is live here, in room that is there. Those dots get new ids
+    /// here; the dots that were live keep theirs, and ids that were spent stay so. The cells are moved, the lists of
     /// ids are merged once, and it takes no memory.
     pub fn append(&mut self, others: Self)
         requires apart { (q : Dot) → IsSome (map.get others.live q) → map.get self.old.live q ≡ None }
@@ -254,7 +255,8 @@ impl<const LAST: u32> LiveCells<LAST> {
         merge_members(&self.placed, &mut self.members, &ids);
     }
 
-    /// Lets the dots be live no more that a test passes, whose ids are spent then. Each list of ids is walked once.
+    /// Lets the dots be live no more that pass a test, whose ids are spent then. The test should answer a dot alike
+    /// each time: else it isn't said which dots go. The lists of ids are walked as a whole, however few go.
     pub fn thin<F: Fn(Dot) -> bool>(&mut self, dies: F)
         requires { F.IsAlwaysCallable dies }
         ensures thinned { (test : Dot → Bool)
@@ -305,14 +307,14 @@ impl<const LAST: u32> LiveCells<LAST> {
 }
 
 impl LiveCells<LAST_GENERATION> {
-    /// The live dots in their order, each with its cell.
+    /// The live dots in their order, each with its cell. Only there for the last generation of sets, `LAST_GENERATION`.
     pub fn iter(&self) -> Cells<'_>
         ensures { result ≡ map.entries self.now.live }
     {
         Cells::of(&self.placed)
     }
 
-    /// The live dots of a member, in their order.
+    /// The live dots of a member, in their order. Only there for the last generation of sets, `LAST_GENERATION`.
     pub fn dots(&self, member: &Member) -> Dots<'_>
         ensures { result ≡ dots_of (view_of self.now.live) member.now }
     {
@@ -320,7 +322,8 @@ impl LiveCells<LAST_GENERATION> {
     }
 
     /// The row of a member, where it has a live dot: each field is that of the greatest stamp over its live dots, of equal
-    /// stamps that of the least dot, and its default where none is set.
+    /// stamps that of the least dot, and its default where none is set. Only there for the last generation of sets,
+    /// `LAST_GENERATION`.
     pub fn row(&self, member: &Member) -> Option<Row<'_>>
         ensures { option_map row_view result ≡ row_of (view_of self.now.live) member.now }
     {
@@ -328,7 +331,7 @@ impl LiveCells<LAST_GENERATION> {
     }
 
     /// The rows of a queue, one by one: each interface that has a live dot there once, with its row, in the order of the
-    /// interfaces' bytes.
+    /// interfaces' bytes. Only there for the last generation of sets, `LAST_GENERATION`.
     pub fn rows(&self, queue: u16) -> Rows<'_>
         ensures { result ≡ rows_of (view_of self.now.live) queue }
     {

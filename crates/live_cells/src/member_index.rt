@@ -106,8 +106,8 @@ impl<'a, const LAST: u32> MemberIndex<'a, LAST> {
         )
     }
 
-    // The place past the ids of members that don't lie after another one, of which some are known to be. They are walked, as
-    // they are by who reads them then.
+    // The place past the ids of members that don't lie after another one; the first `known` ids are some of these. It
+    // walks the others, since its callers read them too.
     pub(crate) fn end_of(self, known: usize, member: &Member) -> usize
         requires within { known ≤ length self.ids.now }
         requires known { AllWithin (λ l. is_le (member_cmp l.member member.now) ≡ true)

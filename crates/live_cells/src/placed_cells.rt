@@ -236,7 +236,8 @@ impl<const LAST: u32> PlacedCells<LAST> {
         self.cells.take(placed.id).unwrap()
     }
 
-    // Lets the dots be placed no more that a test passes. Each list is walked once.
+    // Lets the dots be placed no more that pass a test. The list of dots is walked twice: first cells are freed, then
+    // the dots without a cell are left out.
     pub(crate) fn thin<F: Fn(Dot) -> bool>(&mut self, dies: F)
         requires { F.IsAlwaysCallable dies }
         ensures freed { AreFreed self.old.dots self.old.held self.old.spent self.new.held

@@ -14,7 +14,7 @@ use dots::{Dot, SiteId};
 /// Live dots that rise, each with the id of its cell. To look among them takes no memory.
 #[derive(Clone, Copy)]
 pub struct PlacedDots<'a> {
-    /// Them, from the least on.
+    /// The dots from the least on, each with its id.
     pub list: &'a [Placed],
     ghost rise: { AreRising list.now },
 }
@@ -48,7 +48,8 @@ impl<'a> PlacedDots<'a> {
         self.list.partition_point(|placed| placed.dot < dot)
     }
 
-    /// Whether the one at a place lies before a dot. Where it doesn't, none does from there on.
+    /// Whether the one at a place lies before a dot; past the end it is false. Where it is false, none from there on
+    /// lies before that dot.
     pub fn is_passed(self, place: usize, dot: Dot) -> bool
         ensures within { result ≡ true → place < length self.entry.list.now }
         ensures limit { length self.entry.list.now < 2 ^ 64 }

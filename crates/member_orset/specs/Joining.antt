@@ -25,7 +25,7 @@ abbrev pub HoldingsAgree : Option Holding → Holding → Type 0
 HoldingsAgree None g = Unit {0}
 HoldingsAgree (Some h) g = (h.0 ≡ g.0) × FieldsAgree h.1 g.1
 
--- or it doesn't
+-- what is live is in conflict with what a dot is to be joined with, in member or fields
 abbrev pub HoldingsInConflict : Option Holding → Holding → Type 0
 HoldingsInConflict None g = ⊥
 HoldingsInConflict (Some h) g = (h.0 ≢ g.0) ⊎ FieldsInConflict h.1 g.1

@@ -1,5 +1,5 @@
--- What contracts see of a set of members: the dots that it knows, the live ones with member and fields, and, aside of
--- what it means, how much room it has.
+-- What contracts see of a set of members: the dots that it knows, the live ones with member and fields, and, beside what
+-- it means, its ids and how much room it has.
 use Rattle.std.specs.Prelude.{ℕ, ◌≡◌, ◌≢◌, ◌≤◌, ◌+◌, ◌⊎◌, Bool, true, false, not, Option, Some, None, Result, Ok, Err, refl, if◌then◌else◌}
 use Rattle.std.specs.FinMap as map
 use Rattle.std.specs.FinSet as set
@@ -147,7 +147,7 @@ pub record SetsInConflict (s t : Members) : Type 0 where
   pub dot : Dot
   pub conflict : ConditionsInConflict (condition_of s dot) (condition_of t dot)
 
--- a set has such a dot
+-- some dot of a set is live with a member
 abbrev pub IsPresent : Members → Member → Type 0
 IsPresent s member = IsPresentIn s.live member
 

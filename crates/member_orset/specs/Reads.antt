@@ -1,4 +1,4 @@
--- What callers read of a set: cells and rows that are lent, and the dots that given ones stand for.
+-- What callers read of a set: cells that are lent, and the dots that it has seen below given ones.
 use Rattle.std.specs.Prelude.{Bool, not, ◌&&◌, List}
 use Rattle.std.specs.FinMap as map
 use Rattle.std.specs.FinSet as set

@@ -12,7 +12,7 @@ use Rattle.member_orset.specs.declared.join_fault.JoinFault.TheVariants.{Conflic
 use Rattle.member_orset.specs.Members.{Members, SetsAgree, SetsInConflict, ConditionsInConflict}
 use Rattle.member_orset.specs.Members.{cells_joined, cells_with, condition_of, runs_joined}
 
--- the kill of a dot is refused for too many runs alone
+-- the kill of a dot is refused for too many runs, and else for want of memory alone
 pub record IsRefusedKill (s : Members) (dot : Dot) (IsRefused : JoinFault → Type 0) : Type 0 where
   pub agrees : IsRefused Conflict → ⊥
   pub has_place : IsRefused CellsFull → ⊥

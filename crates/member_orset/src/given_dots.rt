@@ -16,7 +16,7 @@ pub(crate) struct GivenDots<'a> {
 }
 
 impl<'a> GivenDots<'a> {
-    // Dots in any order.
+    // Dots in any order. Whether they rise is tested once, here.
     pub(crate) fn of(list: &'a [Dot]) -> GivenDots<'a>
         ensures { result.list.now ≡ list.now }
     {
@@ -26,7 +26,7 @@ impl<'a> GivenDots<'a> {
         }
     }
 
-    // Those of a site. Where they don't rise, the others are with them.
+    // All of a site, maybe with others: where they don't rise, all that are given.
     fn of_site(self, site: SiteId) -> &'a [Dot]
         ensures { AreOfSite self.entry.list.now site result.now }
     {
@@ -55,7 +55,7 @@ impl<'a> GivenDots<'a> {
         greatest
     }
 
-    // The next one from a dot on, if there is one. Where they don't rise, the others are with it.
+    // Where they rise, at most one: the first from `from` on, of whichever site. Else all that are given.
     fn next(self, from: Dot) -> &'a [Dot]
         ensures { AreNext self.entry.list.now from result.now }
     {
@@ -67,7 +67,8 @@ impl<'a> GivenDots<'a> {
         &self.list[place..end]
     }
 
-    // Whether a dot is given; and up to which count, a last dot's at most, the dots from it on are as it is.
+    // Whether `from` is given; and a count, at most that of `last`, up to which each dot of its site from it on is as
+    // it is. Where it is given, that is its own count; else it is the last such count.
     pub(crate) fn piece(self, from: Dot, last: Dot) -> Piece
         requires { from.count ≤ last.count }
         ensures { IsPiece

@@ -67,7 +67,7 @@ pub(crate) fn count_kept(
     left
 }
 
-// The first count of a run from a given one on, whose dot is live here and not there, or the one past all counts.
+// The first dot of a run, from a count on, that is live here and not there, if there is one.
 fn next_dead(
     cells: &LiveCells<LAST_GENERATION>,
     run: Run,

@@ -38,7 +38,8 @@ use std::marker::Model;
 /// A set of queue members that is joined with others in any order (the optimized observed-remove set of RR-8083): it
 /// knows dots, some of them live, each with its member and fields, and all others dead. Of an unknown dot nothing is
 /// said. At most 16,384 dots are live, the known ones make at most 65,536 runs, and each live dot is known and has a
-/// field that is set. While a dot is live it has an id, which no other dot ever has.
+/// field that is set. While a dot is live it has an id, which no other dot of the set ever has; ids of another set mean
+/// nothing here, so what a join brings gets new ones. What only reads and has no fault takes no memory.
 #[derive(Drop)]
 pub struct MemberSet {
     context: Context,
@@ -96,7 +97,7 @@ impl MemberSet {
         MemberSet { context, cells }
     }
 
-    /// The dots that it knows. It takes no memory, like all that only reads and has no fault.
+    /// The dots that it knows.
     pub fn context(&self) -> &Context
         ensures { result.now.dots ≡ self.now.known }
     {
@@ -173,7 +174,7 @@ impl MemberSet {
         self.cells.id(dot)
     }
 
-    /// The member and the fields of the live dot that has an id, where one has it: that of a dead dot answers `None` for good.
+    /// The member and the fields of the live dot that has an id, where one has it. A spent id answers `None` for good.
     pub fn at(&self, id: CellId) -> Option<Cell<'_>>
         ensures some { IfSome result (λ cell. HasId self.now id (cell_read cell)) }
         ensures none { result ≡ None → (dot : Dot) → map.get self.now.ids dot ≢ Some id }
@@ -272,7 +273,8 @@ impl MemberSet {
 
     /// Makes room for what another set says, which `absorb` then joins. It leaves what is said as it is. 1 `Conflict`,
     /// exactly where `agrees` is false; 2 `CellsFull`, exactly where the join has more than 16,384 live dots; 3 `RunsFull`,
-    /// exactly where the known dots of both make more than 65,536 runs; 4 `Memory`.
+    /// exactly where the known dots of both make more than 65,536 runs; 4 `Memory`, which doesn't come where `prepared`
+    /// is true.
     pub fn prepare(&mut self, other: &MemberSet) -> Result<(), JoinFault>
         ensures ready { OnOk result (IsPrepared self.new other.now) }
         ensures refusals { IsRefusedJoin self.old other.now (λ fault. result ≡ Err fault) }
@@ -311,8 +313,8 @@ impl MemberSet {
         self.cells.len() + other.cells.len() <= self.cells.room()
     }
 
-    /// Joins what another set says that was prepared: each dot has the join of its two conditions. It takes no memory
-    /// and can't fail.
+    /// Joins what another set says, where `prepared` is true of it: each dot has the join of its two conditions. It
+    /// takes no memory and can't fail.
     pub fn absorb(&mut self, other: MemberSet)
         requires { IsPrepared self.old other }
         ensures joined { IsJoinOf self.old other self.new }
@@ -329,7 +331,7 @@ impl MemberSet {
     /// Joins what another set says: each dot has the join of its two conditions. A refused set comes back as it was, and
     /// no fault changes what this one says. 1 `Conflict`, exactly where `agrees` is false; 2 `CellsFull`, exactly where
     /// the join has more than 16,384 live dots; 3 `RunsFull`, exactly where the known dots of both make more than 65,536
-    /// runs; 4 `Memory`.
+    /// runs; 4 `Memory`, which doesn't come where `prepared` is true.
     pub fn join(&mut self, other: MemberSet) -> Result<(), (JoinFault, MemberSet)>
         ensures joined { OnOk result (IsJoinOf self.old other self.new) }
         ensures refusals { IsRefusedJoin self.old other (λ fault. IsRefusedFor result fault) }
@@ -345,9 +347,9 @@ impl MemberSet {
         Ok(())
     }
 
-    /// The given dots, with all that are dead here and of the site of a given dot, with a lesser count: what an operation
-    /// that asserts the given dots names besides. The set is only read. 1 `RunsFull`, exactly where these dots make more
-    /// than 65,536 runs; 2 `Memory`.
+    /// The given dots, with all that are dead here and older: of the site of a given dot, with a lesser count. An
+    /// operation that asserts the given dots names these older ones. The set is only read. 1 `RunsFull`, exactly where
+    /// all these dots make more than 65,536 runs; 2 `Memory`.
     pub fn seen_below(&self, given: &[Dot]) -> Result<Context, ContextFault>
         ensures ok { IfOk result (λ seen. seen.dots ≡ dots_seen_below self.now given.now) }
         ensures full { (result ≡ Err ContextFault.RunsFull)

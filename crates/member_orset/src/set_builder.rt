@@ -70,7 +70,9 @@ impl SetBuilder {
         &self.context
     }
 
-    /// Makes a dot live, with its member and fields, which it copies, and answers its id; else as `put`.
+    /// Makes a dot live, with copies of its member and fields, and answers its id. The dot is one of the context and
+    /// greater than those before, a field is set, and fewer than 16,384 dots are live so far. The one fault is want of
+    /// memory, which changes nothing.
     pub fn cell(&mut self, dot: Dot, member: &Member, fields: &Fields) -> Result<CellId, Memory>
         requires in_context { set.contains self.old.known dot ≡ true }
         requires greater { (q : Dot) → IsSome (map.get self.old.live q) → dot_cmp q dot ≡ Less }
