@@ -145,16 +145,17 @@ impl<T: Copy> Devector<T> {
         }
     }
 
-    // Where there is no room on the nearer side of a place, moves all items so that half of the free room is on each side. It does so
-    // only if that is more than 1/128 of their number: as many go in before a side is full again, so that each pays for few moves.
-    fn make_room_near(&mut self, place: usize, filler: T)
-        requires { place ≤ length self.old.items }
+    // Moves all items so that half of the free room is on each side, if that is more than 1/128 of their number: as many go
+    // in before a side is full again, so that each pays for few moves.
+    #[cold]
+    #[inline(never)]
+    fn move_to_middle(&mut self, filler: T)
         ensures items { self.new.items ≡ self.old.items }
         ensures room { self.old.room ≤ self.new.room }
     {
         let len = self.len();
         let first = (self.items.capacity() - len) / 2;
-        if self.has_room_near(place) || first <= len / 128 {
+        if first <= len / 128 {
             return;
         }
         let end = self.items.len().max(first + len);
@@ -162,6 +163,17 @@ impl<T: Copy> Devector<T> {
         self.items.copy_within(self.first..self.first + len, first);
         self.items.truncate(first + len);
         self.first = first;
+    }
+
+    // Moves all items to the middle, if that is worth it, where there is no room on the nearer side of a place.
+    fn make_room_near(&mut self, place: usize, filler: T)
+        requires { place ≤ length self.old.items }
+        ensures items { self.new.items ≡ self.old.items }
+        ensures room { self.old.room ≤ self.new.room }
+    {
+        if !self.has_room_near(place) {
+            self.move_to_middle(filler);
+        }
     }
 
     /// Puts an item in at a place, in room that is there. It takes no memory. It moves the items before the place or those behind it,

@@ -197,6 +197,7 @@ impl<const LAST: u32> PlacedCells<LAST> {
     }
 
     // Puts the cell of a dot that isn't placed in at its place, in room that is there.
+    #[inline(always)]
     pub(crate) fn insert(&mut self, place: usize, cell: LiveDot) -> CellId
         requires gap { IsGap (cells_of self.old) cell.dot place }
         requires room { length self.old.dots < self.old.room }
