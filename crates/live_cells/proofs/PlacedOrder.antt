@@ -1,5 +1,5 @@
 -- Live dots that rise, each with its id: which are among them, and where.
-use Rattle.std.proofs.Common.{◌≡◌, ◌≢◌, ℕ, ◌≤◌, ◌<◌, Bool, true, false, cond, ◌||◌, List, [], ◌∷◌, length, get_or, is_some, Some, None, refl, sym, ap, ◌∙◌, subst}
+use Rattle.std.proofs.Common.{◌≡◌, ◌≢◌, ℕ, ◌+◌, ◌≤◌, ◌<◌, Bool, true, false, cond, ◌||◌, List, [], ◌∷◌, length, get_or, is_some, Some, None, refl, sym, ap, ◌∙◌, subst, arith}
 use Rattle.std.specs.List.{AllWithin}
 use Rattle.std.specs.List.Sorted.{IsPartitionedBy}
 use Rattle.std.specs.Ordering.{is_lt, eq_by_cmp}
@@ -24,6 +24,10 @@ module _ {X : Type 0} (p : X → Bool) (xs : List X) where
   passed_all i x parted l is h k d lo hi =
       let here : p (get_or xs i d) ≡ false = subst (λ y. p y ≡ false) (is ∙ get_or_default xs i x d l) h in
       false_from_ne_true (p (get_or xs k d)) (λ t. let early = parted i k d lo hi t in absurd (cc))
+
+  -- one that does: all before it do
+  pub passed_upto : (i : ℕ) → IsPartitionedBy p xs → i < length xs → AllWithin (λ y. p y ≡ true) xs i (i + 1) → AllWithin (λ y. p y ≡ true) xs 0 (i + 1)
+  passed_upto i parted l here k d lo hi = parted k i d (omega arith) l (here i d (omega arith) (omega arith))
 
 -- they rise
 abbrev pub Rise : List Placed → Type 0

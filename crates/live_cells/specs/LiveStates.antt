@@ -1,5 +1,5 @@
 -- What contracts see of live dots: the member and the fields of each, its id, the ids that are spent, and room.
-use Rattle.std.specs.Prelude.{ℕ, ◌≡◌, ◌≤◌, ◌+◌, ◌*◌, Bool, Option, Some, None, refl, if◌then◌else◌}
+use Rattle.std.specs.Prelude.{ℕ, ◌≡◌, ◌≤◌, ◌+◌, ◌*◌, Bool, not, ◌&&◌, Option, Some, None, refl, if◌then◌else◌}
 use Rattle.std.specs.FinMap as map
 use Rattle.std.specs.FinSet as set
 use Rattle.std.specs.Coded.{Coded, code_by, coded×, coded_ℕ}
@@ -7,7 +7,7 @@ use Rattle.dots.specs.Values.{Dot}
 use Rattle.dots.specs.Orders.{dot_cmp}
 use Rattle.dots.specs.DotSets.{dot_code}
 use Rattle.operations.specs.Codes.{member_code, fields_code}
-use Rattle.operations.specs.Conditions.{DotFields, FieldsAgree, fields_joined}
+use Rattle.operations.specs.Conditions.{DotFields, fields_joined}
 use Rattle.op_arena.specs.Ids.{Id, id_code}
 use Rattle.live_cells.specs.CellIds.{AreIdsApart, IdMap, IdSet, IdsFollow, IsNew, retired_of}
 use Rattle.live_cells.specs.Holdings.{Holding}
@@ -51,17 +51,18 @@ pub record HasId (s : LiveState) (id : Id) (h : Holding) : Type 0 where
   pub named : map.get s.ids dot ≡ Some id
   pub live : map.get s.live dot ≡ Some h
 
--- a live dot whose fields agree with others
-pub record TakesFields (live : map.FinMap dot_cmp Holding) (dot : Dot) (fields : DotFields) : Type 0 where
-  pub before : Holding
-  pub held : map.get live dot ≡ Some before
-  pub agree : FieldsAgree before.1 fields
+-- live dots where the fields of one of them are joined with others
+abbrev pub met_with : map.FinMap dot_cmp Holding → Dot → DotFields → Option Holding → map.FinMap dot_cmp Holding
+met_with live dot fields None = live
+met_with live dot fields (Some h) = map.insert live dot (h.0, fields_joined h.1 fields)
 
--- its fields are joined with them
-pub record HasTakenDot (live : map.FinMap dot_cmp Holding) (dot : Dot) (fields : DotFields) (after : map.FinMap dot_cmp Holding) : Type 0 where
-  pub before : Holding
-  pub held : map.get live dot ≡ Some before
-  pub now : after ≡ map.insert live dot (before.0, fields_joined before.1 fields)
+-- live dots where the fields of a dot are joined with others, if it is live
+abbrev pub fields_met : map.FinMap dot_cmp Holding → Dot → DotFields → map.FinMap dot_cmp Holding
+fields_met live dot fields = met_with live dot fields (map.get live dot)
+
+-- whether a dot is known there and not live
+abbrev pub dead_there : set.FinSet dot_cmp → map.FinMap dot_cmp Holding → Dot → Bool
+dead_there known there dot = set.contains known dot && not (map.contains_key there dot)
 
 -- the dots that pass a test are live no more, and their ids are spent; the others are as before, and no less room is left
 pub record IsThinned (dead : Dot → Bool) (old new : LiveState) : Type 0 where

@@ -1,33 +1,42 @@
 //! Cells that are freed, and the lists without their ids.
-ghost use Rattle.std.specs.Prelude.{◌≡◌, ◌≤◌, Bool, filter};
+ghost use Rattle.std.specs.Prelude.{◌≡◌, ◌≤◌, filter};
 ghost use Rattle.std.specs.FinMap as map;
-ghost use Rattle.dots.specs.Values.{Dot as dot_value};
 ghost use Rattle.live_cells.specs.Freed.{AreChosen, AreFreed, with_cells};
+ghost use Rattle.live_cells.specs.LiveStates.{dead_there};
 ghost use Rattle.live_cells.specs.PlacedStates.{ArePlaced};
 
+use crate::cursor::Cursor;
 use crate::live_dot::LiveDot;
 use crate::placed::Placed;
 use crate::placed_cells::PlacedCells;
+use causal_context::Context;
 use devector::Devector;
 use dots::Dot;
 use op_arena::{Arena, CellId};
 
-// Frees the cells of the dots that a test passes.
-pub(crate) fn free_cells<const LAST: u32, F: Fn(Dot) -> bool>(
+// Whether a dot is known and not live there.
+fn is_dead(known: &Context, there: &mut Cursor<'_>, dot: Dot) -> bool
+    ensures value { result ≡ dead_there known.now.dots there.old dot }
+    ensures same { there.new ≡ there.old }
+{
+    known.contains(dot) && there.get(dot).is_none()
+}
+
+// Frees the cells of the dots of a context that aren't live there.
+pub(crate) fn free_cells<const LAST: u32>(
     cells: &mut Arena<LiveDot, LAST>,
     dots: &[Placed],
-    dies: F,
+    known: &Context,
+    mut there: Cursor<'_>,
 )
-    requires placed { ArePlaced dots.now cells.old.held cells.old.spent }
-    requires callable { F.IsAlwaysCallable dies }
+    requires { ArePlaced dots.now cells.old.held cells.old.spent }
     ensures freed { AreFreed dots.now cells.old.held cells.old.spent cells.new.held cells.new.spent }
-    ensures chosen { (test : dot_value → Bool)
-        → ((dot : dot_value) (b : Bool) → F.post dies dot b → b ≡ test dot)
-        → AreChosen test dots.now cells.old.held cells.new.held }
+    ensures chosen { AreChosen (dead_there known.now.dots there.entry) dots.now cells.old.held
+        cells.new.held }
     ensures spare { cells.old.spare ≤ cells.new.spare }
 {
     for placed in dots {
-        if dies(placed.dot) {
+        if is_dead(known, &mut there, placed.dot) {
             let _ = cells.take(placed.id);
         }
     }

@@ -5,6 +5,7 @@
 mod cell;
 mod cells_builder;
 mod cells_lent;
+mod cursor;
 mod dots_lent;
 mod freeing;
 mod latest;
@@ -26,6 +27,7 @@ mod taken_cells;
 pub use cell::Cell;
 pub use cells_builder::CellsBuilder;
 pub use cells_lent::Cells;
+pub use cursor::Cursor;
 pub use dots::Memory;
 pub use dots_lent::Dots;
 pub use live_cells::LiveCells;

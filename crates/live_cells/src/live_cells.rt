@@ -1,21 +1,23 @@
 ghost use Rattle.std.specs.Prelude.{◌≡◌, ◌+◌, ◌<◌, ◌≤◌, ◌↔◌, ◌≢◌, [], IsOk, IsTrue, length};
-ghost use Rattle.std.specs.Prelude.{Bool, IfOk, IfSome, IsSome, OnOk, Err, None};
+ghost use Rattle.std.specs.Prelude.{IfOk, IfSome, IsSome, OnOk, Err, None};
 ghost use Rattle.std.specs.Option.{option_map, option_or};
 ghost use Rattle.std.specs.FinMap as map;
 ghost use Rattle.std.specs.FinSet as set;
 ghost use Rattle.std.specs.Vec.{vec_capacity};
 ghost use Rattle.dots.specs.Values.{Dot};
+ghost use Rattle.operations.specs.Conditions.{FieldsAgree};
 ghost use Rattle.operations.specs.Rows.{dots_of, row_of, rows_of};
 ghost use Rattle.operations.specs.Views.{row_view};
 ghost use Rattle.live_cells.specs.CellIds.{IsNew, retired_of};
 ghost use Rattle.live_cells.specs.LiveLists.{live_of};
-ghost use Rattle.live_cells.specs.LiveStates.{AreLive, HasId, HasTakenDot, TakesFields, spent_with};
+ghost use Rattle.live_cells.specs.LiveStates.{AreLive, HasId, dead_there, fields_met, spent_with};
 ghost use Rattle.live_cells.specs.PlacedLists.{id_entries, is_placed};
 ghost use Rattle.live_cells.specs.PlacedStates.{IsPlaced, cells_of};
 ghost use Rattle.live_cells.specs.LiveStates.{HaveGrown, IsThinned, most_places};
 ghost use Rattle.live_cells.specs.Holdings.{IsPresentIn, view_of, cell_read};
 
 use crate::cells_lent::Cells;
+use crate::cursor::Cursor;
 use crate::dots_lent::Dots;
 use crate::freeing::keep_ids;
 use crate::live_dot::LiveDot;
@@ -28,6 +30,7 @@ use crate::places::LAST_GENERATION;
 use crate::rows_lent::Rows;
 use crate::taken_cells::TakenCells;
 use crate::{Cell, Row};
+use causal_context::Context;
 use devector::Devector;
 use dots::{Dot, Member, Memory};
 use lww_registers::Fields;
@@ -255,31 +258,23 @@ impl<const LAST: u32> LiveCells<LAST> {
         merge_members(&self.placed, &mut self.members, &ids);
     }
 
-    /// Lets the dots be live no more that pass a test, whose ids are spent then. The test should answer a dot alike
-    /// each time: else it isn't said which dots go. The lists of ids are walked as a whole, however few go.
-    pub fn thin<F: Fn(Dot) -> bool>(&mut self, dies: F)
-        requires { F.IsAlwaysCallable dies }
-        ensures thinned { (test : Dot → Bool)
-            → ((dot : Dot) (b : Bool) → F.post dies dot b → b ≡ test dot)
-            → IsThinned test self.old self.new }
-        ensures few { map.len self.new.live ≤ map.len self.old.live }
-    {
-        self.placed.thin(dies);
-        keep_ids(&self.placed, &mut self.members);
-    }
-
-    /// Joins the fields of a live dot with others that agree with them. It takes no memory.
-    pub fn join_fields(&mut self, dot: Dot, fields: Fields)
-        requires { TakesFields self.old.live dot fields }
-        ensures live { HasTakenDot self.old.live dot fields self.new.live }
+    /// Joins the fields of a dot with others that agree with them, where it is live. It takes no memory. How many dots are
+    /// live before it is guessed, so that it isn't searched for where that is right, and the guess for the dot behind it is
+    /// answered.
+    pub fn meet(&mut self, guess: usize, dot: Dot, fields: &Fields) -> usize
+        requires { IfSome (map.get self.old.live dot) (λ h. FieldsAgree h.1 fields.now) }
+        ensures live { self.new.live ≡ fields_met self.old.live dot fields.now }
         ensures ids { self.new.ids ≡ self.old.ids }
         ensures spent { self.new.spent ≡ self.old.spent }
         ensures room { self.old.room ≤ self.new.room }
     {
-        let Ok(place) = self.placed.find(dot) else {
-            unreachable!()
-        };
-        self.placed.join_fields(place, fields);
+        match self.placed.find_from(guess, dot) {
+            Ok(place) => {
+                self.placed.join_fields(place, fields);
+                place + 1
+            }
+            Err(place) => place,
+        }
     }
 
     /// The same live dots once more, in a new arena, with ids of their own, of which none is spent. The one fault is want of
@@ -312,6 +307,23 @@ impl LiveCells<LAST_GENERATION> {
         ensures { result ≡ map.entries self.now.live }
     {
         Cells::of(&self.placed)
+    }
+
+    /// A cursor, to look for many dots in their order. Only there for the last generation of sets, `LAST_GENERATION`.
+    pub fn cursor(&self) -> Cursor<'_>
+        ensures { result ≡ self.now.live }
+    {
+        Cursor::of(&self.placed)
+    }
+
+    /// Lets the dots of a context be live no more that aren't live there, whose ids are spent then. The lists of ids are
+    /// walked as a whole, however few go. Only there for the last generation of sets, `LAST_GENERATION`.
+    pub fn thin(&mut self, known: &Context, there: &Self)
+        ensures thinned { IsThinned (dead_there known.now.dots there.now.live) self.old self.new }
+        ensures few { map.len self.new.live ≤ map.len self.old.live }
+    {
+        self.placed.thin(known, there.cursor());
+        keep_ids(&self.placed, &mut self.members);
     }
 
     /// The live dots of a member, in their order. Only there for the last generation of sets, `LAST_GENERATION`.

@@ -93,7 +93,8 @@ pub(crate) fn merge_members<const LAST: u32>(
     }
 }
 
-// The id that the cell of an id has in a copy.
+// The id that the cell of an id has in a copy. It is looked for first where it stands if cells came in the order of their dots,
+// as they do in what was read or copied.
 fn id_in<const LAST: u32>(
     index: MemberIndex<'_, LAST>,
     id: CellId,
@@ -104,7 +105,7 @@ fn id_in<const LAST: u32>(
         → IsSomeAnd result (λ copied. map.get copy.now.held copied ≡ Some cell) }
 {
     let cell = index.cells.cell(id)?;
-    match copy.find(cell.dot) {
+    match copy.find_from(id.index() as usize, cell.dot) {
         Ok(place) => Some(copy.id_at(place)),
         Err(_) => None,
     }

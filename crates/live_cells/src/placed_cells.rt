@@ -1,12 +1,11 @@
-ghost use Rattle.std.specs.Prelude.{ℕ, ◌≡◌, ◌+◌, ◌*◌, ◌<◌, ◌≤◌, ◌↔◌, [], true, false, length};
-ghost use Rattle.std.specs.Prelude.{Bool, IfErr, IfOk, IsOk, IsTrue, List, OnOk, slice_index_or, slice_set};
+ghost use Rattle.std.specs.Prelude.{ℕ, ◌≡◌, ◌+◌, ◌*◌, ◌^◌, ◌<◌, ◌≤◌, ◌↔◌, [], true, false, length};
+ghost use Rattle.std.specs.Prelude.{IfErr, IfOk, IsOk, IsTrue, List, OnOk, slice_index_or, slice_set};
 ghost use Rattle.std.specs.FinMap as map;
 ghost use Rattle.std.specs.FinSet as set;
 ghost use Rattle.std.specs.List.{AllWithin, insert, remove};
 ghost use Rattle.std.specs.Option.{option_copied};
 ghost use Rattle.std.specs.Ordering.{is_lt};
 ghost use Rattle.operations.specs.Conditions.{FieldsAgree};
-ghost use Rattle.dots.specs.Values.{Dot as dot_value};
 ghost use Rattle.dots.specs.Orders.{dot_cmp};
 ghost use Rattle.op_arena.specs.Ids.{Id, id_of};
 ghost use Rattle.live_cells.specs.declared.live_dot.LiveDot.{LiveDot as live_dot};
@@ -17,8 +16,9 @@ ghost use Rattle.live_cells.specs.LiveLists.{IsCellAt, IsGap, entries_of};
 ghost use Rattle.live_cells.specs.Moves.{AreMoved};
 ghost use Rattle.live_cells.specs.PlacedStates.{AreIndexed, IsPlaced, cells_of, joined_with};
 ghost use Rattle.live_cells.specs.PlacedLists.{id_entries, is_placed};
-ghost use Rattle.live_cells.specs.LiveStates.{most_places};
+ghost use Rattle.live_cells.specs.LiveStates.{dead_there, most_places};
 
+use crate::cursor::Cursor;
 use crate::freeing::{free_cells, keep_dots};
 use crate::live_dot::LiveDot;
 use crate::moving::move_cells;
@@ -26,6 +26,7 @@ use crate::placed::Placed;
 use crate::placed_dots::PlacedDots;
 use crate::placed_lists::merge_dots;
 use crate::taken_cells::TakenCells;
+use causal_context::Context;
 use devector::Devector;
 use dots::{Dot, Memory};
 use lww_registers::Fields;
@@ -61,13 +62,13 @@ impl<const LAST: u32> Model for PlacedCells<LAST> {
 }
 
 // Joins the fields of the cell of an id with others, where it is held.
-fn join_held<const LAST: u32>(cells: &mut Arena<LiveDot, LAST>, id: CellId, fields: Fields)
+fn join_held<const LAST: u32>(cells: &mut Arena<LiveDot, LAST>, id: CellId, fields: &Fields)
     requires { (cell : live_dot) → map.get cells.old.held id ≡ Some cell
-        → FieldsAgree cell.fields fields }
+        → FieldsAgree cell.fields fields.now }
     ensures held { (cell : live_dot) → map.get cells.old.held id ≡ Some cell
         → cells.new.held
         ≡ map.insert cells.old.held id
-        (joined_with cell fields) }
+        (joined_with cell fields.now) }
     ensures spent { cells.new.spent ≡ cells.old.spent }
     ensures spare { cells.new.spare ≡ cells.old.spare }
 {
@@ -140,8 +141,18 @@ impl<const LAST: u32> PlacedCells<LAST> {
         ensures missed { IfErr result (IsGap (cells_of self.now) dot) }
         ensures valid { IsPlaced self.now }
     {
+        self.find_from(0, dot)
+    }
+
+    // The same, where a guess is looked at first.
+    pub(crate) fn find_from(&self, guess: usize, dot: Dot) -> Result<usize, usize>
+        ensures found { IfOk result (IsCellAt (cells_of self.now) dot) }
+        ensures missed { IfErr result (IsGap (cells_of self.now) dot) }
+        ensures limit { IfOk result (λ place. place + 1 < 2 ^ 64) }
+        ensures valid { IsPlaced self.now }
+    {
         let dots = self.placed();
-        let place = dots.place(dot);
+        let place = dots.place_from(guess, dot);
         if place == dots.list.len() {
             return Err(place);
         }
@@ -237,35 +248,33 @@ impl<const LAST: u32> PlacedCells<LAST> {
         self.cells.take(placed.id).unwrap()
     }
 
-    // Lets the dots be placed no more that pass a test. The list of dots is walked twice: first cells are freed, then
-    // the dots without a cell are left out.
-    pub(crate) fn thin<F: Fn(Dot) -> bool>(&mut self, dies: F)
-        requires { F.IsAlwaysCallable dies }
+    // Lets the dots of a context be placed no more that aren't live there. The list of dots is walked twice: first cells are
+    // freed, then the dots without a cell are left out.
+    pub(crate) fn thin(&mut self, known: &Context, there: Cursor<'_>)
         ensures freed { AreFreed self.old.dots self.old.held self.old.spent self.new.held
             self.new.spent }
-        ensures chosen { (test : dot_value → Bool)
-            → ((dot : dot_value) (b : Bool) → F.post dies dot b → b ≡ test dot)
-            → AreChosen test self.old.dots self.old.held self.new.held }
+        ensures chosen { AreChosen (dead_there known.now.dots there.entry) self.old.dots
+            self.old.held self.new.held }
         ensures dots { self.new.dots ≡ with_cells self.new.held self.old.dots }
         ensures room { self.old.room + length self.new.dots ≤ self.new.room + length self.old.dots }
         ensures valid { IsPlaced self.new }
     {
-        free_cells(&mut self.cells, self.dots.as_slice(), dies);
+        free_cells(&mut self.cells, self.dots.as_slice(), known, there);
         keep_dots(&self.cells, &mut self.dots);
     }
 
     // Joins the fields of the cell at a place with others that agree with them.
-    pub(crate) fn join_fields(&mut self, place: usize, fields: Fields)
+    pub(crate) fn join_fields(&mut self, place: usize, fields: &Fields)
         requires within { place < length self.old.dots }
         requires agree { (d : live_dot)
-            → FieldsAgree (slice_index_or (cells_of self.old) place d).fields fields }
+            → FieldsAgree (slice_index_or (cells_of self.old) place d).fields fields.now }
         ensures dots { self.new.dots ≡ self.old.dots }
         ensures held { (p : placed_dot) (d : live_dot) → self.new.held
             ≡ map.insert self.old.held (slice_index_or self.old.dots place p).id
-            (joined_with (slice_index_or (cells_of self.old) place d) fields) }
+            (joined_with (slice_index_or (cells_of self.old) place d) fields.now) }
         ensures cells { (d : live_dot) → cells_of self.new
             ≡ slice_set (cells_of self.old) place
-            (joined_with (slice_index_or (cells_of self.old) place d) fields) }
+            (joined_with (slice_index_or (cells_of self.old) place d) fields.now) }
         ensures spent { self.new.spent ≡ self.old.spent }
         ensures room { self.new.room ≡ self.old.room }
         ensures valid { IsPlaced self.new }

@@ -66,6 +66,38 @@ impl<'a> PlacedDots<'a> {
         self.list[place].dot < dot
     }
 
+    // Whether a place is that of a dot: all before it lie before the dot, and no others.
+    fn is_place(self, place: usize, dot: Dot) -> bool
+        ensures within { result ≡ true → place ≤ length self.entry.list.now }
+        ensures before { result ≡ true
+            → AllWithin (λ p. is_lt (dot_cmp p.dot dot) ≡ true) self.entry.list.now 0 place }
+        ensures after { result ≡ true
+            → AllWithin (λ p. is_lt (dot_cmp p.dot dot) ≡ false) self.entry.list.now place
+            (length self.entry.list.now) }
+    {
+        if self.is_passed(place, dot) {
+            return false;
+        }
+        if place == 0 {
+            return true;
+        }
+        self.is_passed(place - 1, dot)
+    }
+
+    // How many of them lie before a dot. So many as are guessed are looked at first, and else they are found by halving.
+    pub(crate) fn place_from(self, guess: usize, dot: Dot) -> usize
+        ensures within { result ≤ length self.entry.list.now }
+        ensures before { AllWithin (λ p. is_lt (dot_cmp p.dot dot) ≡ true) self.entry.list.now 0
+            result }
+        ensures after { AllWithin (λ p. is_lt (dot_cmp p.dot dot) ≡ false) self.entry.list.now
+            result (length self.entry.list.now) }
+    {
+        if self.is_place(guess, dot) {
+            return guess;
+        }
+        self.place(dot)
+    }
+
     /// Those of a run. They are found by halving.
     pub fn dots_in(self, run: Run) -> &'a [Placed]
         ensures { result.now ≡ filter (λ p. in_run p.dot run) self.entry.list.now }

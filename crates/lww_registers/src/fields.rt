@@ -63,14 +63,14 @@ impl Fields {
     }
 
     /// Joins the other's fields into these: each keeps the value of its greatest stamp. The two agree.
-    pub fn join(&mut self, other: Fields)
-        requires { FieldsAgree self.old other }
-        ensures { self.new ≡ fields_joined self.old other }
+    pub fn join(&mut self, other: &Fields)
+        requires { FieldsAgree self.old other.now }
+        ensures { self.new ≡ fields_joined self.old other.now }
     {
-        self.penalty.join(other.penalty);
-        self.pause.join(other.pause);
-        self.label.join(other.label);
-        self.ring.join(other.ring);
+        self.penalty.join(&other.penalty);
+        self.pause.join(&other.pause);
+        self.label.join(&other.label);
+        self.ring.join(&other.ring);
     }
 
     /// Whether both hold the same in each field.

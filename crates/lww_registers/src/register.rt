@@ -82,9 +82,9 @@ impl<T: FieldValue> Register<T> {
     }
 
     /// Joins the other into this one: the value of the greatest stamp is kept. The two agree.
-    pub fn join(&mut self, other: Register<T>)
-        requires { RegistersAgree self.old other }
-        ensures { self.new ≡ join_of self.old other }
+    pub fn join(&mut self, other: &Register<T>)
+        requires { RegistersAgree self.old other.now }
+        ensures { self.new ≡ join_of self.old other.now }
     {
         let takes_other = match (&self.entry, &other.entry) {
             (Some((stamp, _)), Some((other_stamp, _))) => *stamp < *other_stamp,
@@ -92,7 +92,7 @@ impl<T: FieldValue> Register<T> {
             _ => false,
         };
         if takes_other {
-            self.entry = other.entry;
+            *self = other.copy();
         }
     }
 

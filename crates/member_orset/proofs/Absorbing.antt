@@ -13,8 +13,8 @@ use Rattle.dots.proofs.DotOrder.{dots_total}
 use Rattle.dots.proofs.KeySets.{len_of_keys}
 use Rattle.op_arena.specs.Ids.{Id}
 use Rattle.live_cells.specs.CellIds.{IdsFollow}
-use Rattle.member_orset.specs.Joining.{EntriesAgree, IsJoinedWith, dead_there, holding_joined, holding_with, HoldingsAgree}
-use Rattle.live_cells.specs.LiveStates.{LiveState, IsThinned}
+use Rattle.member_orset.specs.Joining.{EntriesAgree, IsJoinedWith, holding_joined, holding_with, HoldingsAgree}
+use Rattle.live_cells.specs.LiveStates.{IsThinned, LiveState, dead_there}
 use Rattle.member_orset.specs.Members.{AreKept, SetsAgree, HasField, Members, both_joined, cells_joined, condition_at, joined_dots, AreOfTheDead}
 use Rattle.member_orset.proofs.Agreeing.{agree_back}
 use Rattle.member_orset.proofs.Deaths.{still_dead}

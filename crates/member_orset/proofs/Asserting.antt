@@ -18,6 +18,7 @@ use Rattle.dots.specs.DotSets.{run_count}
 use Rattle.operations.specs.Conditions.{ConditionsAgree, Dead, DotFields, Live, condition_joined, fields_joined}
 use Rattle.dots.proofs.DotOrder.{dots_total}
 use Rattle.dots.proofs.OneMoreDot.{insert_known}
+use Rattle.live_cells.specs.LiveStates.{fields_met, met_with}
 use Rattle.member_orset.specs.declared.join_fault.JoinFault.{JoinFault}
 use Rattle.member_orset.specs.declared.join_fault.JoinFault.TheVariants.{Conflict}
 use Rattle.member_orset.specs.Refusals.{IsRefusedAssert}
@@ -26,7 +27,7 @@ use Rattle.member_orset.proofs.Agreeing.{conditions_apart, conflict_at}
 use Rattle.live_cells.proofs.DotTests.{one_dot, same_itself}
 use Rattle.member_orset.proofs.FieldReadings.{joined_field}
 use Rattle.live_cells.specs.Holdings.{Holding}
-use Rattle.member_orset.specs.Joining.{HoldingsAgree, HoldingsInConflict, fields_met, met_with}
+use Rattle.member_orset.specs.Joining.{HoldingsAgree, HoldingsInConflict}
 
 -- what an answer leaves, and what it says
 pub either : {E : Type 0} (r : Result (Unit {0}) E) (A : Type 0) → OnOk r A → OnErr r A → A

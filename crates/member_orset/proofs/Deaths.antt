@@ -15,9 +15,9 @@ use Rattle.op_arena.specs.Ids.{id_cmp}
 use Rattle.op_arena.proofs.IdOrder.{ids_exact, ids_total}
 use Rattle.live_cells.specs.declared.places.TheConstants.{LAST_GENERATION}
 use Rattle.live_cells.specs.CellIds.{IdMap, IdSet, IdsFollow, retired_of}
+use Rattle.live_cells.specs.LiveStates.{fields_met, met_with}
 use Rattle.member_orset.specs.Members.{AreKept, most_retired, AreOfTheDead, dead_among}
 use Rattle.live_cells.proofs.DotTests.{one_dot}
-use Rattle.member_orset.specs.Joining.{fields_met, met_with}
 use Rattle.live_cells.specs.Holdings.{Holding}
 
 -- sets of dots

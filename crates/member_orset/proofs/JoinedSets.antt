@@ -13,7 +13,8 @@ use Rattle.dots.specs.Values.{Dot}
 use Rattle.dots.specs.Orders.{dot_cmp}
 use Rattle.dots.proofs.DotOrder.{dots_total, dots_exact}
 use Rattle.live_cells.specs.declared.placed.Placed.{Placed}
-use Rattle.member_orset.specs.Joining.{dead_there, holding_joined}
+use Rattle.live_cells.specs.LiveStates.{dead_there}
+use Rattle.member_orset.specs.Joining.{holding_joined}
 use Rattle.member_orset.specs.LiveDots.{live_dots_without}
 use Rattle.member_orset.specs.Members.{Members, both_joined, cells_joined, is_live, joined_dots}
 use Rattle.live_cells.specs.PlacedLists.{id_entries, is_placed}

@@ -11,12 +11,11 @@ use Rattle.dots.specs.WithinLimits.{AreDots}
 use Rattle.causal_context.specs.Contexts.{Known}
 use Rattle.live_cells.specs.declared.places.TheConstants.{LAST_GENERATION}
 use Rattle.live_cells.specs.CellIds.{IdSet, retired_of}
-use Rattle.live_cells.specs.LiveStates.{AreLive, LiveState, spent_with}
+use Rattle.live_cells.specs.LiveStates.{AreLive, LiveState, fields_met, spent_with}
 use Rattle.member_orset.specs.Members.{AreKept, HasField, IsSet, IsWithinLimits, most_retired}
 use Rattle.member_orset.proofs.Asserting.{held_inserted, held_met, held_more, held_none, held_removed, insert_has, insert_more}
 use Rattle.member_orset.proofs.Deaths.{few_retired, heard_keys, more_dead, none_spent, removed_dead, removed_named, same_dead, same_keys, stays_dead, still_dead}
 use Rattle.live_cells.proofs.IdSteps.{follow_remove}
-use Rattle.member_orset.specs.Joining.{fields_met}
 use Rattle.live_cells.specs.Holdings.{Holding}
 
 -- sets of dots

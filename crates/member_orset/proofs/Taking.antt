@@ -1,6 +1,6 @@
 -- Cells of the other side that are taken in, one by one.
-use Rattle.std.proofs.Common.{◌≡◌, ◌≤◌, Bool, true, false, true≢false, cond, List, [], ◌∷◌, ◌++◌, Option, Some, None, is_some, refl, sym, ap, subst, ◌∙◌, ◌⊎◌, inl, inr, arith}
-use Rattle.std.specs.Prelude.{if◌then◌else◌}
+use Rattle.std.proofs.Common.{◌≡◌, ◌+◌, ◌≤◌, Bool, true, false, true≢false, cond, List, [], ◌∷◌, ◌++◌, Option, Some, None, is_some, refl, sym, ap, subst, ◌∙◌, ◌⊎◌, inl, inr, arith}
+use Rattle.std.specs.Prelude.{IfSome, if◌then◌else◌}
 use Rattle.std.specs.Ordering.{eq_by_cmp}
 use Rattle.std.specs.FinMap as map
 use Rattle.std.specs.FinMap.Entries.{find, is_sorted}
@@ -9,7 +9,7 @@ use Rattle.std.specs.Option.{option_or}
 use Rattle.std.proofs.lemmas.Bool.{cases_Bool}
 use Rattle.dots.specs.Values.{Dot}
 use Rattle.dots.specs.Orders.{dot_cmp}
-use Rattle.operations.specs.Conditions.{fields_joined}
+use Rattle.operations.specs.Conditions.{DotFields, FieldsAgree, fields_joined}
 use Rattle.dots.proofs.DotOrder.{dots_total}
 use Rattle.general_lemmas.proofs.Membership.{in_any}
 use Rattle.general_lemmas.proofs.SortedEntries.{find_below, rising_head, rising_tail}
@@ -17,30 +17,61 @@ use Rattle.op_arena.specs.Ids.{Id}
 use Rattle.live_cells.specs.declared.live_dot.LiveDot.{LiveDot}
 use Rattle.live_cells.specs.declared.placed.Placed.{Placed}
 use Rattle.live_cells.specs.CellIds.{IsNew}
-use Rattle.member_orset.specs.Joining.{IsJoinedWith, IsTakenIn, holding_with}
+use Rattle.member_orset.specs.Joining.{AreNewLeft, HoldingsAgree, IsJoinedWith, IsTakenIn, holding_with}
 use Rattle.live_cells.specs.LiveLists.{holding}
-use Rattle.live_cells.specs.LiveStates.{HasTakenDot, LiveState, HaveGrown}
+use Rattle.live_cells.specs.LiveStates.{LiveState, HaveGrown, fields_met, met_with}
 use Rattle.live_cells.specs.PlacedLists.{is_placed}
 use Rattle.member_orset.proofs.Asserting.{len_again, len_one_more}
 use Rattle.live_cells.proofs.DotTests.{one_dot}
-use Rattle.live_cells.proofs.IdSteps.{grown_same, look}
+use Rattle.live_cells.proofs.IdSteps.{grown_same, grown_twice, look}
 use Rattle.live_cells.specs.Holdings.{Holding}
 
 -- where its dot is live here too
-pub taken_joined : (known : Dot → Bool) (s t : LiveState) (c : LiveDot) → HasTakenDot s.live c.dot c.fields t.live → t.ids ≡ s.ids → t.spent ≡ s.spent → s.room ≤ t.room → IsTakenIn known s c t
-taken_joined known s t c h ids spent room =
-    let x : Holding = (h.before.0, fields_joined h.before.1 c.fields) in
+taken_joined : (known : Dot → Bool) (s t : LiveState) (c : LiveDot) (h : Holding) → map.get s.live c.dot ≡ Some h → t.live ≡ map.insert s.live c.dot (h.0, fields_joined h.1 c.fields) → t.ids ≡ s.ids → t.spent ≡ s.spent → s.room ≤ t.room → IsTakenIn known s c t
+taken_joined known s t c h held now ids spent room =
+    let x : Holding = (h.0, fields_joined h.1 c.fields) in
     record {
-      live = λ q. ap (λ m. map.get m q) h.now ∙ map.get-insert dots_total s.live c.dot x q ∙ at q (eq_by_cmp dot_cmp q c.dot) (one_dot q c.dot);
+      live = λ q. ap (λ m. map.get m q) now ∙ map.get-insert dots_total s.live c.dot x q ∙ at q (eq_by_cmp dot_cmp q c.dot) (one_dot q c.dot);
       ids = grown_same s t ids spent;
-      few = let same = len_again s.live c.dot h.before x h.held in let now = ap map.len h.now in omega arith;
+      few = let same = len_again s.live c.dot h x held in let len = ap map.len now in omega arith;
       room = room;
     }
   where
     at : (q : Dot) (b : Bool) → (b ≡ true → q ≡ c.dot)
-        → cond b (Some (h.before.0, fields_joined h.before.1 c.fields)) (map.get s.live q) ≡ (if b then holding_with (map.get s.live q) (known q) (Some (holding c)) else map.get s.live q)
-    at q true same = ap (λ o. holding_with o (known q) (Some (holding c))) (sym (ap (map.get s.live) (same refl) ∙ h.held))
+        → cond b (Some (h.0, fields_joined h.1 c.fields)) (map.get s.live q) ≡ (if b then holding_with (map.get s.live q) (known q) (Some (holding c)) else map.get s.live q)
+    at q true same = ap (λ o. holding_with o (known q) (Some (holding c))) (sym (ap (map.get s.live) (same refl) ∙ held))
     at q false same = refl
+
+-- where its dot is known here
+pub taken_met : (known : Dot → Bool) (s t : LiveState) (c : LiveDot) → (map.get s.live c.dot ≡ None → known c.dot ≡ true) → t.live ≡ fields_met s.live c.dot c.fields → t.ids ≡ s.ids → t.spent ≡ s.spent → s.room ≤ t.room → IsTakenIn known s c t
+taken_met known s t c dead now ids spent room = elim (look (map.get s.live c.dot)) [
+  | inl none ↦
+      let same : t.live ≡ s.live = now ∙ ap (met_with s.live c.dot c.fields) none in
+      record {
+        live = λ q. ap (λ m. map.get m q) same ∙ at q none (eq_by_cmp dot_cmp q c.dot) (one_dot q c.dot);
+        ids = grown_same s t ids spent;
+        few = let len = ap map.len same in omega arith;
+        room = room;
+      }
+  | inr h ↦ taken_joined known s t c h.0 h.1 (now ∙ ap (met_with s.live c.dot c.fields) h.1) ids spent room
+]
+  where
+    at : (q : Dot) → map.get s.live c.dot ≡ None → (b : Bool) → (b ≡ true → q ≡ c.dot) → map.get s.live q ≡ (if b then holding_with (map.get s.live q) (known q) (Some (holding c)) else map.get s.live q)
+    at q none true same = ap (map.get s.live) (same refl) ∙ none ∙ (λ i. holding_with (sym (ap (map.get s.live) (same refl) ∙ none) i) (sym (ap known (same refl) ∙ dead none) i) (Some (holding c)))
+    at q none false same = refl
+
+-- as many dots are live then
+pub len_met : (live : map.FinMap dot_cmp Holding) (d : Dot) (f : DotFields) → map.len (fields_met live d f) ≡ map.len live
+len_met live d f = at (map.get live d) refl
+  where
+    at : (o : Option Holding) → map.get live d ≡ o → map.len (met_with live d f o) ≡ map.len live
+    at None e = refl
+    at (Some h) e = len_again live d h (h.0, fields_joined h.1 f) e
+
+-- what agrees with what is live agrees with its fields
+pub met_agrees : (o : Option Holding) (g : Holding) → HoldingsAgree o g → IfSome o (λ h. FieldsAgree h.1 g.1)
+met_agrees None g a = tt
+met_agrees (Some h) g a = a.1
 
 -- where its dot is unknown here
 pub taken_new : (known : Dot → Bool) (s t : LiveState) (c : LiveDot) (id : Id) → map.get s.ids c.dot ≡ None → map.get s.live c.dot ≡ None → known c.dot ≡ false
@@ -88,13 +119,67 @@ unknown_apart known here there ps placed all heard q live =
     let unknown : known q ≡ false = ap known (one_dot q found.0.dot found.2 ∙ sym (ap (λ p. p.dot) found.1.2)) ∙ all found.1.0 found.0 found.1.1 in
     (elim (look (map.get here q)) [ inl none ↦ none | inr h ↦ absurd (true≢false (sym (heard q (ap is_some h.1)) ∙ unknown)) ], unknown)
 
--- so it is taken in by being live here too
-pub joined_apart : (known : Dot → Bool) (s t : LiveState) (there : map.FinMap dot_cmp Holding) → ((q : Dot) → is_some (map.get there q) ≡ true → (map.get s.live q ≡ None) × (known q ≡ false))
-    → ((q : Dot) → map.get t.live q ≡ option_or (map.get s.live q) (map.get there q)) → HaveGrown s t → IsJoinedWith known s there t
-joined_apart known s t there apart live ids = record { live = λ q. live q ∙ at q (map.get s.live q) (map.get there q) (apart q); ids = ids }
+-- where nothing is known of what is live there, all of it is left
+pub all_left : (known : Dot → Bool) (s : LiveState) (there : map.FinMap dot_cmp Holding) → ((q : Dot) → is_some (map.get there q) ≡ true → (map.get s.live q ≡ None) × (known q ≡ false))
+    → ((q : Dot) → is_some (map.get s.live q) ≡ true → known q ≡ true) → map.len s.live + map.len there ≤ s.room → AreNewLeft known s there s there
+all_left known s there apart heard room = record {
+  live = λ q. lives (map.get s.live q) (map.get there q) (known q) (apart q) (heard q);
+  left = λ q. stays (map.get there q) (known q) (λ h. (apart q h).1);
+  ids = grown_same s s refl refl;
+  room = room;
+}
   where
-    at : (q : Dot) (o p : Option Holding) → (is_some p ≡ true → (o ≡ None) × (known q ≡ false)) → option_or o p ≡ holding_with o (known q) p
-    at q None None f = refl
-    at q (Some h) None f = refl
-    at q None (Some g) f = ap (λ k. holding_with None k (Some g)) (sym (f refl).1)
-    at q (Some h) (Some g) f = absurd (let n = (f refl).0 in cc n)
+    lives : (o p : Option Holding) (b : Bool) → (is_some p ≡ true → (o ≡ None) × (b ≡ false)) → (is_some o ≡ true → b ≡ true) → o ≡ (if b then holding_with o true p else None)
+    lives o None true f g = refl
+    lives None None false f g = refl
+    lives (Some h) None false f g = absurd (let n = g refl in cc n)
+    lives o (Some h) true f g = absurd (let n = (f refl).1 in cc n)
+    lives None (Some h) false f g = refl
+    lives (Some x) (Some h) false f g = absurd (let n = g refl in cc n)
+
+    stays : (p : Option Holding) (b : Bool) → (is_some p ≡ true → b ≡ false) → p ≡ (if b then None else p)
+    stays None true f = refl
+    stays None false f = refl
+    stays (Some h) true f = absurd (let n = f refl in cc n)
+    stays (Some h) false f = refl
+
+-- where what is live on both sides is joined, and what is known has gone there
+pub new_left : (known : Dot → Bool) (s t : LiveState) (there left : map.FinMap dot_cmp Holding) → IsJoinedWith (λ q. true) s there t → map.len t.live ≤ map.len s.live → s.room ≤ t.room
+    → ((q : Dot) → is_some (map.get s.live q) ≡ true → known q ≡ true) → ((q : Dot) → map.get left q ≡ (if known q then None else map.get there q)) → map.len left ≤ map.len there → map.len s.live + map.len there ≤ s.room → AreNewLeft known s there t left
+new_left known s t there left join few more heard gone fewer room = record {
+  live = λ q. join.live q ∙ lives (map.get s.live q) (map.get there q) (known q) (heard q);
+  left = gone;
+  ids = join.ids;
+  room = omega (arith, few, more, fewer, room);
+}
+  where
+    lives : (o p : Option Holding) (b : Bool) → (is_some o ≡ true → b ≡ true) → holding_with o true p ≡ (if b then holding_with o true p else None)
+    lives o p true g = refl
+    lives None None false g = refl
+    lives None (Some h) false g = refl
+    lives (Some x) p false g = absurd (let n = g refl in cc n)
+
+-- what is left isn't live here
+pub left_apart : (known : Dot → Bool) (s t : LiveState) (there left : map.FinMap dot_cmp Holding) → AreNewLeft known s there t left → (q : Dot) → is_some (map.get left q) ≡ true → map.get t.live q ≡ None
+left_apart known s t there left n q h = at (known q) (n.left q) (n.live q)
+  where
+    at : (b : Bool) → map.get left q ≡ (if b then None else map.get there q) → map.get t.live q ≡ (if b then holding_with (map.get s.live q) true (map.get there q) else None) → map.get t.live q ≡ None
+    at true e f = absurd (let none = sym h ∙ ap is_some e in cc none)
+    at false e f = f
+
+-- so all is taken in once what is left is live here too
+pub joined_left : (known : Dot → Bool) (s t u : LiveState) (there left : map.FinMap dot_cmp Holding) → ((q : Dot) → is_some (map.get s.live q) ≡ true → known q ≡ true) → AreNewLeft known s there t left
+    → ((q : Dot) → map.get u.live q ≡ option_or (map.get t.live q) (map.get left q)) → HaveGrown t u → IsJoinedWith known s there u
+joined_left known s t u there left heard n live ids = record {
+  live = λ q. live q ∙ (λ i. option_or (n.live q i) (n.left q i)) ∙ at (map.get s.live q) (map.get there q) (known q) (heard q);
+  ids = grown_twice s t u n.ids ids;
+}
+  where
+    at : (o p : Option Holding) (b : Bool) → (is_some o ≡ true → b ≡ true) → option_or (if b then holding_with o true p else None) (if b then None else p) ≡ holding_with o b p
+    at None None true f = refl
+    at (Some h) None true f = refl
+    at None (Some g) true f = refl
+    at (Some h) (Some g) true f = refl
+    at None None false f = refl
+    at None (Some g) false f = refl
+    at (Some h) p false f = absurd (let n = f refl in cc n)

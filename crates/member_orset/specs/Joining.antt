@@ -49,10 +49,6 @@ IsTold live entries false = Clash live entries
 abbrev pub dead_in_run : Run → map.FinMap dot_cmp Holding → Dot → Bool
 dead_in_run run there dot = in_run dot run && not (map.contains_key there dot)
 
--- whether a dot is known there and not live
-abbrev pub dead_there : set.FinSet dot_cmp → map.FinMap dot_cmp Holding → Dot → Bool
-dead_there known there dot = set.contains known dot && not (map.contains_key there dot)
-
 -- a dot of a run that is live here and not there, with a count from a given one on, and none before it is so
 pub record IsFirstDead (run : Run) (there : map.FinMap dot_cmp Holding) (first : ℕ) (live : map.FinMap dot_cmp Holding) (dot : Dot) : Type 0 where
   pub site_is : dot.site ≡ run.site
@@ -84,14 +80,12 @@ pub record IsJoinedWith (known : Dot → Bool) (old : LiveState) (there : map.Fi
   pub live : (q : Dot) → map.get new.live q ≡ holding_with (map.get old.live q) (known q) (map.get there q)
   pub ids : HaveGrown old new
 
--- live dots where the fields of one of them are joined with others
-abbrev pub met_with : map.FinMap dot_cmp Holding → Dot → DotFields → Option Holding → map.FinMap dot_cmp Holding
-met_with live dot fields None = live
-met_with live dot fields (Some h) = map.insert live dot (h.0, fields_joined h.1 fields)
-
--- live dots where the fields of a dot are joined with others, if it is live
-abbrev pub fields_met : map.FinMap dot_cmp Holding → Dot → DotFields → map.FinMap dot_cmp Holding
-fields_met live dot fields = met_with live dot fields (map.get live dot)
+-- of what is live there the known dots were taken in, and those that aren't known are left
+pub record AreNewLeft (known : Dot → Bool) (old : LiveState) (there : map.FinMap dot_cmp Holding) (new : LiveState) (rest : map.FinMap dot_cmp Holding) : Type 0 where
+  pub live : (q : Dot) → map.get new.live q ≡ (if known q then holding_with (map.get old.live q) true (map.get there q) else None)
+  pub left : (q : Dot) → map.get rest q ≡ (if known q then None else map.get there q)
+  pub ids : HaveGrown old new
+  pub room : map.len new.live + map.len rest ≤ new.room
 
 -- what is live there is live here, with the same member and fields
 abbrev pub HasAll : map.FinMap dot_cmp Holding → map.FinMap dot_cmp Holding → Type 0

@@ -1,10 +1,12 @@
 //! Whether what is live in two sets can be joined.
 ghost use Rattle.std.specs.Prelude.{◌≡◌, ◌↔◌, IsTrue, IsFalse};
+ghost use Rattle.std.specs.Option.{option_map};
 ghost use Rattle.std.specs.FinMap as map;
+ghost use Rattle.live_cells.specs.Holdings.{cell_read};
 ghost use Rattle.member_orset.specs.Joining.{HoldingsAgree, HoldingsInConflict, IsTold};
 
 use dots::{Dot, Member};
-use live_cells::{LAST_GENERATION, LiveCells};
+use live_cells::{Cell, LAST_GENERATION, LiveCells};
 use lww_registers::Fields;
 
 // Whether both are the same member.
@@ -12,6 +14,19 @@ pub(crate) fn is_same_member(member: &Member, other: &Member) -> bool
     ensures { IsTrue result ↔ (member.now ≡ other.now) }
 {
     *member == *other
+}
+
+// Whether a dot can be live with a member and fields, beside what is held of it, if anything is.
+fn can_hold(held: Option<Cell<'_>>, member: &Member, fields: &Fields) -> bool
+    ensures agree { IsTrue result
+        ↔ HoldingsAgree (option_map cell_read held.entry) (member.now, fields.now) }
+    ensures conflict { IsFalse result
+        ↔ HoldingsInConflict (option_map cell_read held.entry) (member.now, fields.now) }
+{
+    match held {
+        Some(cell) => is_same_member(cell.member, member) && cell.fields.agrees(fields),
+        None => true,
+    }
 }
 
 // Whether a dot can be live with a member and fields, beside what it is live with, if it is.
@@ -26,10 +41,7 @@ pub(crate) fn agrees_with(
     ensures conflict { IsFalse result
         ↔ HoldingsInConflict (map.get cells.now.live dot) (member.now, fields.now) }
 {
-    match cells.get(dot) {
-        Some(cell) => is_same_member(cell.member, member) && cell.fields.agrees(fields),
-        None => true,
-    }
+    can_hold(cells.get(dot), member, fields)
 }
 
 // Whether all that is live here can be joined with all that is live there.
@@ -39,8 +51,9 @@ pub(crate) fn cells_agree(
 ) -> bool
     ensures { IsTold cells.now.live (map.entries others.now.live) result }
 {
+    let mut here = cells.cursor();
     for (dot, cell) in others.iter() {
-        if !agrees_with(cells, dot, cell.member, cell.fields) {
+        if !can_hold(here.get(dot), cell.member, cell.fields) {
             return false;
         }
     }

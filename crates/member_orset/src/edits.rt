@@ -1,20 +1,17 @@
 //! What is done with one dot that is asserted.
-ghost use Rattle.std.specs.Prelude.{◌≡◌, ◌≢◌, ◌≤◌, ◌<◌, ◌+◌, ◌↔◌, IfSome, IsFalse, IsOk, IsTrue};
+ghost use Rattle.std.specs.Prelude.{◌≡◌, ◌≢◌, ◌≤◌, ◌<◌, ◌+◌, ◌↔◌, IsFalse, IsOk, IsTrue};
 ghost use Rattle.std.specs.Prelude.{OnErr, OnOk, Err, None, true, false};
 ghost use Rattle.std.specs.FinMap as map;
 ghost use Rattle.std.specs.FinSet as set;
 ghost use Rattle.dots.specs.DotSets.{run_count};
-ghost use Rattle.operations.specs.Conditions.{FieldsAgree};
 ghost use Rattle.live_cells.specs.CellIds.{IdsFollow};
 ghost use Rattle.live_cells.specs.LiveStates.{AreLive};
 ghost use Rattle.member_orset.specs.Members.{live_with};
-ghost use Rattle.member_orset.specs.Joining.{fields_met};
 
 use crate::JoinFault;
 use causal_context::{Context, ContextFault};
 use dots::{Dot, MOST_LIVE, MOST_RUNS};
 use live_cells::{LAST_GENERATION, LiveCells, LiveDot};
-use lww_registers::Fields;
 
 // Adds a dot to those that are known.
 pub(crate) fn learn(context: &mut Context, dot: Dot) -> Result<(), JoinFault>
@@ -57,19 +54,6 @@ pub(crate) fn has_place(context: &Context, cells: &LiveCells<LAST_GENERATION>, d
 {
     let live = cells.len();
     live < MOST_LIVE || live == MOST_LIVE && context.contains(dot)
-}
-
-// Joins the fields of a dot with others, where it is live.
-pub(crate) fn meet(cells: &mut LiveCells<LAST_GENERATION>, dot: Dot, fields: Fields)
-    requires { IfSome (map.get cells.old.live dot) (λ h. FieldsAgree h.1 fields) }
-    ensures live { cells.new.live ≡ fields_met cells.old.live dot fields }
-    ensures ids { cells.new.ids ≡ cells.old.ids }
-    ensures spent { cells.new.spent ≡ cells.old.spent }
-    ensures room { cells.old.room ≤ cells.new.room }
-{
-    if cells.get(dot).is_some() {
-        cells.join_fields(dot, fields);
-    }
 }
 
 // Lets an unknown dot be known and live.

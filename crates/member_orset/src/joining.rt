@@ -1,6 +1,6 @@
 //! The join of what is live in two sets: what is live here and dead there goes, and what is live there comes.
 ghost use Rattle.std.specs.Prelude.{◌≡◌, ◌≢◌, ◌↔◌, ◌+◌, ◌<◌, ◌≤◌, Err, IsOk, IsSome, OnOk, length, not};
-ghost use Rattle.std.specs.Prelude.{true, false, ◌&&◌};
+ghost use Rattle.std.specs.Prelude.{true, false};
 ghost use Rattle.std.specs.List.{All, count_by};
 ghost use Rattle.std.specs.FinMap as map;
 ghost use Rattle.std.specs.FinSet as set;
@@ -9,8 +9,9 @@ ghost use Rattle.dots.specs.DotSets.{run_count};
 ghost use Rattle.causal_context.specs.Contexts.{IsPrepared};
 ghost use Rattle.live_cells.specs.LiveLists.{holding};
 ghost use Rattle.live_cells.specs.LiveStates.{IsThinned};
-ghost use Rattle.member_orset.specs.Joining.{EntriesAgree, HoldingsAgree, IsJoinedWith, IsNextDead};
-ghost use Rattle.member_orset.specs.Joining.{IsTakenIn, dead_in_run, dead_there};
+ghost use Rattle.live_cells.specs.LiveStates.{dead_there};
+ghost use Rattle.member_orset.specs.Joining.{AreNewLeft, EntriesAgree, HoldingsAgree, IsJoinedWith};
+ghost use Rattle.member_orset.specs.Joining.{IsNextDead, IsTakenIn, dead_in_run};
 
 use crate::JoinFault;
 use causal_context::{Context, ContextFault, Run};
@@ -40,9 +41,10 @@ fn count_missing(dots: &[Placed], there: &LiveCells<LAST_GENERATION>) -> usize
     ensures value { result ≡ count_by (λ p. not (map.contains_key there.now.live p.dot)) dots.now }
     ensures few { result ≤ length dots.now }
 {
+    let mut live = there.cursor();
     let mut count = 0;
     for placed in dots {
-        if there.get(placed.dot).is_none() {
+        if live.get(placed.dot).is_none() {
             count += 1;
         }
     }
@@ -138,12 +140,7 @@ pub(crate) fn drop_dead(
     if dots.list.len() <= outside + FEW {
         drop_each(cells, context, there);
     } else {
-        cells.thin(
-            |dot: Dot| -> bool
-                ensures { result ≡ (set.contains context.entry.now.dots dot
-                    && not (map.contains_key there.entry.now.live dot)) }
-            { context.contains(dot) && there.get(dot).is_none() },
-        );
+        cells.thin(context, there);
     }
 }
 
@@ -155,7 +152,7 @@ fn take_in(known: &Context, cells: &mut LiveCells<LAST_GENERATION>, cell: LiveDo
 {
     let dot = cell.dot;
     if cells.get(dot).is_some() {
-        cells.join_fields(dot, cell.fields);
+        cells.meet(0, dot, &cell.fields);
         return;
     }
     if !known.contains(dot) {
@@ -191,12 +188,48 @@ fn are_unknown(known: &Context, dots: &[Placed]) -> bool
     true
 }
 
+// Joins the fields of each dot that is live on both sides. Both are gone through once, in the order of their dots.
+fn meet_all(cells: &mut LiveCells<LAST_GENERATION>, others: &LiveCells<LAST_GENERATION>)
+    requires agree { EntriesAgree cells.old.live (map.entries others.now.live) }
+    requires room { map.len cells.old.live + map.len others.now.live ≤ cells.old.room }
+    ensures met { IsJoinedWith (λ dot. true) cells.old others.now.live cells.new }
+    ensures few { map.len cells.new.live ≤ map.len cells.old.live }
+    ensures room { cells.old.room ≤ cells.new.room }
+{
+    let mut guess = 0;
+    for (dot, cell) in others.iter() {
+        guess = cells.meet(guess, dot, cell.fields);
+    }
+}
+
+// Takes in those cells of the other side whose dots are known, so that those are left there whose dots aren't.
+fn take_known(
+    known: &Context,
+    cells: &mut LiveCells<LAST_GENERATION>,
+    others: &mut LiveCells<LAST_GENERATION>,
+)
+    requires agree { EntriesAgree cells.old.live (map.entries others.old.live) }
+    requires room { map.len cells.old.live + map.len others.old.live ≤ cells.old.room }
+    requires heard { (q : Dot) → IsSome (map.get cells.old.live q)
+        → set.contains known.now.dots q ≡ true }
+    ensures { AreNewLeft (set.contains known.now.dots) cells.old others.old.live cells.new
+        others.new.live }
+{
+    if are_unknown(known, others.placed().list) {
+        return;
+    }
+    meet_all(cells, others);
+    let none = LiveCells::new(cells.allocator());
+    others.thin(known, &none);
+}
+
 // Takes in all cells of the other side, in room that is there. It moves them, and takes no memory. Where they are more than a
-// few, all of them new, the lists of ids are merged once; else ids are moved for each of them.
+// few, those that are known are met in their order, and for the new ones the lists of ids are merged once; else each is searched
+// for, and ids are moved for it.
 pub(crate) fn take_all(
     known: &Context,
     cells: &mut LiveCells<LAST_GENERATION>,
-    others: LiveCells<LAST_GENERATION>,
+    mut others: LiveCells<LAST_GENERATION>,
 )
     requires agree { EntriesAgree cells.old.live (map.entries others.live) }
     requires room { map.len cells.old.live + map.len others.live ≤ cells.old.room }
@@ -204,10 +237,11 @@ pub(crate) fn take_all(
         → set.contains known.now.dots q ≡ true }
     ensures { IsJoinedWith (set.contains known.now.dots) cells.old others.live cells.new }
 {
-    if others.len() > FEW && are_unknown(known, others.placed().list) {
-        cells.append(others);
-    } else {
+    if others.len() <= FEW {
         take_each(known, cells, others);
+    } else {
+        take_known(known, cells, &mut others);
+        cells.append(others);
     }
 }
 

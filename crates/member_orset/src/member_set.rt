@@ -21,7 +21,7 @@ ghost use Rattle.live_cells.specs.Holdings.{cell_read};
 
 use crate::agreement::{agrees_with, cells_agree};
 use crate::dead::gather_dead;
-use crate::edits::{bring, has_place, learn, meet};
+use crate::edits::{bring, has_place, learn};
 use crate::given_dots::GivenDots;
 use crate::joining::{count_kept, count_unknown, drop_dead, make_room, take_all};
 use crate::sameness::{are_same_cells, is_same_context};
@@ -245,7 +245,7 @@ impl MemberSet {
             return Err(JoinFault::CellsFull);
         }
         if self.context.contains(dot) {
-            meet(&mut self.cells, dot, fields.copy());
+            self.cells.meet(0, dot, fields);
             return Ok(());
         }
         let cell = LiveDot {

@@ -1,12 +1,13 @@
 //! Whether two contexts, or all that is live in two sets, are one.
 ghost use Rattle.std.specs.Prelude.{◌≡◌, ◌↔◌, IsTrue, Some};
-ghost use Rattle.std.specs.FinMap as map;
+ghost use Rattle.std.specs.Option.{option_map};
+ghost use Rattle.live_cells.specs.Holdings.{cell_read};
 ghost use Rattle.member_orset.specs.Joining.{HasAll};
 
 use crate::agreement::is_same_member;
 use causal_context::Context;
-use dots::{Dot, Member};
-use live_cells::{LAST_GENERATION, LiveCells};
+use dots::Member;
+use live_cells::{Cell, LAST_GENERATION, LiveCells};
 use lww_registers::Fields;
 
 // Whether both know the same dots.
@@ -16,16 +17,12 @@ pub(crate) fn is_same_context(context: &Context, other: &Context) -> bool
     context.covers(other) && other.covers(context)
 }
 
-// Whether a dot is live with this very member and these very fields.
-fn is_live_so(
-    cells: &LiveCells<LAST_GENERATION>,
-    dot: Dot,
-    member: &Member,
-    fields: &Fields,
-) -> bool
-    ensures { IsTrue result ↔ (map.get cells.now.live dot ≡ Some (member.now, fields.now)) }
+// Whether this very member and these very fields are held.
+fn is_held_so(held: Option<Cell<'_>>, member: &Member, fields: &Fields) -> bool
+    ensures { IsTrue result
+        ↔ (option_map cell_read held.entry ≡ Some (member.now, fields.now)) }
 {
-    match cells.get(dot) {
+    match held {
         Some(cell) => is_same_member(cell.member, member) && cell.fields.same(fields),
         None => false,
     }
@@ -35,8 +32,9 @@ fn is_live_so(
 fn has_all(cells: &LiveCells<LAST_GENERATION>, others: &LiveCells<LAST_GENERATION>) -> bool
     ensures { IsTrue result ↔ HasAll cells.now.live others.now.live }
 {
+    let mut here = cells.cursor();
     for (dot, cell) in others.iter() {
-        if !is_live_so(cells, dot, cell.member, cell.fields) {
+        if !is_held_so(here.get(dot), cell.member, cell.fields) {
             return false;
         }
     }

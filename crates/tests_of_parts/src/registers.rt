@@ -18,7 +18,7 @@ fn joined(
 ) -> Register<Penalty> {
     assert!(rt; register.agrees(other));
     let mut joined = register.copy();
-    joined.join(other.copy());
+    joined.join(other);
     joined
 }
 
@@ -82,7 +82,7 @@ fn paused(rt: &impl Abort, number: u32) -> Fields {
 // Joins fields with which others agree into them.
 fn join(rt: &impl Abort, fields: &mut Fields, other: &Fields) {
     assert!(rt; fields.agrees(other));
-    fields.join(other.copy());
+    fields.join(other);
 }
 
 #[test]

@@ -4,9 +4,9 @@ use Rattle.std.specs.FinMap as map
 use Rattle.std.proofs.lemmas.List.{take_all}
 use Rattle.std.proofs.lemmas.List.Sums.{count_by-le-length}
 use Rattle.live_cells.specs.declared.placed.Placed.{Placed}
-use Rattle.member_orset.specs.Joining.{dead_there}
 use Rattle.live_cells.proofs.Counts.{count_not, count_same}
 use Rattle.live_cells.proofs.RunCounts.{count_more, count_none, dead_in_runs}
+use Rattle.live_cells.specs.LiveStates.{dead_there}
 use Rattle.member_orset.proofs.joining.count_kept.Goals as goal
 
 pub loop-run-init : goal.loop-run-init

@@ -1,12 +1,19 @@
-use Rattle.std.proofs.Common.{sym, ◌∙◌}
+use Rattle.std.proofs.Common.{lit<, is_some, sym, ap, ◌∙◌}
 use Rattle.std.specs.FinMap as map
 use Rattle.std.specs.FinSet as set
-use Rattle.member_orset.proofs.LiveIds.{none_read}
-use Rattle.member_orset.proofs.Taking.{taken_joined, taken_new}
+use Rattle.live_cells.specs.LiveLists.{holding}
+use Rattle.member_orset.proofs.LiveIds.{none_read, some_read}
+use Rattle.member_orset.proofs.Taking.{met_agrees, taken_met, taken_new}
 use Rattle.member_orset.proofs.joining.take_in.Goals as goal
 
+pub meet-requires : goal.meet-requires
+meet-requires c = (lit< tt, met_agrees (map.get c.args.cells.now.live c.args.cell.dot) (holding c.args.cell) c.requires.agree)
+
 pub returns-then-is_some : goal.returns-then-is_some
-returns-then-is_some c = taken_joined (set.contains c.args.known.now.dots) c.args.cells.now c.join_fields.new.self c.args.cell c.join_fields.ensures.live c.join_fields.ensures.ids c.join_fields.ensures.spent c.join_fields.ensures.room
+returns-then-is_some c =
+    let there = some_read c.get.result (map.get c.args.cells.now.live c.args.cell.dot) c.get.ensures ∙ sym c.is_some.ensures ∙ c.if-is_some.true in
+    taken_met (set.contains c.args.known.now.dots) c.args.cells.now c.meet.new.self c.args.cell (λ none. absurd (let n = sym there ∙ ap is_some none in cc n))
+    c.meet.ensures.live c.meet.ensures.ids c.meet.ensures.spent c.meet.ensures.room
 
 pub returns-then-not-contains : goal.returns-then-not-contains
 returns-then-not-contains c =

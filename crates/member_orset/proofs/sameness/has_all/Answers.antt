@@ -1,4 +1,4 @@
-use Rattle.std.proofs.Common.{◌≡◌, Contains, List, Some, sym, subst, refl, ◌∙◌, arith}
+use Rattle.std.proofs.Common.{◌≡◌, Contains, List, Some, sym, ap, subst, refl, ◌∙◌, arith}
 use Rattle.std.specs.List.{All}
 use Rattle.std.specs.FinMap as map
 use Rattle.std.proofs.lemmas.List.Elements.{All-cons}
@@ -12,6 +12,7 @@ pub loop-dot-init : goal.loop-dot-init
 loop-dot-init c =
     let all = c.into_iter-dot-iterator.ensures.into_iter_gives ∙ c.iter-dot-items.ensures in
     record {
+      cursor = c.cursor-here.ensures;
       here = λ a. subst (All (λ (e : Dot × Holding). map.get c.args.cells.now.live e.0 ≡ Some e.1)) all a;
       among = λ e h. subst (λ (es : List (Dot × Holding)). Contains es e) all h;
     }
@@ -22,16 +23,18 @@ loop-dot-preserved c =
     let x : Dot × Holding = (c.in-Some.dot, cell_read c.in-Some.cell) in
     let rest = c.next.new.self in
     let steps = c.in-Some.ensures.steps in
+    let held = c.get.ensures.value ∙ ap (λ m. map.get m c.in-Some.dot) c.loop-dot.invariant.cursor in
     record {
-      here = λ a. c.loop-dot.invariant.here (subst (All (λ (e : Dot × Holding). map.get live e.0 ≡ Some e.1)) (sym steps) (All-cons (λ (e : Dot × Holding). map.get live e.0 ≡ Some e.1) x rest (c.is_live_so.ensures.0 c.if-not-is_live_so.false) a));
+      cursor = c.get.ensures.same ∙ c.loop-dot.invariant.cursor;
+      here = λ a. c.loop-dot.invariant.here (subst (All (λ (e : Dot × Holding). map.get live e.0 ≡ Some e.1)) (sym steps) (All-cons (λ (e : Dot × Holding). map.get live e.0 ≡ Some e.1) x rest (sym held ∙ c.is_held_so.ensures.0 c.if-not-is_held_so.false) a));
       among = λ e h. c.loop-dot.invariant.among e (subst (λ (es : List (Dot × Holding)). Contains es e) (sym steps) (later_in x rest e h));
     }
 
-pub returns-then-not-is_live_so : goal.returns-then-not-is_live_so
-returns-then-not-is_live_so c =
+pub returns-then-not-is_held_so : goal.returns-then-not-is_held_so
+returns-then-not-is_held_so c =
     let x : Dot × Holding = (c.in-Some.dot, cell_read c.in-Some.cell) in
     let here = c.loop-dot.invariant.among x (subst (λ (es : List (Dot × Holding)). Contains es x) (sym c.in-Some.ensures.steps) (first_in x c.next.new.self)) in
-    (λ t. absurd (cc t), λ all. absurd (let t = c.is_live_so.ensures.1 (all x.0 x.1 (entry_is c.args.others.now.live x here)) in cc (t, c.if-not-is_live_so.true)))
+    (λ t. absurd (cc t), λ all. absurd (let t = c.is_held_so.ensures.1 (c.get.ensures.value ∙ ap (λ m. map.get m c.in-Some.dot) c.loop-dot.invariant.cursor ∙ all x.0 x.1 (entry_is c.args.others.now.live x here)) in cc (t, c.if-not-is_held_so.true)))
 
 pub returns : goal.returns
 returns c =

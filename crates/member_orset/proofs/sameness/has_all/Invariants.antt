@@ -8,6 +8,7 @@ use Rattle.live_cells.specs.Holdings.{Holding}
 
 abbrev pub invariant-loop-dot : goal.invariant-loop-dot
 invariant-loop-dot l = record {
+  cursor : l.here ≡ l.cells.live;
   here : All (λ (e : Dot × Holding). map.get l.cells.live e.0 ≡ Some e.1) l.dot-iterator → All (λ (e : Dot × Holding). map.get l.cells.live e.0 ≡ Some e.1) (map.entries l.others.live);
   among : (e : Dot × Holding) → Contains l.dot-iterator e → Contains (map.entries l.others.live) e;
 }

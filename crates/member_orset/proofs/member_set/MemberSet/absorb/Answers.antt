@@ -3,11 +3,11 @@ use Rattle.std.specs.FinMap as map
 use Rattle.std.specs.FinSet as set
 use Rattle.dots.specs.Orders.{dot_cmp}
 use Rattle.live_cells.specs.CellIds.{IdsFollow}
-use Rattle.member_orset.specs.Joining.{EntriesAgree, IsJoinedWith, dead_there}
+use Rattle.member_orset.specs.Joining.{EntriesAgree, IsJoinedWith}
 use Rattle.member_orset.specs.Members.{IsSet, Members, condition_at, AreOfTheDead}
 use Rattle.member_orset.proofs.Absorbing.{conditions_after, dead_after, follow_after, held_after, left_agrees}
 use Rattle.member_orset.proofs.member_set.MemberSet.absorb.Goals as goal
-use Rattle.live_cells.specs.LiveStates.{IsThinned}
+use Rattle.live_cells.specs.LiveStates.{IsThinned, dead_there}
 use Rattle.live_cells.specs.Holdings.{Holding}
 
 pub take_all-requires-clause-agree : goal.take_all-requires-clause-agree

@@ -5,12 +5,13 @@ use Rattle.dots.specs.declared.limits.TheConstants.{MOST_LIVE, MOST_RUNS}
 use Rattle.operations.specs.Conditions.{Live}
 use Rattle.dots.specs.DotSets.{run_count}
 use Rattle.live_cells.specs.CellIds.{IdsFollow}
+use Rattle.live_cells.specs.LiveStates.{fields_met}
 use Rattle.member_orset.specs.Members.{HasField, IsSet, Members, cells_with, condition_at, joined_at, live_with}
 use Rattle.member_orset.proofs.Asserting.{brought_conditions, either, known_already, len_one_more, met_conditions, on_err, on_err_both, on_ok_both, refused_conflict, refused_none, unknown_not_live}
 use Rattle.live_cells.proofs.IdSteps.{follow_same}
 use Rattle.member_orset.proofs.KeptSets.{set_brought, set_met, set_same}
 use Rattle.member_orset.proofs.member_set.MemberSet.assert.Goals as goal
-use Rattle.member_orset.specs.Joining.{HoldingsAgree, HoldingsInConflict, fields_met}
+use Rattle.member_orset.specs.Joining.{HoldingsAgree, HoldingsInConflict}
 use Rattle.live_cells.specs.Holdings.{Holding}
 
 pub returns-then-not-agrees_with-clause-refusals : goal.returns-then-not-agrees_with-clause-refusals
@@ -26,8 +27,8 @@ returns-then-not-agrees_with-clause-refusals c =
 pub invariant_of-self : goal.invariant_of-self
 invariant_of-self c =
     let s = c.self.inside in
-    set_same s.context.dots s.context.dots (fields_met s.cells.live c.args.dot c.copy.result) c.meet.new.cells.live s.cells.spent c.meet.new.cells.spent refl c.meet.ensures.live c.meet.ensures.spent
-    (set_met s.context.dots s.cells.live s.cells.spent c.args.dot c.copy.result c.self.invariant)
+    set_same s.context.dots s.context.dots (fields_met s.cells.live c.args.dot c.args.fields.now) c.meet.new.self.live s.cells.spent c.meet.new.self.spent refl c.meet.ensures.live c.meet.ensures.spent
+    (set_met s.context.dots s.cells.live s.cells.spent c.args.dot c.args.fields.now c.self.invariant)
 
 pub returns-then-contains-clause-known : goal.returns-then-contains-clause-known
 returns-then-contains-clause-known c =
@@ -36,7 +37,7 @@ returns-then-contains-clause-known c =
 pub returns-then-contains-clause-conditions : goal.returns-then-contains-clause-conditions
 returns-then-contains-clause-conditions c q =
     let s = c.self.inside in
-    ap (λ m. condition_at (map.get m q) (set.contains s.context.dots q)) (c.meet.ensures.live ∙ ap (fields_met s.cells.live c.args.dot) c.copy.ensures)
+    ap (λ m. condition_at (map.get m q) (set.contains s.context.dots q)) c.meet.ensures.live
     ∙ met_conditions s.cells.live s.context.dots c.args.dot c.args.member.now c.args.fields.now q (sym c.contains.ensures ∙ c.if-contains.true)
     ∙ (λ i. joined_at (c.self.view_is i) c.args.dot (Live c.args.member.now c.args.fields.now) q)
 
@@ -55,7 +56,7 @@ pub invariant_of-self-2 : goal.invariant_of-self-2
 invariant_of-self-2 c =
     let s = c.self.inside in
     let d = c.args.dot in
-    let x : Holding = (c.copy-2.result, c.copy-3.result) in
+    let x : Holding = (c.copy.result, c.copy-2.result) in
     let unknown = sym c.contains.ensures ∙ c.if-contains.false in
     let one_more = len_one_more s.cells.live d x (unknown_not_live s.context.dots s.cells.live d c.self.invariant.kept unknown) in
     let most = subst (λ b. live_with (map.len s.cells.live) b ≤ MOST_LIVE) unknown (c.has_place.ensures.there.0 c.if-not-has_place.false) in
@@ -63,7 +64,7 @@ invariant_of-self-2 c =
     let new = c.bring.new in
     either c.bring.result (IsSet new.context.dots new.cells.live new.cells.spent)
     (on_ok_both c.bring.result _ _ _ (λ k l. set_same (set.insert s.context.dots d) new.context.dots (map.insert s.cells.live d x) new.cells.live s.cells.spent new.cells.spent k l c.bring.ensures.spent
-    (set_brought s.context.dots s.cells.live s.cells.spent d x unknown (subst HasField (sym c.copy-3.ensures) c.requires) few c.self.invariant))
+    (set_brought s.context.dots s.cells.live s.cells.spent d x unknown (subst HasField (sym c.copy-2.ensures) c.requires) few c.self.invariant))
     c.bring.ensures.known c.bring.ensures.live)
     (on_err_both c.bring.result _ _ _ (λ k l. set_same s.context.dots new.context.dots s.cells.live new.cells.live s.cells.spent new.cells.spent k l c.bring.ensures.spent c.self.invariant)
     c.bring.ensures.err_known c.bring.ensures.err_live)
@@ -72,12 +73,12 @@ pub returns-clause-conditions : goal.returns-clause-conditions
 returns-clause-conditions c =
     let s = c.self.inside in
     let d = c.args.dot in
-    let x : Holding = (c.copy-2.result, c.copy-3.result) in
+    let x : Holding = (c.copy.result, c.copy-2.result) in
     let unknown = sym c.contains.ensures ∙ c.if-contains.false in
     let none = unknown_not_live s.context.dots s.cells.live d c.self.invariant.kept unknown in
     on_ok_both c.bring.result _ _ _ (λ k l q.
     (λ i. condition_at (map.get (l i) q) (set.contains (k i) q)) ∙ brought_conditions s.cells.live s.context.dots d x q none unknown
-    ∙ (λ i. joined_at (c.self.view_is i) d (Live (c.copy-2.ensures i) (c.copy-3.ensures i)) q)) c.bring.ensures.known c.bring.ensures.live
+    ∙ (λ i. joined_at (c.self.view_is i) d (Live (c.copy.ensures i) (c.copy-2.ensures i)) q)) c.bring.ensures.known c.bring.ensures.live
 
 pub returns-clause-ids : goal.returns-clause-ids
 returns-clause-ids c =

@@ -3,7 +3,7 @@ use Rattle.std.specs.List.{count_by}
 use Rattle.std.specs.FinMap as map
 use Rattle.std.specs.FinSet as set
 use Rattle.live_cells.specs.declared.placed.Placed.{Placed}
-use Rattle.member_orset.specs.Joining.{dead_there}
+use Rattle.live_cells.specs.LiveStates.{dead_there}
 use Rattle.member_orset.specs.Members.{Members}
 use Rattle.member_orset.proofs.JoinedSets.{counted_joined}
 use Rattle.member_orset.proofs.member_set.MemberSet.joined_cells.Goals as goal
