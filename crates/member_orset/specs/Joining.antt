@@ -2,12 +2,11 @@
 use Rattle.std.specs.Prelude.{ℕ, ◌≡◌, ◌≢◌, ◌≤◌, ◌<◌, ◌+◌, ◌⊎◌, Bool, true, false, not, ◌&&◌, Option, Some, None, List, Contains, if◌then◌else◌}
 use Rattle.std.specs.List.{All}
 use Rattle.std.specs.FinMap as map
-use Rattle.std.specs.FinSet as set
 use Rattle.std.specs.Ordering.{eq_by_cmp}
 use Rattle.dots.specs.Values.{Dot}
 use Rattle.dots.specs.DotSets.{Run, in_run}
 use Rattle.dots.specs.Orders.{dot_cmp}
-use Rattle.operations.specs.Conditions.{DotFields, FieldsAgree, FieldsInConflict, fields_joined}
+use Rattle.operations.specs.Conditions.{FieldsAgree, FieldsInConflict, fields_joined}
 use Rattle.live_cells.specs.declared.live_dot.LiveDot.{LiveDot}
 use Rattle.live_cells.specs.LiveLists.{holding}
 use Rattle.live_cells.specs.LiveStates.{HaveGrown, LiveState}

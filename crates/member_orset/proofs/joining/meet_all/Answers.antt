@@ -1,4 +1,4 @@
-use Rattle.std.proofs.Common.{◌≡◌, true, lit<, refl, sym, ap, subst, ◌∙◌, arith}
+use Rattle.std.proofs.Common.{true, lit<, refl, sym, ap, subst, ◌∙◌, arith}
 use Rattle.std.specs.FinMap as map
 use Rattle.live_cells.specs.LiveLists.{holding}
 use Rattle.live_cells.specs.declared.live_dot.LiveDot.{LiveDot}

@@ -5,7 +5,6 @@ use Rattle.std.specs.FinSet as set
 use Rattle.dots.specs.Values.{Dot}
 use Rattle.dots.specs.Orders.{dot_cmp}
 use Rattle.live_cells.specs.Holdings.{Holding}
-use Rattle.live_cells.specs.LiveStates.{dead_there}
 use Rattle.member_orset.proofs.Taking.{all_left, new_left, unknown_apart}
 use Rattle.member_orset.proofs.joining.take_known.Goals as goal
 
