@@ -119,6 +119,22 @@ unknown_apart known here there ps placed all heard q live =
     let unknown : known q ≡ false = ap known (one_dot q found.0.dot found.2 ∙ sym (ap (λ p. p.dot) found.1.2)) ∙ all found.1.0 found.0 found.1.1 in
     (elim (look (map.get here q)) [ inl none ↦ none | inr h ↦ absurd (true≢false (sym (heard q (ap is_some h.1)) ∙ unknown)) ], unknown)
 
+-- what is live there is known, where each of its dots is
+pub known_there : (known : Dot → Bool) (there : map.FinMap dot_cmp Holding) (ps : List Placed) → ((q : Dot) → is_placed ps q ≡ map.contains_key there q) → All (λ p. known p.dot ≡ true) ps
+    → (q : Dot) → is_some (map.get there q) ≡ true → known q ≡ true
+known_there known there ps placed all q live =
+    let found = in_any (λ p. eq_by_cmp dot_cmp q p.dot) ps (placed q ∙ live) in
+    ap known (one_dot q found.0.dot found.2 ∙ sym (ap (λ p. p.dot) found.1.2)) ∙ all found.1.0 found.0 found.1.1
+
+-- so none of it is left
+pub none_left : (known : Dot → Bool) (there none : map.FinMap dot_cmp Holding) → none ≡ map.empty → ((q : Dot) → is_some (map.get there q) ≡ true → known q ≡ true) → (q : Dot) → map.get none q ≡ (if known q then None else map.get there q)
+none_left known there none is all q = ap (λ m. map.get m q) is ∙ map.get-empty dot_cmp q ∙ at (map.get there q) (known q) (all q)
+  where
+    at : (o : Option Holding) (b : Bool) → (is_some o ≡ true → b ≡ true) → None ≡ (if b then None else o)
+    at o true f = refl
+    at None false f = refl
+    at (Some h) false f = absurd (let n = f refl in cc n)
+
 -- where nothing is known of what is live there, all of it is left
 pub all_left : (known : Dot → Bool) (s : LiveState) (there : map.FinMap dot_cmp Holding) → ((q : Dot) → is_some (map.get there q) ≡ true → (map.get s.live q ≡ None) × (known q ≡ false))
     → ((q : Dot) → is_some (map.get s.live q) ≡ true → known q ≡ true) → map.len s.live + map.len there ≤ s.room → AreNewLeft known s there s there

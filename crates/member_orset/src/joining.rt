@@ -188,6 +188,18 @@ fn are_unknown(known: &Context, dots: &[Placed]) -> bool
     true
 }
 
+// Whether each of the dots is known.
+fn are_known(known: &Context, dots: &[Placed]) -> bool
+    ensures { result ≡ true → All (λ p. set.contains known.now.dots p.dot ≡ true) dots.now }
+{
+    for placed in dots {
+        if !known.contains(placed.dot) {
+            return false;
+        }
+    }
+    true
+}
+
 // Joins the fields of each dot that is live on both sides. Both are gone through once, in the order of their dots.
 fn meet_all(cells: &mut LiveCells<LAST_GENERATION>, others: &LiveCells<LAST_GENERATION>)
     requires agree { EntriesAgree cells.old.live (map.entries others.now.live) }
@@ -220,7 +232,11 @@ fn take_known(
     }
     meet_all(cells, others);
     let none = LiveCells::new(cells.allocator());
-    others.thin(known, &none);
+    if are_known(known, others.placed().list) {
+        *others = none;
+    } else {
+        others.thin(known, &none);
+    }
 }
 
 // Takes in all cells of the other side, in room that is there. It moves them, and takes no memory. Where they are more than a
