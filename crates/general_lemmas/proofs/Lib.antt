@@ -5,3 +5,4 @@ pub mod ItemOrder
 pub mod Membership
 pub mod SortedEntries
 pub mod TruthTables
+pub mod MapEntries

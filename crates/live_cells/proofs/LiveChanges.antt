@@ -16,7 +16,7 @@ use Rattle.live_cells.specs.declared.live_dot.LiveDot.{LiveDot}
 use Rattle.live_cells.specs.declared.placed.Placed.{Placed}
 use Rattle.live_cells.specs.CellIds.{IsNew}
 use Rattle.live_cells.specs.LiveLists.{IsCellAt, IsGap, holding, live_of}
-use Rattle.live_cells.specs.LiveStates.{fields_met, met_with}
+use Rattle.live_cells.specs.LiveStates.{fields_joined_at, joined_at_held}
 use Rattle.live_cells.specs.Index.{IsIndex, IsPlaceFor, Rises, is_listed, listed_cmp, listing}
 use Rattle.live_cells.specs.PlacedStates.{AreHeld, AreIndexed, IsPlaced, PlacedState, cells_at, cells_of, joined_with, listed_at}
 use Rattle.live_cells.proofs.CellLists.{same_place}
@@ -186,7 +186,7 @@ module _ (s t : PlacedState) (members : List Id) (x : AreIndexed s members) (d :
           ∙ met_members (cells_of s) i had joined q (rise s.dots s.held s.spent x.placed) at.within (same_place (cells_of s) i (no_cell d) had at.within) refl refl) x.index);
     }
 
-    pub has_met : live_of (cells_of t) ≡ fields_met (live_of (cells_of s)) d fields
+    pub has_met : live_of (cells_of t) ≡ fields_joined_at (live_of (cells_of s)) d fields
     has_met =
         let dot : d ≡ had.dot = at.here (no_cell d) in
         let held : maps.get (live_of (cells_of s)) d ≡ Some (holding had) = ap (maps.get (live_of (cells_of s))) dot ∙ its_live s.dots s.held s.spent x.placed own had had_here in
@@ -194,4 +194,4 @@ module _ (s t : PlacedState) (members : List Id) (x : AreIndexed s members) (d :
         ap (λ ds. maps.get (live_of ds) q) cs
         ∙ met_live (cells_of s) i had joined q (rise s.dots s.held s.spent x.placed) (subst (λ e. IsCellAt (cells_of s) e i) dot at) (same_place (cells_of s) i (no_cell d) had at.within)
         ∙ sym (maps.get-insert dots_total (live_of (cells_of s)) had.dot (holding joined) q))
-        ∙ ap (λ e. maps.insert (live_of (cells_of s)) e (holding joined)) (sym dot) ∙ sym (ap (met_with (live_of (cells_of s)) d fields) held)
+        ∙ ap (λ e. maps.insert (live_of (cells_of s)) e (holding joined)) (sym dot) ∙ sym (ap (joined_at_held (live_of (cells_of s)) d fields) held)

@@ -52,13 +52,13 @@ pub record HasId (s : LiveState) (id : Id) (h : Holding) : Type 0 where
   pub live : map.get s.live dot ≡ Some h
 
 -- live dots where the fields of one of them are joined with others
-abbrev pub met_with : map.FinMap dot_cmp Holding → Dot → DotFields → Option Holding → map.FinMap dot_cmp Holding
-met_with live dot fields None = live
-met_with live dot fields (Some h) = map.insert live dot (h.0, fields_joined h.1 fields)
+abbrev pub joined_at_held : map.FinMap dot_cmp Holding → Dot → DotFields → Option Holding → map.FinMap dot_cmp Holding
+joined_at_held live dot fields None = live
+joined_at_held live dot fields (Some h) = map.insert live dot (h.0, fields_joined h.1 fields)
 
 -- live dots where the fields of a dot are joined with others, if it is live
-abbrev pub fields_met : map.FinMap dot_cmp Holding → Dot → DotFields → map.FinMap dot_cmp Holding
-fields_met live dot fields = met_with live dot fields (map.get live dot)
+abbrev pub fields_joined_at : map.FinMap dot_cmp Holding → Dot → DotFields → map.FinMap dot_cmp Holding
+fields_joined_at live dot fields = joined_at_held live dot fields (map.get live dot)
 
 -- whether a dot is known there and not live
 abbrev pub dead_there : set.FinSet dot_cmp → map.FinMap dot_cmp Holding → Dot → Bool

@@ -11,8 +11,8 @@ use crate::places::LAST_GENERATION;
 use dots::Dot;
 use std::marker::Model;
 
-/// The live dots of a set, where dots are looked up one after the other: each is first looked for behind the last one, so that
-/// those that come in their order aren't searched for. It takes no memory.
+/// The live dots of a set, where dots are looked up one after the other: each is first looked for right behind the last one, and
+/// is searched for only where it doesn't belong there. It takes no memory.
 #[derive(Drop)]
 pub struct Cursor<'a> {
     cells: &'a PlacedCells<LAST_GENERATION>,
@@ -41,7 +41,7 @@ impl<'a> Model for Cursor<'a> {
 }
 
 impl<'a> Cursor<'a> {
-    // One before all that are placed.
+    // A cursor before all that are placed.
     pub(crate) fn of(cells: &'a PlacedCells<LAST_GENERATION>) -> Cursor<'a>
         ensures { result ≡ live_of (cells_of cells.now) }
     {

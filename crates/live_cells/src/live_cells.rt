@@ -10,7 +10,7 @@ ghost use Rattle.operations.specs.Rows.{dots_of, row_of, rows_of};
 ghost use Rattle.operations.specs.Views.{row_view};
 ghost use Rattle.live_cells.specs.CellIds.{IsNew, retired_of};
 ghost use Rattle.live_cells.specs.LiveLists.{live_of};
-ghost use Rattle.live_cells.specs.LiveStates.{AreLive, HasId, dead_there, fields_met, spent_with};
+ghost use Rattle.live_cells.specs.LiveStates.{AreLive, HasId, dead_there, fields_joined_at, spent_with};
 ghost use Rattle.live_cells.specs.PlacedLists.{id_entries, is_placed};
 ghost use Rattle.live_cells.specs.PlacedStates.{IsPlaced, cells_of};
 ghost use Rattle.live_cells.specs.LiveStates.{HaveGrown, IsThinned, most_places};
@@ -258,12 +258,12 @@ impl<const LAST: u32> LiveCells<LAST> {
         merge_members(&self.placed, &mut self.members, &ids);
     }
 
-    /// Joins the fields of a dot with others that agree with them, where it is live. It takes no memory. How many dots are
-    /// live before it is guessed, so that it isn't searched for where that is right, and the guess for the dot behind it is
-    /// answered.
-    pub fn meet(&mut self, guess: usize, dot: Dot, fields: &Fields) -> usize
+    /// Joins the fields of a dot with others that agree with them, where it is live. It takes no memory. `guess` is how many
+    /// live dots may lie before it; any number will do, but where it is wrong the dot is searched for. The answer is the
+    /// guess for a dot right behind it.
+    pub fn join_fields(&mut self, guess: usize, dot: Dot, fields: &Fields) -> usize
         requires { IfSome (map.get self.old.live dot) (λ h. FieldsAgree h.1 fields.now) }
-        ensures live { self.new.live ≡ fields_met self.old.live dot fields.now }
+        ensures live { self.new.live ≡ fields_joined_at self.old.live dot fields.now }
         ensures ids { self.new.ids ≡ self.old.ids }
         ensures spent { self.new.spent ≡ self.old.spent }
         ensures room { self.old.room ≤ self.new.room }
@@ -316,7 +316,7 @@ impl LiveCells<LAST_GENERATION> {
         Cursor::of(&self.placed)
     }
 
-    /// Lets the dots of a context be live no more that aren't live there, whose ids are spent then. The lists of ids are
+    /// Lets each dot of a context be live no more that isn't live there; its id is spent then. The lists of ids are
     /// walked as a whole, however few go. Only there for the last generation of sets, `LAST_GENERATION`.
     pub fn thin(&mut self, known: &Context, there: &Self)
         ensures thinned { IsThinned (dead_there known.now.dots there.now.live) self.old self.new }

@@ -93,8 +93,8 @@ pub(crate) fn merge_members<const LAST: u32>(
     }
 }
 
-// The id that the cell of an id has in a copy. It is looked for first where it stands if cells came in the order of their dots,
-// as they do in what was read or copied.
+// The id that the cell of an id has in a copy. Its dot is looked for first at the place of the id's index: there it is where
+// cells came in the order of their dots and none went, as in what was read or copied.
 fn id_in<const LAST: u32>(
     index: MemberIndex<'_, LAST>,
     id: CellId,

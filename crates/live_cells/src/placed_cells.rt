@@ -141,7 +141,7 @@ impl<const LAST: u32> PlacedCells<LAST> {
         ensures missed { IfErr result (IsGap (cells_of self.now) dot) }
         ensures valid { IsPlaced self.now }
     {
-        self.find_from(0, dot)
+        self.find_from(self.dots.len(), dot)
     }
 
     // The same, where a guess is looked at first.

@@ -84,7 +84,7 @@ impl<'a> PlacedDots<'a> {
         self.is_passed(place - 1, dot)
     }
 
-    // How many of them lie before a dot. So many as are guessed are looked at first, and else they are found by halving.
+    // How many of them lie before a dot. A guess is looked at first; where it is wrong, they are found by halving.
     pub(crate) fn place_from(self, guess: usize, dot: Dot) -> usize
         ensures within { result ≤ length self.entry.list.now }
         ensures before { AllWithin (λ p. is_lt (dot_cmp p.dot dot) ≡ true) self.entry.list.now 0

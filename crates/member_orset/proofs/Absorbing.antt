@@ -9,6 +9,7 @@ use Rattle.std.proofs.Math.Bool.{or-true}
 use Rattle.dots.specs.declared.limits.TheConstants.{MOST_LIVE}
 use Rattle.dots.specs.Values.{Dot}
 use Rattle.operations.specs.Conditions.{ConditionsAgree}
+use Rattle.dots.specs.Orders.{dot_cmp}
 use Rattle.dots.proofs.DotOrder.{dots_total}
 use Rattle.dots.proofs.KeySets.{len_of_keys}
 use Rattle.op_arena.specs.Ids.{Id}
@@ -23,7 +24,7 @@ use Rattle.live_cells.proofs.IdSteps.{follow_grown}
 use Rattle.member_orset.proofs.JoinedSets.{contains_joined}
 use Rattle.member_orset.proofs.Joins.{conditions_at, of_either}
 use Rattle.member_orset.proofs.LiveIds.{unnamed}
-use Rattle.member_orset.proofs.MapEntries.{entry_is}
+use Rattle.general_lemmas.proofs.MapEntries.{entry_is}
 use Rattle.member_orset.proofs.Thinning.{shrinks}
 use Rattle.live_cells.specs.Holdings.{Holding}
 
@@ -53,7 +54,7 @@ module _ (s t : Members) (heard : (q : Dot) (h : Holding) → map.get s.live q �
   pub left_agrees : SetsAgree s t → EntriesAgree mid.live (map.entries t.live)
   left_agrees agree k d l =
       let e = get_or (map.entries t.live) k d in
-      let there : map.get t.live e.0 ≡ Some e.1 = entry_is t.live e (Contains-get_or (map.entries t.live) k d l) in
+      let there : map.get t.live e.0 ≡ Some e.1 = entry_is dot_cmp dots_total t.live e (Contains-get_or (map.entries t.live) k d l) in
       let same : map.get mid.live e.0 ≡ map.get s.live e.0 = mid_live e.0 ∙ ap (λ o. if (set.contains t.known e.0 && not (is_some o)) then None else map.get s.live e.0) there ∙ kept (set.contains t.known e.0) (map.get s.live e.0) in
       subst (λ o. HoldingsAgree o e.1) (sym same) (agree_back (map.get s.live e.0) e.1 (set.contains s.known e.0) (set.contains t.known e.0)
       (subst (λ (o : Option Holding). ConditionsAgree (condition_at (map.get s.live e.0) (set.contains s.known e.0)) (condition_at o (set.contains t.known e.0))) there (agree e.0)))

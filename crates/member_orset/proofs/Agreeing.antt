@@ -8,7 +8,10 @@ use Rattle.operations.specs.Registers.{RegistersAgree, Entry, RegistersInConflic
 use Rattle.operations.specs.Conditions.{Condition, ConditionsAgree, Dead, DotFields, FieldsAgree, FieldsInConflict, Live}
 use Rattle.member_orset.specs.Members.{SetsAgree, SetsInConflict, ConditionsInConflict, Members, condition_at, condition_of}
 use Rattle.member_orset.specs.Joining.{IsTold, HoldingsAgree, HoldingsInConflict}
-use Rattle.member_orset.proofs.MapEntries.{entry_in, entry_is}
+use Rattle.dots.specs.Orders.{dot_cmp}
+use Rattle.dots.proofs.DotOrder.{dots_total}
+use Rattle.general_lemmas.proofs.MapEntries.{entry_in, entry_is}
+use Rattle.live_cells.proofs.DotTests.{one_dot}
 use Rattle.live_cells.specs.Holdings.{Holding}
 
 -- registers that agree aren't in conflict
@@ -59,11 +62,11 @@ conflict_at (Some g) h a b c = c
 pub told : (s t : Members) (r : Bool) → IsTold s.live (map.entries t.live) r → (IsTrue r ↔ SetsAgree s t) × (IsFalse r ↔ SetsInConflict s t)
 told s t true is =
     let agree : SetsAgree s t = λ q. agree_at (map.get s.live q) (map.get t.live q) (set.contains s.known q) (set.contains t.known q) (λ h e.
-    let i = entry_in t.live q h e in subst (λ (x : Dot × Holding). HoldingsAgree (map.get s.live x.0) x.1) i.2 (is i.0 (q, h) i.1)) in
+    let i = entry_in dot_cmp dots_total one_dot t.live q h e in subst (λ (x : Dot × Holding). HoldingsAgree (map.get s.live x.0) x.1) i.2 (is i.0 (q, h) i.1)) in
     ((λ x. agree, λ x. refl), (λ x. absurd (cc x), λ x. absurd (conditions_apart (condition_of s x.dot) (condition_of t x.dot) (agree x.dot) x.conflict)))
 told s t false is =
     let q = is.entry.0 in
-    let there : map.get t.live q ≡ Some is.entry.1 = entry_is t.live is.entry is.here in
+    let there : map.get t.live q ≡ Some is.entry.1 = entry_is dot_cmp dots_total t.live is.entry is.here in
     let conflict : ConditionsInConflict (condition_of s q) (condition_of t q) =
     subst (λ (p : Option Holding). ConditionsInConflict (condition_of s q) (condition_at p (set.contains t.known q))) (sym there) (conflict_at (map.get s.live q) is.entry.1 (set.contains s.known q) (set.contains t.known q) is.conflict) in
     ((λ x. absurd (cc x), λ x. absurd (conditions_apart (condition_of s q) (condition_of t q) (x q) conflict)), (λ x. record { dot = q; conflict = conflict }, λ x. refl))

@@ -18,7 +18,7 @@ use Rattle.dots.specs.DotSets.{run_count}
 use Rattle.operations.specs.Conditions.{ConditionsAgree, Dead, DotFields, Live, condition_joined, fields_joined}
 use Rattle.dots.proofs.DotOrder.{dots_total}
 use Rattle.dots.proofs.OneMoreDot.{insert_known}
-use Rattle.live_cells.specs.LiveStates.{fields_met, met_with}
+use Rattle.live_cells.specs.LiveStates.{fields_joined_at, joined_at_held}
 use Rattle.member_orset.specs.declared.join_fault.JoinFault.{JoinFault}
 use Rattle.member_orset.specs.declared.join_fault.JoinFault.TheVariants.{Conflict}
 use Rattle.member_orset.specs.Refusals.{IsRefusedAssert}
@@ -124,10 +124,10 @@ len_one_more live d x e = map.len-insert dots_total live d x ∙ there (map.get 
     there (Some y) e = absurd (cc e)
 
 -- its fields are joined with others, where it is live
-pub held_met : (known : set.FinSet dot_cmp) (live : map.FinMap dot_cmp Holding) (d : Dot) (f : DotFields) → AreKept known live → AreKept known (fields_met live d f)
+pub held_met : (known : set.FinSet dot_cmp) (live : map.FinMap dot_cmp Holding) (d : Dot) (f : DotFields) → AreKept known live → AreKept known (fields_joined_at live d f)
 held_met known live d f a = at (map.get live d) refl
   where
-    at : (o : Option Holding) → map.get live d ≡ o → AreKept known (met_with live d f o)
+    at : (o : Option Holding) → map.get live d ≡ o → AreKept known (joined_at_held live d f o)
     at None e = a
     at (Some h) e = held_inserted known live d (h.0, fields_joined h.1 f) (a.heard d h e) (joined_field h.1 f (a.set d h e)) (let n = len_again live d h (h.0, fields_joined h.1 f) e in let most = a.few in omega arith) a
 
@@ -135,7 +135,7 @@ held_met known live d f a = at (map.get live d) refl
 
 -- of a known dot that is asserted
 pub met_conditions : (live : map.FinMap dot_cmp Holding) (known : set.FinSet dot_cmp) (d : Dot) (m : Member) (f : DotFields) (q : Dot) → set.contains known d ≡ true
-    → condition_at (map.get (fields_met live d f) q) (set.contains known q) ≡ (if eq_by_cmp dot_cmp q d then condition_joined (condition_at (map.get live q) (set.contains known q)) (Some (Live m f)) else condition_at (map.get live q) (set.contains known q))
+    → condition_at (map.get (fields_joined_at live d f) q) (set.contains known q) ≡ (if eq_by_cmp dot_cmp q d then condition_joined (condition_at (map.get live q) (set.contains known q)) (Some (Live m f)) else condition_at (map.get live q) (set.contains known q))
 met_conditions live known d m f q there = at (map.get live d) refl
   where
     none : (b : Bool) → (b ≡ true → q ≡ d) → map.get live d ≡ None → condition_at (map.get live q) (set.contains known q) ≡ (if b then condition_joined (condition_at (map.get live q) (set.contains known q)) (Some (Live m f)) else condition_at (map.get live q) (set.contains known q))
@@ -151,7 +151,7 @@ met_conditions live known d m f q there = at (map.get live d) refl
         ap (λ x. condition_joined x (Some (Live m f))) (sym here)
     some h false same e = refl
 
-    at : (o : Option Holding) → map.get live d ≡ o → condition_at (map.get (met_with live d f o) q) (set.contains known q) ≡ (if eq_by_cmp dot_cmp q d then condition_joined (condition_at (map.get live q) (set.contains known q)) (Some (Live m f)) else condition_at (map.get live q) (set.contains known q))
+    at : (o : Option Holding) → map.get live d ≡ o → condition_at (map.get (joined_at_held live d f o) q) (set.contains known q) ≡ (if eq_by_cmp dot_cmp q d then condition_joined (condition_at (map.get live q) (set.contains known q)) (Some (Live m f)) else condition_at (map.get live q) (set.contains known q))
     at None e = none (eq_by_cmp dot_cmp q d) (one_dot q d) e
     at (Some h) e = ap (λ o. condition_at o (set.contains known q)) (map.get-insert dots_total live d (h.0, fields_joined h.1 f) q) ∙ some h (eq_by_cmp dot_cmp q d) (one_dot q d) e
 

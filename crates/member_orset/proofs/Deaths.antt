@@ -15,7 +15,7 @@ use Rattle.op_arena.specs.Ids.{id_cmp}
 use Rattle.op_arena.proofs.IdOrder.{ids_exact, ids_total}
 use Rattle.live_cells.specs.declared.places.TheConstants.{LAST_GENERATION}
 use Rattle.live_cells.specs.CellIds.{IdMap, IdSet, IdsFollow, retired_of}
-use Rattle.live_cells.specs.LiveStates.{fields_met, met_with}
+use Rattle.live_cells.specs.LiveStates.{fields_joined_at, joined_at_held}
 use Rattle.member_orset.specs.Members.{AreKept, most_retired, AreOfTheDead, dead_among}
 use Rattle.live_cells.proofs.DotTests.{one_dot}
 use Rattle.live_cells.specs.Holdings.{Holding}
@@ -105,14 +105,14 @@ heard_keys known live kept q h = at (map.get live q) refl
     at (Some x) e = kept.heard q x e
 
 -- the same dots are live where the fields of one of them are joined with others
-pub same_keys : (live : Live) (d : Dot) (f : DotFields) (q : Dot) → map.contains_key (fields_met live d f) q ≡ map.contains_key live q
+pub same_keys : (live : Live) (d : Dot) (f : DotFields) (q : Dot) → map.contains_key (fields_joined_at live d f) q ≡ map.contains_key live q
 same_keys live d f q = at (map.get live d) refl
   where
     by : (x h : Holding) (b : Bool) → (b ≡ true → q ≡ d) → map.get live d ≡ Some h → is_some (cond b (Some x) (map.get live q)) ≡ map.contains_key live q
     by x h true same e = sym (ap is_some (ap (map.get live) (same refl) ∙ e))
     by x h false same e = refl
 
-    at : (o : Option Holding) → map.get live d ≡ o → map.contains_key (met_with live d f o) q ≡ map.contains_key live q
+    at : (o : Option Holding) → map.get live d ≡ o → map.contains_key (joined_at_held live d f o) q ≡ map.contains_key live q
     at None e = refl
     at (Some h) e = ap is_some (map.get-insert dots_total live d (h.0, fields_joined h.1 f) q) ∙ by (h.0, fields_joined h.1 f) h (eq_by_cmp dot_cmp q d) (one_dot q d) e
 

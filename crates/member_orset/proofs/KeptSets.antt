@@ -11,7 +11,7 @@ use Rattle.dots.specs.WithinLimits.{AreDots}
 use Rattle.causal_context.specs.Contexts.{Known}
 use Rattle.live_cells.specs.declared.places.TheConstants.{LAST_GENERATION}
 use Rattle.live_cells.specs.CellIds.{IdSet, retired_of}
-use Rattle.live_cells.specs.LiveStates.{AreLive, LiveState, fields_met, spent_with}
+use Rattle.live_cells.specs.LiveStates.{AreLive, LiveState, fields_joined_at, spent_with}
 use Rattle.member_orset.specs.Members.{AreKept, HasField, IsSet, IsWithinLimits, most_retired}
 use Rattle.member_orset.proofs.Asserting.{held_inserted, held_met, held_more, held_none, held_removed, insert_has, insert_more}
 use Rattle.member_orset.proofs.Deaths.{few_retired, heard_keys, more_dead, none_spent, removed_dead, removed_named, same_dead, same_keys, stays_dead, still_dead}
@@ -49,10 +49,10 @@ set_killed known cells d named is = record {
 }
 
 -- the fields of a dot are joined with others, where it is live
-pub set_met : (known : Dots) (live : Live) (spent : IdSet) (d : Dot) (f : DotFields) → IsSet known live spent → IsSet known (fields_met live d f) spent
+pub set_met : (known : Dots) (live : Live) (spent : IdSet) (d : Dot) (f : DotFields) → IsSet known live spent → IsSet known (fields_joined_at live d f) spent
 set_met known live spent d f is = record {
   kept = held_met known live d f is.kept;
-  dead = same_dead known known (map.contains_key live) (map.contains_key (fields_met live d f)) spent spent refl (same_keys live d f) refl is.dead;
+  dead = same_dead known known (map.contains_key live) (map.contains_key (fields_joined_at live d f)) spent spent refl (same_keys live d f) refl is.dead;
 }
 
 -- an unknown dot is live

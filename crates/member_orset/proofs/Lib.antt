@@ -1,5 +1,4 @@
 pub mod LiveIds
-pub mod MapEntries
 pub mod Agreeing
 pub mod Asserting
 pub mod Preparing

@@ -1,13 +1,15 @@
 -- The walk over the dots of a site: what is passed, and how far dots are given or dead.
-use Rattle.std.proofs.Common.{◌≡◌, ℕ, ◌≤◌, Bool, true, false, not, ◌&&◌, ◌||◌, List, sym, ap, ◌∙◌, arith}
+use Rattle.std.proofs.Common.{◌≡◌, ℕ, ◌≤◌, Bool, true, false, not, ◌&&◌, ◌||◌, List, sym, ap, subst, ◌∙◌, arith}
 use Rattle.std.specs.FinSet as sets
 use Rattle.dots.specs.Values.{Dot}
 use Rattle.dots.specs.Orders.{dot_cmp}
 use Rattle.dots.specs.DotSets.{IsRunsOf, Run, in_runs}
+use Rattle.live_cells.specs.declared.placed.Placed.{Placed}
+use Rattle.live_cells.specs.PlacedLists.{is_placed}
 use Rattle.member_orset.specs.declared.piece.Piece.{Piece}
 use Rattle.member_orset.specs.Gathering.{AreToName, IsPiece, is_given, is_to_name}
 
-abbrev at : ℕ → ℕ → Dot
+abbrev pub at : ℕ → ℕ → Dot
 at site count = record { site = site; count = count }
 
 module _ (known : sets.FinSet dot_cmp) (live : Dot → Bool) (given : List Dot) (site first last : ℕ) (p : Piece)
@@ -56,3 +58,12 @@ piece_of known live given site first last dots p are least is = record {
   within = is.within;
   same = λ n lo hi. are.same n (omega arith) (let a = is.within in omega arith) ∙ is.same n lo hi;
 }
+
+-- what a piece is at the dot that a walk has come to, said of the place from which the loop took it
+pub piece_here : (known : sets.FinSet dot_cmp) (runs runs_now : List Run) (dots dots_now : List Placed) (given given_now : List Dot) (last last_now from : Dot) (site first : ℕ) (p : Piece)
+    → runs_now ≡ runs → dots_now ≡ dots → given_now ≡ given → last_now ≡ last → from.site ≡ site → from.count ≡ first → IsRunsOf runs known
+    → (IsRunsOf runs_now known → IsPiece (λ n. is_to_name known (is_placed dots_now) given_now (at from.site n)) from.count last_now.count p)
+    → IsPiece (λ n. is_to_name known (is_placed dots) given (at site n)) first last.count p
+piece_here known runs runs_now dots dots_now given given_now last last_now from site first p runs_are dots_are given_are last_is site_is first_is are piece =
+    subst (λ (X : Type 0). X) (λ i. IsPiece (λ n. is_to_name known (is_placed (dots_are i)) (given_are i) (at (site_is i) n)) (first_is i) (last_is i).count p)
+    (piece (subst (λ rs. IsRunsOf rs known) (sym runs_are) are))

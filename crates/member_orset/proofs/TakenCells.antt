@@ -15,7 +15,8 @@ use Rattle.live_cells.specs.LiveLists.{entry_of, holding}
 use Rattle.live_cells.specs.LiveStates.{LiveState, HaveGrown}
 use Rattle.live_cells.proofs.DotTests.{one_dot, same_tied}
 use Rattle.live_cells.proofs.IdSteps.{grown_same, grown_twice}
-use Rattle.member_orset.proofs.MapEntries.{entry_is}
+use Rattle.dots.proofs.DotOrder.{dots_total}
+use Rattle.general_lemmas.proofs.MapEntries.{entry_is}
 use Rattle.member_orset.proofs.Taking.{none_behind}
 use Rattle.live_cells.specs.Holdings.{Holding}
 
@@ -49,7 +50,7 @@ module _ (known : Dot → Bool) (old now after : LiveState) (there : map.FinMap 
   here = subst (λ (es : Entries). Contains es (entry_of c)) (sym together) (Contains-append_right t.done (entry_of c ∷ left) (entry_of c) (first_in (entry_of c) left))
 
   held : map.get there c.dot ≡ Some (holding c)
-  held = entry_is there (entry_of c) here
+  held = entry_is dot_cmp dots_total there (entry_of c) here
 
   -- the next cell is none of those behind it
   not_left : find dot_cmp c.dot left ≡ None

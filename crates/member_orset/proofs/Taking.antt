@@ -1,4 +1,4 @@
--- Cells of the other side that are taken in, one by one.
+-- Cells of the other side that are taken in, one by one or all that are known at once.
 use Rattle.std.proofs.Common.{◌≡◌, ◌+◌, ◌≤◌, Bool, true, false, true≢false, cond, List, [], ◌∷◌, ◌++◌, Option, Some, None, is_some, refl, sym, ap, subst, ◌∙◌, ◌⊎◌, inl, inr, arith}
 use Rattle.std.specs.Prelude.{IfSome, if◌then◌else◌}
 use Rattle.std.specs.Ordering.{eq_by_cmp}
@@ -19,7 +19,7 @@ use Rattle.live_cells.specs.declared.placed.Placed.{Placed}
 use Rattle.live_cells.specs.CellIds.{IsNew}
 use Rattle.member_orset.specs.Joining.{AreNewLeft, HoldingsAgree, IsJoinedWith, IsTakenIn, holding_with}
 use Rattle.live_cells.specs.LiveLists.{holding}
-use Rattle.live_cells.specs.LiveStates.{LiveState, HaveGrown, fields_met, met_with}
+use Rattle.live_cells.specs.LiveStates.{LiveState, HaveGrown, fields_joined_at, joined_at_held}
 use Rattle.live_cells.specs.PlacedLists.{is_placed}
 use Rattle.member_orset.proofs.Asserting.{len_again, len_one_more}
 use Rattle.live_cells.proofs.DotTests.{one_dot}
@@ -43,17 +43,17 @@ taken_joined known s t c h held now ids spent room =
     at q false same = refl
 
 -- where its dot is known here
-pub taken_met : (known : Dot → Bool) (s t : LiveState) (c : LiveDot) → (map.get s.live c.dot ≡ None → known c.dot ≡ true) → t.live ≡ fields_met s.live c.dot c.fields → t.ids ≡ s.ids → t.spent ≡ s.spent → s.room ≤ t.room → IsTakenIn known s c t
+pub taken_met : (known : Dot → Bool) (s t : LiveState) (c : LiveDot) → (map.get s.live c.dot ≡ None → known c.dot ≡ true) → t.live ≡ fields_joined_at s.live c.dot c.fields → t.ids ≡ s.ids → t.spent ≡ s.spent → s.room ≤ t.room → IsTakenIn known s c t
 taken_met known s t c dead now ids spent room = elim (look (map.get s.live c.dot)) [
   | inl none ↦
-      let same : t.live ≡ s.live = now ∙ ap (met_with s.live c.dot c.fields) none in
+      let same : t.live ≡ s.live = now ∙ ap (joined_at_held s.live c.dot c.fields) none in
       record {
         live = λ q. ap (λ m. map.get m q) same ∙ at q none (eq_by_cmp dot_cmp q c.dot) (one_dot q c.dot);
         ids = grown_same s t ids spent;
         few = let len = ap map.len same in omega arith;
         room = room;
       }
-  | inr h ↦ taken_joined known s t c h.0 h.1 (now ∙ ap (met_with s.live c.dot c.fields) h.1) ids spent room
+  | inr h ↦ taken_joined known s t c h.0 h.1 (now ∙ ap (joined_at_held s.live c.dot c.fields) h.1) ids spent room
 ]
   where
     at : (q : Dot) → map.get s.live c.dot ≡ None → (b : Bool) → (b ≡ true → q ≡ c.dot) → map.get s.live q ≡ (if b then holding_with (map.get s.live q) (known q) (Some (holding c)) else map.get s.live q)
@@ -61,10 +61,10 @@ taken_met known s t c dead now ids spent room = elim (look (map.get s.live c.dot
     at q none false same = refl
 
 -- as many dots are live then
-pub len_met : (live : map.FinMap dot_cmp Holding) (d : Dot) (f : DotFields) → map.len (fields_met live d f) ≡ map.len live
+pub len_met : (live : map.FinMap dot_cmp Holding) (d : Dot) (f : DotFields) → map.len (fields_joined_at live d f) ≡ map.len live
 len_met live d f = at (map.get live d) refl
   where
-    at : (o : Option Holding) → map.get live d ≡ o → map.len (met_with live d f o) ≡ map.len live
+    at : (o : Option Holding) → map.get live d ≡ o → map.len (joined_at_held live d f o) ≡ map.len live
     at None e = refl
     at (Some h) e = len_again live d h (h.0, fields_joined h.1 f) e
 

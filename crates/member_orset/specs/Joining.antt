@@ -79,7 +79,8 @@ pub record IsJoinedWith (known : Dot → Bool) (old : LiveState) (there : map.Fi
   pub live : (q : Dot) → map.get new.live q ≡ holding_with (map.get old.live q) (known q) (map.get there q)
   pub ids : HaveGrown old new
 
--- of what is live there the known dots were taken in, and those that aren't known are left
+-- of what is live there the known dots were taken in, and those that aren't known are left; what is live here is known, and there
+-- is room for what is left
 pub record AreNewLeft (known : Dot → Bool) (old : LiveState) (there : map.FinMap dot_cmp Holding) (new : LiveState) (rest : map.FinMap dot_cmp Holding) : Type 0 where
   pub live : (q : Dot) → map.get new.live q ≡ (if known q then holding_with (map.get old.live q) true (map.get there q) else None)
   pub left : (q : Dot) → map.get rest q ≡ (if known q then None else map.get there q)

@@ -5,7 +5,7 @@ ghost use Rattle.std.specs.FinMap as map;
 ghost use Rattle.live_cells.specs.Holdings.{cell_read};
 ghost use Rattle.member_orset.specs.Joining.{HoldingsAgree, HoldingsInConflict, IsTold};
 
-use dots::{Dot, Member};
+use dots::Member;
 use live_cells::{Cell, LAST_GENERATION, LiveCells};
 use lww_registers::Fields;
 
@@ -17,7 +17,7 @@ pub(crate) fn is_same_member(member: &Member, other: &Member) -> bool
 }
 
 // Whether a dot can be live with a member and fields, beside what is held of it, if anything is.
-fn can_hold(held: Option<Cell<'_>>, member: &Member, fields: &Fields) -> bool
+pub(crate) fn can_hold(held: Option<Cell<'_>>, member: &Member, fields: &Fields) -> bool
     ensures agree { IsTrue result
         ↔ HoldingsAgree (option_map cell_read held.entry) (member.now, fields.now) }
     ensures conflict { IsFalse result
@@ -27,21 +27,6 @@ fn can_hold(held: Option<Cell<'_>>, member: &Member, fields: &Fields) -> bool
         Some(cell) => is_same_member(cell.member, member) && cell.fields.agrees(fields),
         None => true,
     }
-}
-
-// Whether a dot can be live with a member and fields, beside what it is live with, if it is.
-pub(crate) fn agrees_with(
-    cells: &LiveCells<LAST_GENERATION>,
-    dot: Dot,
-    member: &Member,
-    fields: &Fields,
-) -> bool
-    ensures agree { IsTrue result
-        ↔ HoldingsAgree (map.get cells.now.live dot) (member.now, fields.now) }
-    ensures conflict { IsFalse result
-        ↔ HoldingsInConflict (map.get cells.now.live dot) (member.now, fields.now) }
-{
-    can_hold(cells.get(dot), member, fields)
 }
 
 // Whether all that is live here can be joined with all that is live there.

@@ -1,11 +1,10 @@
 //! What is done with one dot that is asserted.
-ghost use Rattle.std.specs.Prelude.{◌≡◌, ◌≢◌, ◌≤◌, ◌<◌, ◌+◌, ◌↔◌, IsFalse, IsOk, IsTrue};
-ghost use Rattle.std.specs.Prelude.{OnErr, OnOk, Err, None, true, false};
+ghost use Rattle.std.specs.Prelude.{◌≡◌, ◌≢◌, ◌≤◌, ◌<◌, ◌↔◌, IsFalse, IsOk, IsTrue};
+ghost use Rattle.std.specs.Prelude.{OnErr, OnOk, Err, None, true};
 ghost use Rattle.std.specs.FinMap as map;
 ghost use Rattle.std.specs.FinSet as set;
 ghost use Rattle.dots.specs.DotSets.{run_count};
 ghost use Rattle.live_cells.specs.CellIds.{IdsFollow};
-ghost use Rattle.live_cells.specs.LiveStates.{AreLive};
 ghost use Rattle.member_orset.specs.Members.{live_with};
 
 use crate::JoinFault;

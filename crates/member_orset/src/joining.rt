@@ -8,15 +8,14 @@ ghost use Rattle.dots.specs.Values.{Dot};
 ghost use Rattle.dots.specs.DotSets.{run_count};
 ghost use Rattle.causal_context.specs.Contexts.{IsPrepared};
 ghost use Rattle.live_cells.specs.LiveLists.{holding};
-ghost use Rattle.live_cells.specs.LiveStates.{IsThinned};
-ghost use Rattle.live_cells.specs.LiveStates.{dead_there};
+ghost use Rattle.live_cells.specs.LiveStates.{IsThinned, dead_there};
 ghost use Rattle.member_orset.specs.Joining.{AreNewLeft, EntriesAgree, HoldingsAgree, IsJoinedWith};
 ghost use Rattle.member_orset.specs.Joining.{IsNextDead, IsTakenIn, dead_in_run};
 
 use crate::JoinFault;
 use causal_context::{Context, ContextFault, Run};
 use dots::{Dot, MOST_RUNS};
-use live_cells::{LAST_GENERATION, LiveCells, LiveDot, Placed, PlacedDots};
+use live_cells::{Cursor, LAST_GENERATION, LiveCells, LiveDot, Placed, PlacedDots};
 
 // Up to so many dots come, or die, one by one, since to search a place for each and to move what stands before it or behind
 // it takes less then than to walk all.
@@ -37,14 +36,14 @@ pub(crate) fn count_unknown(known: &Context, dots: &[Placed]) -> usize
 }
 
 // How many dots aren't live there.
-fn count_missing(dots: &[Placed], there: &LiveCells<LAST_GENERATION>) -> usize
-    ensures value { result ≡ count_by (λ p. not (map.contains_key there.now.live p.dot)) dots.now }
+fn count_missing(dots: &[Placed], there: &mut Cursor<'_>) -> usize
+    ensures value { result ≡ count_by (λ p. not (map.contains_key there.old p.dot)) dots.now }
     ensures few { result ≤ length dots.now }
+    ensures same { there.new ≡ there.old }
 {
-    let mut live = there.cursor();
     let mut count = 0;
     for placed in dots {
-        if live.get(placed.dot).is_none() {
+        if there.get(placed.dot).is_none() {
             count += 1;
         }
     }
@@ -62,9 +61,10 @@ pub(crate) fn count_kept(
         dots.entry.list.now }
 {
     let runs = known_there.as_slice();
+    let mut live = there.cursor();
     let mut left = dots.list.len();
     for run in runs {
-        left -= count_missing(dots.dots_in(*run), there);
+        left -= count_missing(dots.dots_in(*run), &mut live);
     }
     left
 }
@@ -152,7 +152,7 @@ fn take_in(known: &Context, cells: &mut LiveCells<LAST_GENERATION>, cell: LiveDo
 {
     let dot = cell.dot;
     if cells.get(dot).is_some() {
-        cells.meet(0, dot, &cell.fields);
+        cells.join_fields(0, dot, &cell.fields);
         return;
     }
     if !known.contains(dot) {
@@ -160,7 +160,7 @@ fn take_in(known: &Context, cells: &mut LiveCells<LAST_GENERATION>, cell: LiveDo
     }
 }
 
-// Takes in all cells of the other side one by one, in room that is there. It moves them, and takes no memory.
+// Takes in all cells of the other side one by one, in room that is there. It takes no memory.
 fn take_each(
     known: &Context,
     cells: &mut LiveCells<LAST_GENERATION>,
@@ -200,8 +200,9 @@ fn are_known(known: &Context, dots: &[Placed]) -> bool
     true
 }
 
-// Joins the fields of each dot that is live on both sides. Both are gone through once, in the order of their dots.
-fn meet_all(cells: &mut LiveCells<LAST_GENERATION>, others: &LiveCells<LAST_GENERATION>)
+// Joins the fields of each dot that is live on both sides. Those of the other side are gone through once, in their order; each
+// is looked for here first right behind the last one.
+fn join_live(cells: &mut LiveCells<LAST_GENERATION>, others: &LiveCells<LAST_GENERATION>)
     requires agree { EntriesAgree cells.old.live (map.entries others.now.live) }
     requires room { map.len cells.old.live + map.len others.now.live ≤ cells.old.room }
     ensures met { IsJoinedWith (λ dot. true) cells.old others.now.live cells.new }
@@ -210,7 +211,7 @@ fn meet_all(cells: &mut LiveCells<LAST_GENERATION>, others: &LiveCells<LAST_GENE
 {
     let mut guess = 0;
     for (dot, cell) in others.iter() {
-        guess = cells.meet(guess, dot, cell.fields);
+        guess = cells.join_fields(guess, dot, cell.fields);
     }
 }
 
@@ -230,18 +231,18 @@ fn take_known(
     if are_unknown(known, others.placed().list) {
         return;
     }
-    meet_all(cells, others);
+    join_live(cells, others);
     let none = LiveCells::new(cells.allocator());
     if are_known(known, others.placed().list) {
-        *others = none;
+        *others = none; // all cells are dropped at once
     } else {
         others.thin(known, &none);
     }
 }
 
-// Takes in all cells of the other side, in room that is there. It moves them, and takes no memory. Where they are more than a
-// few, those that are known are met in their order, and for the new ones the lists of ids are merged once; else each is searched
-// for, and ids are moved for it.
+// Takes in all cells of the other side, in room that is there. It moves the new ones, and takes no memory. Where all are more than
+// a few, the known ones are joined in their order, and the lists of ids are merged once for the new ones; else each is searched
+// for, and ids are moved for each new one.
 pub(crate) fn take_all(
     known: &Context,
     cells: &mut LiveCells<LAST_GENERATION>,

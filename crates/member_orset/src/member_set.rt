@@ -19,7 +19,7 @@ ghost use Rattle.operations.specs.Views.{row_view};
 ghost use Rattle.member_orset.specs.Reads.{dots_seen_below};
 ghost use Rattle.live_cells.specs.Holdings.{cell_read};
 
-use crate::agreement::{agrees_with, cells_agree};
+use crate::agreement::{can_hold, cells_agree};
 use crate::dead::gather_dead;
 use crate::edits::{bring, has_place, learn};
 use crate::given_dots::GivenDots;
@@ -238,14 +238,14 @@ impl MemberSet {
         ensures ids { KeepsIds self.old self.new }
     {
         let _ = self.context.runs(); // so that their limits are known
-        if !agrees_with(&self.cells, dot, member, fields) {
+        if !can_hold(self.cells.get(dot), member, fields) {
             return Err(JoinFault::Conflict);
         }
         if !has_place(&self.context, &self.cells, dot) {
             return Err(JoinFault::CellsFull);
         }
         if self.context.contains(dot) {
-            self.cells.meet(0, dot, fields);
+            self.cells.join_fields(0, dot, fields);
             return Ok(());
         }
         let cell = LiveDot {

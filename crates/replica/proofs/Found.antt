@@ -41,27 +41,3 @@ module _ {X : Type 0} (P : X → Type 0) where
   -- nothing is left, so it isn't found
   pub none_left : (left all : List X) → left ≡ [] → (Any P left ↔ Any P all) → Any P all → ⊥
   none_left left all step found a = let e = of_any left (found.1 a) in nothing_in e.0 (subst (λ xs. Contains xs e.0) step e.1)
-
--- ---- in a map
-
-module _ {K V : Type 0} (R : K → K → Ordering) (total : IsTotalOrder R) (exact : (a b : K) → eq_by_cmp R a b ≡ true → a ≡ b) where
-  -- each entry is given by the map
-  pub given : (m : map.FinMap R V) (e : K × V) → Contains (map.entries m) e → map.get m e.0 ≡ Some e.1
-  given m e h =
-      map.get-entries m e.0
-      ∙ find_at R total (map.entries m) (fact _ (map.entries_sorted m)) e.0 h.0 e (record { in_range = h.1; has_key = λ d. ap (λ x. x.0) (default (map.entries m) h.0 d e h.1 ∙ h.2) })
-      ∙ ap (λ x. Some x.1) h.2
-    where
-      default : (es : List (K × V)) (i : ℕ) (a b : K × V) → i < length es → get_or es i a ≡ get_or es i b
-      default es i a b l = get_or_default es i a b l
-
-  found_in : (q : K) (v : V) (es : List (K × V)) → find R q es ≡ Some v → Contains es (q, v)
-  found_in q v [] h = absurd (cc)
-  found_in q v (e ∷ es) h = elim (cases_Bool (eq_by_cmp R q e.0)) [
-    | inl t ↦ subst (Contains (e ∷ es)) (λ i. (sym (exact q e.0 t) i, same_Some e.1 v (ap (λ b. cond b (Some e.1) (find R q es)) (sym t) ∙ h) i)) (first_in e es)
-    | inr f ↦ later_in e es (q, v) (found_in q v es (ap (λ b. cond b (Some e.1) (find R q es)) (sym f) ∙ h))
-  ]
-
-  -- and what the map gives is an entry
-  pub listed : (m : map.FinMap R V) (q : K) (v : V) → map.get m q ≡ Some v → Contains (map.entries m) (q, v)
-  listed m q v h = found_in q v (map.entries m) (sym (map.get-entries m q) ∙ h)

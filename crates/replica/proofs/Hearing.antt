@@ -23,7 +23,8 @@ use Rattle.member_orset.specs.Members.{Holding, Members}
 use Rattle.live_cells.proofs.DotTests.{one_dot}
 use Rattle.site_totals.specs.Raising.{number_of}
 use Rattle.replica.specs.Taking.{CountsMore, HasDotPast, HasFieldPast, HasMemberPast, HasStampPast, HasStrangeMember, HasStrangeTotal, HasTotalPast, IsEntryPast, IsWrittenPast}
-use Rattle.replica.proofs.Found.{any_of, given, listed, of_any}
+use Rattle.general_lemmas.proofs.MapEntries.{entry_in, entry_is}
+use Rattle.replica.proofs.Found.{any_of, of_any}
 
 -- what is so exactly where something is that is so exactly where a third is
 pub through : {A B C : Type 0} → (A ↔ B) → (B ↔ C) → A ↔ C
@@ -33,11 +34,11 @@ through p q = (λ a. q.0 (p.0 a), λ c. p.1 (q.1 c))
 
 -- a live dot is found among the entries
 live_found : (P : Holding → Type 0) (members : Members) (dot : Dot) (held : Holding) → map.get members.live dot ≡ Some held → P held → Any (λ (e : Dot × Holding). P e.1) (map.entries members.live)
-live_found P members dot held live p = any_of (λ (e : Dot × Holding). P e.1) (map.entries members.live) (dot, held) (listed dot_cmp dots_total one_dot members.live dot held live) p
+live_found P members dot held live p = any_of (λ (e : Dot × Holding). P e.1) (map.entries members.live) (dot, held) (entry_in dot_cmp dots_total one_dot members.live dot held live) p
 
 -- and what is found there is live
 found_live : (P : Holding → Type 0) (members : Members) → Any (λ (e : Dot × Holding). P e.1) (map.entries members.live) → (e : Dot × Holding) × (map.get members.live e.0 ≡ Some e.1) × P e.1
-found_live P members a = let e = of_any (λ (e : Dot × Holding). P e.1) (map.entries members.live) a in (e.0, given dot_cmp dots_total one_dot members.live e.0 e.1, e.2)
+found_live P members a = let e = of_any (λ (e : Dot × Holding). P e.1) (map.entries members.live) a in (e.0, entry_is dot_cmp dots_total members.live e.0 e.1, e.2)
 
 pub strange_member : (queues : ℕ) (members : Members) → Any (λ (e : Dot × Holding). queues ≤ e.1.0.queue) (map.entries members.live) ↔ HasStrangeMember queues members
 strange_member queues members = (
@@ -76,8 +77,8 @@ Counted = Key × CallTotals
 
 pub strange_total : (queues : ℕ) (entries : Entries) → Any (λ (e : Counted). queues ≤ e.0.queue) (map.entries entries) ↔ HasStrangeTotal queues entries
 strange_total queues entries = (
-  λ a. let e = of_any (λ (e : Counted). queues ≤ e.0.queue) (map.entries entries) a in record { key = e.0.0; totals = e.0.1; counted = given key_cmp keys_total one_key entries e.0 e.1; strange = e.2 },
-  λ s. any_of (λ (e : Counted). queues ≤ e.0.queue) (map.entries entries) (s.key, s.totals) (listed key_cmp keys_total one_key entries s.key s.totals s.counted) s.strange,
+  λ a. let e = of_any (λ (e : Counted). queues ≤ e.0.queue) (map.entries entries) a in record { key = e.0.0; totals = e.0.1; counted = entry_is key_cmp keys_total entries e.0 e.1; strange = e.2 },
+  λ s. any_of (λ (e : Counted). queues ≤ e.0.queue) (map.entries entries) (s.key, s.totals) (entry_in key_cmp keys_total one_key entries s.key s.totals s.counted) s.strange,
 )
 
 -- one of two totals that is greater than an own one is of one kind of calls
@@ -102,7 +103,7 @@ total_past site own entries = (
     by e =
         let kind = of_one_kind (totals_of own site e.0.0.queue) e.0.1 e.2.1 in
         let here : totals_of entries site e.0.0.queue ≡ e.0.1 =
-        ap (λ (n : ℕ). totals_of entries n e.0.0.queue) (sym e.2.0) ∙ ap (λ o. unwrap_or o no_calls) (given key_cmp keys_total one_key entries e.0 e.1) in
+        ap (λ (n : ℕ). totals_of entries n e.0.0.queue) (sym e.2.0) ∙ ap (λ o. unwrap_or o no_calls) (entry_is key_cmp keys_total entries e.0 e.1) in
         record { queue = e.0.0.queue; calls = kind.0; past = subst (λ t. number_of kind.0 (totals_of own site e.0.0.queue) < number_of kind.0 t) (sym here) kind.1 }
 
     none : (calls : Calls) (n : ℕ) → n < number_of calls no_calls → ⊥
@@ -112,7 +113,7 @@ total_past site own entries = (
     at : (q : ℕ) (o : Option CallTotals) → map.get entries (record { site = site; queue = q }) ≡ o → (calls : Calls) → number_of calls (totals_of own site q) < number_of calls (unwrap_or o no_calls) → Any (IsPast site own) (map.entries entries)
     at q None e calls past = absurd (none calls (number_of calls (totals_of own site q)) past)
     at q (Some t) e calls past =
-        any_of (IsPast site own) (map.entries entries) (record { site = site; queue = q }, t) (listed key_cmp keys_total one_key entries (record { site = site; queue = q }) t e)
+        any_of (IsPast site own) (map.entries entries) (record { site = site; queue = q }, t) (entry_in key_cmp keys_total one_key entries (record { site = site; queue = q }) t e)
         (refl, one_counts_more (totals_of own site q) t calls past)
 
 -- ---- dots

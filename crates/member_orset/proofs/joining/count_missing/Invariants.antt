@@ -6,7 +6,7 @@ use Rattle.member_orset.proofs.joining.count_missing.Given as goal
 
 abbrev pub invariant-loop-placed : goal.invariant-loop-placed
 invariant-loop-placed l = record {
-  live : l.live ≡ l.there.live;
+  same : l.there ≡ l.fn.there;
   few : l.count ≤ l.placed-index;
-  counted : l.count ≡ count_by (λ p. not (map.contains_key l.there.live p.dot)) (take l.placed-index l.dots);
+  counted : l.count ≡ count_by (λ p. not (map.contains_key l.fn.there p.dot)) (take l.placed-index l.dots);
 }

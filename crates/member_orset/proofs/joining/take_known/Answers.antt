@@ -18,14 +18,14 @@ pub returns-then-are_known : goal.returns-then-are_known
 returns-then-are_known c =
     let known = set.contains c.args.known.now.dots in
     let there = c.args.others.now.live in
-    new_left known c.args.cells.now c.meet_all.new.cells there c.new-none.result.live c.meet_all.ensures.met c.meet_all.ensures.few c.meet_all.ensures.room c.requires.heard
+    new_left known c.args.cells.now c.join_live.new.cells there c.new-none.result.live c.join_live.ensures.met c.join_live.ensures.few c.join_live.ensures.room c.requires.heard
     (none_left known there c.new-none.result.live c.new-none.ensures.live (known_there known there c.placed-2.result.list.now c.placed-2.ensures.dots (c.are_known.ensures c.if-are_known.true)))
     (let none = ap map.len c.new-none.ensures.live ∙ map.len-empty dot_cmp Holding in omega arith) c.requires.room
 
 pub returns-else-are_known : goal.returns-else-are_known
 returns-else-are_known c =
     let known = set.contains c.args.known.now.dots in
-    new_left known c.args.cells.now c.meet_all.new.cells c.args.others.now.live c.thin.new.self.live c.meet_all.ensures.met c.meet_all.ensures.few c.meet_all.ensures.room c.requires.heard
+    new_left known c.args.cells.now c.join_live.new.cells c.args.others.now.live c.thin.new.self.live c.join_live.ensures.met c.join_live.ensures.few c.join_live.ensures.room c.requires.heard
     (λ q. c.thin.ensures.thinned.live q ∙ dies q (known q) (map.get c.args.others.now.live q)) c.thin.ensures.few c.requires.room
   where
     -- nothing is live in no set

@@ -4,7 +4,10 @@ use Rattle.std.specs.FinMap as map
 use Rattle.std.proofs.lemmas.List.Elements.{All-cons}
 use Rattle.dots.specs.Values.{Dot}
 use Rattle.general_lemmas.proofs.Membership.{first_in, later_in}
-use Rattle.member_orset.proofs.MapEntries.{entry_in, entry_is}
+use Rattle.dots.specs.Orders.{dot_cmp}
+use Rattle.dots.proofs.DotOrder.{dots_total}
+use Rattle.general_lemmas.proofs.MapEntries.{entry_in, entry_is}
+use Rattle.live_cells.proofs.DotTests.{one_dot}
 use Rattle.member_orset.proofs.sameness.has_all.Goals as goal
 use Rattle.live_cells.specs.Holdings.{Holding, cell_read}
 
@@ -34,11 +37,11 @@ pub returns-then-not-is_held_so : goal.returns-then-not-is_held_so
 returns-then-not-is_held_so c =
     let x : Dot × Holding = (c.in-Some.dot, cell_read c.in-Some.cell) in
     let here = c.loop-dot.invariant.among x (subst (λ (es : List (Dot × Holding)). Contains es x) (sym c.in-Some.ensures.steps) (first_in x c.next.new.self)) in
-    (λ t. absurd (cc t), λ all. absurd (let t = c.is_held_so.ensures.1 (c.get.ensures.value ∙ ap (λ m. map.get m c.in-Some.dot) c.loop-dot.invariant.cursor ∙ all x.0 x.1 (entry_is c.args.others.now.live x here)) in cc (t, c.if-not-is_held_so.true)))
+    (λ t. absurd (cc t), λ all. absurd (let t = c.is_held_so.ensures.1 (c.get.ensures.value ∙ ap (λ m. map.get m c.in-Some.dot) c.loop-dot.invariant.cursor ∙ all x.0 x.1 (entry_is dot_cmp dots_total c.args.others.now.live x here)) in cc (t, c.if-not-is_held_so.true)))
 
 pub returns : goal.returns
 returns c =
     let live = c.args.cells.now.live in
     let there = c.args.others.now.live in
     let all = c.loop-dot.invariant.here (subst (All (λ (e : Dot × Holding). map.get live e.0 ≡ Some e.1)) (sym c.in-None.ensures.steps.0) (λ k d l. absurd (omega arith))) in
-    (λ t dot h g. let i = entry_in there dot h g in subst (λ (e : Dot × Holding). map.get live e.0 ≡ Some e.1) i.2 (all i.0 (dot, h) i.1), λ t. refl)
+    (λ t dot h g. let i = entry_in dot_cmp dots_total one_dot there dot h g in subst (λ (e : Dot × Holding). map.get live e.0 ≡ Some e.1) i.2 (all i.0 (dot, h) i.1), λ t. refl)

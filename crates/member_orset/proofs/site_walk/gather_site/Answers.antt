@@ -1,11 +1,11 @@
 use Rattle.std.proofs.Common.{ℕ, ◌≡◌, ◌+◌, ◌-◌, ◌≤◌, Bool, true, false, not, refl, ap, sym, subst, ◌∙◌, arith}
 use Rattle.std.specs.FinSet as set
-use Rattle.dots.specs.DotSets.{IsRunsOf, dots_between, run_count, set_of}
+use Rattle.dots.specs.DotSets.{dots_between, run_count, set_of}
 use Rattle.dots.proofs.Runs.{runs_of_set}
 use Rattle.live_cells.specs.PlacedLists.{is_placed}
-use Rattle.member_orset.specs.Gathering.{IsGathered, IsPiece, is_to_name, part_before, runs_after}
+use Rattle.member_orset.specs.Gathering.{IsGathered, part_before, runs_after}
 use Rattle.member_orset.proofs.SeenDots.{before_it, from_one, next_site, none_past, part_inside, part_outside, runs_grown}
-use Rattle.member_orset.proofs.SiteWalk.{piece_of}
+use Rattle.member_orset.proofs.SiteWalk.{piece_here, piece_of}
 use Rattle.member_orset.proofs.site_walk.gather_site.Goals.{else-piece, then-piece}
 use Rattle.member_orset.proofs.site_walk.gather_site.Goals as goal
 
@@ -51,16 +51,12 @@ invariant_of-run c =
     let piece = c.piece-piece.result in
     let end = c.count-end.ensures.value in
     let e = c.go_to.ensures in
-    let at = ap (λ d. d.site) e.from ∙ c.in-Some-new.ensures.value.0 ∙ c.site-site.ensures.value in
-    let count = ap (λ d. d.count) e.from ∙ c.in-Some-new.ensures.value.1 in
-    let runs_are = e.runs ∙ v.runs in
-    let dots_are = e.dots ∙ v.dots in
-    let given_are = e.given ∙ v.given in
-    let last_is = e.last ∙ v.last in
+    let site_is = ap (λ d. d.site) e.from ∙ c.in-Some-new.ensures.value.0 ∙ c.site-site.ensures.value in
+    let first_is = ap (λ d. d.count) e.from ∙ c.in-Some-new.ensures.value.1 in
     let all = set_of c.args.runs.list.now in
-    let is0 : IsPiece (λ n. is_to_name all (is_placed c.args.dots.list.now) c.args.given.list.now (record { site = site; count = n })) first c.args.last.count piece =
-    subst (λ (X : Type 0). X) (λ i. IsPiece (λ n. is_to_name all (is_placed (dots_are i)) (given_are i) (record { site = at i; count = n })) (count i) (last_is i).count piece)
-    (c.piece-piece.ensures all (subst (λ rs. IsRunsOf rs all) (sym runs_are) (runs_of_set c.args.runs.list.now c.args.runs.apart))) in
+    let is0 =
+    piece_here all c.args.runs.list.now _ c.args.dots.list.now _ c.args.given.list.now _ c.args.last _ _ site first piece (e.runs ∙ v.runs) (e.dots ∙ v.dots) (e.given ∙ v.given) (e.last ∙ v.last) site_is first_is
+    (runs_of_set c.args.runs.list.now c.args.runs.apart) (c.piece-piece.ensures all) in
     let order : first ≤ c.args.last.count = omega arith in
     let some : first ≤ piece.last = is0.some order in
     let within = is0.within in
@@ -89,16 +85,12 @@ overflow_add-first c =
     let piece = c.piece-piece.result in
     let end = c.count-end.ensures.value in
     let e = c.go_to.ensures in
-    let at = ap (λ d. d.site) e.from ∙ c.in-Some-new.ensures.value.0 ∙ c.site-site.ensures.value in
-    let count = ap (λ d. d.count) e.from ∙ c.in-Some-new.ensures.value.1 in
-    let runs_are = e.runs ∙ v.runs in
-    let dots_are = e.dots ∙ v.dots in
-    let given_are = e.given ∙ v.given in
-    let last_is = e.last ∙ v.last in
+    let site_is = ap (λ d. d.site) e.from ∙ c.in-Some-new.ensures.value.0 ∙ c.site-site.ensures.value in
+    let first_is = ap (λ d. d.count) e.from ∙ c.in-Some-new.ensures.value.1 in
     let all = set_of c.args.runs.list.now in
-    let is0 : IsPiece (λ n. is_to_name all (is_placed c.args.dots.list.now) c.args.given.list.now (record { site = site; count = n })) first c.args.last.count piece =
-    subst (λ (X : Type 0). X) (λ i. IsPiece (λ n. is_to_name all (is_placed (dots_are i)) (given_are i) (record { site = at i; count = n })) (count i) (last_is i).count piece)
-    (c.piece-piece.ensures all (subst (λ rs. IsRunsOf rs all) (sym runs_are) (runs_of_set c.args.runs.list.now c.args.runs.apart))) in
+    let is0 =
+    piece_here all c.args.runs.list.now _ c.args.dots.list.now _ c.args.given.list.now _ c.args.last _ _ site first piece (e.runs ∙ v.runs) (e.dots ∙ v.dots) (e.given ∙ v.given) (e.last ∙ v.last) site_is first_is
+    (runs_of_set c.args.runs.list.now c.args.runs.apart) (c.piece-piece.ensures all) in
     let order : first ≤ c.args.last.count = omega arith in
     let some : first ≤ piece.last = is0.some order in
     let within = is0.within in
@@ -113,16 +105,12 @@ loop-first-smaller c =
     let piece = c.piece-piece.result in
     let end = c.count-end.ensures.value in
     let e = c.go_to.ensures in
-    let at = ap (λ d. d.site) e.from ∙ c.in-Some-new.ensures.value.0 ∙ c.site-site.ensures.value in
-    let count = ap (λ d. d.count) e.from ∙ c.in-Some-new.ensures.value.1 in
-    let runs_are = e.runs ∙ v.runs in
-    let dots_are = e.dots ∙ v.dots in
-    let given_are = e.given ∙ v.given in
-    let last_is = e.last ∙ v.last in
+    let site_is = ap (λ d. d.site) e.from ∙ c.in-Some-new.ensures.value.0 ∙ c.site-site.ensures.value in
+    let first_is = ap (λ d. d.count) e.from ∙ c.in-Some-new.ensures.value.1 in
     let all = set_of c.args.runs.list.now in
-    let is0 : IsPiece (λ n. is_to_name all (is_placed c.args.dots.list.now) c.args.given.list.now (record { site = site; count = n })) first c.args.last.count piece =
-    subst (λ (X : Type 0). X) (λ i. IsPiece (λ n. is_to_name all (is_placed (dots_are i)) (given_are i) (record { site = at i; count = n })) (count i) (last_is i).count piece)
-    (c.piece-piece.ensures all (subst (λ rs. IsRunsOf rs all) (sym runs_are) (runs_of_set c.args.runs.list.now c.args.runs.apart))) in
+    let is0 =
+    piece_here all c.args.runs.list.now _ c.args.dots.list.now _ c.args.given.list.now _ c.args.last _ _ site first piece (e.runs ∙ v.runs) (e.dots ∙ v.dots) (e.given ∙ v.given) (e.last ∙ v.last) site_is first_is
+    (runs_of_set c.args.runs.list.now c.args.runs.apart) (c.piece-piece.ensures all) in
     let order : first ≤ c.args.last.count = omega arith in
     let some : first ≤ piece.last = is0.some order in
     let within = is0.within in
@@ -136,16 +124,12 @@ loop-first-preserved c =
     let piece = c.piece-piece.result in
     let end = c.count-end.ensures.value in
     let e = c.go_to.ensures in
-    let at = ap (λ d. d.site) e.from ∙ c.in-Some-new.ensures.value.0 ∙ c.site-site.ensures.value in
-    let count = ap (λ d. d.count) e.from ∙ c.in-Some-new.ensures.value.1 in
-    let runs_are = e.runs ∙ v.runs in
-    let dots_are = e.dots ∙ v.dots in
-    let given_are = e.given ∙ v.given in
-    let last_is = e.last ∙ v.last in
+    let site_is = ap (λ d. d.site) e.from ∙ c.in-Some-new.ensures.value.0 ∙ c.site-site.ensures.value in
+    let first_is = ap (λ d. d.count) e.from ∙ c.in-Some-new.ensures.value.1 in
     let all = set_of c.args.runs.list.now in
-    let is0 : IsPiece (λ n. is_to_name all (is_placed c.args.dots.list.now) c.args.given.list.now (record { site = site; count = n })) first c.args.last.count piece =
-    subst (λ (X : Type 0). X) (λ i. IsPiece (λ n. is_to_name all (is_placed (dots_are i)) (given_are i) (record { site = at i; count = n })) (count i) (last_is i).count piece)
-    (c.piece-piece.ensures all (subst (λ rs. IsRunsOf rs all) (sym runs_are) (runs_of_set c.args.runs.list.now c.args.runs.apart))) in
+    let is0 =
+    piece_here all c.args.runs.list.now _ c.args.dots.list.now _ c.args.given.list.now _ c.args.last _ _ site first piece (e.runs ∙ v.runs) (e.dots ∙ v.dots) (e.given ∙ v.given) (e.last ∙ v.last) site_is first_is
+    (runs_of_set c.args.runs.list.now c.args.runs.apart) (c.piece-piece.ensures all) in
     let order : first ≤ c.args.last.count = omega arith in
     let some : first ≤ piece.last = is0.some order in
     let within = is0.within in
@@ -164,19 +148,19 @@ loop-first-preserved c =
         | else-piece w ↦ let same = ap (λ s. s.runs) w.gathered-is in omega arith
       ];
       come = omega arith;
-      runs = runs_are;
-      dots = dots_are;
-      given = given_are;
-      last = last_is;
+      runs = e.runs ∙ v.runs;
+      dots = e.dots ∙ v.dots;
+      given = e.given ∙ v.given;
+      last = e.last ∙ v.last;
       before = λ known dots are name.
-          let is : IsPiece (λ n. is_to_name known (is_placed c.args.dots.list.now) c.args.given.list.now (record { site = site; count = n })) first c.args.last.count piece =
-          subst (λ (X : Type 0). X) (λ i. IsPiece (λ n. is_to_name known (is_placed (dots_are i)) (given_are i) (record { site = at i; count = n })) (count i) (last_is i).count piece)
-          (c.piece-piece.ensures known (subst (λ rs. IsRunsOf rs known) (sym runs_are) are)) in
+          let is =
+          piece_here known c.args.runs.list.now _ c.args.dots.list.now _ c.args.given.list.now _ c.args.last _ _ site first piece (e.runs ∙ v.runs) (e.dots ∙ v.dots) (e.given ∙ v.given) (e.last ∙ v.last) site_is first_is are
+          (c.piece-piece.ensures known) in
           sym (is.same piece.last some (omega arith)) ∙ sym (name.same piece.last (omega arith) within) ∙ (λ i. set.contains dots (record { site = site; count = next i }));
       gathered = λ known dots are name g.
-          let is : IsPiece (λ n. is_to_name known (is_placed c.args.dots.list.now) c.args.given.list.now (record { site = site; count = n })) first c.args.last.count piece =
-          subst (λ (X : Type 0). X) (λ i. IsPiece (λ n. is_to_name known (is_placed (dots_are i)) (given_are i) (record { site = at i; count = n })) (count i) (last_is i).count piece)
-          (c.piece-piece.ensures known (subst (λ rs. IsRunsOf rs known) (sym runs_are) are)) in
+          let is =
+          piece_here known c.args.runs.list.now _ c.args.dots.list.now _ c.args.given.list.now _ c.args.last _ _ site first piece (e.runs ∙ v.runs) (e.dots ∙ v.dots) (e.given ∙ v.given) (e.last ∙ v.last) site_is first_is are
+          (c.piece-piece.ensures known) in
           let named = piece_of known (is_placed c.args.dots.list.now) c.args.given.list.now site first c.args.last.count dots piece name least is in
           let old = v.gathered known dots are name g in
           let part = part_before dots site first in

@@ -5,7 +5,7 @@ use Rattle.dots.specs.declared.limits.TheConstants.{MOST_LIVE, MOST_RUNS}
 use Rattle.operations.specs.Conditions.{Live}
 use Rattle.dots.specs.DotSets.{run_count}
 use Rattle.live_cells.specs.CellIds.{IdsFollow}
-use Rattle.live_cells.specs.LiveStates.{fields_met}
+use Rattle.live_cells.specs.LiveStates.{fields_joined_at}
 use Rattle.member_orset.specs.Members.{HasField, IsSet, Members, cells_with, condition_at, joined_at, live_with}
 use Rattle.member_orset.proofs.Asserting.{brought_conditions, either, known_already, len_one_more, met_conditions, on_err, on_err_both, on_ok_both, refused_conflict, refused_none, unknown_not_live}
 use Rattle.live_cells.proofs.IdSteps.{follow_same}
@@ -14,20 +14,20 @@ use Rattle.member_orset.proofs.member_set.MemberSet.assert.Goals as goal
 use Rattle.member_orset.specs.Joining.{HoldingsAgree, HoldingsInConflict}
 use Rattle.live_cells.specs.Holdings.{Holding}
 
-pub returns-then-not-agrees_with-clause-refusals : goal.returns-then-not-agrees_with-clause-refusals
-returns-then-not-agrees_with-clause-refusals c =
+pub returns-then-not-can_hold-clause-refusals : goal.returns-then-not-can_hold-clause-refusals
+returns-then-not-can_hold-clause-refusals c =
     let limit = c.runs.ensures.limit in
     let value = c.runs.ensures.value in
     let few : run_count c.self.inside.context.dots ≤ MOST_RUNS = omega arith in
     refused_conflict c.args.self.now c.args.dot c.args.member.now c.args.fields.now
-    (subst (λ (t : Members). HoldingsInConflict (map.get t.live c.args.dot) (c.args.member.now, c.args.fields.now)) c.self.view_is (c.agrees_with.ensures.conflict.0 c.if-not-agrees_with.true))
+    (subst (λ (t : Members). HoldingsInConflict (map.get t.live c.args.dot) (c.args.member.now, c.args.fields.now)) c.self.view_is (subst (λ o. HoldingsInConflict o (c.args.member.now, c.args.fields.now)) c.get.ensures (c.can_hold.ensures.conflict.0 c.if-not-can_hold.true)))
     (λ h e. ap (λ (t : Members). set.contains t.known c.args.dot) (sym c.self.view_is) ∙ c.self.invariant.kept.heard c.args.dot h (ap (λ (t : Members). map.get t.live c.args.dot) c.self.view_is ∙ e))
     (subst (λ (t : Members). run_count t.known ≤ MOST_RUNS) c.self.view_is few)
 
 pub invariant_of-self : goal.invariant_of-self
 invariant_of-self c =
     let s = c.self.inside in
-    set_same s.context.dots s.context.dots (fields_met s.cells.live c.args.dot c.args.fields.now) c.meet.new.self.live s.cells.spent c.meet.new.self.spent refl c.meet.ensures.live c.meet.ensures.spent
+    set_same s.context.dots s.context.dots (fields_joined_at s.cells.live c.args.dot c.args.fields.now) c.join_fields.new.self.live s.cells.spent c.join_fields.new.self.spent refl c.join_fields.ensures.live c.join_fields.ensures.spent
     (set_met s.context.dots s.cells.live s.cells.spent c.args.dot c.args.fields.now c.self.invariant)
 
 pub returns-then-contains-clause-known : goal.returns-then-contains-clause-known
@@ -37,7 +37,7 @@ returns-then-contains-clause-known c =
 pub returns-then-contains-clause-conditions : goal.returns-then-contains-clause-conditions
 returns-then-contains-clause-conditions c q =
     let s = c.self.inside in
-    ap (λ m. condition_at (map.get m q) (set.contains s.context.dots q)) c.meet.ensures.live
+    ap (λ m. condition_at (map.get m q) (set.contains s.context.dots q)) c.join_fields.ensures.live
     ∙ met_conditions s.cells.live s.context.dots c.args.dot c.args.member.now c.args.fields.now q (sym c.contains.ensures ∙ c.if-contains.true)
     ∙ (λ i. joined_at (c.self.view_is i) c.args.dot (Live c.args.member.now c.args.fields.now) q)
 
@@ -47,7 +47,7 @@ returns-then-contains-clause-refusals c =
     let value = c.runs.ensures.value in
     let few : run_count c.self.inside.context.dots ≤ MOST_RUNS = omega arith in
     refused_none c.args.self.now c.args.dot c.args.member.now c.args.fields.now
-    (subst (λ (t : Members). HoldingsAgree (map.get t.live c.args.dot) (c.args.member.now, c.args.fields.now)) c.self.view_is (c.agrees_with.ensures.agree.0 c.if-not-agrees_with.false))
+    (subst (λ (t : Members). HoldingsAgree (map.get t.live c.args.dot) (c.args.member.now, c.args.fields.now)) c.self.view_is (subst (λ o. HoldingsAgree o (c.args.member.now, c.args.fields.now)) c.get.ensures (c.can_hold.ensures.agree.0 c.if-not-can_hold.false)))
     (ap (λ (t : Members). set.contains t.known c.args.dot) (sym c.self.view_is) ∙ sym c.contains.ensures ∙ c.if-contains.true)
     (subst (λ (t : Members). cells_with t c.args.dot ≤ MOST_LIVE) c.self.view_is (c.has_place.ensures.there.0 c.if-not-has_place.false))
     (subst (λ (t : Members). run_count t.known ≤ MOST_RUNS) c.self.view_is few)

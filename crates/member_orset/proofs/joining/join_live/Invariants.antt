@@ -2,7 +2,7 @@
 use Rattle.std.proofs.Common.{◌≤◌, true}
 use Rattle.std.specs.FinMap as map
 use Rattle.member_orset.proofs.TakenCells.{Taken}
-use Rattle.member_orset.proofs.joining.meet_all.Given as goal
+use Rattle.member_orset.proofs.joining.join_live.Given as goal
 
 abbrev pub invariant-loop-dot : goal.invariant-loop-dot
 invariant-loop-dot l = record {
