@@ -46,7 +46,7 @@ set_fields_reads flags =
     (λ p g. (record { penalty = g.0; pause = g.1.0; label = g.1.1.0; ring = g.1.1.1 }, refl))
     (λ f g. ((g.penalty, (g.pause, (g.label, g.ring))), refl, refl))
 
-few_bit : (b : Bool) → bit_of b ≤ 1
+pub few_bit : (b : Bool) → bit_of b ≤ 1
 few_bit true = omega arith
 few_bit false = omega arith
 
@@ -67,7 +67,7 @@ flags_are version n f h g =
     (λ i. bit_of (g.penalty.set i) + (2 * bit_of (g.pause.set i) + (4 * bit_of (g.label.set i) + 8 * bit_of (g.ring.set i))))
     ∙ flags_back n (omega (arith, few_flags version, h.1))
 
-none_of : {T : Type 0} (field : Option T) → bit_of (is_some field) ≡ 0 → field ≡ None
+pub none_of : {T : Type 0} (field : Option T) → bit_of (is_some field) ≡ 0 → field ≡ None
 none_of None h = refl
 none_of (Some x) h = absurd (omega (arith, h))
 

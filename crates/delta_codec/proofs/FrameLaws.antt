@@ -332,6 +332,21 @@ one_spelling version x y a b same first second =
     let parts : o.parts ≡ t.parts = λ i. record { version = in_one i; heading = record { maker = maker i; number = number i }; runs = runs i; cells = cells i; totals = totals i } in
     o.spelled ∙ ap frame_bytes parts ∙ sym t.spelled
 
+-- in another version it is spelled alike, but for the version: the seventh byte
+pub spelled_alike : (v w : ℕ) (x y : Frame) (a b : List ℕ) → IsSameFrame x y → SpellsIn v x a → SpellsIn w y b → a ≡ take 6 b ++ (v ∷ drop 7 b)
+spelled_alike v w x y a b same first second =
+    let of_y = spells_same_in v x y a first same in
+    let o = of_y.spells in
+    let t = second.spells in
+    let maker : o.parts.heading.maker ≡ t.parts.heading.maker = o.of_frame.maker ∙ sym t.of_frame.maker in
+    let number : o.parts.heading.number ≡ t.parts.heading.number = o.of_frame.number ∙ sym t.of_frame.number in
+    let runs : o.parts.runs ≡ t.parts.runs = runs_unique o.parts.runs t.parts.runs y.delta.members.known o.of_frame.runs t.of_frame.runs in
+    let cells : o.parts.cells ≡ t.parts.cells = o.of_frame.cells ∙ sym t.of_frame.cells in
+    let totals : o.parts.totals ≡ t.parts.totals = o.of_frame.totals ∙ sym t.of_frame.totals in
+    let of_v : FrameParts = record { version = v; heading = t.parts.heading; runs = t.parts.runs; cells = t.parts.cells; totals = t.parts.totals } in
+    let parts : o.parts ≡ of_v = λ i. record { version = of_y.version_is i; heading = record { maker = maker i; number = number i }; runs = runs i; cells = cells i; totals = totals i } in
+    o.spelled ∙ ap frame_bytes parts ∙ ap (λ (bytes : List ℕ). take 6 bytes ++ (v ∷ drop 7 bytes)) (sym t.spelled)
+
 -- bytes show the version: it stands behind the length and the magic
 pub one_version : (v w : ℕ) (x y : Frame) (bytes : List ℕ) → SpellsIn v x bytes → SpellsIn w y bytes → v ≡ w
 one_version v w x y bytes s t =

@@ -1,5 +1,5 @@
--- A frame has a spelling exactly where it fits the format.
-use Rattle.std.proofs.Common.{◌≡◌, ◌≤◌, ◌<◌, ℕ, zero, suc, Bool, true, false, cond, List, [], ◌∷◌, length, get_or, Contains, Some, refl, sym, ap, subst, ◌∙◌, arith}
+-- A frame has a spelling exactly where it fits the format, and one in the oldest version exactly where it has no ring besides.
+use Rattle.std.proofs.Common.{◌≡◌, ◌≤◌, ◌<◌, ℕ, zero, suc, Bool, true, false, cond, List, [], ◌∷◌, length, get_or, Contains, Option, None, Some, is_some, refl, sym, ap, subst, ◌∙◌, arith}
 use Rattle.std.specs.Prelude.{IsTrue}
 use Rattle.std.specs.List.{All}
 use Rattle.std.specs.Cmp.{IsTotalOrder}
@@ -22,16 +22,18 @@ use Rattle.dots.specs.WithinLimits.{AreDots, IsDot}
 use Rattle.dots.proofs.DotOrder.{dots_exact, dots_total}
 use Rattle.dots.proofs.RunCounts.{run_count_runs}
 use Rattle.dots.proofs.RunsOfSets.{runs_of}
+use Rattle.operations.specs.Conditions.{DotFields}
+use Rattle.operations.specs.Registers.{Entry}
 use Rattle.operations.specs.Totals.{IsTotal}
 use Rattle.operations.proofs.TotalsLaws.{exact_keys, keys_total}
 use Rattle.causal_context.specs.Contexts.{IsRunWithinLimits}
 use Rattle.member_orset.specs.Members.{Holding}
 use Rattle.delta.specs.declared.frame.Frame.{Frame}
-use Rattle.delta_codec.specs.Fitting.{FitsFormat}
-use Rattle.delta_codec.specs.Frames.{Spells, SpellsIn, frame_bytes, parts_with}
-use Rattle.delta_codec.specs.Parts.{CellParts, IsCell, TotalParts}
-use Rattle.delta_codec.specs.declared.limits.TheConstants.{VERSION}
-use Rattle.delta_codec.proofs.CellLaws.{flags_few}
+use Rattle.delta_codec.specs.Fitting.{FitsFormat, HasNoRing}
+use Rattle.delta_codec.specs.Frames.{FrameParts, IsVersion, Spells, SpellsIn, frame_bytes}
+use Rattle.delta_codec.specs.Parts.{CellParts, IsCell, TotalParts, bit_of, flags_of}
+use Rattle.delta_codec.specs.declared.limits.TheConstants.{OLDEST_VERSION, VERSION}
+use Rattle.delta_codec.proofs.CellLaws.{few_bit, flags_few, none_of}
 use Rattle.delta_codec.proofs.Counting.{few_totals}
 use Rattle.delta_codec.proofs.Encoded.{heading_of}
 
@@ -104,11 +106,13 @@ dots_within rs dots is within dot h =
 abbrev IsGoodTotal : TotalParts → Type 0
 IsGoodTotal total = IsTotal total.0 total.1
 
-pub has_spelling : (frame : Frame) → FitsFormat frame → (bytes : List ℕ) × SpellsIn VERSION frame bytes
-has_spelling frame fits =
+-- a frame that fits the format has a spelling in each version of which its cells are
+spelling_in : (version : ℕ) → IsVersion version → (frame : Frame) → FitsFormat frame
+    → ((dot : Dot) (held : Holding) → map.get frame.delta.members.live dot ≡ Some held → IsCell version (dot, held)) → (bytes : List ℕ) × SpellsIn version frame bytes
+spelling_in version known frame fits are =
     let members = frame.delta.members in
     let runs = runs_of members.known in
-    let parts = parts_with (heading_of frame) frame.delta runs.0 in
+    let parts : FrameParts = record { version = version; heading = heading_of frame; runs = runs.0; cells = map.entries members.live; totals = map.entries frame.delta.totals.entries } in
     let many = run_count_runs runs.0 members.known runs.1 in
     let length_is = map.len-entries members.live in
     let few_runs = fits.runs in
@@ -121,12 +125,12 @@ has_spelling frame fits =
           parts = parts;
           of_frame = record { maker = refl; number = refl; runs = runs.1; cells = refl; totals = refl };
           within = record {
-            version = (omega arith, omega arith);
+            version = known;
             heading = record { maker = fits.maker; number = fits.number };
             runs = record { each = runs_within runs.0 members.known runs.1 fits.dots; order = runs.1.apart; few = omega (arith, many, few_runs) };
             cells = record {
               listed = record {
-                each = λ i d lt. fits.cells _ _ (entry_given dots_total dots_exact members.live i d lt);
+                each = λ i d lt. are _ _ (entry_given dots_total dots_exact members.live i d lt);
                 order = fact _ (map.entries_sorted members.live);
                 few = omega (arith, length_is, few);
               };
@@ -139,6 +143,9 @@ has_spelling frame fits =
         version_is = refl;
       },
     )
+
+pub has_spelling : (frame : Frame) → FitsFormat frame → (bytes : List ℕ) × SpellsIn VERSION frame bytes
+has_spelling frame fits = spelling_in VERSION (omega arith, omega arith) frame fits fits.cells
 
 -- a cell of any version is one of that which is written
 cell_of_any : (version : ℕ) (cell : CellParts) → IsCell version cell → IsCell VERSION cell
@@ -172,3 +179,33 @@ spelled_fits frame bytes spells =
       totals = λ key totals e. each_in IsGoodTotal parts.totals (key, totals) within.totals.each
           (subst (λ (listed : List TotalParts). Contains listed (key, totals)) (sym spells.of_frame.totals) (given_entry keys_total exact_keys frame.delta.totals.entries key totals e));
     }
+
+-- ---- the oldest version
+
+-- fields have no ring where their flags are those of the oldest version, and these where they have none
+no_ring_in : (fields : DotFields) → flags_of fields ≤ 7 → fields.ring ≡ None
+no_ring_in fields few = none_of fields.ring (omega (arith, few))
+
+flags_without : (fields : DotFields) → fields.ring ≡ None → flags_of fields ≤ 7
+flags_without fields none =
+    let ring : bit_of (is_some fields.ring) ≡ 0 = ap (λ (x : Option (Entry Bool)). bit_of (is_some x)) none in
+    omega (arith, ring, few_bit (is_some fields.penalty), few_bit (is_some fields.pause), few_bit (is_some fields.label))
+
+pub no_ring_spelled : (frame : Frame) (bytes : List ℕ) → SpellsIn OLDEST_VERSION frame bytes → HasNoRing frame
+no_ring_spelled frame bytes spells dot held e =
+    let parts = spells.spells.parts in
+    let here = subst (λ (cells : List CellParts). Contains cells (dot, held)) (sym spells.spells.of_frame.cells) (given_entry dots_total dots_exact frame.delta.members.live dot held e) in
+    let cell = each_in (IsCell parts.version) parts.cells (dot, held) spells.spells.within.cells.listed.each here in
+    let oldest : IsCell OLDEST_VERSION (dot, held) = subst (λ version. IsCell version (dot, held)) spells.version_is cell in
+    no_ring_in held.1 oldest.fields.of_version
+
+cell_without : (dot : Dot) (held : Holding) → held.1.ring ≡ None → IsCell VERSION (dot, held) → IsCell OLDEST_VERSION (dot, held)
+cell_without dot held none is = record {
+  dot = is.dot;
+  member = is.member;
+  fields = record { within = is.fields.within; some = is.fields.some; of_version = flags_without held.1 none };
+}
+
+pub has_oldest_spelling : (frame : Frame) → FitsFormat frame → HasNoRing frame → (bytes : List ℕ) × SpellsIn OLDEST_VERSION frame bytes
+has_oldest_spelling frame fits none =
+    spelling_in OLDEST_VERSION (omega arith, omega arith) frame fits (λ dot held e. cell_without dot held (none dot held e) (fits.cells dot held e))

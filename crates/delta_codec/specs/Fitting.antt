@@ -1,5 +1,5 @@
 -- Which frames have a spelling.
-use Rattle.std.specs.Prelude.{◌≡◌, ◌≤◌, true, Some}
+use Rattle.std.specs.Prelude.{◌≡◌, ◌≤◌, true, None, Some}
 use Rattle.std.specs.FinMap as map
 use Rattle.std.specs.FinSet as set
 use Rattle.dots.specs.declared.limits.TheConstants.{MOST_LIVE, MOST_RUNS}
@@ -23,3 +23,7 @@ pub record FitsFormat (frame : Frame) : Type 0 where
   pub known : (dot : Dot) (held : Holding) → map.get frame.delta.members.live dot ≡ Some held → set.contains frame.delta.members.known dot ≡ true
   pub few : map.len frame.delta.members.live ≤ MOST_LIVE
   pub totals : InLimits frame.delta.totals.entries
+
+-- no live dot of a frame has a ring
+abbrev pub HasNoRing : Frame → Type 0
+HasNoRing frame = (dot : Dot) (held : Holding) → map.get frame.delta.members.live dot ≡ Some held → held.1.ring ≡ None

@@ -1,5 +1,6 @@
 //! Laws of the spelling of frames. The functions have no body: their contracts are the laws.
-ghost use Rattle.std.specs.Prelude.{◌≡◌, ◌≢◌, ◌⊎◌, ◌≤◌, ◌++◌, ℕ, List, [], length, take};
+ghost use Rattle.std.specs.Prelude.{◌≡◌, ◌≢◌, ◌⊎◌, ◌≤◌, ◌∷◌, ◌++◌, ℕ, List, [], drop, length};
+ghost use Rattle.std.specs.Prelude.{take};
 ghost use Rattle.delta_codec.specs.declared.decode_fault.DecodeFault.{DecodeFault};
 ghost use Rattle.delta_codec.specs.declared.decode_fault.DecodeFault.TheVariants.{Memory};
 ghost use Rattle.delta_codec.specs.declared.decode_fault.DecodeFault.TheVariants.{Truncated};
@@ -8,12 +9,12 @@ ghost use Rattle.operations.specs.FrameLimits.{FitsInFrame};
 ghost use Rattle.operations.specs.Knowledge.{Knowledge};
 ghost use Rattle.delta.specs.declared.frame.Frame.{Frame};
 ghost use Rattle.delta_codec.specs.declared.limits.TheConstants.{LEAST_LENGTH, MOST_LENGTH};
-ghost use Rattle.delta_codec.specs.declared.limits.TheConstants.{VERSION};
+ghost use Rattle.delta_codec.specs.declared.limits.TheConstants.{OLDEST_VERSION, VERSION};
 ghost use Rattle.delta.specs.Frames.{IsSameFrame};
 ghost use Rattle.delta.specs.Standing.{IsDeltaOf};
 ghost use Rattle.delta_codec.specs.Decoding.{AreBytes, BeginsWithFrame, IsAtFault};
 ghost use Rattle.delta_codec.specs.Faults.{HasFault};
-ghost use Rattle.delta_codec.specs.Fitting.{FitsFormat};
+ghost use Rattle.delta_codec.specs.Fitting.{FitsFormat, HasNoRing};
 ghost use Rattle.delta_codec.specs.Frames.{AreParts, FrameParts, Spells, SpellsIn, content_bytes};
 ghost use Rattle.delta_codec.specs.Frames.{frame_bytes};
 
@@ -81,6 +82,17 @@ pub fn a_frame_that_fits_the_format_has_a_spelling()
     ensures some { (frame : Frame)
         → FitsFormat frame → (bytes : List ℕ) × SpellsIn VERSION frame bytes }
     ensures only { (frame : Frame) (bytes : List ℕ) → Spells frame bytes → FitsFormat frame }
+{}
+
+/// A frame has a spelling in the oldest version exactly where it fits the format and none of its live dots has a ring. Its spellings in any
+/// two versions are alike but for the version, the byte behind the length and the magic.
+pub fn the_oldest_version_has_all_but_the_ring()
+    ensures no_ring { (frame : Frame) (bytes : List ℕ)
+        → SpellsIn OLDEST_VERSION frame bytes → HasNoRing frame }
+    ensures some { (frame : Frame) → FitsFormat frame → HasNoRing frame
+        → (bytes : List ℕ) × SpellsIn OLDEST_VERSION frame bytes }
+    ensures alike { (v w : ℕ) (x y : Frame) (a b : List ℕ) → IsSameFrame x y
+        → SpellsIn v x a → SpellsIn w y b → a ≡ take 6 b ++ (v ∷ drop 7 b) }
 {}
 
 /// The frame of a knowledge fits the format, so that it has a spelling, where the knowledge fits in a frame and the frame's maker and number are within their limits.
