@@ -6,6 +6,7 @@
 
 mod audit_fault;
 mod auditing;
+pub mod laws;
 mod pool;
 mod replay;
 
