@@ -62,6 +62,7 @@ ROWS = commands(256, 25_000) + commands(15_000, 75_000) + [
     frames("decode_run", 65_536, 500, "decode", runs(1, 65_536)),
     frames("copy_cell", 32_768, 950, "copy", 2 * cells(0, 16_384)),
     frames("join_equal_cell", 16_384, 4_800, "join", 2 * cells(0, 16_384)),
+    frames("join_cell_half_known", 16_384, 2_300, "join", cells(0, 8_192), cells(0, 16_384)),
     frames("join_cell_behind", 16_384, 1_850, "join", cells(0, 8_192), cells(1, 8_192)),
     frames("join_cell_before", 16_384, 1_850, "join", cells(1, 8_192), cells(0, 8_192)),
     frames("join_cell_behind_between_members", 16_384, 1_850, "join", apart(0, 0), apart(1, 1)),
