@@ -8,6 +8,7 @@ use Rattle.std.specs.Ordering.{eq_by_cmp}
 use Rattle.std.proofs.Math.Bool.{or-true}
 use Rattle.std.proofs.lemmas.Bool.{cases_Bool, cases_eq}
 use Rattle.std.proofs.lemmas.List.{get_or_default}
+use Rattle.std.proofs.lemmas.List.Sums.{count_by-le-length, length-filter}
 use Rattle.dots.specs.Values.{Dot}
 use Rattle.general_lemmas.proofs.Filters.{filter_has}
 use Rattle.op_arena.proofs.IdOrder.{ids_exact, ids_total}
@@ -27,6 +28,15 @@ use Rattle.live_cells.proofs.Rising as rising
 filter_all : {X : Type 0} (p : X → Bool) (xs : List X) → All (λ x. p x ≡ true) xs → filter p xs ≡ xs
 filter_all p [] a = refl
 filter_all p (x ∷ xs) a = ap (λ b. cond b (x ∷ filter p xs) (filter p xs)) (a 0 x (omega arith)) ∙ ap (λ ys. x ∷ ys) (filter_all p xs (λ k d l. a (suc k) d (omega arith)))
+
+-- all pass it where as many are left
+pub all_kept : {X : Type 0} (p : X → Bool) (xs : List X) → length (filter p xs) ≡ length xs → xs ≡ filter p xs
+all_kept p [] e = refl
+all_kept p (x ∷ xs) e = by (p x) e (all_kept p xs)
+  where
+    by : (b : Bool) → length (cond b (x ∷ filter p xs) (filter p xs)) ≡ suc (length xs) → (length (filter p xs) ≡ length xs → xs ≡ filter p xs) → x ∷ xs ≡ cond b (x ∷ filter p xs) (filter p xs)
+    by true l others = ap (λ ys. x ∷ ys) (others (omega (arith, l)))
+    by false l others = absurd (omega (arith, l, length-filter p xs, count_by-le-length p xs))
 
 -- what passes one test and then another passes both
 filter_both : {X : Type 0} (p q both : X → Bool) → ((x : X) → both x ≡ (p x && q x)) → (xs : List X) → filter both xs ≡ filter q (filter p xs)

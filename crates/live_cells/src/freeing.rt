@@ -3,7 +3,7 @@ ghost use Rattle.std.specs.Prelude.{◌≡◌, ◌≤◌, filter};
 ghost use Rattle.std.specs.FinMap as map;
 ghost use Rattle.live_cells.specs.Freed.{AreChosen, AreFreed, with_cells};
 ghost use Rattle.live_cells.specs.LiveStates.{dead_there};
-ghost use Rattle.live_cells.specs.PlacedStates.{ArePlaced};
+ghost use Rattle.live_cells.specs.PlacedStates.{AreIndexed, ArePlaced};
 
 use crate::cursor::Cursor;
 use crate::live_dot::LiveDot;
@@ -42,11 +42,16 @@ pub(crate) fn free_cells<const LAST: u32>(
     }
 }
 
-// Leaves out the dots that have no cell.
+// Leaves out the dots that have no cell. Where there are as many cells as dots nothing is looked at.
 pub(crate) fn keep_dots<const LAST: u32>(cells: &Arena<LiveDot, LAST>, dots: &mut Devector<Placed>)
+    requires { ArePlaced (with_cells cells.now.held dots.old.items) cells.now.held
+        cells.now.spent }
     ensures kept { dots.new.items ≡ with_cells cells.now.held dots.old.items }
     ensures room { dots.new.room ≡ dots.old.room }
 {
+    if cells.len() as usize == dots.len() {
+        return;
+    }
     dots.retain(
         |placed: &Placed| -> bool
             ensures { result ≡ map.contains_key cells.entry.now.held placed.now.id }
@@ -54,12 +59,17 @@ pub(crate) fn keep_dots<const LAST: u32>(cells: &Arena<LiveDot, LAST>, dots: &mu
     );
 }
 
-// Leaves out the ids that have no cell.
+// Leaves out the ids that have no cell. Where there are as many dots as ids nothing is looked at.
 pub(crate) fn keep_ids<const LAST: u32>(cells: &PlacedCells<LAST>, ids: &mut Devector<CellId>)
+    requires { AreIndexed cells.now
+        (filter (λ id. map.contains_key cells.now.held id) ids.old.items) }
     ensures kept { ids.new.items
         ≡ filter (λ id. map.contains_key cells.now.held id) ids.old.items }
     ensures room { ids.new.room ≡ ids.old.room }
 {
+    if cells.len() == ids.len() {
+        return;
+    }
     ids.retain(
         |id: &CellId| -> bool
             ensures { result ≡ map.contains_key cells.entry.now.held id.now }

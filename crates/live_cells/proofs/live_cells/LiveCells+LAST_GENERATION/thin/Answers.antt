@@ -1,4 +1,4 @@
-use Rattle.std.proofs.Common.{◌≡◌, ◌+◌, ◌≤◌, length, min, sym, ap, subst, arith}
+use Rattle.std.proofs.Common.{◌≡◌, ◌+◌, ◌≤◌, length, lit<, min, sym, ap, subst, arith}
 use Rattle.std.specs.FinMap as map
 use Rattle.std.proofs.lemmas.List.Sums.{count_by-le-length, length-filter}
 use Rattle.live_cells.specs.declared.placed.Placed.{Placed}
@@ -34,3 +34,6 @@ returns-clause-few c =
     let p = λ (q : Placed). map.contains_key u.held q.id in
     let before : map.len (live_of (cells_of s)) ≡ map.len c.args.self.now.live = ap (λ l. map.len l.live) c.self.view_is in
     omega (arith, before, len_live s.dots s.held s.spent c.self.invariant.placed, len_live u.dots u.held u.spent c.thin.ensures.valid, ap length c.thin.ensures.dots, length-filter p s.dots, count_by-le-length p s.dots)
+
+pub keep_ids-requires : goal.keep_ids-requires
+keep_ids-requires c = (lit< tt, kept_indexed c.self.inside.placed c.self.inside.members.items c.self.invariant c.thin.new.self c.thin.ensures.freed c.thin.ensures.valid)
