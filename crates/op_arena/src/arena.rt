@@ -116,6 +116,7 @@ impl<T, const LAST: u32> Arena<T, LAST> {
     }
 
     /// Puts `value` into a cell and gives its id, which was never given before. Room must be left. It takes no memory.
+    #[inline(always)]
     pub fn place(&mut self, value: T) -> CellId
         requires { 0 < self.old.spare }
         ensures held { self.new.held ≡ map.insert self.old.held result value }
@@ -193,6 +194,7 @@ impl<T, const LAST: u32> Arena<T, LAST> {
 
     /// Takes the value of `id` out, if it is held, and spends the id for good. Where `id` isn't held nothing changes.
     /// A cell whose value is taken in generation `LAST` is retired, and leaves no room. It takes no memory.
+    #[inline(always)]
     pub fn take(&mut self, id: CellId) -> Option<T>
         ensures value { result ≡ map.get self.old.held id }
         ensures held { self.new.held ≡ map.remove self.old.held id }
@@ -211,6 +213,7 @@ impl<T, const LAST: u32> Arena<T, LAST> {
     }
 
     // Takes the value of `id`, which is held, out, and spends the id.
+    #[inline(always)]
     fn take_held(&mut self, id: CellId) -> T
         requires { IsTrue (map.contains_key self.old.held id) }
         ensures value { map.get self.old.held id ≡ Some result }

@@ -51,6 +51,7 @@ impl<T> State<T> {
     }
 
     // The value that this state held, by itself.
+    #[inline(always)]
     fn into_value(self) -> T
         requires { IsSome (value_of self) }
         ensures { value_of self ≡ Some result }
@@ -112,6 +113,7 @@ impl<T> Slot<T> {
     }
 
     // Takes the value out. The cell is free in its next generation, before `next`, or retired after the last one.
+    #[inline(always)]
     pub(crate) fn empty(&mut self, next: Option<u32>, last: u32) -> T
         requires { IsSome (value_of self.old.state) × (self.old.generation ≤ last) }
         ensures value { value_of self.old.state ≡ Some result }
