@@ -141,11 +141,23 @@ fn knowing(rt: &impl Abort, alloc: Global) -> Replica {
     replica
 }
 
+// Asserts that a desk takes the frame of an add in this version, which is told by its seventh byte.
+fn assert_takes_in<R: Abort + Threads + Wait + Sync>(rt: &R, alloc: Global, version: u8) {
+    let mut frame = frame_of_an_add(rt, alloc);
+    let told = frame.get_mut(6).expect(rt, "a version");
+    assert!(rt; *told == 2);
+    *told = version;
+    assert_of(rt, alloc, knowing(rt, alloc), 5, Trial::Takes(&frame));
+}
+
 #[test]
 fn a_desk_takes_frames_of_another_site(rt: HostRuntime) {
-    let alloc = rt.alloc();
-    let frame = frame_of_an_add(&rt, alloc);
-    assert_of(&rt, alloc, knowing(&rt, alloc), 5, Trial::Takes(&frame));
+    assert_takes_in(&rt, rt.alloc(), 2);
+}
+
+#[test]
+fn a_desk_takes_frames_of_version_1(rt: HostRuntime) {
+    assert_takes_in(&rt, rt.alloc(), 1);
 }
 
 // Asserts what a pump with this plan sends, and when.
