@@ -26,6 +26,18 @@ fn ran<R: Threads + Wait + Sync, G: Gate + Send + Drop>(
     run_sites(rt, alloc, list, works)
 }
 
+// What sites of the queue `sales` end with.
+fn ends_of<R: Abort + Threads + Wait + Sync, G: Gate + Send + Drop>(
+    rt: &R,
+    alloc: Global,
+    works: Vec<SiteWork<G>>,
+) -> Vec<SiteEnd<G>> {
+    let list = list(rt, alloc);
+    let ends = ran(rt, alloc, &list, works).expect(rt, "ends");
+    drop(list);
+    ends
+}
+
 // The work of a site that asks for a status.
 fn meeting<'a>(
     rt: &impl Abort,
@@ -57,9 +69,7 @@ fn both_meet<R: Abort + Threads + Wait + Sync>(rt: &R, alloc: Global) -> bool {
     works
         .push(meeting(rt, alloc, &other, &one))
         .expect(rt, "memory");
-    let list = list(rt, alloc);
-    let ends = ran(rt, alloc, &list, works).expect(rt, "ends");
-    drop(list);
+    let ends = ends_of(rt, alloc, works);
     let mut met = true;
     for end in ends.as_slice() {
         met = met && end.gate.saw;
@@ -246,9 +256,7 @@ fn ended(rt: &impl Abort, alloc: Global, ends: Vec<SiteEnd<TurnsGate>>) -> Vec<J
 fn sites_come_to_the_same_whatever_is_lost(rt: HostRuntime) {
     let alloc = rt.alloc();
     let works = works_of_three(&rt, alloc);
-    let list = list(&rt, alloc);
-    let ends = ran(&rt, alloc, &list, works).expect(&rt, "ends");
-    drop(list);
+    let ends = ends_of(&rt, alloc, works);
     assert!(rt; ends.len() == 3);
     let journals = ended(&rt, alloc, ends);
     assert!(rt; is_reported(&rt, alloc, journals.as_slice()));
@@ -305,9 +313,7 @@ fn assert_sends<R: Abort + Threads + Wait + Sync>(rt: &R, alloc: Global, deed: D
     works
         .push(sending(rt, alloc, b"SIP/1", Deed::Lose))
         .expect(rt, "memory");
-    let list = list(rt, alloc);
-    let ends = ran(rt, alloc, &list, works).expect(rt, "ends");
-    drop(list);
+    let ends = ends_of(rt, alloc, works);
     assert!(rt; ends.len() == 2);
     assert_taken(rt, &ends[0], 1);
     assert_taken(rt, &ends[1], takes);

@@ -79,7 +79,7 @@ fn assert_of<R: Abort + Threads + Wait + Sync>(
 }
 
 // Asserts what is tried of the desk of site 0, which knows nothing.
-fn assert_fresh<R: Abort + Threads + Wait + Sync>(
+fn assert_of_new_site<R: Abort + Threads + Wait + Sync>(
     rt: &R,
     alloc: Global,
     limit: u32,
@@ -90,32 +90,32 @@ fn assert_fresh<R: Abort + Threads + Wait + Sync>(
 
 #[test]
 fn a_desk_is_closed_with_all_of_its_passes(rt: HostRuntime) {
-    assert_fresh(&rt, rt.alloc(), 5, Trial::Closes);
+    assert_of_new_site(&rt, rt.alloc(), 5, Trial::Closes);
 }
 
 #[test]
 fn two_passes_fill_a_journal(rt: HostRuntime) {
-    assert_fresh(&rt, rt.alloc(), 20_000, Trial::Fills);
+    assert_of_new_site(&rt, rt.alloc(), 20_000, Trial::Fills);
 }
 
 #[test]
 fn two_threads_find_what_they_have_added(rt: HostRuntime) {
-    assert_fresh(&rt, rt.alloc(), 20, Trial::Adds);
+    assert_of_new_site(&rt, rt.alloc(), 20, Trial::Adds);
 }
 
 #[test]
 fn a_gate_is_called_under_the_lock(rt: HostRuntime) {
-    assert_fresh(&rt, rt.alloc(), 20, Trial::Excludes);
+    assert_of_new_site(&rt, rt.alloc(), 20, Trial::Excludes);
 }
 
 #[test]
 fn a_port_answers_as_its_desk(rt: HostRuntime) {
-    assert_fresh(&rt, rt.alloc(), 2, Trial::Answers);
+    assert_of_new_site(&rt, rt.alloc(), 2, Trial::Answers);
 }
 
 #[test]
 fn a_pump_works_by_its_pass(rt: HostRuntime) {
-    assert_fresh(&rt, rt.alloc(), 20, Trial::Pumps);
+    assert_of_new_site(&rt, rt.alloc(), 20, Trial::Pumps);
 }
 
 // The frame in which site 0 says that it has added SIP/1.
@@ -173,7 +173,7 @@ fn assert_schedule<R: Abort + Threads + Wait + Sync>(
         wanted,
         places,
     };
-    assert_fresh(rt, alloc, 1_000, Trial::Sends(schedule));
+    assert_of_new_site(rt, alloc, 1_000, Trial::Sends(schedule));
 }
 
 #[test]
