@@ -3,7 +3,7 @@ ghost use Rattle.std.specs.Option.{option_map};
 ghost use Rattle.std.specs.FinMap as map;
 ghost use Rattle.live_cells.specs.Holdings.{cell_read};
 ghost use Rattle.live_cells.specs.LiveLists.{live_of};
-ghost use Rattle.live_cells.specs.PlacedStates.{cells_of};
+ghost use Rattle.live_cells.specs.PlacedStates.{IsPlaced, cells_of};
 
 use crate::Cell;
 use crate::placed_cells::PlacedCells;
@@ -43,9 +43,9 @@ impl<'a> Model for Cursor<'a> {
 impl<'a> Cursor<'a> {
     // A cursor before all that are placed.
     pub(crate) fn of(cells: &'a PlacedCells<LAST_GENERATION>) -> Cursor<'a>
+        requires { IsPlaced cells.now }
         ensures { result ≡ live_of (cells_of cells.now) }
     {
-        let _ = cells.placed(); // so that it is known what holds of them
         Cursor { cells, next: 0 }
     }
 

@@ -316,8 +316,8 @@ impl LiveCells<LAST_GENERATION> {
         Cursor::of(&self.placed)
     }
 
-    /// Lets each dot of a context be live no more that isn't live there; its id is spent then. The lists of ids are
-    /// walked as a whole, however few go. Only there for the last generation of sets, `LAST_GENERATION`.
+    /// Lets each dot of a context be live no more that isn't live there; its id is spent then. The list of ids by dots is
+    /// walked as a whole, and both are where any goes. Only there for the last generation of sets, `LAST_GENERATION`.
     pub fn thin(&mut self, known: &Context, there: &Self)
         ensures thinned { IsThinned (dead_there known.now.dots there.now.live) self.old self.new }
         ensures few { map.len self.new.live ≤ map.len self.old.live }
