@@ -47,14 +47,14 @@ def apart(site, first):
 
 # Sets that are copied and joined have 16,384 cells together, or as many each; what a join takes has its copies in it.
 ROWS = commands(256, 25_000) + commands(15_000, 75_000) + [
-    Counted("take_at_256", 1_000, 3_500, lambda: taken(256, 1)),
+    Counted("take_at_256", 1_000, 3_300, lambda: taken(256, 1)),
     Counted("take_at_15000", 1_000, 25_000, lambda: taken(15_000, 1)),
     Counted("call_beside_16384_totals", 1_000, 5_500, lambda: counted_calls(1_000)),
     Counted("queue_of_report_of_16384_totals", 2_560, 3_300, lambda: reports_of_totals(10)),
     Counted("member_of_report_of_16384", 16_384, 1_850, lambda: statuses(1, 16_384)),
-    Counted("dot_of_pause_of_256", 256, 13_000, lambda: paused_everywhere(64, 4)),
-    Counted("dot_of_pause_of_16384", 16_384, 18_500, lambda: paused_everywhere(64, 256)),
-    Counted("line_of_64_sites", 20_000, 10_000, lines_of_64_sites),
+    Counted("dot_of_pause_of_256", 256, 9_500, lambda: paused_everywhere(64, 4)),
+    Counted("dot_of_pause_of_16384", 16_384, 9_500, lambda: paused_everywhere(64, 256)),
+    Counted("line_of_64_sites", 20_000, 9_500, lines_of_64_sites),
     Counted("line_of_status_of_10", 10_000, 30_500, lambda: lines_of_statuses(10_000, 10)),
     frames("encode_cell", 16_384, 250, "encode", cells(0, 16_384)),
     frames("decode_cell", 16_384, 970, "decode", cells(0, 16_384)),
