@@ -6,7 +6,7 @@ use crate::gates::{MANY_TURNS, comes};
 use crate::links::link;
 use crate::sites::called;
 use site_desk::{DeskPort, Pass, SiteDesk, SiteLedger};
-use site_journal::{Bell, Receipt, StepDeed};
+use site_journal::{Bell, DeskFault, Receipt, StepDeed};
 use site_links::{LinkReceiver, LinkSender};
 use site_pumps::{Deed, Pumped, pump_out};
 use std::alloc::Global;
@@ -17,12 +17,15 @@ use std::thread;
 use std::thread::Threads;
 
 // What is asserted of a pump whose bell rings a number of times: its plan, how many items must have come on the first link before the first
-// ring, before the second and so on, and before the end, and what comes on each link, as the places of its cuts.
+// ring, before the second and so on, and before the end; what comes on each link, as the places of its cuts; how many receipts it gives, and
+// the fault that stops it.
 #[derive(Drop)]
 pub(crate) struct Schedule<'a> {
     pub(crate) plan: &'a [Deed],
     pub(crate) wanted: &'a [u64],
     pub(crate) places: &'a [usize],
+    pub(crate) receipts: usize,
+    pub(crate) fault: Option<DeskFault>,
 }
 
 // A bell that adds a member to a site before each ring and before its end. Before that it waits until as many items were received as it
@@ -81,7 +84,7 @@ fn pumped<L: SiteLedger, R: Abort + Wait>(
     drop(port);
     drop(links);
     drop(pass);
-    assert!(rt; !bell.is_late && pumped.fault.is_none());
+    assert!(rt; !bell.is_late);
     drop(bell);
     pumped
 }
@@ -152,6 +155,8 @@ pub(crate) fn assert_sends<L: SiteLedger + Send + Sync, R: Abort + Threads + Wai
         plan,
         wanted,
         places,
+        receipts,
+        fault,
     } = schedule;
     let (first, one) = link(rt, alloc, 16);
     let (second, other) = link(rt, alloc, 16);
@@ -171,7 +176,8 @@ pub(crate) fn assert_sends<L: SiteLedger + Send + Sync, R: Abort + Threads + Wai
         move || pumped(rt, alloc, lent, sending, bell, [first, second], plan),
         move || received(rt, alloc, one, count),
     );
-    assert!(rt; pumped.receipts.len() == wanted.len() + 1);
+    assert!(rt; pumped.fault == fault);
+    assert!(rt; pumped.receipts.len() == receipts);
     assert_frames(rt, items, pumped.receipts.as_slice(), places);
     let items = received(rt, alloc, other, &uncounted);
     assert_frames(rt, items, pumped.receipts.as_slice(), places);

@@ -9,7 +9,7 @@ use crate::schedules::{Schedule, assert_sends};
 use crate::sites::{journal_of, replica};
 use replica::Replica;
 use site_desk::{SiteDesk, SiteLedger};
-use site_journal::{Journaled, StepDeed};
+use site_journal::{DeskFault, Journaled, StepDeed};
 use site_pumps::Deed;
 use status_report::{Answer, ask};
 use std::alloc::Global;
@@ -172,6 +172,8 @@ fn assert_schedule<R: Abort + Threads + Wait + Sync>(
         plan,
         wanted,
         places,
+        receipts: wanted.len() + 1,
+        fault: None,
     };
     assert_of_new_site(rt, alloc, 1_000, Trial::Sends(schedule));
 }
@@ -185,4 +187,34 @@ fn frames_are_sent_as_the_plan_says_and_before_the_next_ring(rt: HostRuntime) {
     assert_schedule(&rt, alloc, &[Hold, Lose], &[0, 0, 1], &[0, 2, 3]);
     assert_schedule(&rt, alloc, &[], &[0, 1, 2], &[0, 1, 2, 3]);
     assert_schedule(&rt, alloc, &[Lose], &[0, 0, 0, 0, 0], &[5]);
+}
+
+// Asserts what a pump with this plan sends that finds a journal of so many steps full behind so many cuts, and when.
+fn assert_stops<R: Abort + Threads + Wait + Sync>(
+    rt: &R,
+    alloc: Global,
+    limit: u32,
+    plan: &[Deed],
+    wanted: &[u64],
+    places: &[usize],
+    cuts: usize,
+) {
+    let schedule = Schedule {
+        plan,
+        wanted,
+        places,
+        receipts: cuts,
+        fault: Some(DeskFault::JournalFull),
+    };
+    assert_of_new_site(rt, alloc, limit, Trial::Sends(schedule));
+}
+
+#[test]
+fn a_pump_that_is_refused_a_step_sends_and_hears_no_more(rt: HostRuntime) {
+    use Deed::{Deliver, Hold};
+    let alloc = rt.alloc();
+    // Three adds and two cuts fill the journal: what is held isn't sent, and the bell isn't heard again, which would add once more in vain.
+    assert_stops(&rt, alloc, 5, &[Deliver, Hold], &[0, 1, 1, 1], &[0], 2);
+    // Two adds and two cuts fill it, of which the second is the last: what is held is sent, and then the frame of all is refused.
+    assert_stops(&rt, alloc, 4, &[Hold], &[0, 0], &[0, 1], 2);
 }
