@@ -12,12 +12,12 @@ import tempfile
 import time
 
 from crates import TOP, all_crates, below, folder, is_program, stored_words
+from proof_seconds import LOG, Took, read_table
 
 MEMORY_OF_A_JOB = 3_000_000_000
 NICENESS = 6  # for each run that goes before
 MOST_NICENESS = 19
-CODE_OF_A_JOB = 1_000  # bytes for each crate below
-LOG = f"{TOP}/out/build.log"
+UNMEASURED = {1: Took(60, 60)}
 
 
 def at_once():
@@ -28,21 +28,11 @@ def at_once():
     return max(min(len(os.sched_getaffinity(0)), free // MEMORY_OF_A_JOB), 1)
 
 
-def size(crate):
-    """How many bytes of code a crate has: its proof takes the longer, the more there are. What proofs by hand take is little beside it."""
-    return sum(os.path.getsize(f"{at}/{file}") for at, _, files in os.walk(f"{folder(crate)}/src") for file in files)
-
-
-def most_jobs(crates, crate):
-    """How many jobs a crate's proof may use well: each of them reads all libraries anew, so that it wants enough code to be worth that."""
-    return max(size(crate) // (CODE_OF_A_JOB * max(len(below(crates, crate)), 1)), 1)
-
-
-def ways(crates, names):
-    """For each of these crates the size of the longest way from it to the top: its own, and that of the longest way above it."""
+def ways(crates, names, seconds):
+    """For each of these crates the seconds of the longest way from it to the top: its own, and those of the longest way above it."""
     longest = {}
     for crate in reversed(names):
-        longest[crate] = size(crate) + max((longest[it] for it in longest if crate in crates[it]), default=0)
+        longest[crate] = seconds[crate] + max((longest[it] for it in longest if crate in crates[it]), default=0)
     return longest
 
 
@@ -116,21 +106,23 @@ class Build:
     """The proofs of crates and of all that they stand on: those that are still to be proved, and those that are being proved."""
 
     def __init__(self, wanted, log, progress):
-        crates = all_crates()
+        crates, measured = all_crates(), read_table()
         names = [it for it in crates if it in wanted or any(it in below(crates, other) for other in wanted)]
+        took = {it: measured.get(it, UNMEASURED) for it in names}
         self.log, self.progress, self.below = log, progress, {it: below(crates, it) for it in names}
-        self.longest, self.most_jobs = ways(crates, names), {it: most_jobs(crates, it) for it in names}
+        self.longest = ways(crates, names, {it: min(took[it].values()).clock for it in names})
+        self.quickest = {it: min(took[it], key=took[it].get) for it in names}
         self.jobs, self.proved, self.running = at_once(), set(), []
         self.left = sorted(names, key=lambda it: -self.longest[it])
         progress.count += len(names)
 
     def start(self):
-        """Starts crates of which all below are proved. That with the longest way to the top of all that are left may have a job for each
-        processor, unless another may already; the others half as many. Each goes behind those with longer ways."""
+        """Starts crates of which all below are proved. That with the longest way to the top of all that are left goes first, with as many
+        jobs as were measured to take it least time. Each other has one job, and goes behind those with longer ways."""
         ready = [it for it in self.left if self.below[it] <= self.proved]
         for crate in ready[:self.jobs - len(self.running)]:
             is_first = crate == self.left[0] and all(it.behind for it in self.running)
-            jobs = min(self.jobs if is_first else max(self.jobs // 2, 1), self.most_jobs[crate])
+            jobs = min(self.quickest[crate], self.jobs) if is_first else 1
             behind = 0 if is_first else max(sum(self.longest[it.crate] > self.longest[crate] for it in self.running), 1)
             self.begin(Run(crate, jobs, proving("check" if is_program(crate) else "lib", crate, jobs), behind))
             self.left.remove(crate)
@@ -168,7 +160,9 @@ class Build:
         """Makes a program of which all below is proved, and answers whether that went well."""
         try:
             with locked([*self.below, name]):
-                self.begin(Run(name, self.jobs, proving("run", name, self.jobs, "--", *stored_words(name))))
+                rows = read_table().get(name, {self.jobs: None})
+                jobs = min(min(rows, key=rows.get), self.jobs)
+                self.begin(Run(name, jobs, proving("run", name, jobs, "--", *stored_words(name))))
                 return self.wait()
         finally:
             self.stop()

@@ -1,0 +1,59 @@
+"""The seconds that the proof of each crate takes, by the number of its jobs: what tools/build.py orders proofs by.
+
+    proof_seconds.py           writes into tools/proof_seconds.txt what the last build measured (out/build.log);
+                               rows of other crates, and of other numbers of jobs, stay
+
+Only a build from nothing, with nothing beside it, measures what a first run takes.
+"""
+import re
+import sys
+from typing import NamedTuple
+
+from crates import TOP, all_crates
+
+TABLE = f"{TOP}/tools/proof_seconds.txt"
+LOG = f"{TOP}/out/build.log"
+HEAD = "# crate, jobs, seconds by the clock, seconds of one processor"
+OF_CRATE = re.compile(r"== (\w+): (\d+):(\d\d) with (\d+) jobs, (\d+):(\d\d) of one processor")
+
+
+class Took(NamedTuple):
+    """What the proof of a crate took: seconds by the clock, and of one processor."""
+
+    clock: int
+    processor: int
+
+
+def read_table():
+    """What the proof of each crate took with each number of jobs that was measured."""
+    found = {}
+    with open(TABLE, encoding="utf-8") as file:
+        for line in file:
+            if not line.startswith("#"):
+                crate, jobs, *seconds = line.split()
+                found.setdefault(crate, {})[int(jobs)] = Took(*map(int, seconds))
+    return found
+
+
+def read_log():
+    """The same of the last build."""
+    with open(LOG, encoding="utf-8") as file:
+        for line in file:
+            row = OF_CRATE.match(line)
+            if row:
+                minutes, seconds, jobs, of_one, rest = map(int, row.groups()[1:])
+                yield row[1], jobs, Took(60 * minutes + seconds, 60 * of_one + rest)
+
+
+def main():
+    table = read_table()
+    for crate, jobs, took in read_log():
+        table.setdefault(crate, {})[jobs] = took
+    rows = [f"{crate} {jobs} {took.clock} {took.processor}" for crate in all_crates() for jobs, took in sorted(table.get(crate, {}).items())]
+    with open(TABLE, "w", encoding="utf-8") as file:
+        file.write("\n".join([HEAD, *rows]) + "\n")
+    return 0
+
+
+if __name__ == "__main__":
+    sys.exit(main())
