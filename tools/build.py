@@ -12,12 +12,11 @@ import tempfile
 import time
 
 from crates import TOP, all_crates, below, folder, is_program, stored_words
-from proof_seconds import LOG, Took, read_table
+from proof_seconds import LOG, quickest, read_table
 
 MEMORY_OF_A_JOB = 3_000_000_000
 NICENESS = 6  # for each run that goes before
 MOST_NICENESS = 19
-UNMEASURED = {1: Took(60, 60)}
 
 
 def at_once():
@@ -108,10 +107,9 @@ class Build:
     def __init__(self, wanted, log, progress):
         crates, measured = all_crates(), read_table()
         names = [it for it in crates if it in wanted or any(it in below(crates, other) for other in wanted)]
-        took = {it: measured.get(it, UNMEASURED) for it in names}
         self.log, self.progress, self.below = log, progress, {it: below(crates, it) for it in names}
-        self.longest = ways(crates, names, {it: min(took[it].values()).clock for it in names})
-        self.quickest = {it: min(took[it], key=took[it].get) for it in names}
+        self.longest = ways(crates, names, {it: min(measured[it].values()).clock for it in names})
+        self.quickest = {it: quickest(measured[it]) for it in names}
         self.jobs, self.proved, self.running = at_once(), set(), []
         self.left = sorted(names, key=lambda it: -self.longest[it])
         progress.count += len(names)
@@ -160,8 +158,7 @@ class Build:
         """Makes a program of which all below is proved, and answers whether that went well."""
         try:
             with locked([*self.below, name]):
-                rows = read_table().get(name, {self.jobs: None})
-                jobs = min(min(rows, key=rows.get), self.jobs)
+                jobs = min(quickest(read_table()[name]), self.jobs)
                 self.begin(Run(name, jobs, proving("run", name, jobs, "--", *stored_words(name))))
                 return self.wait()
         finally:

@@ -11,6 +11,7 @@ import time
 from crates import TOP
 from watch import Watch
 
+MEMORY_OF_A_PROOF = 5_000_000_000
 PARTS = ("proof", "tests", "edits", "runs")
 
 
@@ -25,11 +26,19 @@ def lines_of(table, all_seconds):
     return ["| " + " | ".join(line) + " |" for line in lines]
 
 
+def one_job_each():
+    """What has `rt ci` give each proof one job, where memory is ample for a proof a processor: more jobs take more of the processors."""
+    with open("/proc/meminfo", encoding="ascii") as file:
+        free = next(1024 * int(line.split()[1]) for line in file if line.startswith("MemAvailable:"))
+    processors = len(os.sched_getaffinity(0))
+    return {"RT_JOBS": str(processors)} if free >= processors * MEMORY_OF_A_PROOF else {}
+
+
 def run():
     """Runs the gate. Answers its status, its last line, and lines that tell its times."""
     started = time.monotonic()
     pipe = {"stdin": subprocess.DEVNULL, "stdout": subprocess.PIPE, "text": True, "errors": "replace"}
-    gate = subprocess.Popen(["rt", "ci"], cwd=TOP, **pipe)
+    gate = subprocess.Popen(["rt", "ci"], cwd=TOP, env=os.environ | one_job_each(), **pipe)
     watch, ended = Watch(gate.pid), threading.Event()
     looks = threading.Thread(target=lambda: [watch.look() for _ in iter(lambda: ended.wait(0.2), True)])
     looks.start()

@@ -5,6 +5,8 @@
 
 Only a build from nothing, with nothing beside it, measures what a first run takes.
 """
+import collections
+import os
 import re
 import sys
 from typing import NamedTuple
@@ -24,15 +26,23 @@ class Took(NamedTuple):
     processor: int
 
 
+UNMEASURED = {1: Took(60, 60)}
+
+
 def read_table():
-    """What the proof of each crate took with each number of jobs that was measured."""
-    found = {}
+    """What the proof of each crate took with each number of jobs that was measured; of a crate that was not, a guess."""
+    found = collections.defaultdict(lambda: UNMEASURED)
     with open(TABLE, encoding="utf-8") as file:
         for line in file:
             if not line.startswith("#"):
                 crate, jobs, *seconds = line.split()
-                found.setdefault(crate, {})[int(jobs)] = Took(*map(int, seconds))
+                found[crate] = found.get(crate, {}) | {int(jobs): Took(*map(int, seconds))}
     return found
+
+
+def quickest(rows):
+    """The number of jobs with which a proof takes least time by the clock."""
+    return min(rows, key=rows.get)
 
 
 def read_log():
@@ -46,9 +56,12 @@ def read_log():
 
 
 def main():
+    if not os.path.exists(LOG):
+        print(f"proof_seconds: there is no {LOG}: build the program from nothing first", file=sys.stderr)
+        return 1
     table = read_table()
     for crate, jobs, took in read_log():
-        table.setdefault(crate, {})[jobs] = took
+        table[crate] = table.get(crate, {}) | {jobs: took}
     rows = [f"{crate} {jobs} {took.clock} {took.processor}" for crate in all_crates() for jobs, took in sorted(table.get(crate, {}).items())]
     with open(TABLE, "w", encoding="utf-8") as file:
         file.write("\n".join([HEAD, *rows]) + "\n")
