@@ -16,7 +16,7 @@ PARTS = ("proof", "tests", "edits", "runs")
 
 
 def lines_of(table, all_seconds):
-    """The table in minutes of one processor, a line a crate, the longest first."""
+    """The table of seconds by crate and part, in minutes of one processor, a line a crate, the longest first."""
     minutes = {crate: [table.get((crate, part), 0) / 60 for part in PARTS] for crate, _ in table}
     sums = [sum(it) for it in zip(*minutes.values())]
     rows = [[crate, *it, sum(it)] for crate, it in sorted(minutes.items(), key=lambda row: -sum(row[1]))]
@@ -35,7 +35,8 @@ def one_job_each():
 
 
 def run():
-    """Runs the gate. Answers its status, its last line, and lines that tell its times."""
+    """Runs the gate. Answers its status, its last line, a line that tells its times, the table of its seconds by crate and part, and
+    its seconds in all."""
     started = time.monotonic()
     pipe = {"stdin": subprocess.DEVNULL, "stdout": subprocess.PIPE, "text": True, "errors": "replace"}
     gate = subprocess.Popen(["rt", "ci"], cwd=TOP, env=os.environ | one_job_each(), **pipe)
@@ -53,4 +54,4 @@ def run():
     minutes, seconds = (time.monotonic() - started) / 60, used.ru_utime + used.ru_stime
     processors = len(os.sched_getaffinity(0))
     said = f"{minutes:.1f} minutes on {processors} processors, {seconds / 60:.1f} minutes of one processor"
-    return gate.returncode, last.strip(), [f"the gate: {said}", *lines_of(watch.table(), seconds)]
+    return gate.returncode, last.strip(), f"    {said}", watch.table(), seconds

@@ -1,10 +1,10 @@
 """Runs what must pass, and tells at the end what was run and how long each part of it took.
 
-    ./test                     the whole gate, the program from the command line, the cases, sites that work on what is drawn by
-                               lot, the server, and tests with each allocation refused
+    ./test                     the whole gate, the wrong bodies, the program from the command line, the cases, sites that work on
+                               what is drawn by lot, the server, and tests with each allocation refused
     ./test CRATE..             what a change of these crates can break: layout, proofs, tests and stored runs of these and
                                of the crates that stand on them, over the work that earlier checks kept, and the
-                               must-fail edits of these
+                               wrong bodies of these
     ./test changed [COMMIT]    the same for the crates that differ from the commit; with none named from the last that the
                                whole gate has passed here, or else from HEAD
     ./test cases [NAME..]      the cases, which are files below cases/: all, or those of these folders and names;
@@ -24,6 +24,7 @@ import memory_tests
 import program_tests
 import server_tests
 import site_tests
+import wrong_bodies
 from crates import TOP, all_crates, folder, is_program, read, stored_words, with_those_above
 
 PASSED = f"{TOP}/out/passed"
@@ -95,17 +96,36 @@ def run_without_memory(parts, crates):
         parts.run("tests with each allocation refused", part_of(lambda: memory_tests.run_all(crates)))
 
 
+def run_wrong_bodies(parts, names, is_gate_passed=False):
+    """Tries the wrong bodies of these crates. Answers the seconds of each."""
+    spent = {}
+
+    def part():
+        passed, told, seconds = wrong_bodies.run(names, is_gate_passed)
+        spent.update(seconds)
+        return passed, told
+
+    parts.run(f"wrong bodies of {'all crates' if is_gate_passed else ' '.join(names)}", part)
+    return spent
+
+
 def whole():
-    """Runs the whole gate, and then the program that it has built."""
+    """Runs the whole gate, the wrong bodies, and then the program that the gate has built."""
     clean, head = not git("status", "--porcelain"), git("rev-parse", "HEAD")
-    parts, last = Parts(), []
+    parts, last, times = Parts(), [], []
 
     def gate_part():
-        status, line, told = gate.run()
+        status, line, told, *spent = gate.run()
         last.append(line)
-        return status == 0, told
+        times.extend(spent)
+        return status == 0, [told]
 
     parts.run("the gate", gate_part)
+    table, seconds = times
+    if not parts.has_failed:
+        for crate, more in run_wrong_bodies(parts, all_crates(), is_gate_passed=True).items():
+            table[crate, "edits"] = table.get((crate, "edits"), 0) + more
+            seconds += more
     if not parts.has_failed:
         run_program(parts, is_gate_passed=True)
         run_cases(parts)
@@ -113,7 +133,7 @@ def whole():
         run_sites(parts)
         run_server(parts)
         run_without_memory(parts, all_crates())
-    print("\n".join(parts.lines))
+    print("\n".join([*parts.lines, *gate.lines_of(table, seconds)]))
     if not parts.has_failed and clean and head:
         os.makedirs(os.path.dirname(PASSED), exist_ok=True)
         with open(PASSED, "w", encoding="utf-8") as file:
@@ -166,7 +186,7 @@ def of_crates(names, is_program_changed=False, are_cases_changed=False):
     for name in changed if not parts.has_failed else []:
         parts.run(f"tests of {name}", lambda it=name: (tested(it), []))
     if names and not parts.has_failed:
-        parts.run(f"must-fail edits of {' '.join(names)}", lambda: (passes(["rt", "must-fail", *names]), []))
+        run_wrong_bodies(parts, names)
     if not parts.has_failed and (is_program_changed or PROGRAM in changed):
         run_program(parts)
     kinds = [it for it, kind in cases.KINDS.items() if are_cases_changed or kind.program in changed]

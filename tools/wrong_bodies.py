@@ -40,7 +40,17 @@ from crates import TOP, all_crates, below, folder
 
 FOLDER = "wrong-bodies"
 LOGS = f"{TOP}/out/{FOLDER}"
+# Edits that show nothing, with the function that each names, what it changes, and why it must fail. The first is refused, as it must be.
 SELF_TEST = "held_bytes"
+SELF_TESTS = {
+    "clear_keeps_all": ("HeldBytes::clear", "self.bytes.clear();", "prove!(true);", None),
+    "means_the_same": ("HeldBytes::take_front", "self.taken += count;", "self.taken = count + self.taken;", "take_front is still proved"),
+    "is_of_a_callee": ("HeldBytes::append", "bytes.truncate(kept);", "bytes.truncate(count);", "append is refused only since it calls held_bytes::drop_front"),
+    "names_no_function": ("HeldBytes::nothing", "bytes.copy_within(count.., 0);", "let _ = 0;", "there is no function"),
+    "is_not_compiled": ("HeldBytes::new", "bytes: Vec::new(alloc),", "bytes: Vec::new(all),", "isn't read"),
+    "is_out_of_date": ("HeldBytes::clear", "self.bytes.empty();", "prove!(true);", "can't be applied"),
+    "changes_nothing": ("HeldBytes::clear", "self.bytes.clear();", "self.bytes.clear();", "can't be applied: it changes nothing"),
+}
 # What a check says of an item once it has ended with it. What it says of the item's own goals stands above.
 VERDICT = re.compile(r"(fn|struct|enum|union|trait|impl) (\S+): (.+)")
 OPEN_GOAL = re.compile(r"note: \S+:\d+:\d+: it is not proved that ")
@@ -407,11 +417,34 @@ def run(names, is_gate_passed=False, is_control=False):
     return not causes, [*told, *(f"    {it}" for it in causes)], seconds
 
 
+def self_test(is_gate_passed=False):
+    """Tries edits that show nothing: each must fail by its name, for its cause. Answers whether each does, and lines that tell of it."""
+    rt, told = loaded(), []
+    os.makedirs(LOGS, exist_ok=True)
+    with libraries(rt, [SELF_TEST], is_gate_passed) as built, tempfile.TemporaryDirectory(prefix="wrong-bodies-") as room:
+        if not built:
+            return False, [f"    {SELF_TEST} is not proved as it stands"]
+        for name, (function, old, new, _) in SELF_TESTS.items():
+            with open(f"{room}/{name}.edit", "w", encoding="utf-8") as file:
+                file.write(f"function: {SELF_TEST}::{function}\nfile: src/lib.rt\nold: {old}\nnew: {new}\n")
+        files = [f"{room}/{it}" for it in sorted(os.listdir(room))]
+        causes = Tries(rt, built[SELF_TEST], files, rt.rtlib.guarded()).try_all().causes
+    for name, (*_, wanted) in SELF_TESTS.items():
+        said = [it for it in causes if it.startswith(f"{SELF_TEST}/{name}.edit: ")]
+        if len(said) != bool(wanted) or any(wanted not in it for it in said):
+            told.append(f"    {name}: wanted was {f'that it fails since it {wanted}' if wanted else 'that it passes'}, and not {said}")
+    if not any("::drop_front: refused too" in it for it in causes):
+        told.append("    no cause names the function that is refused too")
+    return not told, told or [f"    {len(SELF_TESTS) - 1} edits that show nothing fail, each by its name"]
+
+
 def main(words):
     is_control = words[:1] == ["--control"]
     names = words[1:] if is_control else words
     if words == ["--self-test"]:
-        return self_test()
+        passed, told = self_test()
+        print("\n".join(told))
+        return 0 if passed else 1
     unknown = [it for it in names if it not in all_crates()]
     if unknown:
         print(__doc__.strip() if unknown[0].startswith("-") else f"no such crate: {' '.join(unknown)}", file=sys.stderr)
