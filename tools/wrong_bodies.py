@@ -49,6 +49,8 @@ VERDICT = re.compile(r"(fn|struct|enum|union|trait|impl) (\S+): (.+)")
 VERDICTS = ("proved", "not proved", "no proof", "could not tell")
 OPEN_GOAL = re.compile(r"note: \S+:\d+:\d+: it is not proved that ")
 OF_A_PROOF = r"(?:\./)?proofs/(\S+)/(?:Answers|Invariants|Proof)\.antt:\d+:\d+: error: (.*)"
+# Where a proof has lost an answer, an open goal may only lack that, unless the prover says this.
+IS_FALSE = "the facts known there allow values at which this goal is false"
 ENDED = re.compile(r"only=\d+ proved=\d+")
 NO_FUNCTION = re.compile(r"(?m)^rattle: error: .* has no function `(\S+)`")
 # A proof names what the edit took away, or cites one that does, or the prover met a limit of its
@@ -155,7 +157,8 @@ def functions_in(lines, crate):
             verdict = next((it for it in VERDICTS if said.startswith(it)), said)
             of_proof = errors.get(name, [])
             little = [it for it in of_proof if SAYS_LITTLE.search(it)]
-            refused = [*goals, *(it for it in of_proof if it not in little)]
+            refused = [it for it in of_proof if it not in little]
+            refused += [it for it in goals if not little or IS_FALSE in it]
             calls = re.findall(r"`([^`]+)`", said.partition("it calls ")[2])
             functions[name] = Function(verdict, refused, little, calls)
         elif said != "proved" and "it waits for the proof of" not in said:
