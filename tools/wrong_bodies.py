@@ -47,7 +47,7 @@ LOGS = f"{TOP}/out/{FOLDER}"
 # What a check says of an item once it has ended with it; what it says of its goals stands above.
 VERDICT = re.compile(r"(fn|struct|enum|union|trait|impl) (\S+): (.+)")
 VERDICTS = ("proved", "not proved", "no proof", "could not tell")
-OPEN_GOAL = re.compile(r"note: \S+:\d+:\d+: it is not proved that ")
+OPEN_GOAL = re.compile(r"note: \S+:\d+:\d+: (?:it is not proved that |`search` found no proof)")
 OF_A_PROOF = r"(?:\./)?proofs/(\S+)/(?:Answers|Invariants|Proof)\.antt:\d+:\d+: error: (.*)"
 # Where a proof has lost an answer, an open goal may only lack that, unless the prover says this.
 IS_FALSE = "the facts known there allow values at which this goal is false"
