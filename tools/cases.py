@@ -2,6 +2,7 @@
 
     ./test cases [NAME..]      all cases, or those of these folders and names, as two_sites or one_site/calls_are_counted;
                                with --program KIND=PATH those of one kind by another program, as --program script=FILE
+    ./test preview [NAME..]    those of kind script by the unproved program, which `rt try` compiles once
 
 A case is files of one stem. Its kind is the ending of the first, and tells which program runs it:
 
@@ -14,8 +15,10 @@ A case is files of one stem. Its kind is the ending of the first, and tells whic
 """
 import concurrent.futures
 import os
+import re
 import subprocess
 import sys
+import tempfile
 import time
 from typing import NamedTuple
 
@@ -113,16 +116,69 @@ def run_all(kinds=tuple(KINDS), names=(), programs=None):
     return [f"{len(cases)} cases in {time.monotonic() - started:.1f} seconds"]
 
 
+def unproved_failure(case, said):
+    """What differs in a case that `rt try` ran; nothing where it passes. It is given the lines of rt on the case, none where there are none."""
+    ended = re.search(r"^case=.* run=ended status=(\d+) .*output=(\w+)", said, re.M)
+    if not ended:
+        return f"{case.name}: the program gives no result: {said.strip()!r}"
+    status, wanted = int(ended[1]), int(case.part("status") or 0)
+    if (ended[2], status) == ("expected", wanted):
+        return ""
+    differs = re.search(r"^the output differs from `.*?`: (.*)$", said, re.M)
+    told = differs[1] if differs else "it writes what it should" if ended[2] == "expected" else "the output differs"
+    return f"{case.name}: {told}; the status should be {wanted} and is {status}"
+
+
+def run_unproved(names=()):
+    """Runs the cases of kind script and of these names by the unproved program. Returns lines that say what was run."""
+    cases = [it for it in all_cases() if it.kind == "script" and is_named(it, names)]
+    if not cases:
+        raise Failed("cases: there is none of these names")
+    started = time.monotonic()
+    with tempfile.TemporaryDirectory() as room:
+        for number, case in enumerate(cases):
+            words = "".join(f"{it}\n" for it in case.words()).encode()
+            for ending, content in (("", case.part(case.kind)), (".stdout", case.part("expected")), (".args", words)):
+                with open(f"{room}/{number}{ending}", "wb") as file:
+                    file.write(content)
+        how = {"cwd": folder(KINDS["script"].program), "stdin": subprocess.DEVNULL, "capture_output": True, "check": False}
+        ran = subprocess.run(["rt", "try", "--seconds", str(SECONDS_OF_A_CASE), "--cases", room], **how)
+    text = ran.stderr.decode(errors="replace")
+    # What rt says of a case ends in a line that names it.
+    said = {it[2]: it[0] for it in re.finditer(r"((?:(?!case=).*\n)*)case=(\d+) .*\n", text)}
+    if not said:
+        raise Failed(f"cases: the unproved program did not run:\n{text}")
+    failures = [it for it in (unproved_failure(case, said.get(str(number), "")) for number, case in enumerate(cases)) if it]
+    if failures:
+        raise Failed("\n    ".join([f"{len(failures)} of {len(cases)} cases failed", *failures]))
+    return [f"{len(cases)} cases of kind script passed in {time.monotonic() - started:.0f} seconds; nothing was proved"]
+
+
+def passes(run_these):
+    """Whether cases pass. Prints what was run, or what failed on standard error."""
+    try:
+        print("\n".join(run_these()))
+    except Failed as why:
+        print(f"test: {why}", file=sys.stderr)
+        return False
+    return True
+
+
+def named(words):
+    """The names of cases that these words are."""
+    return [it.removeprefix("cases/").rstrip("/") for it in words]
+
+
+def preview(words):
+    """Runs the cases of kind script that these words name by the unproved program. Returns the exit status."""
+    print("test: the cases by the unproved program, which is compiled first, in about a minute", flush=True)
+    return 0 if passes(lambda: run_unproved(named(words))) else 1
+
+
 def main(words):
     """Runs the cases that these words tell. Answers the exit status."""
     programs = {}
     if words[:1] == ["--program"]:
         kind, _, path = "".join(words[1:2]).partition("=")
         programs, words = {kind: os.path.abspath(path)}, words[2:]
-    names = [it.removeprefix("cases/").rstrip("/") for it in words]
-    try:
-        print("\n".join(run_all(tuple(programs or KINDS), names, programs)))
-    except Failed as why:
-        print(f"test: {why}", file=sys.stderr)
-        return 1
-    return 0
+    return 0 if passes(lambda: run_all(tuple(programs or KINDS), named(words), programs)) else 1

@@ -1,17 +1,21 @@
-"""Runs the program queue_sites unproved, within about a minute of a fresh clone:
+"""Runs the program queue_sites without any proof, about a minute after the start:
 
     ./queue_sites preview [--seconds N] WORDS..
 
-WORDS are those of the program. `rt try` compiles it with checks and without any proof, then runs it for at most N seconds: 60, or 600 of
-`serve`, where N is not given. It compiles anew each time, and nothing below the out/ of a crate is read or written.
+WORDS are those of the program. `rt try` compiles it with checks, anew each time, and then runs it
+for at most N seconds: 600 of `serve`, else 60, where N is not given. Nothing below an out/ of a
+crate is read or written.
 
-Standard output is the program's. Standard error is one line that says what this run is, and then the program's. The exit status is the
-program's. Where the run does not reach the program's end, a line on standard error says why, and the status is
+Standard output is the program's. Standard error is one line that says what this run is, and then
+the program's. The exit status is the program's, unless the run does not reach the program's end.
+Then a line on standard error says why, and the status is
 
-    1   the run could not be made (what `rt` says stands above that line), or standard input or output failed
+    1   the run could not be made (what `rt` says stands above that line), or a read of standard
+        input or a write failed
     2   the words of preview are wrong
     4   the program stopped at a fault that the checks found
-    6   the program had not ended after N seconds, or wrote more than `rt try` allows; it is stopped
+    6   the program was stopped: it had not ended after N seconds, or wrote too much (1 MiB)
+    130, 143, 129   SIGINT, SIGTERM or SIGHUP ended it
 """
 import contextlib
 import glob
@@ -29,18 +33,22 @@ USAGE = """Usage: queue_sites preview [--seconds N] WORDS..
 
 Runs `queue_sites WORDS..` without any proof, about a minute after the start, for at most N seconds.
 N is 1 to 86400; where it is not given 600 of `serve`, else 60.
-Example: queue_sites preview serve 2 5038 admin s3 sales
-"""
+Example: queue_sites preview serve 2 5038 admin s3 sales"""
+NOTE = (
+    "queue_sites: preview: nothing is proved in this run; its output comes once it is compiled,"
+    " in about a minute; then it runs for at most {} seconds"
+)
 MOST_SECONDS = 86_400
 LONGEST_INPUT = 16_777_217  # a byte more than a script may have
-ENDINGS = (signal.SIGINT, signal.SIGTERM, signal.SIGHUP)
+SIGNALS = (signal.SIGINT, signal.SIGTERM, signal.SIGHUP)
 FAILED, WRONG_WORDS, FAULT, STOPPED = 1, 2, 4, 6
+# What rt says where it has stopped the program.
 TIME_IS_OUT = "the program did not end within the time limit"
 TOO_MUCH = "the program wrote more than "
 
 
 class Ended(Exception):
-    """The preview ends with a status, before the program's own end. The line says why."""
+    """The preview ends with a status, without the program's own end. The line says why."""
 
     def __init__(self, status, line):
         super().__init__(line)
@@ -48,11 +56,12 @@ class Ended(Exception):
 
 
 class Stream:
-    """A stream of the program, and where it is shown. What the program writes is shown at once where the file that it writes to is found,
-    else once the run has ended."""
+    """A stream of the program, and where it is shown. What the program writes is shown at once
+    where the file that it writes to is found, else once the run has ended."""
 
     def __init__(self, room, name, to):
-        self.pattern, self.to, self.file, self.shown = f"{glob.escape(room)}/*/*/{name}", to, None, 0
+        self.pattern, self.to = f"{glob.escape(room)}/*/*/{name}", to
+        self.file, self.shown = None, 0
 
     def show(self):
         """Shows what the program has written since the last call."""
@@ -83,11 +92,12 @@ def split_words(words):
         words = words[1:]
         if not is_joined:
             given, words = "".join(words[:1]), words[1:]
-        if not re.fullmatch("[0-9]{1,5}", given, re.ASCII) or not 1 <= int(given) <= MOST_SECONDS:
-            raise Ended(WRONG_WORDS, f"invalid value {given!r} for '--seconds N': N is 1 to {MOST_SECONDS}")
+        if not re.fullmatch("[0-9]{1,5}", given) or not 1 <= int(given) <= MOST_SECONDS:
+            why = f"invalid value {given!r} for '--seconds N': N is 1 to {MOST_SECONDS}"
+            raise Ended(WRONG_WORDS, why)
         seconds = int(given)
     if not words:
-        raise Ended(WRONG_WORDS, f"the words of the program are missing\n\n{USAGE.rstrip()}")
+        raise Ended(WRONG_WORDS, f"the words of the program are missing\n\n{USAGE}")
     return seconds or (600 if words[0] == "serve" else 60), words
 
 
@@ -100,58 +110,57 @@ def given_input():
         raise Ended(FAILED, f"read failed: {why.strerror}") from why
 
 
-def stop(process):
-    """Ends `rt`, which then ends what it has started."""
-    for it in ENDINGS:
-        signal.signal(it, signal.SIG_IGN)
-    if process.poll() is None:
-        process.terminate()
-        process.wait()
-
-
 def run(room, seconds, words, given):
-    """Runs the program in `rt try`, and shows what it writes. Returns what rt wrote to standard output and to standard error."""
-    streams = [Stream(room, "stdout", 1), Stream(room, "stderr", 2)]
-    with tempfile.TemporaryFile() as to_read, tempfile.TemporaryFile() as output, tempfile.TemporaryFile() as messages:
+    """Runs the program by `rt try`, and shows what it writes. Returns its streams, and what rt
+    wrote to standard output and to standard error."""
+    streams, signals = [Stream(room, "stdout", 1), Stream(room, "stderr", 2)], []
+    for it in SIGNALS:
+        signal.signal(it, lambda number, _: signals.append(number))
+    with contextlib.ExitStack() as files:
+        new_file = lambda: files.enter_context(tempfile.TemporaryFile())
+        to_read, output, messages = new_file(), new_file(), new_file()
         to_read.write(given)
         to_read.seek(0)
-        how = {"stdin": to_read, "stdout": output, "stderr": messages, "cwd": folder("queue_sites")}
+        # In a session of its own, so that Ctrl-C comes to this process alone.
+        how = {"cwd": folder("queue_sites"), "start_new_session": True}
+        how |= {"stdin": to_read, "stdout": output, "stderr": messages}
+        command = ["rt", "try", "--seconds", str(seconds), "--", *words]
         try:
-            # In a session of its own, so that Ctrl-C comes here alone.
-            process = subprocess.Popen(
-                ["rt", "try", "--seconds", str(seconds), "--", *words],
-                env={**os.environ, "TMPDIR": room}, start_new_session=True, **how,
-            )
+            process = subprocess.Popen(command, env={**os.environ, "TMPDIR": room}, **how)
         except OSError as why:
             raise Ended(FAILED, f"the run could not be made: rt: {why.strerror}") from why
         try:
-            while process.poll() is None:
+            while process.poll() is None and not signals:
                 for it in streams:
                     it.show()
                 time.sleep(0.02)
         finally:
-            stop(process)
+            # rt ends all that it has started.
+            process.terminate()
+            process.wait()
         for it in streams:
             it.show()
+        if signals:
+            sys.exit(128 + signals[0])
         output.seek(0)
         messages.seek(0)
         return streams, output.read(), messages.read()
 
 
-def status_of(streams, seconds, output, messages):
+def status_of(seconds, streams, output, messages):
     """Shows the rest of what the program wrote. Returns its status."""
-    text = messages.decode(errors="surrogateescape")
-    last = re.search(r"^run=(\S+)(?: status=(\d+))?[^\n]* proved=no\n\Z", text, re.M)
-    checked = [it for it in re.finditer(r"^checked: (?:\S+: |fault )?([^\n]*)\n", text, re.M)][-1:]
-    how, why = last[1] if last else "none", checked[0][1] if checked else ""
+    last = re.search(rb"^run=(\S+)(?: status=(\d+))?.* proved=no\n\Z", messages, re.M)
+    checked = [*re.finditer(rb"^checked: (?:no-answer: |fault )?(.*)\n", messages, re.M)][-1:]
+    how = last[1].decode() if last else "none"
+    why = checked[0][1].decode(errors="replace") if checked else ""
     if how == "ended":
         streams[0].show_rest(output)
-        streams[1].show_rest(messages[: len(text[: checked[0].start()].encode(errors="surrogateescape"))])
+        streams[1].show_rest(messages[: checked[0].start()])
         return int(last[2])
     if how == "fault":
         raise Ended(FAULT, f"the program stopped at a fault: {why}")
     if how == "no-answer" and why == TIME_IS_OUT:
-        raise Ended(STOPPED, f"stopped after its {seconds} seconds; --seconds N sets another time")
+        raise Ended(STOPPED, f"stopped after its {seconds} seconds; --seconds N gives it more")
     if how == "no-answer" and why.startswith(TOO_MUCH):
         raise Ended(STOPPED, f"stopped: {why}")
     sys.stderr.buffer.write(messages)
@@ -161,23 +170,21 @@ def status_of(streams, seconds, output, messages):
 def preview(words):
     """Runs the program with these words. Returns its status."""
     seconds, words = split_words(words)
-    print(
-        "queue_sites: preview: nothing is proved in this run; its output comes once it is compiled, in about a minute;"
-        f" it may run for {seconds} seconds",
-        file=sys.stderr, flush=True,
-    )
+    print(NOTE.format(seconds), file=sys.stderr, flush=True)
     given = given_input() if words[0] == "script" else b""
     with tempfile.TemporaryDirectory(prefix="queue_sites-") as room:
-        streams, output, messages = run(room, seconds, words, given)
-    return status_of(streams, seconds, output, messages)
+        result = run(room, seconds, words, given)
+    return status_of(seconds, *result)
 
 
 def main(words):
-    for it in ENDINGS:
+    for it in SIGNALS:
         signal.signal(it, lambda number, _: sys.exit(128 + number))
     if words[:1] in (["-h"], ["--help"]):
-        print(USAGE, end="")
+        print(USAGE)
         return 0
+    if None in (sys.stdout, sys.stderr):
+        return FAILED  # closed: another file could get its number
     try:
         return preview(words)
     except Ended as why:

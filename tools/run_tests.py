@@ -9,6 +9,7 @@
                                whole gate has passed here, or else from HEAD
     ./test cases [NAME..]      the cases, which are files below cases/: all, or those of these folders and names;
                                tools/cases.py says what a case is
+    ./test preview [NAME..]    the cases of scripts by the unproved program, within 3 minutes of a fresh clone; proves nothing
 """
 import os
 import shutil
@@ -230,6 +231,8 @@ def main(words):
         return 2
     if words[0] == "cases":
         return cases.main(words[1:])
+    if words[0] == "preview":
+        return cases.preview(words[1:])
     return of_changes(words[1] if len(words) > 1 else None) if words[0] == "changed" else of_crates(words)
 
 
