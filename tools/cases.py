@@ -2,7 +2,7 @@
 
     ./test cases [NAME..]      all cases, or those of these folders and names, as two_sites or one_site/calls_are_counted;
                                with --program KIND=PATH those of one kind by another program, as --program script=FILE
-    ./test preview [NAME..]    those of kind script by the unproved program, which `rt try` compiles once
+    ./test preview [NAME..]    those of scripts by the unproved program, compiled once
 
 A case is files of one stem. Its kind is the ending of the first, and tells which program runs it:
 
@@ -117,41 +117,55 @@ def run_all(kinds=tuple(KINDS), names=(), programs=None):
 
 
 def unproved_failure(case, said):
-    """What differs in a case that `rt try` ran; nothing where it passes. It is given the lines of rt on the case, none where there are none."""
+    """What differs in a case that `rt try` ran; nothing where it passes. `said` is what rt said of
+    the case."""
     ended = re.search(r"^case=.* run=ended status=(\d+) .*output=(\w+)", said, re.M)
     if not ended:
-        return f"{case.name}: the program gives no result: {said.strip()!r}"
-    status, wanted = int(ended[1]), int(case.part("status") or 0)
-    if (ended[2], status) == ("expected", wanted):
+        return f"{case.name}: the program does not end by itself: {said.strip()!r}"
+    status, wanted, is_same = int(ended[1]), int(case.part("status") or 0), ended[2] == "expected"
+    if is_same and status == wanted:
         return ""
     differs = re.search(r"^the output differs from `.*?`: (.*)$", said, re.M)
-    told = differs[1] if differs else "it writes what it should" if ended[2] == "expected" else "the output differs"
-    return f"{case.name}: {told}; the status should be {wanted} and is {status}"
+    why = "it writes what it should" if is_same else differs[1] if differs else "the output differs"
+    return f"{case.name}: {why}; the status should be {wanted} and is {status}"
+
+
+def try_cases(cases):
+    """Compiles the unproved program once and runs it on each case. Returns what rt says of each, by
+    its number."""
+    with tempfile.TemporaryDirectory() as room:
+        for number, case in enumerate(cases):
+            words = "".join(f"{it}\n" for it in case.words()).encode()
+            files = {"": case.part(case.kind), ".stdout": case.part("expected"), ".args": words}
+            for ending, content in files.items():
+                with open(f"{room}/{number}{ending}", "wb") as file:
+                    file.write(content)
+        words = ["rt", "try", "--seconds", str(SECONDS_OF_A_CASE), "--cases", room]
+        how = {"stdin": subprocess.DEVNULL, "capture_output": True, "check": False}
+        ran = subprocess.run(words, cwd=folder(KINDS["script"].program), **how)
+    text = ran.stderr.decode(errors="replace")
+    # What rt says of a case ends in a line that names it.
+    found = re.finditer(r"((?:(?!case=).*\n)*)case=(\d+) .*\n", text)
+    said = {int(it[2]): it[0] for it in found}
+    if not said:
+        raise Failed(f"cases: the unproved program could not be run:\n{text}")
+    return said
 
 
 def run_unproved(names=()):
-    """Runs the cases of kind script and of these names by the unproved program. Returns lines that say what was run."""
+    """Runs the cases of kind script and of these names by the unproved program. Returns lines that
+    say what was run."""
     cases = [it for it in all_cases() if it.kind == "script" and is_named(it, names)]
     if not cases:
         raise Failed("cases: there is none of these names")
     started = time.monotonic()
-    with tempfile.TemporaryDirectory() as room:
-        for number, case in enumerate(cases):
-            words = "".join(f"{it}\n" for it in case.words()).encode()
-            for ending, content in (("", case.part(case.kind)), (".stdout", case.part("expected")), (".args", words)):
-                with open(f"{room}/{number}{ending}", "wb") as file:
-                    file.write(content)
-        how = {"cwd": folder(KINDS["script"].program), "stdin": subprocess.DEVNULL, "capture_output": True, "check": False}
-        ran = subprocess.run(["rt", "try", "--seconds", str(SECONDS_OF_A_CASE), "--cases", room], **how)
-    text = ran.stderr.decode(errors="replace")
-    # What rt says of a case ends in a line that names it.
-    said = {it[2]: it[0] for it in re.finditer(r"((?:(?!case=).*\n)*)case=(\d+) .*\n", text)}
-    if not said:
-        raise Failed(f"cases: the unproved program did not run:\n{text}")
-    failures = [it for it in (unproved_failure(case, said.get(str(number), "")) for number, case in enumerate(cases)) if it]
+    said = try_cases(cases)
+    tried = (unproved_failure(case, said.get(number, "")) for number, case in enumerate(cases))
+    failures = [it for it in tried if it]
     if failures:
         raise Failed("\n    ".join([f"{len(failures)} of {len(cases)} cases failed", *failures]))
-    return [f"{len(cases)} cases of kind script passed in {time.monotonic() - started:.0f} seconds; nothing was proved"]
+    seconds = time.monotonic() - started
+    return [f"{len(cases)} cases of scripts passed in {seconds:.0f} seconds; nothing was proved"]
 
 
 def passes(run_these):
@@ -170,8 +184,9 @@ def named(words):
 
 
 def preview(words):
-    """Runs the cases of kind script that these words name by the unproved program. Returns the exit status."""
-    print("test: the cases by the unproved program, which is compiled first, in about a minute", flush=True)
+    """Runs the cases of scripts that these words name by the unproved program. Returns the exit
+    status."""
+    print("test: cases by the unproved program, which is compiled first, for a minute", flush=True)
     return 0 if passes(lambda: run_unproved(named(words))) else 1
 
 

@@ -101,14 +101,16 @@ def from_another_folder(room):
 
 
 def built_files():
-    """What is known of each file below an `out` of a crate: its path, size and time."""
+    """The path, size and time of each file below an `out` of a crate."""
     places = [at for at, _, _ in os.walk(folder("")) if "/out" in at]
-    return {(it.path, it.stat().st_size, it.stat().st_mtime_ns) for at in places for it in os.scandir(at)}
+    files = [it for at in places for it in os.scandir(at)]
+    return {(it.path, it.stat().st_size, it.stat().st_mtime_ns) for it in files}
 
 
 def first_example():
-    """The first example of README: its command, run by a shell, writes the lines that stand behind it, with or without a CR. It is a preview,
-    which changes nothing that is built; without the word `preview` its command writes the same."""
+    """The first example of README: its command, run by a shell, writes the lines that stand behind
+    it, with or without a CR. It is a preview, which changes nothing that is built. Without the word
+    `preview` its command writes the same."""
     lines = read(f"{TOP}/README.md").decode().split("```\n")[1].splitlines()
     command = [lines.pop(0).removeprefix("$ ")]
     while command[-1].endswith(("|", "\\")):
@@ -119,22 +121,28 @@ def first_example():
         expect(ran.returncode == 0, "the status is not 0", ran)
         expect(ran.stdout.decode().splitlines() == lines, "it did not write what README shows", ran)
         is_preview = ran.stderr.startswith(b"queue_sites: preview: nothing is proved in this run; ")
-        expect(is_preview == (it == text) and ran.stderr.count(b"\n") == is_preview, "standard error is another", ran)
+        expect(is_preview == (it == text), "it does not say whether it is a preview", ran)
+        expect(ran.stderr.count(b"\n") == is_preview, "it says more on standard error", ran)
         expect(built_files() == before, "it changed what is built", ran)
 
 
 def wrong_words_of_preview():
-    """What is told of wrong words of a preview, and of input that can't be read. Nothing is compiled for it."""
+    """The texts and statuses of wrong words of a preview, and of input that can't be read. Nothing
+    is compiled for them."""
     check("./queue_sites", ["preview"], 2, told=b"Usage: queue_sites preview")
     check("./queue_sites", ["preview", "--help"], 0, printed=b"Usage: queue_sites preview")
     for seconds in ([], ["0"], ["86401"], ["two"], ["-1"], [""]):
-        check("./queue_sites", ["preview", "--seconds", *seconds, *SCRIPT[: len(seconds)]], 2, told=b"for '--seconds N': N is 1 to 86400\n")
-    check("./queue_sites", ["preview", "--seconds=5"], 2, told=b"the words of the program are missing\n")
-    check("./queue_sites", ["preview", *SCRIPT], 1, told=b"preview: read failed: ", before=lambda: os.close(0))
+        words = ["preview", "--seconds", *seconds, *(SCRIPT if seconds else [])]
+        check("./queue_sites", words, 2, told=b"for '--seconds N': N is 1 to 86400\n")
+    missing = b"preview: the words of the program are missing\n"
+    check("./queue_sites", ["preview", "--seconds=5"], 2, told=missing)
+    closed = {"before": lambda: os.close(0)}
+    check("./queue_sites", ["preview", *SCRIPT], 1, told=b"preview: read failed: ", **closed)
 
 
 def preview_of_a_server():
-    """A preview of `serve` says where it listens as soon as it does, answers a client, and ends at Ctrl-C with all that it has started."""
+    """A preview of `serve` says where it listens as soon as it does, greets a client, and ends at
+    Ctrl-C, with all that it has started."""
     with socket.create_server(("127.0.0.1", 0)) as it:
         port = it.getsockname()[1]
     words = ["preview", "--seconds", "120", "serve", "1", str(port), "admin", "s3", "sales"]
@@ -146,9 +154,10 @@ def preview_of_a_server():
             with socket.create_connection(("127.0.0.1", port), 30) as client:
                 greeting = client.makefile("rb").readline()
         server.send_signal(signal.SIGINT)
-        rest, told = server.communicate()
-    ran = subprocess.CompletedProcess(["./queue_sites", *words], server.returncode, line + rest, told)
-    expect(ran.stdout == f"listening 127.0.0.1:{port}\n".encode(), "it does not say where it listens", ran)
+        rest, errors = server.communicate()
+    ran = subprocess.CompletedProcess(server.args, server.returncode, line + rest, errors)
+    listening = f"listening 127.0.0.1:{port}\n".encode()
+    expect(ran.stdout == listening, "it does not say where it listens", ran)
     expect(greeting == b"Queue Sites Call Manager/1.0.0\r\n", f"it greets by {greeting!r}", ran)
     expect(ran.returncode == 130, "the status is not 130", ran)
     with socket.create_server(("127.0.0.1", port)):

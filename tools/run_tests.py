@@ -9,7 +9,8 @@
                                whole gate has passed here, or else from HEAD
     ./test cases [NAME..]      the cases, which are files below cases/: all, or those of these folders and names;
                                tools/cases.py says what a case is
-    ./test preview [NAME..]    the cases of scripts by the unproved program, within 3 minutes of a fresh clone; proves nothing
+    ./test preview [NAME..]    the cases of scripts by the unproved program, within 3 minutes of a
+                               fresh clone; it proves nothing
 """
 import os
 import shutil
