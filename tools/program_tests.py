@@ -102,7 +102,7 @@ def from_another_folder(room):
 
 def built_files():
     """The path, size and time of each file below an `out` of a crate."""
-    places = [at for at, _, _ in os.walk(folder("")) if "/out" in at]
+    places = [at for at, _, _ in os.walk(folder("")) if "/out/" in f"{at}/"]
     files = [it for at in places for it in os.scandir(at)]
     return {(it.path, it.stat().st_size, it.stat().st_mtime_ns) for it in files}
 
