@@ -23,7 +23,7 @@ class MemoryTest(NamedTuple):
 
 TESTS = [
     MemoryTest(
-        crate="tests_of_sites",
+        crate="tests_of_servers",
         name="feeds::a_feed_gives_the_same_messages_when_memory_comes_later",
         what="a feed",
         whole="at once",
@@ -51,14 +51,14 @@ TESTS = [
         refused={"refused": "refused it with Memory, and left both sets as they were"},
     ),
     MemoryTest(
-        crate="tests_of_sites",
+        crate="tests_of_servers",
         name="worlds::events_that_lack_memory_change_nothing_and_happen_again",
         what="two worlds",
         whole="at once",
         refused={"again": "changed nothing, and were told as NoMemory"},
     ),
     MemoryTest(
-        crate="tests_of_sites",
+        crate="tests_of_servers",
         name="served::a_session_that_lacks_memory_ends_or_tells_so",
         what="a served session",
         whole="whole",

@@ -1,5 +1,6 @@
 //! Clients over TCP: what they send and what they must read. Each that finds something else stops the test.
-use crate::sites::{HERE, SHORT};
+use crate::replies;
+use crate::serving::{HERE, SHORT};
 use std::io::{ErrorKind, Read, Write};
 use std::net::{Net, SocketAddr, TcpListener, TcpStream};
 use std::process::Abort;
@@ -18,12 +19,12 @@ struct Exchange {
 // Nothing is sent, and the greeting is read.
 const GREETING: Exchange = Exchange {
     sent: "",
-    read: "Queue Sites Call Manager/1.0.0\r\n",
+    read: replies::GREETING,
 };
 
 const LOGIN: Exchange = Exchange {
     sent: "Action: Login\r\nUsername: admin\r\nSecret: s3\r\n\r\n",
-    read: "Response: Success\r\nMessage: Authentication accepted\r\n\r\n",
+    read: replies::ACCEPTED,
 };
 
 // A login that isn't a whole message yet.
@@ -35,42 +36,30 @@ const HALF_LOGIN: Exchange = Exchange {
 // An add to `sales`.
 const ADD: Exchange = Exchange {
     sent: "Action: QueueAdd\r\nQueue: sales\r\nInterface: SIP/1\r\n\r\n",
-    read: "Response: Success\r\nMessage: Added interface to queue\r\n\r\n",
+    read: replies::ADDED,
 };
-
-/// What a site of `sales` shows to which SIP/1 was added.
-pub const REPORT: &str =
-    "Response: Success\r\nEventList: start\r\nMessage: Queue status will follow\r\n\r\n\
-Event: QueueParams\r\nQueue: sales\r\nCompleted: 0\r\nAbandoned: 0\r\n\r\n\
-Event: QueueMember\r\nQueue: sales\r\nName: SIP/1\r\nLocation: SIP/1\r\nStateInterface: SIP/1\r\nMembership: dynamic\r\n\
-Penalty: 0\r\nPaused: 0\r\nPausedReason: \r\nRingInUse: 1\r\n\r\n\
-Event: QueueStatusComplete\r\nEventList: Complete\r\nListItems: 2\r\n\r\n";
 
 // A status after the add.
 const STATUS: Exchange = Exchange {
     sent: "Action: QueueStatus\r\n\r\n",
-    read: REPORT,
+    read: replies::REPORT,
 };
 
 // A status of a queue without members.
 const NO_MEMBERS: Exchange = Exchange {
     sent: "Action: QueueStatus\r\n\r\n",
-    read: "Response: Success\r\nEventList: start\r\nMessage: Queue status will follow\r\n\r\n\
-Event: QueueParams\r\nQueue: sales\r\nCompleted: 0\r\nAbandoned: 0\r\n\r\n\
-Event: QueueStatusComplete\r\nEventList: Complete\r\nListItems: 1\r\n\r\n",
+    read: replies::EMPTY_REPORT,
 };
-
-const GOODBYE: &str = "Response: Goodbye\r\nMessage: Thanks for all the fish.\r\n\r\n";
 
 const LOGOFF: Exchange = Exchange {
     sent: "Action: Logoff\r\n\r\n",
-    read: GOODBYE,
+    read: replies::GOODBYE,
 };
 
 // What comes behind a logoff is never read, and doesn't take back the reply.
 const LOGOFF_AND_MORE: Exchange = Exchange {
     sent: "Action: Logoff\r\n\r\nAction: QueueStatus\r\n\r\nAction: QueueStatus\r\n\r\n",
-    read: GOODBYE,
+    read: replies::GOODBYE,
 };
 
 // How often a client tries to connect.

@@ -2,14 +2,13 @@
 ghost use Rattle.std.specs.Prelude.{◌≡◌};
 ghost use Rattle.site_journal.specs.Journals.{IsOfSite};
 
-use crate::sites::list;
-use dots::{Bytes, SiteId};
+use crate::shared::{replica, whole_status};
 use pass_desk::{Ear, PassDesk, RingingDesk, SiteBell};
-use replica::{Refusal, Replica};
+use replica::Refusal;
 use serve::{Desk, DeskDown};
 use site_desk::{Pass, SiteDesk, SiteLedger, close};
 use site_journal::{Bell, Journaled};
-use status_report::{Answer, Ask, StatusRequest};
+use status_report::{Answer, Ask};
 use std::alloc::Global;
 use std::marker::Brand;
 use std::process::Abort;
@@ -21,8 +20,7 @@ fn journal(rt: &impl Abort, alloc: Global, limit: u32) -> Journaled
     ensures begun { result.count ≡ 0 }
     ensures site { IsOfSite result.base.site result.base.names result }
 {
-    let site = SiteId::new(0).expect(rt, "a site");
-    let replica = Replica::new(alloc, site, list(rt, alloc));
+    let replica = replica(rt, alloc, 0, &["sales"]);
     match Journaled::new(alloc, replica, limit.clamp(1, 1_000_000)) {
         Ok(journal) => journal,
         Err(_) => rt.panic("memory"),
@@ -30,11 +28,7 @@ fn journal(rt: &impl Abort, alloc: Global, limit: u32) -> Journaled
 }
 
 fn status(alloc: Global) -> Ask {
-    Ask::Status(StatusRequest {
-        queue: None,
-        member: None,
-        action_id: Bytes::new(Vec::new(alloc)),
-    })
+    Ask::Status(whole_status(alloc))
 }
 
 // Asks a number of times, and is answered by a report each time.

@@ -1,11 +1,38 @@
-//! Tests of desks for sessions, and of sites that are served over TCP, by their public calls. This crate has no code of its own.
+//! Tests of feeds and devices, lists of queues, reports, replies, copies of asks and answers, sessions that are served, desks for sessions,
+//! worlds of sites, scripts, and sites that are served over TCP, by their public calls. This crate has no code of its own.
 #![tactic(auto)]
 
 #[cfg(test)]
 mod clients;
 #[cfg(test)]
+mod copies;
+#[cfg(test)]
 mod desks;
+#[cfg(test)]
+mod example;
+#[cfg(test)]
+mod feeds;
+#[cfg(test)]
+mod lists;
+#[cfg(test)]
+mod memory_devices;
+#[cfg(test)]
+mod replies;
+#[cfg(test)]
+mod reports;
+#[cfg(test)]
+mod script_runs;
 #[cfg(test)]
 mod served;
 #[cfg(test)]
-mod sites;
+mod serving;
+#[cfg(test)]
+mod sessions;
+#[cfg(test)]
+mod shared;
+#[cfg(test)]
+mod sites_served;
+#[cfg(test)]
+mod std_devices;
+#[cfg(test)]
+mod worlds;

@@ -1,248 +1,389 @@
-//! Sites that are served: what their clients read, which of them are given up, what their journals show, and why they aren't served.
-use crate::clients::{Client, Clients, REPORT, act};
-use crate::sites::{HERE, Limit, are_free, bound, free_port, served, settings};
-use ami_text::MemorySink;
-use dots::Bytes;
-use server::{LAST_PORT, ServeSitesFault, ServerSettings};
-use site_journal::{Journaled, StepDeed};
-use status_report::{Answer, Ask, StatusRequest, report};
+//! Sessions whose devices or whose desk fail, sessions whose reader sees what was written, and sessions over readers and writers of std's.
+ghost use Rattle.std.specs.Prelude.{◌≡◌, Bool, OnOk, Some, None, false};
+ghost use Rattle.serve.specs.Replicas.{AnswersAs};
+ghost use Rattle.serve.specs.Sessions.{HasCarried, IsServed};
+
+use crate::replies::{ACCEPTED, ADDED, EMPTY_REPORT, GOODBYE, GREETING, REPORT};
+use crate::shared::{assert_text, is_text, replica, text};
+use ami_session::Session;
+use ami_text::{Failed, MemorySink, MemorySource, Sink, Source, StdSink, StdSource};
+use serve::laws::a_session_keeps_what_each_answer_keeps;
+use serve::{Desk, DeskDown, ReplicaDesk, ServeFault, serve};
+use status_report::{Answer, Ask};
 use std::alloc::Global;
-use std::net::{Ipv4Addr, Net, TcpListener, TcpStream};
+use std::cell::Cell;
 use std::process::Abort;
-use std::sync::Wait;
-use std::thread::{Threads, join};
-use std::time::Clock;
 
-// Where sites listen whose log is looked at.
-fn there() -> Ipv4Addr {
-    Ipv4Addr::new(127, 0, 0, 2)
+// An add and a status, in lines ended by LF alone.
+const ADD_AND_STATUS: &str =
+    "action:QueueAdd\nqueue:sales\nINTERFACE:  SIP/1\n\nAction: QueueStatus\n\n";
+
+// A login of 46 bytes, an add of 47, a status of 21 and a logoff of 18.
+const SESSION: &str = "Action: Login\r\nUsername: admin\r\nSecret: s3\r\n\r\n\
+action:QueueAdd\nqueue:sales\nINTERFACE:  SIP/1\n\nAction: QueueStatus\n\nAction: Logoff\r\n\r\n";
+
+// What is written then.
+const TEXTS: [&str; 5] = [GREETING, ACCEPTED, ADDED, REPORT, GOODBYE];
+
+fn login(rt: &impl Abort) -> Session {
+    Session::new(text(rt, "admin"), text(rt, "s3"))
 }
 
-// Each journal's site shows this.
-fn assert_shows(rt: &impl Abort, alloc: Global, journals: &[Journaled], text: &str) {
-    let status = StatusRequest {
-        queue: None,
-        member: None,
-        action_id: Bytes::new(Vec::new(alloc)),
-    };
-    for journal in journals {
-        let shown = report(alloc, journal.replica(), &status).expect(rt, "memory");
-        assert!(rt; shown.as_slice() == text.as_bytes());
-        drop(shown);
-    }
-    drop(status);
+fn desk(rt: &impl Abort, alloc: Global) -> ReplicaDesk {
+    ReplicaDesk::new(alloc, replica(rt, alloc, 0, &["sales"]))
 }
 
-// Whether a command was done for a client of a journal's site.
-fn has_done(journal: &Journaled) -> bool {
-    let mut done = false;
-    for step in journal.steps() {
-        done = done || matches!(step.deed, StepDeed::Asked(Ask::Command(_), Answer::Done));
-    }
-    done
-}
-
-// The journals of sites of which each has had so many sessions.
-fn journals_of<R>(rt: &R, alloc: Global, settings: &ServerSettings, sessions: u32) -> Vec<Journaled>
-where
-    R: Net<Listener = TcpListener, Stream = TcpStream>
-        + Abort
-        + Threads
-        + Wait
-        + Clock
-        + Eprint
-        + Sync,
-{
-    let (ended, log) = served(rt, alloc, settings, sessions, 10);
-    drop(log);
-    ended.expect(rt, "journals")
-}
-
-// The journals of sites at the first free port, which are served to clients that have so many sessions at each.
-fn served_to<R>(
-    rt: &R,
-    alloc: Global,
-    first: u16,
-    sites: u16,
-    limit: Limit,
-    sessions: u32,
-    clients: Clients,
-) -> Vec<Journaled>
-where
-    R: Net<Listener = TcpListener, Stream = TcpStream>
-        + Abort
-        + Threads
-        + Wait
-        + Clock
-        + Eprint
-        + Sync,
-{
-    let port = free_port(rt, first, sites);
-    assert!(rt; port < LAST_PORT);
-    let settings = settings(rt, sites, HERE, port, limit);
-    let lent = &settings;
-    let (journals, _) = join(
-        rt,
-        move || journals_of(rt, alloc, lent, sessions),
-        move || act(rt, port, clients),
-    );
-    drop(settings);
-    journals
-}
-
-#[test]
-fn what_one_site_is_told_the_other_shows(rt: HostRuntime) {
-    let alloc = rt.alloc();
-    let journals = served_to(&rt, alloc, 24_300, 2, Limit::Usual, 1, Clients::OfTwoSites);
-    assert!(&rt; journals.len() == 2);
-    assert_shows(&rt, alloc, &journals, REPORT);
-    // The first site was told so, and the second has taken it.
-    assert!(&rt; has_done(&journals[0]) && !has_done(&journals[1]));
-    drop(journals);
-}
-
-#[test]
-fn the_first_thousand_steps_are_dropped(rt: HostRuntime) {
-    let journals = served_to(
-        &rt,
-        rt.alloc(),
-        24_560,
-        1,
-        Limit::Usual,
-        1,
-        Clients::One(Client::AskOften),
-    );
-    assert!(&rt; journals.len() == 1);
-    // A pump that finds the journal full with the session drops what little stands in it again.
-    let start = journals[0].start();
-    drop(journals);
-    assert!(&rt; start >= 1_000 && start < 2_000);
-}
-
-#[test]
-fn sessions_run_at_once_and_their_last_replies_arrive(rt: HostRuntime) {
-    let alloc = rt.alloc();
-    drop(served_to(&rt, alloc, 24_420, 1, Limit::Usual, 2, Clients::AtOnce));
-    drop(served_to(&rt, alloc, 24_440, 1, Limit::Usual, 10, Clients::InTurn));
-}
-
-// One site is served to one client, which may take so long.
-fn assert_served<R>(rt: &R, alloc: Global, first: u16, limit: Limit, client: Client)
-where
-    R: Net<Listener = TcpListener, Stream = TcpStream>
-        + Abort
-        + Threads
-        + Wait
-        + Clock
-        + Eprint
-        + Sync,
-{
-    drop(served_to(rt, alloc, first, 1, limit, 1, Clients::One(client)));
-}
-
-#[test]
-fn clients_that_take_too_long_lose_their_places(rt: HostRuntime) {
-    let alloc = rt.alloc();
-    // No message within the time for the first; nothing within the time for silence; and a message in time, upon which silence is right.
-    assert_served(&rt, alloc, 24_460, Limit::FirstMessage, Client::InLogin);
-    assert_served(&rt, alloc, 24_480, Limit::Idle, Client::LoggedIn);
-    assert_served(&rt, alloc, 24_500, Limit::FirstMessage, Client::Silent);
-    // The time for the first message goes on, and what a client sends behind its session's end is read for a second at most.
-    assert_served(&rt, alloc, 24_540, Limit::FirstMessage, Client::Drip);
-    assert_served(&rt, alloc, 24_520, Limit::Write, Client::ReadNothing);
-}
-
-// Why three sites aren't served where two ports are taken; whether their first port is free afterwards.
-fn assert_cannot_listen<R>(rt: &R, alloc: Global, port: u16, one: u16, other: u16, told: u16)
-where
-    R: Net<Listener = TcpListener, Stream = TcpStream>
-        + Abort
-        + Threads
-        + Wait
-        + Clock
-        + Eprint
-        + Sync,
-{
-    let (one, other) = (bound(rt, HERE, one), bound(rt, HERE, other));
-    let settings = settings(rt, 3, HERE, port, Limit::Usual);
-    let (ended, log) = served(rt, alloc, &settings, 0, 10);
-    assert!(rt; ended.err() == Some(ServeSitesFault::CannotListen(told)));
-    drop(log);
-    drop(settings);
-    drop(one);
-    drop(other);
-    assert!(rt; are_free(rt, port, 3));
-}
-
-#[test]
-fn a_port_that_is_taken(rt: HostRuntime) {
-    let alloc = rt.alloc();
-    let port = free_port(&rt, 24_340, 3);
-    assert!(&rt; 0 < port && port < LAST_PORT);
-    assert_cannot_listen(&rt, alloc, port, port, port + 1, port);
-    assert_cannot_listen(&rt, alloc, port, port + 1, port + 2, port + 1);
-}
-
-// Serves two sites at 127.0.0.2 that take no client, over a log that fails behind a number of writes. How that ends is asserted; what the
-// log has taken.
-fn told<R>(
-    rt: &R,
-    alloc: Global,
-    port: u16,
-    writes: u64,
-    wanted: Option<ServeSitesFault>,
-) -> MemorySink
-where
-    R: Net<Listener = TcpListener, Stream = TcpStream>
-        + Abort
-        + Threads
-        + Wait
-        + Clock
-        + Eprint
-        + Sync,
-{
-    let settings = settings(rt, 2, there(), port, Limit::Usual);
-    let (ended, log) = served(rt, alloc, &settings, 0, writes);
-    drop(settings);
-    match ended {
-        Ok(journals) => {
-            assert!(rt; wanted.is_none() && journals.len() == 2);
-            drop(journals);
+// Whether these texts, one behind the other, begin with the bytes.
+fn is_front(given: &[u8], texts: &[&str]) -> bool {
+    let mut rest = given;
+    for text in texts {
+        match rest.strip_prefix(text.as_bytes()) {
+            Some(behind) => rest = behind,
+            None => return text.as_bytes().starts_with(rest),
         }
-        Err(fault) => assert!(rt; wanted == Some(fault)),
     }
-    log
+    rest.is_empty()
+}
+
+// A desk that gives a number of answers, and then none.
+#[derive(Drop)]
+struct TiredDesk {
+    desk: ReplicaDesk,
+    answers: u32,
+}
+
+impl Desk<()> for TiredDesk {
+    ghost answers = { λ old asked answer new. Unit {0} };
+
+    ghost refuses = { λ old asked new. Unit {0} };
+
+    fn ask(&mut self, rt: &(), asked: Ask) -> Result<Answer, DeskDown> {
+        if self.answers == 0 {
+            return Err(DeskDown);
+        }
+        self.answers -= 1;
+        self.desk.ask(rt, asked)
+    }
+}
+
+// Serves a session, of whose end nothing is said.
+fn serve_session<S: Source, W: Sink, D: Desk<()>>(
+    alloc: Global,
+    reader: &mut S,
+    writer: &mut W,
+    session: Session,
+    desk: &mut D,
+) -> Result<(), ServeFault>
+    requires reader { S.failed reader.old ≡ false }
+    requires writer { W.failed writer.old ≡ false }
+{
+    serve(&(), alloc, reader, writer, session, desk)
+}
+
+// How a session upon this stream ends whose reader gives a byte a read, and fails behind a number of reads; whose writer takes a number
+// of bytes a write, and fails behind a number of writes; and whose desk gives a number of answers. How many bytes were written is
+// answered too: they are a front of the texts.
+fn end_of_failing(
+    rt: &impl Abort,
+    alloc: Global,
+    stream: &[u8],
+    reads: u64,
+    writes: (usize, u64),
+    answers: u32,
+) -> (Result<(), ServeFault>, usize) {
+    let mut reader = MemorySource::failing(stream, 1, reads);
+    let mut writer = MemorySink::failing(alloc, writes.0, writes.1);
+    let mut tired = TiredDesk {
+        desk: desk(rt, alloc),
+        answers,
+    };
+    let served = serve_session(alloc, &mut reader, &mut writer, login(rt), &mut tired);
+    assert!(rt; is_front(writer.as_slice(), &TEXTS));
+    drop(tired);
+    let written = writer.as_slice().len();
+    drop(writer);
+    drop(reader);
+    (served, written)
+}
+
+// More reads or writes than there are.
+const NEVER: u64 = 1_000;
+
+const WRITE: Result<(), ServeFault> = Err(ServeFault::Write);
+
+// Asserts how a session ends whose devices fail behind a number of reads or of writes, each of at most so many bytes, and whose desk gives a
+// number of answers; and the least and the most bytes that are written.
+fn assert_end(
+    rt: &impl Abort,
+    alloc: Global,
+    reads: u64,
+    most: usize,
+    writes: u64,
+    answers: u32,
+    wanted: Result<(), ServeFault>,
+    least: usize,
+    greatest: usize,
+) {
+    let stream = SESSION.as_bytes();
+    let (end, written) = end_of_failing(rt, alloc, stream, reads, (most, writes), answers);
+    assert!(rt; end == wanted && least <= written && written <= greatest);
+}
+
+// Asserts how a session ends whose reader fails behind a number of reads, from the first to below the second.
+fn assert_reads(
+    rt: &impl Abort,
+    alloc: Global,
+    first: u64,
+    second: u64,
+    wanted: Result<(), ServeFault>,
+    written: usize,
+) {
+    for reads in first..second {
+        assert_end(rt, alloc, reads, 700, NEVER, 2, wanted, written, written);
+    }
+}
+
+// Asserts how a session ends whose writer takes at most so many bytes a write, and fails behind a number of writes.
+fn assert_writes(
+    rt: &impl Abort,
+    alloc: Global,
+    most: usize,
+    first: u64,
+    second: u64,
+    wanted: Result<(), ServeFault>,
+    least: usize,
+    greatest: usize,
+) {
+    for writes in first..second {
+        assert_end(rt, alloc, NEVER, most, writes, 2, wanted, least, greatest);
+    }
+}
+
+// Asserts that a session ends behind so many answers, with so many bytes.
+fn assert_down(rt: &impl Abort, alloc: Global, answers: u32, written: usize) {
+    let wanted = Err(ServeFault::DeskDown);
+    assert_end(
+        rt, alloc, NEVER, 700, NEVER, answers, wanted, written, written,
+    );
+}
+
+// The greeting has 32 bytes with its end, and the replies behind it 55, 56, 366 and 56.
+#[test]
+fn a_session_ends_with_the_fault_of_its_devices_or_its_desk(rt: HostRuntime) {
+    let alloc = rt.alloc();
+    assert_reads(&rt, alloc, 0, 46, Err(ServeFault::Read), 32);
+    assert_reads(&rt, alloc, 46, 93, Err(ServeFault::Read), 87);
+    assert_reads(&rt, alloc, 93, 114, Err(ServeFault::Read), 143);
+    assert_reads(&rt, alloc, 114, 132, Err(ServeFault::Read), 509);
+    // Nothing is read behind the logoff.
+    assert_reads(&rt, alloc, 132, 133, Ok(()), 565);
+    assert_writes(&rt, alloc, 700, 0, 1, WRITE, 0, 0);
+    assert_writes(&rt, alloc, 700, 1, 2, WRITE, 30, 30);
+    assert_writes(&rt, alloc, 700, 2, 3, WRITE, 32, 32);
+    assert_writes(&rt, alloc, 700, 3, 4, WRITE, 87, 87);
+    assert_writes(&rt, alloc, 700, 4, 5, WRITE, 143, 143);
+    assert_writes(&rt, alloc, 700, 5, 6, WRITE, 509, 509);
+    assert_writes(&rt, alloc, 700, 6, 7, Ok(()), 565, 565);
+    assert_writes(&rt, alloc, 3, 0, 190, WRITE, 0, 564);
+    assert_writes(&rt, alloc, 3, 190, 191, Ok(()), 565, 565);
+    // A writer that takes no bytes.
+    assert_writes(&rt, alloc, 0, NEVER, NEVER + 1, WRITE, 0, 0);
+    assert_down(&rt, alloc, 0, 87);
+    assert_down(&rt, alloc, 1, 143);
 }
 
 #[test]
-fn the_log_tells_who_listens(rt: HostRuntime) {
+fn a_session_reads_a_million_times_at_most(rt: HostRuntime) {
+    // The last read of 1,000,000 may tell the end.
+    for (lines, end) in [(999_999, Ok(())), (1_000_000, Err(ServeFault::Turns))] {
+        let stream = vec![in rt.alloc(); b'\n'; lines].expect(&rt, "memory");
+        let ended = end_of_failing(&rt, rt.alloc(), &stream, u64::MAX, (700, u64::MAX), 0);
+        drop(stream);
+        assert!(rt; ended == (end, GREETING.len()));
+    }
+}
+
+// A sink that takes all, and keeps how many bytes that is.
+#[derive(Drop)]
+struct CountingSink<'a> {
+    taken: &'a Cell<usize>,
+}
+
+impl<'a> Sink for CountingSink<'a> {
+    ghost taken = { λ sink. None };
+
+    ghost failed = { λ sink. false };
+
+    fn write(&mut self, bytes: &[u8]) -> Result<usize, Failed> {
+        self.taken.set(self.taken.get().saturating_add(bytes.len()));
+        Ok(bytes.len())
+    }
+}
+
+// How many bytes are due once `read` of the session's were read: the greeting, and a reply for each message that has come.
+fn due(read: usize) -> usize {
+    let mut written = 0;
+    for (from, bytes) in [(0, 32), (46, 87), (93, 143), (114, 509)] {
+        if from <= read {
+            written = bytes;
+        }
+    }
+    written
+}
+
+// A source that sees how many bytes a sink has taken, and keeps whether these were at each read as many as were due.
+#[derive(Drop)]
+struct SeeingSource<'a> {
+    source: MemorySource<'a>,
+    taken: &'a Cell<usize>,
+    given: usize,
+    is_prompt: bool,
+}
+
+impl<'a> Source for SeeingSource<'a> {
+    ghost left = { λ s. Some s.source.left };
+
+    ghost ended = { λ s. s.source.ended };
+
+    ghost failed = { λ s. s.source.failed };
+
+    fn read(&mut self, piece: &mut [u8]) -> Result<usize, Failed> {
+        self.is_prompt = self.is_prompt && self.taken.get() == due(self.given);
+        match self.source.read(piece) {
+            Ok(count) => {
+                self.given = self.given.saturating_add(count);
+                Ok(count)
+            }
+            Err(failed) => Err(failed),
+        }
+    }
+}
+
+// Whether a session is served in pieces of `most` bytes by at most `reads` reads, and all that is due is written before each of them.
+fn is_prompt(rt: &impl Abort, alloc: Global, most: usize, reads: u64) -> bool {
+    let taken = Cell::new(0);
+    let mut reader = SeeingSource {
+        source: MemorySource::failing(SESSION.as_bytes(), most.max(1), reads),
+        taken: &taken,
+        given: 0,
+        is_prompt: true,
+    };
+    let mut writer = CountingSink { taken: &taken };
+    let mut desk = desk(rt, alloc);
+    let served = serve_session(alloc, &mut reader, &mut writer, login(rt), &mut desk);
+    drop(desk);
+    served == Ok(()) && reader.is_prompt && taken.get() == 565
+}
+
+#[test]
+fn all_that_is_due_is_written_before_each_read(rt: HostRuntime) {
+    // The session has 132 bytes.
+    for (most, reads) in [(1, 132), (2, 66), (46, 3), (47, 3), (100, 2), (1_024, 1)] {
+        assert!(rt; is_prompt(&rt, rt.alloc(), most, reads));
+    }
+}
+
+#[test]
+fn a_session_has_more_messages_than_reads(rt: HostRuntime) {
+    // One more than there may be reads, in pieces of 1,024 bytes.
+    const MESSAGES: usize = 1_000_001;
     let alloc = rt.alloc();
-    let port = free_port(&rt, 24_380, 2);
-    assert!(&rt; 0 < port && port < LAST_PORT);
-    let lines = format!(in alloc;
-        "listening 127.0.0.2:{}\nlistening 127.0.0.2:{}\n",
-        port,
-        port + 1
-    )
-    .expect(&rt, "memory");
-    let log = told(&rt, alloc, port, 10, None);
-    assert!(&rt; log.as_slice() == lines.as_bytes());
-    drop(log);
-    // The second line fails.
-    let log = told(&rt, alloc, port, 1, Some(ServeSitesFault::Write));
-    assert!(&rt; lines.as_bytes().starts_with(log.as_slice()) && !log.as_slice().is_empty());
-    drop(log);
-    drop(lines);
-    // The log fails at once, but a port that is taken is told first.
-    let taken = bound(&rt, there(), port);
-    let log = told(
-        &rt,
-        alloc,
-        port,
-        0,
-        Some(ServeSitesFault::CannotListen(port)),
+    let mut stream = Vec::new(alloc);
+    for _ in 0..MESSAGES {
+        stream.extend_from_slice(b"x\n\n").expect(&rt, "memory");
+    }
+    let taken = Cell::new(0);
+    let mut reader = MemorySource::new(&stream, 1_024);
+    let mut writer = CountingSink { taken: &taken };
+    let mut desk = desk(&rt, alloc);
+    let served = serve_session(alloc, &mut reader, &mut writer, login(&rt), &mut desk);
+    drop(desk);
+    drop(stream);
+    // The greeting, and for each message an error of 55 bytes.
+    assert!(rt; served == Ok(()) && taken.get() == 32 + 55 * MESSAGES);
+}
+
+const WANTING: &str = "Response: Error\r\nMessage: Out of memory\r\n\r\n";
+
+// How a session upon an add and a status has ended that lacked memory at most once, as a word. What was written is the greeting
+// and whole replies; or the desk lacked memory, the reply tells so, and the session went on.
+fn end_of(rt: &impl Abort, served: Result<(), ServeFault>, written: &[u8]) -> &'static str {
+    let whole = [GREETING, ADDED, REPORT];
+    if let Err(fault) = served {
+        let is_greeted = is_text(written, &[GREETING]);
+        assert!(rt;
+            fault == ServeFault::Memory && (is_greeted || is_text(written, &[GREETING, ADDED]))
+        );
+        return "fault";
+    }
+    if is_text(written, &whole) {
+        return "whole";
+    }
+    assert!(rt;
+        is_text(written, &[GREETING, WANTING, EMPTY_REPORT])
+            || is_text(written, &[GREETING, ADDED, WANTING])
     );
-    assert!(&rt; log.as_slice().is_empty());
-    drop(log);
-    drop(taken);
+    "reply"
+}
+
+// Serves a session over a slice, and answers how it ended, what is left of the slice, and what was written behind what a vector
+// held. Its contract is what `serve` tells of a reader and a writer of std's, and that the desk is of the same site.
+fn served_over_a_slice<'a>(
+    alloc: Global,
+    bytes: &'a [u8],
+    held: Vec<u8>,
+    session: Session,
+    desk: &mut ReplicaDesk,
+) -> (Result<(), ServeFault>, &'a [u8], Vec<u8>)
+    ensures site { desk.new.replica.site ≡ desk.old.replica.site }
+    ensures served { OnOk result.0 (HasCarried (Some bytes.now) (Some result.1.now)
+        (Some held.items) (Some result.2.items) (λ read written. (ended : Bool)
+        × IsServed (λ old asked answer new. AnswersAs old.replica asked answer new.replica)
+        session desk.old desk.new ended (Some result.1.now) read written)) }
+{
+    a_session_keeps_what_each_answer_keeps::<(), ReplicaDesk, u16>();
+    let mut reader = StdSource::new(bytes);
+    let mut writer = StdSink::new(held);
+    let served = serve(&(), alloc, &mut reader, &mut writer, session, desk);
+    (served, reader.into_inner(), writer.into_inner())
+}
+
+#[test]
+fn a_session_is_served_over_a_slice_and_a_vector(rt: HostRuntime) {
+    let alloc = rt.alloc();
+    let mut desk = desk(&rt, alloc);
+    let held = Vec::new(alloc);
+    let (served, left, written) = served_over_a_slice(
+        alloc,
+        SESSION.as_bytes(),
+        held,
+        login(&rt),
+        &mut desk,
+    );
+    assert!(rt; served == Ok(()) && left.is_empty());
+    assert_text(&rt, &written, &TEXTS);
+    drop(written);
+    drop(desk);
+}
+
+// Serves a session over a reader and a writer of std's that take no memory, and prints how it ended; tools/memory_tests.py
+// runs this test with each allocation refused in turn.
+#[test]
+fn a_session_that_lacks_memory_ends_or_tells_so(rt: HostRuntime) {
+    let alloc = rt.alloc();
+    let mut desk = desk(&rt, alloc);
+    let room = Vec::with_capacity(alloc, 1_024).expect(&rt, "memory");
+    let stream = ADD_AND_STATUS.as_bytes();
+    assert!(rt; println!(rt; "ready").is_ok());
+    let (served, _, written) = served_over_a_slice(
+        alloc,
+        stream,
+        room,
+        Session::trusted(),
+        &mut desk,
+    );
+    let end = end_of(&rt, served, &written);
+    assert!(rt; println!(rt; "{end}").is_ok());
+    drop(written);
+    drop(desk);
 }

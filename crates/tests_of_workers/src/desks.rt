@@ -1,10 +1,9 @@
 //! What is asserted of desks with two passes: the passes, their receipts, and the calls of two threads.
 use crate::asks::{add, status};
+use crate::desk_steps::{asked, assert_closed, assert_settled, called, kept_open, reports};
 use crate::gates::{MANY_TURNS, MeetingGate, comes};
-use crate::sites::{asked, assert_closed, assert_settled, called, kept_open, reports};
 use site_desk::{Pass, SiteDesk, SiteLedger};
 use site_journal::{DeskFault, Receipt};
-use status_report::Ask;
 use std::alloc::Global;
 use std::process::Abort;
 use std::sync::Wait;
@@ -61,7 +60,7 @@ fn assert_full<L: SiteLedger, R: Abort + Wait>(
     desk: &SiteDesk<L>,
     pass: &mut Pass<L>,
 ) {
-    let ask = Ask::Status(status(alloc));
+    let ask = status(alloc);
     let fault = desk.call(rt, pass, &ask).err();
     drop(ask);
     assert!(rt; fault == Some(DeskFault::JournalFull));
@@ -135,7 +134,7 @@ fn looked<L: SiteLedger, R: Abort + Wait>(
         turns: 1_000_000,
         saw: false,
     };
-    let ask = Ask::Status(status(alloc));
+    let ask = status(alloc);
     let receipt = desk.call_gated(rt, pass, &ask, &mut gate, 0);
     assert!(rt; receipt.is_ok() && called.load(Ordering::SeqCst) == 1);
     drop(receipt);

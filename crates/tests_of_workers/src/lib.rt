@@ -1,12 +1,23 @@
-//! Tests of links, pumps, desks and whole sites as threads, by their public calls. This crate has no code of its own.
+//! Tests of journals, of the bytes that they are given to take, of audits, links, pumps and desks, and of whole sites as threads, by their
+//! public calls. This crate has no code of its own.
 #![tactic(auto)]
 
 #[cfg(test)]
 mod asks;
 #[cfg(test)]
+mod audits;
+#[cfg(test)]
+mod desk_steps;
+#[cfg(test)]
 mod desks;
 #[cfg(test)]
+mod frames;
+#[cfg(test)]
 mod gates;
+#[cfg(test)]
+mod journal_steps;
+#[cfg(test)]
+mod journals;
 #[cfg(test)]
 mod links;
 #[cfg(test)]
@@ -16,6 +27,6 @@ mod runs;
 #[cfg(test)]
 mod schedules;
 #[cfg(test)]
-mod sites;
+mod takes;
 #[cfg(test)]
 mod trials;

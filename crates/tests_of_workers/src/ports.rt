@@ -2,8 +2,8 @@
 ghost use Rattle.std.specs.Prelude.{◌≡◌, ◌+◌, vec_len};
 ghost use Rattle.site_desk.specs.Ports.{HasDoneAll};
 
+use crate::desk_steps::{asked, assert_closed, kept_open, reports};
 use crate::links::{link, send};
-use crate::sites::{asked, assert_closed, kept_open, reports};
 use site_desk::{DeskPort, Pass, SiteDesk, SiteLedger};
 use site_journal::{DecodeFault, DeskFault, Port, Receipt, StepDeed};
 use site_links::LinkReceiver;

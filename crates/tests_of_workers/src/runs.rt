@@ -1,7 +1,7 @@
 //! Sites as threads: that they run at once, and what they come to.
 ghost use Rattle.std.specs.Prelude.{◌≡◌};
 
-use crate::asks::{add, list, sales, status};
+use crate::asks::{add, list, request, sales, status};
 use crate::gates::{MANY_TURNS, MeetingGate};
 use replica::{Command, QueueList, Replica};
 use site_worker::{
@@ -46,7 +46,7 @@ fn meeting<'a>(
     theirs: &'a AtomicU64,
 ) -> SiteWork<MeetingGate<'a>> {
     let mut asks = Vec::new(alloc);
-    asks.push(Ask::Status(status(alloc))).expect(rt, "memory");
+    asks.push(status(alloc)).expect(rt, "memory");
     SiteWork {
         asks,
         plan: LinkPlan::new(Vec::new(alloc)),
@@ -182,7 +182,7 @@ fn assert_end(rt: &impl Abort, end: &SiteEnd<TurnsGate>, site: u8, others: &[u8]
 
 // Whether there is memory for the report of a site, which then is what sites show that came to the same.
 fn is_shown(rt: &impl Abort, alloc: Global, replica: &Replica) -> bool {
-    let request = status(alloc);
+    let request = request(alloc);
     let Ok(shown) = report(alloc, replica, &request) else {
         return false;
     };

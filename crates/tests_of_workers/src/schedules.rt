@@ -2,9 +2,9 @@
 ghost use Rattle.std.specs.Prelude.{◌≡◌, ◌≤◌};
 
 use crate::asks::add;
+use crate::desk_steps::called;
 use crate::gates::{MANY_TURNS, comes};
 use crate::links::link;
-use crate::sites::called;
 use site_desk::{DeskPort, Pass, SiteDesk, SiteLedger};
 use site_journal::{Bell, DeskFault, Receipt, StepDeed};
 use site_links::{LinkReceiver, LinkSender};

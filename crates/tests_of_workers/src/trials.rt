@@ -4,12 +4,14 @@ ghost use Rattle.site_journal.specs.Journals.{IsOfSite};
 
 use crate::asks::add;
 use crate::desks::{assert_adds, assert_closes, assert_excludes, assert_fills};
+use crate::frames::{ADDED, OLD_ADDED};
+use crate::journal_steps::{journal_of, replica};
 use crate::ports::{assert_answers, assert_pumps, assert_takes};
 use crate::schedules::{Schedule, assert_sends};
-use crate::sites::{journal_of, replica};
+use crate::takes::assert_refuses;
 use replica::Replica;
 use site_desk::{SiteDesk, SiteLedger};
-use site_journal::{DeskFault, Journaled, StepDeed};
+use site_journal::{DeskFault, Journaled};
 use site_pumps::Deed;
 use status_report::{Answer, ask};
 use std::alloc::Global;
@@ -28,6 +30,7 @@ enum Trial<'a> {
     Excludes,
     Answers,
     Pumps,
+    Refuses,
     // Takes this frame.
     Takes(&'a [u8]),
     Sends(Schedule<'a>),
@@ -61,6 +64,7 @@ fn assert_holds<L: SiteLedger + Send + Sync, R: Abort + Threads + Wait + Sync>(
         Trial::Excludes => assert_excludes(rt, alloc, desk, first, second),
         Trial::Answers => assert_answers(rt, alloc, desk, first, second),
         Trial::Pumps => assert_pumps(rt, alloc, desk, first, second),
+        Trial::Refuses => assert_refuses(rt, alloc, desk, first, second),
         Trial::Takes(frame) => assert_takes(rt, alloc, desk, first, second, frame),
         Trial::Sends(schedule) => assert_sends(rt, alloc, desk, first, second, schedule),
     }
@@ -109,6 +113,11 @@ fn a_gate_is_called_under_the_lock(rt: HostRuntime) {
 }
 
 #[test]
+fn a_desk_gives_back_bytes_that_are_no_frame(rt: HostRuntime) {
+    assert_of_new_site(&rt, rt.alloc(), 5, Trial::Refuses);
+}
+
+#[test]
 fn a_port_answers_as_its_desk(rt: HostRuntime) {
     assert_of_new_site(&rt, rt.alloc(), 2, Trial::Answers);
 }
@@ -116,20 +125,6 @@ fn a_port_answers_as_its_desk(rt: HostRuntime) {
 #[test]
 fn a_pump_works_by_its_pass(rt: HostRuntime) {
     assert_of_new_site(&rt, rt.alloc(), 20, Trial::Pumps);
-}
-
-// The frame in which site 0 says that it has added SIP/1.
-fn frame_of_an_add(rt: &impl Abort, alloc: Global) -> Vec<u8> {
-    let mut first = journal_of(rt, alloc, replica(rt, alloc, 0), 2);
-    let ask = add(rt, b"SIP/1", 0);
-    assert!(rt; first.call(0, &ask).is_ok());
-    drop(ask);
-    let cut = first.cut(0).ok().expect(rt, "a step");
-    drop(first);
-    match cut.deed {
-        StepDeed::Cut(Some(bytes)) => bytes.into_vec(),
-        _ => rt.panic("another deed"),
-    }
 }
 
 // Site 1, which has added SIP/9.
@@ -141,23 +136,15 @@ fn knowing(rt: &impl Abort, alloc: Global) -> Replica {
     replica
 }
 
-// Asserts that a desk takes the frame of an add in this version, which is told by its seventh byte.
-fn assert_takes_in<R: Abort + Threads + Wait + Sync>(rt: &R, alloc: Global, version: u8) {
-    let mut frame = frame_of_an_add(rt, alloc);
-    let told = frame.get_mut(6).expect(rt, "a version");
-    assert!(rt; *told == 2);
-    *told = version;
-    assert_of(rt, alloc, knowing(rt, alloc), 5, Trial::Takes(&frame));
+// Asserts that the desk of site 1, which has added SIP/9, takes this frame.
+fn assert_takes_frame<R: Abort + Threads + Wait + Sync>(rt: &R, alloc: Global, frame: &[u8]) {
+    assert_of(rt, alloc, knowing(rt, alloc), 5, Trial::Takes(frame));
 }
 
 #[test]
-fn a_desk_takes_frames_of_another_site(rt: HostRuntime) {
-    assert_takes_in(&rt, rt.alloc(), 2);
-}
-
-#[test]
-fn a_desk_takes_frames_of_version_1(rt: HostRuntime) {
-    assert_takes_in(&rt, rt.alloc(), 1);
+fn a_desk_takes_frames_of_both_versions(rt: HostRuntime) {
+    assert_takes_frame(&rt, rt.alloc(), ADDED);
+    assert_takes_frame(&rt, rt.alloc(), OLD_ADDED);
 }
 
 // Asserts what a pump with this plan sends, and when.

@@ -1,7 +1,6 @@
 //! Sites that are served: their ports, their settings, and how serving them ends.
+use crate::shared::{list, text};
 use ami_text::MemorySink;
-use dots::{QueueName, Text80};
-use replica::QueueList;
 use server::{
     LAST_PORT, MOST_SERVED_SITES, ServeSitesFault, ServerSettings, SessionSettings, serve_sites,
 };
@@ -73,10 +72,6 @@ pub fn free_port<R: Net<Listener = TcpListener, Stream = TcpStream>>(
     port
 }
 
-fn text(rt: &impl Abort, text: &[u8]) -> Text80 {
-    Text80::new(text).expect(rt, "a text")
-}
-
 /// So many sites at this port, for the user `admin` with the secret `s3`.
 pub fn settings(
     rt: &impl Abort,
@@ -85,7 +80,7 @@ pub fn settings(
     port: u16,
     limit: Limit,
 ) -> ServerSettings {
-    let mut session = SessionSettings::new(text(rt, b"admin"), text(rt, b"s3"));
+    let mut session = SessionSettings::new(text(rt, "admin"), text(rt, "s3"));
     let short = Duration::from_millis(SHORT);
     match limit {
         Limit::Usual => {}
@@ -102,12 +97,6 @@ pub fn settings(
         port,
         session,
     }
-}
-
-/// The list of the queue `sales`.
-pub fn list(rt: &impl Abort, alloc: Global) -> QueueList {
-    let name = QueueName::new(b"sales").expect(rt, "a name");
-    QueueList::new(alloc, &[name]).expect(rt, "a list")
 }
 
 /// Serves a number of sessions of each site, over a log that fails behind a number of writes. How that ends, and what the log has taken.
@@ -131,7 +120,7 @@ where
     assert!(rt; 0 < sites && sites <= MOST_SERVED_SITES);
     assert!(rt; 0 < port && port <= LAST_PORT);
     let mut log = MemorySink::failing(alloc, 700, writes);
-    let list = list(rt, alloc);
+    let list = list(rt, alloc, &["sales"]);
     let ended = serve_sites(rt, alloc, settings, &list, Some(sessions), &mut log);
     drop(list);
     (ended, log)

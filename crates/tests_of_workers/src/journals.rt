@@ -1,8 +1,7 @@
 //! Journals of a site: their steps, their limits and what they keep.
-use crate::asks::{
-    SALES, add, called, cut, frame, journal, journal_of, knows, shown, status, take,
-};
+use crate::asks::{add, status};
 use crate::frames::ADDED;
+use crate::journal_steps::{called, cut, frame, journal, journal_of, knows, replica, shown, take};
 use replica::Refusal;
 use site_journal::{DeskFault, Journaled, Receipt, SettleFault, Step, StepDeed, settle};
 use status_report::{Answer, Ask};
@@ -81,7 +80,7 @@ fn assert_both_settle(
 
 // Adds SIP/1 at a site that knows nothing, and then again, which is refused.
 fn add_twice(rt: &impl Abort, alloc: Global, journal: &mut Journaled) {
-    let asked = add(rt, b"SIP/1");
+    let asked = add(rt, b"SIP/1", 0);
     let done = called(rt, journal, 0, &asked);
     assert!(rt; done.pass == 0);
     assert!(rt; matches!(answer_of(rt, &done, &asked), Answer::Done));
@@ -192,7 +191,7 @@ fn receipts_settle_where_they_are_those_of_the_steps(rt: HostRuntime) {
 #[test]
 fn a_full_journal_goes_on_behind_a_checkpoint(rt: HostRuntime) {
     let alloc = rt.alloc();
-    let mut own = journal_of(&rt, alloc, 0, SALES, 2);
+    let mut own = journal_of(&rt, alloc, replica(&rt, alloc, 0), 2);
     ask_status(&rt, alloc, &mut own);
     ask_status(&rt, alloc, &mut own);
     assert!(rt; own.cut(7).err() == Some(DeskFault::JournalFull));

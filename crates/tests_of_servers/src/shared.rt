@@ -76,6 +76,15 @@ pub(crate) fn add(rt: &impl Abort, queue: &[u8], of: &[u8], set: Added) -> Comma
     }
 }
 
+// The request of the status of all queues, without an ActionID.
+pub(crate) fn whole_status(alloc: Global) -> StatusRequest {
+    StatusRequest {
+        queue: None,
+        member: None,
+        action_id: Bytes::new(Vec::new(alloc)),
+    }
+}
+
 // A filter; none where the text is empty.
 fn filter(rt: &impl Abort, filter: &str) -> Option<Text80> {
     if filter.is_empty() {

@@ -1,7 +1,7 @@
 //! Worlds of sites: what scripts can't show of them, which is their sites, their entries, the outcomes that no line gives, and want
 //! of memory.
 use crate::shared::{
-    add, assert_report, interface, list, member_block, name, queue_block, request, site,
+    add, assert_report, interface, list, member_block, name, queue_block, site, whole_status,
 };
 use Asked::{Abandoned, Add, Completed, Cut, Remove, Status, Take, Whole};
 use Came::{Done, Entry, NoEntry, NoSite, Reported, Taken};
@@ -52,7 +52,7 @@ fn event_of(rt: &impl Abort, alloc: Global, at: u16, asked: Asked) -> Event {
         Asked::Completed => Command::Completed { queue },
         Asked::Abandoned => Command::Abandoned { queue },
         Asked::Status => {
-            return Event::Ask(at, Ask::Status(request(rt, alloc, ("", ""), b"")));
+            return Event::Ask(at, Ask::Status(whole_status(alloc)));
         }
         Asked::Cut => return Event::Cut(at),
         Asked::Whole => return Event::Whole(at),

@@ -1,17 +1,13 @@
 //! Bytes that a journal and a desk are given to take: which of them come back, and for which fault. The fault of each row was told by
 //! hand, by the rules of `docs/frames.md`.
-ghost use Rattle.std.specs.Prelude.{◌≡◌};
-ghost use Rattle.site_journal.specs.Journals.{IsOfSite};
-
-use crate::asks::{SALES, cut, journal, journal_of, knows, take};
+use crate::desk_steps::assert_closed;
 use crate::frames::{ADDED, GREATEST, NOT_RUNG, NOTHING, OLD_ADDED, REMOVED, TOUCHING};
-use site_desk::{Pass, SiteDesk, SiteLedger, close};
+use crate::journal_steps::{cut, journal, knows, take};
+use site_desk::{Pass, SiteDesk, SiteLedger};
 use site_journal::{DecodeFault, DeskFault, Journaled, TakeFault};
 use std::alloc::Global;
-use std::marker::Brand;
 use std::process::Abort;
 use std::sync::Wait;
-use std::sync::ledger::Blank;
 
 // A frame, a place in it, the bytes that stand from there on in place of its own, what is added behind it, and the fault then.
 type Spoiled = (
@@ -155,57 +151,35 @@ fn assert_desk_refuses<L: SiteLedger, R: Abort + Wait>(
     drop(back);
 }
 
-// Asserts that a desk and a journal give back bytes that are no frame, and a frame of their own site.
-fn assert_both_refuse<L: SiteLedger, R: Abort + Wait>(
+// Asserts that a desk gives back bytes that are no frame, and a frame of its own site, and does no step.
+pub(crate) fn assert_refuses<L: SiteLedger, R: Abort + Wait>(
     rt: &R,
     alloc: Global,
-    desk: &SiteDesk<L>,
-    pass: &mut Pass<L>,
-    journal: &mut Journaled,
+    desk: SiteDesk<L>,
+    first: Pass<L>,
+    second: Pass<L>,
 ) {
+    let mut first = first;
     for row in SPOILED {
         let bytes = spoiled(rt, alloc, row);
         let fault = DeskFault::Decode(row.4);
-        assert_refused(rt, alloc, journal, &bytes, fault);
-        assert_desk_refuses(rt, alloc, desk, pass, &bytes, fault);
+        assert_desk_refuses(rt, alloc, &desk, &mut first, &bytes, fault);
         drop(bytes);
     }
     let fault = DeskFault::Take(TakeFault::NotMine);
-    assert_desk_refuses(rt, alloc, desk, pass, ADDED, fault);
-}
-
-// Asserts that a desk of the first journal, and the second, do no step upon bytes that they give back.
-fn assert_none_taken<L: SiteLedger, R: Abort + Wait>(
-    rt: &R,
-    alloc: Global,
-    blank: Blank,
-    journal: Journaled,
-    other: &mut Journaled,
-)
-    requires name { blank.name ≡ L.name }
-    requires ledger { blank.parts ≡ L.parts }
-    requires one { blank.parts ≡ 1 }
-    requires begun { journal.count ≡ 0 }
-    requires site { IsOfSite L.site L.names journal }
-    requires limit { journal.limit ≡ L.limit }
-    requires base { journal.base ≡ L.base }
-{
-    let made = SiteDesk::<L>::new(alloc, blank, journal, 1).ok();
-    let (desk, mut passes) = made.expect(rt, "memory");
-    let mut pass = passes.pop().expect(rt, "a pass");
-    assert_both_refuse(rt, alloc, &desk, &mut pass, other);
-    assert!(rt; pass.seen() == 0);
-    passes.push(pass).expect(rt, "memory");
-    let own = close(desk, passes).ok().expect(rt, "a journal");
-    assert!(rt; own.len() == 0);
-    drop(own);
+    assert_desk_refuses(rt, alloc, &desk, &mut first, ADDED, fault);
+    assert!(rt; first.seen() == 0);
+    assert_closed(rt, alloc, desk, first, second, 0, 0);
 }
 
 #[test]
 fn bytes_that_are_no_frame_are_no_step(rt: HostRuntime) {
     let alloc = rt.alloc();
-    let own = journal_of(&rt, alloc, 0, SALES, 5);
-    let mut other = journal_of_a_step(&rt, alloc);
-    assert_none_taken::<Brand, HostRuntime>(&rt, alloc, Blank::new(1), own, &mut other);
-    drop(other);
+    let mut own = journal_of_a_step(&rt, alloc);
+    for row in SPOILED {
+        let bytes = spoiled(&rt, alloc, row);
+        assert_refused(&rt, alloc, &mut own, &bytes, DeskFault::Decode(row.4));
+        drop(bytes);
+    }
+    drop(own);
 }

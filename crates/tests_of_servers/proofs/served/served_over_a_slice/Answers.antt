@@ -1,4 +1,4 @@
-use Rattle.tests_of_sites.proofs.served.served_over_a_slice.Goals as goal
+use Rattle.tests_of_servers.proofs.served.served_over_a_slice.Goals as goal
 
 pub returns-clause-site : goal.returns-clause-site
 returns-clause-site c =

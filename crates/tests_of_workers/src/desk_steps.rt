@@ -1,33 +1,11 @@
-//! Sites of the queue `sales` and their journals, and what desks are asked and closed with.
-ghost use Rattle.std.specs.Prelude.{◌≡◌};
-ghost use Rattle.site_journal.specs.Journals.{IsOfSite};
-
-use crate::asks::{list, status};
-use dots::SiteId;
-use replica::Replica;
+//! What desks with two passes are asked, and how they are closed.
+use crate::asks::status;
 use site_desk::{CloseFault, Pass, SiteDesk, SiteLedger, close};
 use site_journal::{Journaled, Receipt, StepDeed, settle};
 use status_report::{Answer, Ask};
 use std::alloc::Global;
 use std::process::Abort;
 use std::sync::Wait;
-
-// A site that knows nothing, of the queue `sales`.
-pub(crate) fn replica(rt: &impl Abort, alloc: Global, site: u16) -> Replica {
-    let site = SiteId::new(site).expect(rt, "a site");
-    Replica::new(alloc, site, list(rt, alloc))
-}
-
-// The journal of a site, in which `limit` steps may stand.
-pub(crate) fn journal_of(rt: &impl Abort, alloc: Global, replica: Replica, limit: u32) -> Journaled
-    ensures begun { result.count ≡ 0 }
-    ensures site { IsOfSite result.base.site result.base.names result }
-{
-    match Journaled::new(alloc, replica, limit.clamp(1, 1_000_000)) {
-        Ok(journal) => journal,
-        Err(_) => rt.panic("memory"),
-    }
-}
 
 // The journal of a desk that is closed with both of its passes.
 fn closed<L: SiteLedger>(
@@ -110,7 +88,7 @@ pub(crate) fn asked<L: SiteLedger, R: Abort + Wait>(
     desk: &SiteDesk<L>,
     pass: &mut Pass<L>,
 ) -> Receipt {
-    called(rt, desk, pass, Ask::Status(status(alloc)))
+    called(rt, desk, pass, status(alloc))
 }
 
 // Whether a receipt has a report in which these bytes stand.

@@ -1,8 +1,7 @@
 //! Audits of journals: the list of events that they are, or why there is none.
-use crate::asks::{
-    SALES, add, called, cut, frame, journal, journal_of, knows, list, shown, status, take,
-};
+use crate::asks::{SALES, add, list, status};
 use crate::frames::{ADDED, OLD_ADDED};
+use crate::journal_steps::{called, cut, frame, journal, journal_of_queue, knows, shown, take};
 use site_audit::{AuditFault, Event, audit};
 use site_journal::Journaled;
 use sites_world::World;
@@ -11,7 +10,7 @@ use std::process::Abort;
 
 // Adds a member, and gives the frame of all that is in the buffer then.
 fn added(rt: &impl Abort, journal: &mut Journaled, interface: &[u8]) -> Vec<u8> {
-    let asked = add(rt, interface);
+    let asked = add(rt, interface, 0);
     drop(called(rt, journal, 0, &asked));
     drop(asked);
     frame(rt, journal, 0)
@@ -41,7 +40,7 @@ fn assert_no_run(
 // Asserts that journals of these two sites, of which the second is of the queue of this name, are not those of all sites in order.
 fn assert_wrong_sites(rt: &impl Abort, alloc: Global, first: u16, second: u16, queue: &[u8]) {
     let first = journal(rt, alloc, first);
-    let second = journal_of(rt, alloc, second, queue, 20);
+    let second = journal_of_queue(rt, alloc, second, queue);
     assert_no_run(rt, alloc, first, second, AuditFault::WrongSites);
 }
 
@@ -127,7 +126,7 @@ fn assert_same(rt: &impl Abort, alloc: Global, world: &World, journal: &Journale
 
 // Asserts that a list of events leads each site of a world to the report of its journal's replica.
 fn assert_explains(rt: &impl Abort, alloc: Global, journals: &[Journaled], events: &[Event]) {
-    let list = list(rt, alloc, SALES);
+    let list = list(rt, alloc);
     let mut world = World::new(alloc, 3, &list).ok().expect(rt, "a world");
     assert!(rt; world.run(events).is_ok());
     for journal in journals {

@@ -1,7 +1,7 @@
 //! A report of queues that are no replica's.
 ghost use Rattle.std.specs.Prelude.{[]};
 
-use crate::shared::{assert_report, list, queue_block, request};
+use crate::shared::{assert_report, list, queue_block, whole_status};
 use dots::{CallTotals, Interface, Memory};
 use replica::{QueueList, Row};
 use status_report::{Queues, write_report};
@@ -44,7 +44,7 @@ fn a_report_of_other_queues_has_their_totals(rt: HostRuntime) {
             abandoned: 1,
         },
     };
-    let request = request(&rt, alloc, ("", ""), b"");
+    let request = whole_status(alloc);
     let given = write_report(alloc, &counted, &request).expect(&rt, "memory");
     assert_report(&rt, &given, &[queue_block!("sales", "3", "1")]);
 }

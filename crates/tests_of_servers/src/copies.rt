@@ -1,5 +1,5 @@
 //! Copies of commands, asks and answers, and which of them are the same.
-use crate::shared::{add, interface, name, penalty, request, text};
+use crate::shared::{add, interface, name, penalty, request, text, whole_status};
 use dots::{Bytes, Pause};
 use replica::{Command, Refusal};
 use status_report::{Answer, Ask};
@@ -73,7 +73,7 @@ fn a_command_is_the_same_as_its_copy_and_as_no_other(rt: HostRuntime) {
 fn asked(rt: &impl Abort, alloc: Global, place: u32) -> Ask {
     match place {
         0 => Ask::Command(add(rt, b"sales", b"SIP/1", (5, true, "Ann", "Custom:1"))),
-        1 => Ask::Status(request(rt, alloc, ("", ""), b"")),
+        1 => Ask::Status(whole_status(alloc)),
         2 => Ask::Status(request(rt, alloc, ("sales", ""), b"")),
         3 => Ask::Status(request(rt, alloc, ("sales", "SIP/2"), b"")),
         _ => Ask::Status(request(rt, alloc, ("sales", "SIP/2"), b"7")),

@@ -1,0 +1,245 @@
+//! Sites that are served: what their clients read, which of them are given up, what their journals show, and why they aren't served.
+use crate::clients::{Client, Clients, act};
+use crate::replies::REPORT;
+use crate::serving::{HERE, Limit, are_free, bound, free_port, served, settings};
+use crate::shared::whole_status;
+use ami_text::MemorySink;
+use server::{LAST_PORT, ServeSitesFault, ServerSettings};
+use site_journal::{Journaled, StepDeed};
+use status_report::{Answer, Ask, report};
+use std::alloc::Global;
+use std::net::{Ipv4Addr, Net, TcpListener, TcpStream};
+use std::process::Abort;
+use std::sync::Wait;
+use std::thread::{Threads, join};
+use std::time::Clock;
+
+// Where sites listen whose log is looked at.
+fn there() -> Ipv4Addr {
+    Ipv4Addr::new(127, 0, 0, 2)
+}
+
+// Each journal's site shows this.
+fn assert_shows(rt: &impl Abort, alloc: Global, journals: &[Journaled], text: &str) {
+    let status = whole_status(alloc);
+    for journal in journals {
+        let shown = report(alloc, journal.replica(), &status).expect(rt, "memory");
+        assert!(rt; shown.as_slice() == text.as_bytes());
+        drop(shown);
+    }
+    drop(status);
+}
+
+// Whether a command was done for a client of a journal's site.
+fn has_done(journal: &Journaled) -> bool {
+    let mut done = false;
+    for step in journal.steps() {
+        done = done || matches!(step.deed, StepDeed::Asked(Ask::Command(_), Answer::Done));
+    }
+    done
+}
+
+// The journals of sites of which each has had so many sessions.
+fn journals_of<R>(rt: &R, alloc: Global, settings: &ServerSettings, sessions: u32) -> Vec<Journaled>
+where
+    R: Net<Listener = TcpListener, Stream = TcpStream>
+        + Abort
+        + Threads
+        + Wait
+        + Clock
+        + Eprint
+        + Sync,
+{
+    let (ended, log) = served(rt, alloc, settings, sessions, 10);
+    drop(log);
+    ended.expect(rt, "journals")
+}
+
+// The journals of sites at the first free port, which are served to clients that have so many sessions at each.
+fn served_to<R>(
+    rt: &R,
+    alloc: Global,
+    first: u16,
+    sites: u16,
+    limit: Limit,
+    sessions: u32,
+    clients: Clients,
+) -> Vec<Journaled>
+where
+    R: Net<Listener = TcpListener, Stream = TcpStream>
+        + Abort
+        + Threads
+        + Wait
+        + Clock
+        + Eprint
+        + Sync,
+{
+    let port = free_port(rt, first, sites);
+    assert!(rt; port < LAST_PORT);
+    let settings = settings(rt, sites, HERE, port, limit);
+    let lent = &settings;
+    let (journals, _) = join(
+        rt,
+        move || journals_of(rt, alloc, lent, sessions),
+        move || act(rt, port, clients),
+    );
+    drop(settings);
+    journals
+}
+
+#[test]
+fn what_one_site_is_told_the_other_shows(rt: HostRuntime) {
+    let alloc = rt.alloc();
+    let journals = served_to(&rt, alloc, 24_300, 2, Limit::Usual, 1, Clients::OfTwoSites);
+    assert!(&rt; journals.len() == 2);
+    assert_shows(&rt, alloc, &journals, REPORT);
+    // The first site was told so, and the second has taken it.
+    assert!(&rt; has_done(&journals[0]) && !has_done(&journals[1]));
+    drop(journals);
+}
+
+#[test]
+fn the_first_thousand_steps_are_dropped(rt: HostRuntime) {
+    let journals = served_to(
+        &rt,
+        rt.alloc(),
+        24_560,
+        1,
+        Limit::Usual,
+        1,
+        Clients::One(Client::AskOften),
+    );
+    assert!(&rt; journals.len() == 1);
+    // A pump that finds the journal full with the session drops what little stands in it again.
+    let start = journals[0].start();
+    drop(journals);
+    assert!(&rt; start >= 1_000 && start < 2_000);
+}
+
+#[test]
+fn sessions_run_at_once_and_their_last_replies_arrive(rt: HostRuntime) {
+    let alloc = rt.alloc();
+    drop(served_to(&rt, alloc, 24_420, 1, Limit::Usual, 2, Clients::AtOnce));
+    drop(served_to(&rt, alloc, 24_440, 1, Limit::Usual, 10, Clients::InTurn));
+}
+
+// One site is served to one client, which may take so long.
+fn assert_served<R>(rt: &R, alloc: Global, first: u16, limit: Limit, client: Client)
+where
+    R: Net<Listener = TcpListener, Stream = TcpStream>
+        + Abort
+        + Threads
+        + Wait
+        + Clock
+        + Eprint
+        + Sync,
+{
+    drop(served_to(rt, alloc, first, 1, limit, 1, Clients::One(client)));
+}
+
+#[test]
+fn clients_that_take_too_long_lose_their_places(rt: HostRuntime) {
+    let alloc = rt.alloc();
+    // No message within the time for the first; nothing within the time for silence; and a message in time, upon which silence is right.
+    assert_served(&rt, alloc, 24_460, Limit::FirstMessage, Client::InLogin);
+    assert_served(&rt, alloc, 24_480, Limit::Idle, Client::LoggedIn);
+    assert_served(&rt, alloc, 24_500, Limit::FirstMessage, Client::Silent);
+    // The time for the first message goes on, and what a client sends behind its session's end is read for a second at most.
+    assert_served(&rt, alloc, 24_540, Limit::FirstMessage, Client::Drip);
+    assert_served(&rt, alloc, 24_520, Limit::Write, Client::ReadNothing);
+}
+
+// Why three sites aren't served where two ports are taken; whether their first port is free afterwards.
+fn assert_cannot_listen<R>(rt: &R, alloc: Global, port: u16, one: u16, other: u16, told: u16)
+where
+    R: Net<Listener = TcpListener, Stream = TcpStream>
+        + Abort
+        + Threads
+        + Wait
+        + Clock
+        + Eprint
+        + Sync,
+{
+    let (one, other) = (bound(rt, HERE, one), bound(rt, HERE, other));
+    let settings = settings(rt, 3, HERE, port, Limit::Usual);
+    let (ended, log) = served(rt, alloc, &settings, 0, 10);
+    assert!(rt; ended.err() == Some(ServeSitesFault::CannotListen(told)));
+    drop(log);
+    drop(settings);
+    drop(one);
+    drop(other);
+    assert!(rt; are_free(rt, port, 3));
+}
+
+#[test]
+fn a_port_that_is_taken(rt: HostRuntime) {
+    let alloc = rt.alloc();
+    let port = free_port(&rt, 24_340, 3);
+    assert!(&rt; 0 < port && port < LAST_PORT);
+    assert_cannot_listen(&rt, alloc, port, port, port + 1, port);
+    assert_cannot_listen(&rt, alloc, port, port + 1, port + 2, port + 1);
+}
+
+// Serves two sites at 127.0.0.2 that take no client, over a log that fails behind a number of writes. How that ends is asserted; what the
+// log has taken.
+fn told<R>(
+    rt: &R,
+    alloc: Global,
+    port: u16,
+    writes: u64,
+    wanted: Option<ServeSitesFault>,
+) -> MemorySink
+where
+    R: Net<Listener = TcpListener, Stream = TcpStream>
+        + Abort
+        + Threads
+        + Wait
+        + Clock
+        + Eprint
+        + Sync,
+{
+    let settings = settings(rt, 2, there(), port, Limit::Usual);
+    let (ended, log) = served(rt, alloc, &settings, 0, writes);
+    drop(settings);
+    match ended {
+        Ok(journals) => {
+            assert!(rt; wanted.is_none() && journals.len() == 2);
+            drop(journals);
+        }
+        Err(fault) => assert!(rt; wanted == Some(fault)),
+    }
+    log
+}
+
+#[test]
+fn the_log_tells_who_listens(rt: HostRuntime) {
+    let alloc = rt.alloc();
+    let port = free_port(&rt, 24_380, 2);
+    assert!(&rt; 0 < port && port < LAST_PORT);
+    let lines = format!(in alloc;
+        "listening 127.0.0.2:{}\nlistening 127.0.0.2:{}\n",
+        port,
+        port + 1
+    )
+    .expect(&rt, "memory");
+    let log = told(&rt, alloc, port, 10, None);
+    assert!(&rt; log.as_slice() == lines.as_bytes());
+    drop(log);
+    // The second line fails.
+    let log = told(&rt, alloc, port, 1, Some(ServeSitesFault::Write));
+    assert!(&rt; lines.as_bytes().starts_with(log.as_slice()) && !log.as_slice().is_empty());
+    drop(log);
+    drop(lines);
+    // The log fails at once, but a port that is taken is told first.
+    let taken = bound(&rt, there(), port);
+    let log = told(
+        &rt,
+        alloc,
+        port,
+        0,
+        Some(ServeSitesFault::CannotListen(port)),
+    );
+    assert!(&rt; log.as_slice().is_empty());
+    drop(log);
+    drop(taken);
+}
