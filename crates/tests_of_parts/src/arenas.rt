@@ -87,51 +87,6 @@ fn a_cell_of_one_generation_is_retired_after_one_value(rt: HostRuntime) {
     reserve(&rt, &mut arena, 1, Err(ArenaFault::Full));
 }
 
-#[test]
-fn a_taken_cell_is_used_in_its_next_generation(rt: HostRuntime) {
-    let mut arena: Arena<u32, 1> = Arena::new(rt.alloc());
-    reserve(&rt, &mut arena, 1, Ok(()));
-    place_and_take(&rt, &mut arena, 7, CellId::new(0, 0));
-    place_and_take(&rt, &mut arena, 8, CellId::new(0, 1));
-    for generation in [0, 1] {
-        assert_value(&rt, &arena, CellId::new(0, generation), None);
-    }
-    take(&rt, &mut arena, CellId::new(0, 0), None);
-    assert_cells(&rt, &arena, 0, 1);
-}
-
-#[test]
-fn growth_changes_no_value(rt: HostRuntime) {
-    let mut arena: Arena<u32, 4_294_967_295> = Arena::new(rt.alloc());
-    reserve(&rt, &mut arena, 1, Ok(()));
-    let id = place(&rt, &mut arena, 42);
-    reserve(&rt, &mut arena, 100_000, Ok(()));
-    assert!(rt; arena.spare() >= 100_000);
-    assert_value(&rt, &arena, id, Some(42));
-    assert_cells(&rt, &arena, 1, 0);
-}
-
-// Adds one to the value of an id, if it is held.
-fn add_one(arena: &mut Arena<u32, 9>, id: CellId) -> bool {
-    match arena.get_mut(id) {
-        Some(value) => {
-            *value = value.saturating_add(1);
-            true
-        }
-        None => false,
-    }
-}
-
-#[test]
-fn a_value_is_written_by_its_id(rt: HostRuntime) {
-    let mut arena: Arena<u32, 9> = Arena::new(rt.alloc());
-    reserve(&rt, &mut arena, 1, Ok(()));
-    let id = place(&rt, &mut arena, 42);
-    assert!(rt; add_one(&mut arena, id));
-    assert_value(&rt, &arena, id, Some(43));
-    assert!(rt; !add_one(&mut arena, CellId::new(id.index(), 1)));
-}
-
 // A value that counts its drops.
 struct Counted<'a> {
     drops: &'a AtomicU64,

@@ -1,12 +1,10 @@
 //! The ids of live dots: one each, kept while the dot is live, and never given again.
 use crate::shared::Change::{Assert, Kill};
 use crate::shared::{
-    Change, FIRST, OTHER, SECOND, SIP_1, SIP_2, ToldDot, ToldMember, do_changes, dot, fields,
-    member, set_of, site,
+    Change, FIRST, OTHER, SECOND, SIP_1, SIP_2, ToldDot, ToldMember, do_changes, dot, member,
+    set_of,
 };
-use causal_context::Context;
-use member_orset::{CellId, MemberSet, SetBuilder};
-use std::alloc::Global;
+use member_orset::{CellId, MemberSet};
 use std::process::Abort;
 
 // The id of a live dot, which answers its member.
@@ -43,32 +41,6 @@ fn an_id_answers_while_its_dot_is_live(rt: HostRuntime) {
     let joined = set_of(&rt, rt.alloc(), JOINED);
     let mut set = set_of(&rt, rt.alloc(), &[Assert(FIRST, SIP_1, 5, 7)]);
     assert_ids(&rt, &mut set, joined);
-    drop(set);
-}
-
-// A set that was built of one live dot, the second of two dots of site 0 that are known, and the id of that dot.
-fn built(rt: &impl Abort, alloc: Global) -> (MemberSet, CellId) {
-    let mut context = Context::new(alloc);
-    context.insert_run(site(rt, 0), 1, 2).expect(rt, "room");
-    let second = dot(rt, SECOND);
-    assert!(rt; context.contains(second));
-    let mut builder = SetBuilder::new(alloc, context);
-    let id = builder
-        .cell(second, &member(rt, SIP_1), &fields(rt, 5, 7))
-        .expect(rt, "memory");
-    (builder.finish(), id)
-}
-
-// Asserts that the second dot alone has this id.
-fn assert_built(rt: &impl Abort, set: &MemberSet, id: CellId) {
-    assert!(rt; id_of(rt, set, SECOND, SIP_1) == id);
-    assert!(rt; set.id(dot(rt, FIRST)).is_none() && set.cells() == 1);
-}
-
-#[test]
-fn a_builder_answers_the_ids_of_the_set(rt: HostRuntime) {
-    let (set, id) = built(&rt, rt.alloc());
-    assert_built(&rt, &set, id);
     drop(set);
 }
 

@@ -52,27 +52,6 @@ fn assert_same_runs(rt: &impl Abort, context: &Context, other: &Context) {
 }
 
 #[test]
-fn a_context_covers_what_was_joined(rt: HostRuntime) {
-    let mut context = every_second(&rt, rt.alloc(), 1, 1);
-    let other = of_dot(&rt, rt.alloc(), (1, 5));
-    assert_covers(&rt, &context, &other, false);
-    join(&rt, &mut context, &other, Ok(()));
-    assert_runs(&rt, &context, 2, 1);
-    assert_covers(&rt, &context, &other, true);
-    for (count, is_in) in [(4, false), (5, true)] {
-        assert_same(&rt, &context.contains(dot(&rt, (1, count))), &is_in);
-    }
-}
-
-#[test]
-fn a_copy_has_the_same_runs(rt: HostRuntime) {
-    let context = every_second(&rt, rt.alloc(), 1, 2);
-    let copy = context.copy().expect(&rt, "memory");
-    assert_same_runs(&rt, &copy, &context);
-    assert_same(&rt, &copy.iter().count(), &2);
-}
-
-#[test]
 fn runs_that_touch_are_joined_to_one(rt: HostRuntime) {
     let mut context = every_second(&rt, rt.alloc(), 1, 65_536);
     let other = every_second(&rt, rt.alloc(), 2, 65_535);
@@ -84,16 +63,6 @@ fn runs_that_touch_are_joined_to_one(rt: HostRuntime) {
         last: 131_071,
     };
     assert_eq!(rt; context.as_slice(), [whole].as_slice());
-}
-
-#[test]
-fn one_run_too_many_is_refused(rt: HostRuntime) {
-    let mut context = every_second(&rt, rt.alloc(), 1, 65_536);
-    let before = context.copy().expect(&rt, "memory");
-    let full = Err(ContextFault::RunsFull);
-    assert_same(&rt, &context.insert(dot(&rt, (1, 1))), &full);
-    assert_same(&rt, &context.insert_run(site(&rt, 1), 1, 2), &full);
-    assert_same_runs(&rt, &context, &before);
 }
 
 #[test]
@@ -113,24 +82,6 @@ fn a_join_of_one_run_too_many_is_refused(rt: HostRuntime) {
     assert_runs(&rt, &context, 65_536, 3);
 }
 
-// A run between others takes in those that it touches: of the 32,768 runs of the odd counts, count 2 makes one of two, the counts 10 to
-// 20 one of seven, and the dot of site 1 is one more.
-#[test]
-fn few_runs_are_joined_into_many(rt: HostRuntime) {
-    let mut context = every_second(&rt, rt.alloc(), 1, 32_768);
-    let mut other = of_dot(&rt, rt.alloc(), (0, 2));
-    assert_eq!(rt; other.insert_run(site(&rt, 0), 10, 20), Ok(()));
-    insert(&rt, &mut other, (1, 5));
-    let mut turned = other.copy().expect(&rt, "memory");
-    join(&rt, &mut turned, &context, Ok(()));
-    join(&rt, &mut context, &other, Ok(()));
-    assert_runs(&rt, &context, 32_762, 3);
-    assert_same_runs(&rt, &turned, &context);
-    for (count, is_in) in [(4, false), (8, false), (16, true), (22, false)] {
-        assert_same(&rt, &context.contains(dot(&rt, (0, count))), &is_in);
-    }
-}
-
 // The first of two runs would be one too many, but for the second, which joins two.
 #[test]
 fn few_runs_may_pass_the_limit_before_the_last(rt: HostRuntime) {
@@ -146,38 +97,4 @@ fn few_runs_may_pass_the_limit_before_the_last(rt: HostRuntime) {
     insert(&rt, &mut other, (2, 1));
     join(&rt, &mut context, &other, Err(ContextFault::RunsFull));
     assert_runs(&rt, &context, 65_536, 1);
-}
-
-// The counts 1 to 3 of site 0, and its counts 5 and 6 with count 2 of site 1.
-fn low_and_high(rt: &impl Abort, alloc: Global) -> (Context, Context) {
-    let mut low = Context::new(alloc);
-    let mut high = of_dot(rt, alloc, (1, 2));
-    for count in [1, 2, 3] {
-        insert(rt, &mut low, (0, count));
-    }
-    for count in [5, 6] {
-        insert(rt, &mut high, (0, count));
-    }
-    (low, high)
-}
-
-#[test]
-fn runs_of_both_with_one_more_dot_are_counted(rt: HostRuntime) {
-    let (low, high) = low_and_high(&rt, rt.alloc());
-    let first = site(&rt, 0);
-    for (count, runs) in [(4, 2), (5, 3), (7, 3), (8, 4)] {
-        assert_same(&rt, &low.runs_with(&high, first, count), &runs);
-    }
-    assert_same(&rt, &low.runs_with(&high, site(&rt, 1), (1 << 40) + 1), &4);
-}
-
-#[test]
-fn what_was_prepared_is_absorbed(rt: HostRuntime) {
-    let (mut low, high) = low_and_high(&rt, rt.alloc());
-    assert_same(&rt, &low.prepare(&high), &Ok(()));
-    assert_runs(&rt, &low, 1, 3);
-    assert!(rt; low.prepared(&high));
-    low.absorb(&high);
-    assert_runs(&rt, &low, 3, 3);
-    assert_covers(&rt, &low, &high, true);
 }

@@ -20,29 +20,6 @@ fn assert_items(rt: &impl Abort, items: &Devector<u32>, want: &[u32], room: usiz
     assert_eq!(rt; items.room(), room);
 }
 
-// A room of six is filled from both ends and in the middle, and used again from the front on.
-#[test]
-fn items_go_in_and_come_out_at_each_place(rt: HostRuntime) {
-    let mut items: Devector<u32> = Devector::new(rt.alloc());
-    assert!(rt; items.reserve(6).is_ok());
-    for item in [30, 20, 10] {
-        insert(&rt, &mut items, 0, item);
-    }
-    insert(&rt, &mut items, 3, 40);
-    insert(&rt, &mut items, 1, 15);
-    insert(&rt, &mut items, 4, 35);
-    assert_items(&rt, &items, &[10, 15, 20, 30, 35, 40], 6);
-    remove(&rt, &mut items, 1, 15);
-    remove(&rt, &mut items, 3, 35);
-    remove(&rt, &mut items, 0, 10);
-    insert(&rt, &mut items, 3, 50);
-    insert(&rt, &mut items, 4, 60);
-    assert_items(&rt, &items, &[20, 30, 40, 50, 60], 6);
-    assert!(rt; items.len() < items.room());
-    items.push(70);
-    assert_items(&rt, &items, &[20, 30, 40, 50, 60, 70], 6);
-}
-
 // What comes out in front leaves room for what goes in behind, however often.
 #[test]
 fn a_queue_stays_in_its_room(rt: HostRuntime) {

@@ -1,4 +1,4 @@
-//! Tests of what a site's state is made of, by their public calls: values, arenas, devectors, contexts, registers, totals, sets of members and deltas.
+//! Tests of what a site's state is made of, by their public calls: values, arenas, devectors, contexts, totals and sets of members.
 //! This crate has no code of its own.
 #![tactic(auto)]
 
@@ -9,13 +9,9 @@ mod cell_ids;
 #[cfg(test)]
 mod contexts;
 #[cfg(test)]
-mod deltas;
-#[cfg(test)]
 mod devectors;
 #[cfg(test)]
 mod member_sets;
-#[cfg(test)]
-mod registers;
 #[cfg(test)]
 mod shared;
 #[cfg(test)]

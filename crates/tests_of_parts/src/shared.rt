@@ -1,12 +1,11 @@
-//! What these tests make and assert alike: values, which are told as numbers and texts, and sets and totals that are made of them.
+//! What these tests make and assert alike: values, which are told as numbers and texts, and sets that are made of them.
 ghost use Rattle.std.specs.Prelude.{◌≢◌, None};
 ghost use Rattle.member_orset.specs.Members.{HasField};
 
 use Change::{Assert, Kill};
-use dots::{CallTotals, Dot, Interface, Member, Penalty, SiteId, Stamp};
+use dots::{Dot, Interface, Member, Penalty, SiteId, Stamp};
 use lww_registers::{Fields, Register};
 use member_orset::{JoinFault, MemberSet};
-use site_totals::Totals;
 use std::alloc::Global;
 use std::fmt::Debug;
 use std::process::Abort;
@@ -19,9 +18,6 @@ pub(crate) const FIRST: ToldDot = (0, 1);
 pub(crate) const SECOND: ToldDot = (0, 2);
 
 pub(crate) const OTHER: ToldDot = (1, 1);
-
-// A stamp, told as its time and its site.
-pub(crate) type ToldStamp = (u64, u16);
 
 // A member of queue 0, told as its interface.
 pub(crate) type ToldMember = &'static str;
@@ -52,10 +48,6 @@ pub(crate) fn dot(rt: &impl Abort, told: ToldDot) -> Dot {
     Dot::new(site(rt, told.0), told.1).expect(rt, "a dot")
 }
 
-pub(crate) fn stamp(rt: &impl Abort, told: ToldStamp) -> Stamp {
-    Stamp::new(told.0, site(rt, told.1)).expect(rt, "a stamp")
-}
-
 pub(crate) fn member(rt: &impl Abort, told: ToldMember) -> Member {
     Member {
         queue: 0,
@@ -63,20 +55,21 @@ pub(crate) fn member(rt: &impl Abort, told: ToldMember) -> Member {
     }
 }
 
-// A penalty that was set at a stamp.
-pub(crate) fn penalty(rt: &impl Abort, told: ToldStamp, number: u32) -> Register<Penalty>
+// A penalty that site 0 has set at a time.
+fn penalty(rt: &impl Abort, time: u64, number: u32) -> Register<Penalty>
     ensures { result ≢ None }
 {
     let penalty = Penalty::new(number).expect(rt, "a penalty");
-    Register::of(stamp(rt, told), penalty)
+    let stamp = Stamp::new(time, site(rt, 0)).expect(rt, "a stamp");
+    Register::of(stamp, penalty)
 }
 
 // The fields of a penalty that site 0 has set at a time.
-pub(crate) fn fields(rt: &impl Abort, time: u64, number: u32) -> Fields
+fn fields(rt: &impl Abort, time: u64, number: u32) -> Fields
     ensures { HasField result }
 {
     let mut fields = Fields::none();
-    fields.penalty = penalty(rt, (time, 0), number);
+    fields.penalty = penalty(rt, time, number);
     fields
 }
 
@@ -105,27 +98,4 @@ pub(crate) fn set_of(rt: &impl Abort, alloc: Global, changes: &[Change]) -> Memb
     let mut set = MemberSet::new(alloc);
     do_changes(rt, &mut set, changes);
     set
-}
-
-// Joins the calls that a site has completed and abandoned in a queue into totals.
-pub(crate) fn reach(
-    rt: &impl Abort,
-    totals: &mut Totals,
-    number: u16,
-    queue: u8,
-    calls: (u16, u16),
-) {
-    let calls = CallTotals {
-        completed: u64::from(calls.0),
-        abandoned: u64::from(calls.1),
-    };
-    let reached = totals.reach(site(rt, number), u16::from(queue), calls);
-    reached.expect(rt, "memory");
-}
-
-// The totals of the calls that one site has completed in queue 0.
-pub(crate) fn totals_of(rt: &impl Abort, alloc: Global, number: u16, completed: u16) -> Totals {
-    let mut totals = Totals::new(alloc);
-    reach(rt, &mut totals, number, 0, (completed, 0));
-    totals
 }

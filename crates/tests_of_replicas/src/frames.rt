@@ -1,6 +1,6 @@
 //! Frames as bytes: one that is read in version 1 and spelled again, in version 2, whatever memory there is. What frames say, and which
 //! fault other bytes have, is shown by the cases of `cases/frames`.
-use crate::told_frames::bytes_of;
+use crate::parse_frames::bytes_of;
 use delta_codec::{DecodeFault, Frame, decode, encode};
 use std::alloc::Global;
 use std::process::Abort;

@@ -9,14 +9,14 @@ mod histories;
 #[cfg(test)]
 mod model_lines;
 #[cfg(test)]
+mod parse;
+#[cfg(test)]
+mod parse_frames;
+#[cfg(test)]
+mod parse_operations;
+#[cfg(test)]
 mod replica_lines;
 #[cfg(test)]
 mod replicas;
 #[cfg(test)]
 mod steps;
-#[cfg(test)]
-mod told;
-#[cfg(test)]
-mod told_frames;
-#[cfg(test)]
-mod told_operations;

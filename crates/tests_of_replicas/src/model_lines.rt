@@ -1,10 +1,10 @@
 //! What the lines of a story give at two sites of the reference model.
-use crate::told::{
-    Words, assert_given, assert_stories, interface, label, list, member, name, number, penalty,
-    place, push, queue, queue_number, refused_text, row_text, site, string, tells, text,
-    told_and_wanted, utf8, word,
+use crate::parse::{
+    Words, assert_given, assert_stories, interface, label, line_and_wanted, list, member, name,
+    number, penalty, place, push, queue, queue_number, refused_text, row_text, says, site, string,
+    text, utf8, word,
 };
-use crate::told_operations::{calls, operations, setting};
+use crate::parse_operations::{calls, operations, setting};
 use dots::{Bytes, Member, Text80};
 use reference_model::{
     Change, Operation, Outcome, SiteKnowledge, Step, after_step, dots_of_member, row, rows, status,
@@ -258,8 +258,8 @@ fn given_at(
     }
 }
 
-// What a line gives. `knows`, `buffer` and `number` tell what site 0 knows, what of that it has put in no frame yet and how many frames it
-// has made; `frame` tells a frame. Other lines are of a site.
+// What a line gives. `knows`, `buffer` and `number` set what site 0 knows, what of that it has put in no frame yet and how many frames it
+// has made; `frame` makes a frame. Other lines are of a site.
 fn given(
     rt: &impl Abort,
     alloc: Global,
@@ -285,8 +285,8 @@ fn given(
 // Asserts that each of these lines gives what it must.
 fn assert_each(rt: &impl Abort, alloc: Global, world: &mut World, names: &Names, lines: &str) {
     for line in lines.split('\n') {
-        if tells(line) {
-            let (told, wanted) = told_and_wanted(line);
+        if says(line) {
+            let (told, wanted) = line_and_wanted(line);
             let given = given(rt, alloc, world, names, &mut told.split_whitespace());
             assert_given(rt, told, &given, wanted);
         }

@@ -1,10 +1,10 @@
 //! What lines give at a site: what comes of commands and of frames from elsewhere, and what is seen then.
-use crate::told::{
-    Words, assert_given, assert_stories, interface, label, list, member, name, parts, penalty,
-    push, queue, queue_number, refused_text, row_text, site, string, tells, text, told_and_wanted,
+use crate::parse::{
+    Words, assert_given, assert_stories, interface, label, line_and_wanted, list, member, name,
+    parts, penalty, push, queue, queue_number, refused_text, row_text, says, site, string, text,
     utf8, word,
 };
-use crate::told_frames::frame;
+use crate::parse_frames::frame;
 use delta_codec::Frame;
 use dots::Pause;
 use replica::{Command, Replica, TakeFault};
@@ -116,8 +116,8 @@ fn given(rt: &impl Abort, alloc: Global, replica: &mut Replica, words: &mut Word
 // Asserts that each of these lines gives what it must.
 fn assert_each(rt: &impl Abort, alloc: Global, replica: &mut Replica, lines: &str) {
     for line in lines.split('\n') {
-        if tells(line) {
-            let (told, wanted) = told_and_wanted(line);
+        if says(line) {
+            let (told, wanted) = line_and_wanted(line);
             let given = given(rt, alloc, replica, &mut told.split_whitespace());
             assert_given(rt, told, &given, wanted);
         }

@@ -1,7 +1,7 @@
 //! Replicas: that a new one knows nothing, and which frames from elsewhere a site takes or refuses: one that is refused comes back, and
 //! changes nothing. What sites show that take one another's frames is shown by the cases of `cases/two_sites`.
+use crate::parse::{list, member, name, site};
 use crate::replica_lines::assert_lines;
-use crate::told::{list, member, name, site};
 use replica::Replica;
 use std::process::Abort;
 

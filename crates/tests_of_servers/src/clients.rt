@@ -1,13 +1,12 @@
 //! Clients over TCP: what they send and what they must read. Each that finds something else stops the test.
 use crate::replies;
 use crate::serving::{HERE, SHORT};
-use std::io::{ErrorKind, Read, Write};
+use std::io::{Read, Write};
 use std::net::{Net, SocketAddr, TcpListener, TcpStream};
 use std::process::Abort;
-use std::sync::atomic::{AtomicBool, Ordering};
-use std::thread::{Threads, join, yield_now};
+use std::thread;
+use std::thread::yield_now;
 use std::time::{Clock, Duration};
-use std::{io, thread};
 
 // What is sent, and what must be read then.
 #[derive(Clone, Copy)]
@@ -39,12 +38,6 @@ const ADD: Exchange = Exchange {
     read: replies::ADDED,
 };
 
-// A status after the add.
-const STATUS: Exchange = Exchange {
-    sent: "Action: QueueStatus\r\n\r\n",
-    read: replies::REPORT,
-};
-
 // A status of a queue without members.
 const NO_MEMBERS: Exchange = Exchange {
     sent: "Action: QueueStatus\r\n\r\n",
@@ -56,32 +49,15 @@ const LOGOFF: Exchange = Exchange {
     read: replies::GOODBYE,
 };
 
-// What comes behind a logoff is never read, and doesn't take back the reply.
-const LOGOFF_AND_MORE: Exchange = Exchange {
-    sent: "Action: Logoff\r\n\r\nAction: QueueStatus\r\n\r\nAction: QueueStatus\r\n\r\n",
-    read: replies::GOODBYE,
-};
-
 // How often a client tries to connect.
 const TRIES: u32 = 1_000_000;
 
 // How long a client waits for a reply or to write, in seconds.
 const PATIENCE: u64 = 20;
 
-// How many thousand turns a client waits for another one.
-const TURNS: u32 = 1_000_000;
-
 // How often a client asks that asks often: with the last cut and the whole these are more than a thousand steps, however few rings are heard, and with a
 // cut for each of them no more than two thousand.
 const ASKS: u32 = 999;
-
-// How long a client waits between two bytes that drips, in milliseconds, and how many it sends at most.
-const DROP: u64 = 60;
-
-const DROPS: u32 = 40;
-
-// How often a client asks at most that reads nothing.
-const UNREAD: u32 = 100_000;
 
 // A stream to this port, which is tried until the server listens.
 fn connected<R: Net<Listener = TcpListener, Stream = TcpStream> + Abort>(
@@ -151,41 +127,6 @@ fn be_silent(rt: &(impl Abort + Clock), stream: &TcpStream) {
     talk_to_the_end(rt, stream, &[LOGOFF]);
 }
 
-// Sends a byte of a line again and again, which never ends, until the stream is given up.
-fn drip(rt: &(impl Abort + Clock), stream: &TcpStream) {
-    talk(rt, stream, &[GREETING]);
-    let mut writer = stream;
-    for _ in 0..DROPS {
-        if writer.write_all(b"a").is_err() {
-            return;
-        }
-        thread::sleep(rt, Duration::from_millis(DROP));
-    }
-    rt.panic("it isn't given up")
-}
-
-// Asks for a report, which has the ActionID three times.
-fn ask_at_length(stream: &TcpStream) -> io::Result<()> {
-    let mut writer = stream;
-    writer.write_all(b"Action: QueueStatus\r\nActionID: ")?;
-    writer.write_all(&[b'a'; 1_000])?;
-    writer.write_all(b"\r\n\r\n")
-}
-
-// Asks for one report after another and reads none, until the stream is given up, which must come of the server.
-fn read_nothing(rt: &impl Abort, stream: &TcpStream) {
-    talk(rt, stream, &[GREETING, LOGIN]);
-    let patience = Some(Duration::from_secs(PATIENCE));
-    assert!(rt; stream.set_write_timeout(patience).is_ok());
-    for _ in 0..UNREAD {
-        if let Err(error) = ask_at_length(stream) {
-            assert!(rt; error.kind() != ErrorKind::WouldBlock);
-            return;
-        }
-    }
-    rt.panic("it isn't given up")
-}
-
 /// What a client does.
 #[derive(Clone, Copy)]
 pub enum Client {
@@ -197,10 +138,6 @@ pub enum Client {
     LoggedIn,
     /// It is silent behind its login for a long time, and then logs off.
     Silent,
-    /// It sends a byte now and then, until it is given up.
-    Drip,
-    /// It reads no reports, until it is given up.
-    ReadNothing,
 }
 
 fn behave(rt: &(impl Abort + Clock), stream: &TcpStream, client: Client) {
@@ -209,8 +146,6 @@ fn behave(rt: &(impl Abort + Clock), stream: &TcpStream, client: Client) {
         Client::InLogin => talk_to_the_end(rt, stream, &[GREETING, HALF_LOGIN]),
         Client::LoggedIn => talk_to_the_end(rt, stream, &[GREETING, LOGIN]),
         Client::Silent => be_silent(rt, stream),
-        Client::Drip => drip(rt, stream),
-        Client::ReadNothing => read_nothing(rt, stream),
     }
 }
 
@@ -242,68 +177,6 @@ fn tell_one_of_two<R: Net<Listener = TcpListener, Stream = TcpStream> + Abort>(r
     hold_session(rt, port.saturating_add(1), &[GREETING, LOGIN, LOGOFF]);
 }
 
-// Ten sessions, one after another, which read all that is due to them.
-fn read_all<R: Net<Listener = TcpListener, Stream = TcpStream> + Abort>(rt: &R, port: u16) {
-    for _ in 0..10u32 {
-        hold_session(rt, port, &[GREETING, LOGIN, LOGOFF_AND_MORE]);
-    }
-}
-
-// Waits until a flag is seen.
-fn wait_for(rt: &impl Abort, flag: &AtomicBool) {
-    for _ in 0..TURNS {
-        for _ in 0..1_000u32 {
-            if flag.load(Ordering::SeqCst) {
-                return;
-            }
-        }
-        yield_now();
-    }
-    rt.panic("the other client isn't done")
-}
-
-// Logs in, waits until the other client is done, and then must see what that has added.
-fn see<R: Net<Listener = TcpListener, Stream = TcpStream> + Abort>(
-    rt: &R,
-    port: u16,
-    is_in: &AtomicBool,
-    is_done: &AtomicBool,
-) {
-    let stream = connected(rt, port);
-    talk(rt, &stream, &[GREETING, LOGIN]);
-    is_in.store(true, Ordering::SeqCst);
-    wait_for(rt, is_done);
-    talk_to_the_end(rt, &stream, &[STATUS, LOGOFF]);
-    drop(stream);
-}
-
-// A whole session, once the other client is logged in.
-fn add<R: Net<Listener = TcpListener, Stream = TcpStream> + Abort>(
-    rt: &R,
-    port: u16,
-    is_in: &AtomicBool,
-    is_done: &AtomicBool,
-) {
-    wait_for(rt, is_in);
-    hold_session(rt, port, &[GREETING, LOGIN, ADD, LOGOFF]);
-    is_done.store(true, Ordering::SeqCst);
-}
-
-// Two sessions at once.
-fn meet<R: Net<Listener = TcpListener, Stream = TcpStream> + Abort + Threads + Sync>(
-    rt: &R,
-    port: u16,
-) {
-    let is_in = AtomicBool::new(false);
-    let is_done = AtomicBool::new(false);
-    let (is_in, is_done) = (&is_in, &is_done);
-    join(
-        rt,
-        move || see(rt, port, is_in, is_done),
-        move || add(rt, port, is_in, is_done),
-    );
-}
-
 /// What the clients of a server do.
 #[derive(Clone, Copy)]
 pub enum Clients {
@@ -311,21 +184,15 @@ pub enum Clients {
     One(Client),
     /// A session with each of two sites, of which the first is told of SIP/1.
     OfTwoSites,
-    /// Two sessions, of which the first sees what the second has added.
-    AtOnce,
-    /// Ten sessions, one after another, which send more behind their logoff.
-    InTurn,
 }
 
 /// Does what clients do at this port.
 pub fn act<R>(rt: &R, port: u16, clients: Clients)
 where
-    R: Net<Listener = TcpListener, Stream = TcpStream> + Abort + Threads + Clock + Sync,
+    R: Net<Listener = TcpListener, Stream = TcpStream> + Abort + Clock,
 {
     match clients {
         Clients::One(client) => visit(rt, port, client),
         Clients::OfTwoSites => tell_one_of_two(rt, port),
-        Clients::AtOnce => meet(rt, port),
-        Clients::InTurn => read_all(rt, port),
     }
 }

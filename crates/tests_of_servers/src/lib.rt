@@ -1,11 +1,9 @@
-//! Tests of feeds and devices, lists of queues, reports, replies, copies of asks and answers, sessions that are served, desks for sessions,
-//! worlds of sites, scripts, and sites that are served over TCP, by their public calls. This crate has no code of its own.
+//! Tests of feeds and devices, lists of queues, reports, replies, sessions that are served, desks for sessions, worlds of sites, scripts,
+//! and sites that are served over TCP, by their public calls. This crate has no code of its own.
 #![tactic(auto)]
 
 #[cfg(test)]
 mod clients;
-#[cfg(test)]
-mod copies;
 #[cfg(test)]
 mod desks;
 #[cfg(test)]
@@ -14,8 +12,6 @@ mod example;
 mod feeds;
 #[cfg(test)]
 mod lists;
-#[cfg(test)]
-mod memory_devices;
 #[cfg(test)]
 mod replies;
 #[cfg(test)]

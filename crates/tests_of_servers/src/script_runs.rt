@@ -1,4 +1,4 @@
-//! Scripts over devices that fail or don't end, with what each run answers and what it has written; and how many sites there are.
+//! Scripts over devices that fail or don't end, with what each run answers and what it has written.
 ghost use Rattle.std.specs.Prelude.{◌≡◌, false};
 
 use crate::shared::list;
@@ -133,18 +133,4 @@ fn a_script_is_read_to_its_end_or_ends_with_its_fault(rt: HostRuntime) {
         "line 1: not understood\nline 2: no",
     );
     assert_written(&rt, alloc, 0, 9, Err(Write), "");
-}
-
-#[test]
-fn a_script_has_from_1_to_64_sites(rt: HostRuntime) {
-    for (sites, is_count) in [
-        (0, false),
-        (1, true),
-        (2, true),
-        (64, true),
-        (65, false),
-        (65_535, false),
-    ] {
-        assert!(rt; SiteCount::new(sites).is_some() == is_count);
-    }
 }

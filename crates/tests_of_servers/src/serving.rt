@@ -27,8 +27,6 @@ pub enum Limit {
     FirstMessage,
     /// A short time in which they are silent.
     Idle,
-    /// A short time in which they read nothing.
-    Write,
 }
 
 /// A listener at a port, which must be free.
@@ -89,7 +87,6 @@ pub fn settings(
             session.idle = None;
         }
         Limit::Idle => session.idle = Some(short),
-        Limit::Write => session.write = short,
     }
     ServerSettings {
         sites,

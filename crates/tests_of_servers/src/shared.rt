@@ -1,6 +1,6 @@
 //! What these tests make and assert alike.
-use dots::{Bytes, Interface, Label, Penalty, QueueName, SiteId, Text80};
-use replica::{Command, QueueList, Replica};
+use dots::{Bytes, QueueName, SiteId, Text80};
+use replica::{QueueList, Replica};
 use status_report::StatusRequest;
 use std::alloc::Global;
 use std::fmt::Debug;
@@ -24,23 +24,8 @@ pub(crate) fn site(rt: &impl Abort, number: u16) -> SiteId {
     SiteId::new(number).expect(rt, "a site")
 }
 
-pub(crate) fn penalty(rt: &impl Abort, number: u32) -> Penalty {
-    Penalty::new(number).expect(rt, "a penalty")
-}
-
-pub(crate) fn interface(rt: &impl Abort, text: &[u8]) -> Interface {
-    Interface::new(text).expect(rt, "an interface")
-}
-
 pub(crate) fn name(rt: &impl Abort, text: &[u8]) -> QueueName {
     QueueName::new(text).expect(rt, "a name")
-}
-
-fn label(rt: &impl Abort, name: &str, state: &str) -> Label {
-    Label {
-        name: text(rt, name),
-        state: text(rt, state),
-    }
 }
 
 fn names(rt: &impl Abort, alloc: Global, texts: &[&str]) -> Vec<QueueName> {
@@ -62,49 +47,12 @@ pub(crate) fn replica(rt: &impl Abort, alloc: Global, number: u16, queues: &[&st
     Replica::new(alloc, site(rt, number), list(rt, alloc, queues))
 }
 
-// What an add sets: its penalty, whether it is paused, its name and its state interface.
-type Added = (u32, bool, &'static str, &'static str);
-
-// An add of an interface to a queue.
-pub(crate) fn add(rt: &impl Abort, queue: &[u8], of: &[u8], set: Added) -> Command {
-    Command::Add {
-        queue: name(rt, queue),
-        interface: interface(rt, of),
-        penalty: penalty(rt, set.0),
-        paused: set.1,
-        label: label(rt, set.2, set.3),
-    }
-}
-
 // The request of the status of all queues, without an ActionID.
 pub(crate) fn whole_status(alloc: Global) -> StatusRequest {
     StatusRequest {
         queue: None,
         member: None,
         action_id: Bytes::new(Vec::new(alloc)),
-    }
-}
-
-// A filter; none where the text is empty.
-fn filter(rt: &impl Abort, filter: &str) -> Option<Text80> {
-    if filter.is_empty() {
-        None
-    } else {
-        Some(text(rt, filter))
-    }
-}
-
-// A request with these filters, of a queue and of a member.
-pub(crate) fn request(
-    rt: &impl Abort,
-    alloc: Global,
-    filters: (&str, &str),
-    id: &[u8],
-) -> StatusRequest {
-    StatusRequest {
-        queue: filter(rt, filters.0),
-        member: filter(rt, filters.1),
-        action_id: Bytes::new(Vec::from_slice(alloc, id).expect(rt, "memory")),
     }
 }
 

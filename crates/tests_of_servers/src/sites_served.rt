@@ -116,13 +116,6 @@ fn the_first_thousand_steps_are_dropped(rt: HostRuntime) {
     assert!(&rt; start >= 1_000 && start < 2_000);
 }
 
-#[test]
-fn sessions_run_at_once_and_their_last_replies_arrive(rt: HostRuntime) {
-    let alloc = rt.alloc();
-    drop(served_to(&rt, alloc, 24_420, 1, Limit::Usual, 2, Clients::AtOnce));
-    drop(served_to(&rt, alloc, 24_440, 1, Limit::Usual, 10, Clients::InTurn));
-}
-
 // One site is served to one client, which may take so long.
 fn assert_served<R>(rt: &R, alloc: Global, first: u16, limit: Limit, client: Client)
 where
@@ -144,9 +137,6 @@ fn clients_that_take_too_long_lose_their_places(rt: HostRuntime) {
     assert_served(&rt, alloc, 24_460, Limit::FirstMessage, Client::InLogin);
     assert_served(&rt, alloc, 24_480, Limit::Idle, Client::LoggedIn);
     assert_served(&rt, alloc, 24_500, Limit::FirstMessage, Client::Silent);
-    // The time for the first message goes on, and what a client sends behind its session's end is read for a second at most.
-    assert_served(&rt, alloc, 24_540, Limit::FirstMessage, Client::Drip);
-    assert_served(&rt, alloc, 24_520, Limit::Write, Client::ReadNothing);
 }
 
 // Why three sites aren't served where two ports are taken; whether their first port is free afterwards.

@@ -1,11 +1,9 @@
 //! Worlds of sites: what scripts can't show of them, which is their sites, their entries, the outcomes that no line gives, and want
 //! of memory.
-use crate::shared::{
-    add, assert_report, interface, list, member_block, name, queue_block, site, whole_status,
-};
+use crate::shared::{assert_report, list, member_block, name, queue_block, site, whole_status};
 use Asked::{Abandoned, Add, Completed, Cut, Remove, Status, Take, Whole};
 use Came::{Done, Entry, NoEntry, NoSite, Reported, Taken};
-use dots::SiteId;
+use dots::{Interface, Label, Penalty, QueueName, SiteId, Text80};
 use replica::Command;
 use sites_world::{Event, Outcome, World, WorldFault};
 use status_report::{Answer, Ask};
@@ -40,25 +38,50 @@ enum Came {
 // An event, told as its site, what is asked for there, and what must come of it.
 type Told = (u16, Asked, Came);
 
+fn sales(rt: &impl Abort) -> QueueName {
+    name(rt, b"sales")
+}
+
+fn interface(rt: &impl Abort, of: &str) -> Interface {
+    Interface::new(of.as_bytes()).expect(rt, "an interface")
+}
+
+// An add that sets a penalty.
+fn add(rt: &impl Abort, of: &str, number: u32) -> Command {
+    Command::Add {
+        queue: sales(rt),
+        interface: interface(rt, of),
+        penalty: Penalty::new(number).expect(rt, "a penalty"),
+        paused: false,
+        label: Label {
+            name: Text80::empty(),
+            state: Text80::empty(),
+        },
+    }
+}
+
+fn command_of(rt: &impl Abort, asked: Asked) -> Command {
+    match asked {
+        Asked::Add(of, number) => add(rt, of, number),
+        Asked::Remove(of) => Command::Remove {
+            queue: sales(rt),
+            interface: interface(rt, of),
+        },
+        Asked::Completed => Command::Completed { queue: sales(rt) },
+        Asked::Abandoned => Command::Abandoned { queue: sales(rt) },
+        _ => rt.panic("no command"),
+    }
+}
+
 fn event_of(rt: &impl Abort, alloc: Global, at: u16, asked: Asked) -> Event {
     let at = site(rt, at);
-    let queue = name(rt, b"sales");
-    let command = match asked {
-        Asked::Add(of, number) => add(rt, b"sales", of.as_bytes(), (number, false, "", "")),
-        Asked::Remove(of) => {
-            let interface = interface(rt, of.as_bytes());
-            Command::Remove { queue, interface }
-        }
-        Asked::Completed => Command::Completed { queue },
-        Asked::Abandoned => Command::Abandoned { queue },
-        Asked::Status => {
-            return Event::Ask(at, Ask::Status(whole_status(alloc)));
-        }
-        Asked::Cut => return Event::Cut(at),
-        Asked::Whole => return Event::Whole(at),
-        Asked::Take(entry) => return Event::Take(at, entry),
-    };
-    Event::Ask(at, Ask::Command(command))
+    match asked {
+        Asked::Status => Event::Ask(at, Ask::Status(whole_status(alloc))),
+        Asked::Cut => Event::Cut(at),
+        Asked::Whole => Event::Whole(at),
+        Asked::Take(entry) => Event::Take(at, entry),
+        _ => Event::Ask(at, Ask::Command(command_of(rt, asked))),
+    }
 }
 
 fn events_of(rt: &impl Abort, alloc: Global, told: &[Told]) -> Vec<Event> {

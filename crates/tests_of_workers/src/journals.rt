@@ -1,9 +1,9 @@
-//! Journals of a site: their steps, their limits and what they keep.
+//! Journals of a site: their steps, the receipts of these, and what they keep.
 use crate::asks::{add, status};
 use crate::frames::ADDED;
-use crate::journal_steps::{called, cut, frame, journal, journal_of, knows, replica, shown, take};
+use crate::journal_steps::{called, cut, frame, journal, knows, shown, take};
 use replica::Refusal;
-use site_journal::{DeskFault, Journaled, Receipt, SettleFault, Step, StepDeed, settle};
+use site_journal::{Journaled, Receipt, SettleFault, Step, StepDeed, settle};
 use status_report::{Answer, Ask};
 use std::alloc::Global;
 use std::process::Abort;
@@ -123,13 +123,6 @@ fn cut_nothing(rt: &impl Abort, journal: &mut Journaled, pass: u32) {
     drop(step);
 }
 
-// Makes a frame of all by a pass.
-fn make_whole(rt: &impl Abort, journal: &mut Journaled, pass: u32) {
-    let step = journal.whole(pass).ok().expect(rt, "a step");
-    assert!(rt; step.pass == pass && matches!(step.deed, StepDeed::Whole(_)));
-    drop(step);
-}
-
 // The receipts of a cut by this pass at each of these positions, as of a site that has nothing to send.
 fn receipts(rt: &impl Abort, alloc: Global, pass: u32, positions: &[u64]) -> Vec<Receipt> {
     let mut receipts = Vec::new(alloc);
@@ -185,21 +178,5 @@ fn receipts_settle_where_they_are_those_of_the_steps(rt: HostRuntime) {
     assert!(rt; own.checkpoint().is_ok());
     let fault = SettleFault::Checkpointed;
     assert_settles(&rt, alloc, &own, &[1], &[0, 2], Some(fault));
-    drop(own);
-}
-
-#[test]
-fn a_full_journal_goes_on_behind_a_checkpoint(rt: HostRuntime) {
-    let alloc = rt.alloc();
-    let mut own = journal_of(&rt, alloc, replica(&rt, alloc, 0), 2);
-    ask_status(&rt, alloc, &mut own);
-    ask_status(&rt, alloc, &mut own);
-    assert!(rt; own.cut(7).err() == Some(DeskFault::JournalFull));
-    assert!(rt; own.checkpoint().is_ok());
-    assert_length(&rt, &own, 2, 2);
-    cut_nothing(&rt, &mut own, 7);
-    assert_length(&rt, &own, 3, 2);
-    make_whole(&rt, &mut own, 8);
-    assert_length(&rt, &own, 4, 2);
     drop(own);
 }

@@ -1,10 +1,8 @@
-//! Bytes that a journal and a desk are given to take: which of them come back, and for which fault. The fault of each row was told by
-//! hand, by the rules of `docs/frames.md`.
+//! Bytes that a desk refuses to take, each with its fault, which was found by hand with the rules of `docs/frames.md`.
 use crate::desk_steps::assert_closed;
-use crate::frames::{ADDED, GREATEST, NOT_RUNG, NOTHING, OLD_ADDED, REMOVED, TOUCHING};
-use crate::journal_steps::{cut, journal, knows, take};
+use crate::frames::{ADDED, NOT_RUNG, NOTHING, OLD_ADDED, TOUCHING};
 use site_desk::{Pass, SiteDesk, SiteLedger};
-use site_journal::{DecodeFault, DeskFault, Journaled, TakeFault};
+use site_journal::{DecodeFault, DeskFault, TakeFault};
 use std::alloc::Global;
 use std::process::Abort;
 use std::sync::Wait;
@@ -19,6 +17,14 @@ type Spoiled = (
 );
 
 const SPOILED: &[Spoiled] = &[
+    // A front of a frame.
+    (
+        b"\x00\x00\x00\x18\x51\x44\x02",
+        0,
+        b"",
+        b"",
+        DecodeFault::Truncated,
+    ),
     // The length: too small for a frame, too great for one, and one less and one more than the frame's.
     (ADDED, 0, b"\x00\x00\x00\x17", b"", DecodeFault::BadRange),
     (ADDED, 0, b"\x00\x80\x00\x01", b"", DecodeFault::TooLarge),
@@ -76,65 +82,6 @@ fn spoiled(rt: &impl Abort, alloc: Global, row: &Spoiled) -> Vec<u8> {
     joined(rt, alloc, &[front, row.2, rest, row.3])
 }
 
-// Asserts that bytes come back as they are for this fault, and that the journal has the one step that it had.
-fn assert_refused(
-    rt: &impl Abort,
-    alloc: Global,
-    journal: &mut Journaled,
-    bytes: &[u8],
-    fault: DeskFault,
-) {
-    let given = Vec::from_slice(alloc, bytes).expect(rt, "memory");
-    let (told, back) = journal.take(7, given).err().expect(rt, "a fault");
-    assert!(rt; told == fault);
-    assert!(rt; back.as_slice() == bytes);
-    drop(back);
-    assert!(rt; journal.len() == 1);
-    assert!(rt; journal.steps().len() == 1);
-}
-
-// The journal of site 0, which has cut where there is nothing to cut.
-fn journal_of_a_step(rt: &impl Abort, alloc: Global) -> Journaled {
-    let mut own = journal(rt, alloc, 0);
-    drop(cut(rt, &mut own, 7));
-    own
-}
-
-// Asserts that each front of a frame comes back.
-fn assert_fronts(rt: &impl Abort, alloc: Global, journal: &mut Journaled, frame: &[u8]) {
-    let truncated = DeskFault::Decode(DecodeFault::Truncated);
-    for len in 0..frame.len() {
-        assert_refused(rt, alloc, journal, &frame[..len], truncated);
-    }
-}
-
-#[test]
-fn a_front_of_a_frame_is_no_step(rt: HostRuntime) {
-    let alloc = rt.alloc();
-    let mut own = journal_of_a_step(&rt, alloc);
-    assert_fronts(&rt, alloc, &mut own, ADDED);
-    assert_fronts(&rt, alloc, &mut own, OLD_ADDED);
-    assert_fronts(&rt, alloc, &mut own, REMOVED);
-    assert_fronts(&rt, alloc, &mut own, NOT_RUNG);
-    assert_fronts(&rt, alloc, &mut own, NOTHING);
-    assert_fronts(&rt, alloc, &mut own, TOUCHING);
-    assert_fronts(&rt, alloc, &mut own, GREATEST);
-    drop(own);
-}
-
-#[test]
-fn a_site_takes_a_frame_of_another_alone(rt: HostRuntime) {
-    let alloc = rt.alloc();
-    let mut own = journal_of_a_step(&rt, alloc);
-    let refused = DeskFault::Take(TakeFault::NotMine);
-    assert_refused(&rt, alloc, &mut own, ADDED, refused);
-    drop(own);
-    let mut other = journal(&rt, alloc, 1);
-    take(&rt, alloc, &mut other, 7, ADDED);
-    assert!(rt; other.len() == 1 && knows(other.replica()));
-    drop(other);
-}
-
 // Asserts that a desk gives bytes back as they are for this fault.
 fn assert_desk_refuses<L: SiteLedger, R: Abort + Wait>(
     rt: &R,
@@ -170,16 +117,4 @@ pub(crate) fn assert_refuses<L: SiteLedger, R: Abort + Wait>(
     assert_desk_refuses(rt, alloc, &desk, &mut first, ADDED, fault);
     assert!(rt; first.seen() == 0);
     assert_closed(rt, alloc, desk, first, second, 0, 0);
-}
-
-#[test]
-fn bytes_that_are_no_frame_are_no_step(rt: HostRuntime) {
-    let alloc = rt.alloc();
-    let mut own = journal_of_a_step(&rt, alloc);
-    for row in SPOILED {
-        let bytes = spoiled(&rt, alloc, row);
-        assert_refused(&rt, alloc, &mut own, &bytes, DeskFault::Decode(row.4));
-        drop(bytes);
-    }
-    drop(own);
 }

@@ -1,5 +1,5 @@
-//! Frames, told as words.
-use crate::told::{Words, parts, place, told_as, word};
+//! Reads frames from words.
+use crate::parse::{Words, parts, place, text_of_name, word};
 use delta_codec::{Frame, decode};
 use std::alloc::Global;
 use std::process::Abort;
@@ -36,10 +36,10 @@ const FRAMES: &[(&str, &str)] = &[
 
 // The bytes of the frame of this name.
 pub(crate) fn bytes_of(rt: &impl Abort, alloc: Global, name: &str) -> Vec<u8> {
-    hex::decode(alloc, told_as(rt, FRAMES, name)).expect(rt, "bytes")
+    hex::decode(alloc, text_of_name(rt, FRAMES, name)).expect(rt, "bytes")
 }
 
-// Puts other bytes in these places, each told as `51=1`.
+// Puts other bytes in these places, each written as `51=1`.
 fn put_each(rt: &impl Abort, bytes: &mut [u8], words: &mut Words<'_>) {
     for told in words {
         let (at, byte) = parts(rt, told, '=');
@@ -50,10 +50,9 @@ fn put_each(rt: &impl Abort, bytes: &mut [u8], words: &mut Words<'_>) {
 
 // The frame that bytes spell.
 fn decoded(rt: &impl Abort, alloc: Global, bytes: &[u8]) -> Frame {
-    match decode(alloc, bytes) {
-        Ok((frame, len)) if len == bytes.len() => frame,
-        _ => rt.panic("no frame"),
-    }
+    let (frame, len) = decode(alloc, bytes).ok().expect(rt, "a frame");
+    assert!(rt; len == bytes.len());
+    frame
 }
 
 // The frame of a name, in which some bytes are others.

@@ -1,6 +1,6 @@
-//! Operations, told as words.
-use crate::told::{
-    Words, dot, label, member, number, parts, penalty, site, small, text, told_as, word,
+//! Reads operations from words.
+use crate::parse::{
+    Words, dot, label, member, number, parts, penalty, site, small, text, text_of_name, word,
 };
 use dots::{Dot, Member, Pause, SiteId, Stamp};
 use reference_model::{Calls, Operation, Setting, Total};
@@ -121,7 +121,7 @@ fn removed(rt: &impl Abort, alloc: Global, is_of_odd: bool, words: &mut Words<'_
     Operation::Remove { dots }
 }
 
-// The operation that is told so: `add` with a dot, a member, a stamp, a penalty and older dots;
+// The operation of a text: `add` with a dot, a member, a stamp, a penalty and older dots;
 // `write` or `write_many`; `remove` with dots, or `remove_odd` with a site and how many of its odd
 // counts; or `count` with a site, the kind and the total.
 fn operation(rt: &impl Abort, alloc: Global, told: &str) -> Operation {
@@ -138,7 +138,7 @@ fn operation(rt: &impl Abort, alloc: Global, told: &str) -> Operation {
     }
 }
 
-// The operations of these names among those that are told.
+// The operations of these names among these texts.
 pub(crate) fn operations(
     rt: &impl Abort,
     alloc: Global,
@@ -147,7 +147,7 @@ pub(crate) fn operations(
 ) -> Vec<Operation> {
     let mut operations = Vec::new(alloc);
     for name in names {
-        let operation = operation(rt, alloc, told_as(rt, told, name));
+        let operation = operation(rt, alloc, text_of_name(rt, told, name));
         operations.push(operation).expect(rt, "memory");
     }
     operations

@@ -1,4 +1,4 @@
-//! Values, told as words; and lines, which tell what happens and what that must give.
+//! Reads values from words, and lines from text: a line says what happens, and what that must give.
 use dots::{Dot, Interface, Label, Member, Penalty, QueueName, SiteId, Text80};
 use operations::Row;
 use replica::QueueList;
@@ -9,11 +9,11 @@ use std::str::{SplitWhitespace, from_utf8};
 
 pub(crate) type Words<'a> = SplitWhitespace<'a>;
 
-// What is told by this name.
-pub(crate) fn told_as<'a>(rt: &impl Abort, told: &[(&str, &'a str)], name: &str) -> &'a str {
-    for (other, what) in told {
+// The text that has this name.
+pub(crate) fn text_of_name<'a>(rt: &impl Abort, texts: &[(&str, &'a str)], name: &str) -> &'a str {
+    for (other, text) in texts {
         if *other == name {
-            return what;
+            return text;
         }
     }
     rt.panic("no such name")
@@ -49,7 +49,7 @@ pub(crate) fn site(rt: &impl Abort, word: &str) -> SiteId {
     SiteId::new(queue_number(rt, word)).expect(rt, word)
 }
 
-// A text; an empty one is told as `-`.
+// A text, which is `-` where it is empty.
 pub(crate) fn text(rt: &impl Abort, word: &str) -> Text80 {
     let text = if word == "-" { "" } else { word };
     Text80::new(text.as_bytes()).expect(rt, word)
@@ -98,7 +98,7 @@ pub(crate) fn dot(rt: &impl Abort, word: &str) -> Dot {
     Dot::new(site(rt, of), number(rt, count)).expect(rt, word)
 }
 
-// A queue; every one is told as `-`.
+// A queue, or none where the word is `-`, which stands for every queue.
 pub(crate) fn queue(rt: &impl Abort, word: &str) -> Option<QueueName> {
     if word == "-" {
         None
@@ -140,25 +140,25 @@ pub(crate) fn row_text(rt: &impl Abort, alloc: Global, row: Option<Row<'_>>) -> 
     }
 }
 
-// Whether a line tells something: it isn't empty, and doesn't begin with `#`.
-pub(crate) fn tells(line: &str) -> bool {
+// Whether a line says something: it isn't empty, and doesn't begin with `#`.
+pub(crate) fn says(line: &str) -> bool {
     !line.is_empty() && !line.starts_with('#')
 }
 
-// What a line tells, and what that must give, which stands behind a colon and a blank; nothing where there is none.
-pub(crate) fn told_and_wanted(line: &str) -> (&str, &str) {
+// What a line says, and what that must give, which stands after a colon and a blank; nothing where there is none.
+pub(crate) fn line_and_wanted(line: &str) -> (&str, &str) {
     line.split_once(": ").unwrap_or((line, ""))
 }
 
-// Asserts what was given upon what a line tells.
+// Asserts what a line gives.
 pub(crate) fn assert_given(rt: &impl Abort, told: &str, given: &str, wanted: &str) {
     assert!(rt; given == wanted, "{told} gives {given}");
 }
 
-// Asserts that there is a story, which begins at a line of this first word, and that the lines before the first tell nothing.
+// Asserts that there is a story, which begins at a line of this first word, and that the lines before the first say nothing.
 pub(crate) fn assert_stories(rt: &impl Abort, lines: &str, first_word: &str) {
     let (before, _) = lines.split_once(first_word).expect(rt, "a story");
     for line in before.split('\n') {
-        assert!(rt; !tells(line));
+        assert!(rt; !says(line));
     }
 }
