@@ -220,15 +220,6 @@ fn assert_one_run(rt: &impl Abort, alloc: Global, journals: &[Journaled]) {
     drop(events);
 }
 
-// Of three sites those beside this one.
-fn others_of(site: u8) -> &'static [u8] {
-    match site {
-        0 => &[1, 2],
-        1 => &[0, 2],
-        _ => &[0, 1],
-    }
-}
-
 // The journal of a site that has ended.
 fn journal_of(end: SiteEnd<TurnsGate>) -> Journaled {
     let SiteEnd {
@@ -240,16 +231,19 @@ fn journal_of(end: SiteEnd<TurnsGate>) -> Journaled {
     journal
 }
 
-// The journals of three sites, of which each has ended as it should.
-fn ended(rt: &impl Abort, alloc: Global, ends: Vec<SiteEnd<TurnsGate>>) -> Vec<Journaled> {
-    let mut journals = Vec::new(alloc);
-    let mut site = 0u8;
+// Moves the journals of sites that have ended behind others.
+fn move_journals(rt: &impl Abort, ends: Vec<SiteEnd<TurnsGate>>, journals: &mut Vec<Journaled>) {
     for end in ends {
-        assert_end(rt, &end, site, others_of(site));
         journals.push(journal_of(end)).expect(rt, "memory");
-        site = site.wrapping_add(1);
     }
-    journals
+}
+
+// Asserts that each of three sites has ended as it should.
+fn assert_ends(rt: &impl Abort, ends: &[SiteEnd<TurnsGate>]) {
+    assert!(rt; ends.len() == 3);
+    assert_end(rt, &ends[0], 0, &[1, 2]);
+    assert_end(rt, &ends[1], 1, &[0, 2]);
+    assert_end(rt, &ends[2], 2, &[0, 1]);
 }
 
 #[test]
@@ -257,8 +251,9 @@ fn sites_come_to_the_same_whatever_is_lost(rt: HostRuntime) {
     let alloc = rt.alloc();
     let works = works_of_three(&rt, alloc);
     let ends = ends_of(&rt, alloc, works);
-    assert!(rt; ends.len() == 3);
-    let journals = ended(&rt, alloc, ends);
+    assert_ends(&rt, ends.as_slice());
+    let mut journals = Vec::new(alloc);
+    move_journals(&rt, ends, &mut journals);
     assert!(rt; is_reported(&rt, alloc, journals.as_slice()));
     assert_one_run(&rt, alloc, journals.as_slice());
     drop(journals);
@@ -330,13 +325,20 @@ fn each_site_sends_by_its_own_plan(rt: HostRuntime) {
     assert_sends(&rt, alloc, Hold, 2);
 }
 
-// Asserts that a site's receipts settle its journal, which is put behind others, whatever it lacked memory for. Whether it did.
-fn is_stopped(rt: &impl Abort, end: SiteEnd<TurnsGate>, journals: &mut Vec<Journaled>) -> bool {
-    assert_settled(rt, &end);
-    let fault = end.fault;
-    assert!(rt; matches!(fault, None | Some(DeskFault::Memory)));
-    journals.push(journal_of(end)).expect(rt, "memory");
-    fault.is_some()
+// Whether a site has lacked memory. Its receipts settle its journal, and it has no other fault.
+fn is_stopped(rt: &impl Abort, end: &SiteEnd<TurnsGate>) -> bool {
+    assert_settled(rt, end);
+    assert!(rt; matches!(end.fault, None | Some(DeskFault::Memory)));
+    end.fault.is_some()
+}
+
+// Whether a site has lacked memory.
+fn is_any_stopped(rt: &impl Abort, ends: &[SiteEnd<TurnsGate>]) -> bool {
+    let mut is_any = false;
+    for end in ends {
+        is_any = is_stopped(rt, end) || is_any;
+    }
+    is_any
 }
 
 // Whether there is memory for an audit, which then tells that journals are one run.
@@ -361,17 +363,13 @@ fn end_of(
     ends: Vec<SiteEnd<TurnsGate>>,
     journals: &mut Vec<Journaled>,
 ) -> &'static str {
-    let mut has_fault = false;
-    for end in ends {
-        if is_stopped(rt, end, journals) {
-            has_fault = true;
-        }
-    }
-    assert!(rt; journals.len() == 3);
+    assert!(rt; ends.len() == 3);
+    let is_any_stopped = is_any_stopped(rt, ends.as_slice());
+    move_journals(rt, ends, journals);
     if !is_audited(rt, alloc, journals.as_slice()) {
         return "unread";
     }
-    if has_fault {
+    if is_any_stopped {
         return "stopped";
     }
     if is_reported(rt, alloc, journals.as_slice()) {
