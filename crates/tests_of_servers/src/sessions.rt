@@ -49,51 +49,70 @@ fn assert_reply(rt: &impl Abort, alloc: Global, lines: &str, answer: Answer, wan
     assert_text(rt, given.as_slice(), wanted);
 }
 
+// Asserts the reply to a message of these lines where the site refuses what they ask.
+fn assert_refused(rt: &impl Abort, alloc: Global, lines: &str, refusal: Refusal, text: &str) {
+    let wanted = ["Response: Error\r\nMessage: ", text, "\r\n\r\n"];
+    assert_reply(rt, alloc, lines, Answer::Refused(refusal), &wanted);
+}
+
+// Asserts the reply to a message of these lines upon each refusal. That of `NotThere` has this text.
+fn assert_refusals(rt: &impl Abort, alloc: Global, lines: &str, not_there: &str) {
+    assert_refused(rt, alloc, lines, Refusal::NoSuchQueue, "No such queue");
+    assert_refused(
+        rt,
+        alloc,
+        lines,
+        Refusal::AlreadyThere,
+        "Unable to add interface: Already there",
+    );
+    assert_refused(rt, alloc, lines, Refusal::NotThere, not_there);
+    assert_refused(
+        rt,
+        alloc,
+        lines,
+        Refusal::MembersFull,
+        "Unable to change members: Full",
+    );
+    assert_refused(
+        rt,
+        alloc,
+        lines,
+        Refusal::Exhausted,
+        "Unable to change members: Numbers used up",
+    );
+    assert_refused(rt, alloc, lines, Refusal::TotalFull, "Total full");
+    assert_refused(rt, alloc, lines, Refusal::Memory, "Out of memory");
+}
+
 #[test]
 fn each_refusal_has_its_text(rt: HostRuntime) {
-    const REFUSALS: &[(Refusal, &str)] = &[
-        (Refusal::NoSuchQueue, "No such queue"),
-        (
-            Refusal::AlreadyThere,
-            "Unable to add interface: Already there",
-        ),
-        (Refusal::NotThere, "Interface not found"),
-        (Refusal::MembersFull, "Unable to change members: Full"),
-        (
-            Refusal::Exhausted,
-            "Unable to change members: Numbers used up",
-        ),
-        (Refusal::TotalFull, "Total full"),
-        (Refusal::Memory, "Out of memory"),
-    ];
-    for (lines, is_removal) in [
-        (ADD_WITHOUT_ID, false),
-        (REMOVE, true),
-        (PAUSE, false),
-        (PENALTY, false),
-        (RING, false),
-    ] {
-        for (refusal, text) in REFUSALS {
-            let text = if is_removal && *refusal == Refusal::NotThere {
-                "Unable to remove interface: Not there"
-            } else {
-                *text
-            };
-            let wanted = ["Response: Error\r\nMessage: ", text, "\r\n\r\n"];
-            assert_reply(&rt, rt.alloc(), lines, Answer::Refused(*refusal), &wanted);
-        }
-    }
+    const NOT_FOUND: &str = "Interface not found";
+    let alloc = rt.alloc();
+    assert_refusals(&rt, alloc, ADD_WITHOUT_ID, NOT_FOUND);
+    assert_refusals(&rt, alloc, REMOVE, "Unable to remove interface: Not there");
+    assert_refusals(&rt, alloc, PAUSE, NOT_FOUND);
+    assert_refusals(&rt, alloc, PENALTY, NOT_FOUND);
+    assert_refusals(&rt, alloc, RING, NOT_FOUND);
+}
+
+// Asserts that a report is the reply to a message of these lines as it is.
+fn assert_reported(rt: &impl Abort, alloc: Global, lines: &str) {
+    let report = Vec::from_slice(alloc, b"a report").expect(rt, "memory");
+    let answer = Answer::Report(Bytes::new(report));
+    assert_reply(rt, alloc, lines, answer, &["a report"]);
 }
 
 #[test]
 fn a_report_is_replied_as_it_is_and_done_as_a_success(rt: HostRuntime) {
+    let alloc = rt.alloc();
+    assert_reported(&rt, alloc, STATUS);
     // No site answers a command so.
-    for lines in [STATUS, ADD, REMOVE, PAUSE, PENALTY, RING] {
-        let report = Vec::from_slice(rt.alloc(), b"a report").expect(&rt, "memory");
-        let answer = Answer::Report(Bytes::new(report));
-        assert_reply(&rt, rt.alloc(), lines, answer, &["a report"]);
-    }
+    assert_reported(&rt, alloc, ADD);
+    assert_reported(&rt, alloc, REMOVE);
+    assert_reported(&rt, alloc, PAUSE);
+    assert_reported(&rt, alloc, PENALTY);
+    assert_reported(&rt, alloc, RING);
     // No site answers a status so.
     const DONE: &str = "Response: Success\r\nActionID: 4\r\nMessage: \r\n\r\n";
-    assert_reply(&rt, rt.alloc(), STATUS, Answer::Done, &[DONE]);
+    assert_reply(&rt, alloc, STATUS, Answer::Done, &[DONE]);
 }

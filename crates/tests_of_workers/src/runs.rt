@@ -364,12 +364,12 @@ fn end_of(
     journals: &mut Vec<Journaled>,
 ) -> &'static str {
     assert!(rt; ends.len() == 3);
-    let is_any_stopped = is_any_stopped(rt, ends.as_slice());
+    let has_stopped = is_any_stopped(rt, ends.as_slice());
     move_journals(rt, ends, journals);
     if !is_audited(rt, alloc, journals.as_slice()) {
         return "unread";
     }
-    if is_any_stopped {
+    if has_stopped {
         return "stopped";
     }
     if is_reported(rt, alloc, journals.as_slice()) {
