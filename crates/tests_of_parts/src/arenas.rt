@@ -85,6 +85,7 @@ fn a_cell_of_one_generation_is_retired_after_one_value(rt: HostRuntime) {
     take(&rt, &mut arena, kept, Some(42));
     assert_cells(&rt, &arena, 0, 1_048_576);
     reserve(&rt, &mut arena, 1, Err(ArenaFault::Full));
+    drop(arena);
 }
 
 // A value that counts its drops.
@@ -149,6 +150,7 @@ fn an_arena_has_1_048_576_cells(rt: HostRuntime) {
     for index in [1, 2, 16, 1_048_575] {
         assert_value(&rt, &arena, CellId::new(index, 0), Some(index));
     }
+    drop(arena);
 }
 
 #[test]
@@ -163,4 +165,5 @@ fn the_cell_that_was_taken_last_is_used_first(rt: HostRuntime) {
         let next = place(&rt, &mut arena, 3);
         assert!(rt; next == CellId::new(id.index(), 1));
     }
+    drop(arena);
 }

@@ -63,6 +63,8 @@ fn runs_that_touch_are_joined_to_one(rt: HostRuntime) {
         last: 131_071,
     };
     assert_eq!(rt; context.as_slice(), [whole].as_slice());
+    drop(context);
+    drop(other);
 }
 
 #[test]
@@ -80,6 +82,9 @@ fn a_join_of_one_run_too_many_is_refused(rt: HostRuntime) {
     assert_runs(&rt, &context, 65_535, 3);
     join(&rt, &mut context, &other, Ok(()));
     assert_runs(&rt, &context, 65_536, 3);
+    drop(context);
+    drop(before);
+    drop(other);
 }
 
 // The first of two runs would be one too many, but for the second, which joins two.
@@ -97,4 +102,6 @@ fn few_runs_may_pass_the_limit_before_the_last(rt: HostRuntime) {
     insert(&rt, &mut other, (2, 1));
     join(&rt, &mut context, &other, Err(ContextFault::RunsFull));
     assert_runs(&rt, &context, 65_536, 1);
+    drop(context);
+    drop(other);
 }

@@ -37,4 +37,5 @@ fn a_queue_stays_in_its_room(rt: HostRuntime) {
     items.append_slice(&[1000]);
     let items = Devector::from_vec(items.into_vec());
     assert_items(&rt, &items, &[997, 998, 999, 1000], 4);
+    drop(items);
 }

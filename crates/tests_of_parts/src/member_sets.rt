@@ -41,116 +41,147 @@ fn assert_state(rt: &impl Abort, set: &MemberSet, told: ToldDot, state: State) {
     assert!(rt; penalty_of(set, dot) == state.1);
 }
 
-// A change, what it gives, and what is known of the first and of the second dot then.
-type Row = (Change, Result<(), JoinFault>, State, State);
-
-// Changes of one set.
-const CHANGES: &[Row] = &[
-    (Assert(FIRST, SIP_1, 5, 7), Ok(()), LIVE_7, UNKNOWN),
-    (Assert(FIRST, SIP_1, 4, 9), Ok(()), LIVE_7, UNKNOWN),
-    (Assert(FIRST, SIP_1, 5, 8), Err(Conflict), LIVE_7, UNKNOWN),
-    (Assert(FIRST, SIP_1, 6, 9), Ok(()), LIVE_9, UNKNOWN),
-    (Assert(FIRST, SIP_2, 7, 1), Err(Conflict), LIVE_9, UNKNOWN),
-    (Kill(FIRST), Ok(()), DEAD, UNKNOWN),
-    (Kill(FIRST), Ok(()), DEAD, UNKNOWN),
-    (Kill(SECOND), Ok(()), DEAD, DEAD),
-    (Assert(SECOND, SIP_1, 6, 8), Ok(()), DEAD, DEAD),
-];
-
 fn assert_there(rt: &impl Abort, set: &MemberSet, of: ToldMember, wanted: bool) {
     assert!(rt; set.contains(&member(rt, of)) == wanted);
 }
 
-// Does a change, and asserts what it gives and what is known then. The first dot is of SIP/1, and no dot lives of SIP/2.
-fn assert_change(rt: &impl Abort, set: &mut MemberSet, row: &Row) {
-    let (told, given, first, second) = row;
-    assert!(rt; do_change(rt, set, *told) == *given);
-    assert_state(rt, set, FIRST, *first);
-    assert_state(rt, set, SECOND, *second);
+// Does a change, and asserts what it gives, and what is known of the first and of the second dot then. The first dot is of SIP/1, and no
+// dot lives of SIP/2.
+fn assert_change(
+    rt: &impl Abort,
+    set: &mut MemberSet,
+    change: Change,
+    given: Result<(), JoinFault>,
+    first: State,
+    second: State,
+) {
+    assert!(rt; do_change(rt, set, change) == given);
+    assert_state(rt, set, FIRST, first);
+    assert_state(rt, set, SECOND, second);
     assert_there(rt, set, SIP_1, first.1.is_some());
     assert_there(rt, set, SIP_2, false);
     assert!(rt; set.cells() == usize::from(first.1.is_some()) && set.retired() == 0);
 }
 
+// Asserts what changes of an empty set give.
+fn assert_changes(rt: &impl Abort, set: &mut MemberSet) {
+    let conflict = Err(Conflict);
+    assert_change(rt, set, Assert(FIRST, SIP_1, 5, 7), Ok(()), LIVE_7, UNKNOWN);
+    assert_change(rt, set, Assert(FIRST, SIP_1, 4, 9), Ok(()), LIVE_7, UNKNOWN);
+    assert_change(
+        rt,
+        set,
+        Assert(FIRST, SIP_1, 5, 8),
+        conflict,
+        LIVE_7,
+        UNKNOWN,
+    );
+    assert_change(rt, set, Assert(FIRST, SIP_1, 6, 9), Ok(()), LIVE_9, UNKNOWN);
+    assert_change(
+        rt,
+        set,
+        Assert(FIRST, SIP_2, 7, 1),
+        conflict,
+        LIVE_9,
+        UNKNOWN,
+    );
+    assert_change(rt, set, Kill(FIRST), Ok(()), DEAD, UNKNOWN);
+    assert_change(rt, set, Kill(FIRST), Ok(()), DEAD, UNKNOWN);
+    assert_change(rt, set, Kill(SECOND), Ok(()), DEAD, DEAD);
+    assert_change(rt, set, Assert(SECOND, SIP_1, 6, 8), Ok(()), DEAD, DEAD);
+}
+
 #[test]
 fn asserts_and_kills_join_or_are_refused(rt: HostRuntime) {
     let mut set = MemberSet::new(rt.alloc());
-    for row in CHANGES {
-        assert_change(&rt, &mut set, row);
-    }
+    assert_changes(&rt, &mut set);
     drop(set);
 }
 
-// Two given dots, dots that are or aren't seen below them, and in how many runs all are that are seen. A live dot isn't seen, and a given
-// one may be unknown.
-type Seen = ([ToldDot; 2], &'static [(ToldDot, bool)], usize);
+// Lets every second dot of a site be dead from the count `first` on, `dots` in all.
+fn kill_dots(rt: &impl Abort, set: &mut MemberSet, site: u16, first: u64, dots: u64)
+    requires start { first ≤ 2 }
+    requires few { dots ≤ 65536 }
+{
+    for index in 0..dots {
+        do_changes(rt, set, &[Kill((site, 2 * index + first))]);
+    }
+}
 
-// For the set of two live dots of site 0 with a dead one between them, of a live one of site 1, and of 65,534 dead ones of site 2, each
-// second one: with the runs of the others as many runs as there may be.
-const SEEN: &[Seen] = &[
-    (
-        [(0, 3), (0, 3)],
-        &[
-            (FIRST, false),
-            (SECOND, true),
-            ((0, 3), true),
-            (OTHER, false),
-        ],
-        1,
-    ),
-    ([FIRST, FIRST], &[(FIRST, true), (SECOND, false)], 1),
-    (
-        [(0, 9), (1, 9)],
-        &[
-            (FIRST, false),
-            (SECOND, true),
-            ((0, 3), false),
-            ((0, 9), true),
-            ((1, 9), true),
-        ],
-        3,
-    ),
-    (
-        [(2, 82), (2, 82)],
-        &[
-            ((2, 1), false),
-            ((2, 2), true),
-            ((2, 80), true),
-            (SECOND, false),
-        ],
-        41,
-    ),
-    (
-        [(2, 131_070), (2, 131_070)],
-        &[
-            ((2, 131_067), false),
-            ((2, 131_068), true),
-            ((2, 131_070), true),
-            (SECOND, false),
-        ],
-        65_535,
-    ),
-    // As many runs as there may be.
-    (
-        [(0, 3), (2, 131_070)],
-        &[
-            (FIRST, false),
-            (SECOND, true),
-            ((0, 3), true),
-            ((2, 131_068), true),
-        ],
-        65_536,
-    ),
-];
+// Asserts whether each of these dots is in a context.
+fn assert_contains(rt: &impl Abort, context: &Context, dots: &[ToldDot], wanted: bool) {
+    for told in dots {
+        assert!(rt; context.contains(dot(rt, *told)) == wanted);
+    }
+}
 
-fn assert_seen(rt: &impl Abort, set: &MemberSet, row: Seen) {
-    let (told, dots, runs) = row;
-    let given = [dot(rt, told[0]), dot(rt, told[1])];
+// Asserts that of the dots below two given ones these are seen, and those not, and in how many runs all are that are seen. A live dot
+// isn't seen, and a given one may be unknown.
+fn assert_seen(
+    rt: &impl Abort,
+    set: &MemberSet,
+    given: [ToldDot; 2],
+    these: &[ToldDot],
+    those: &[ToldDot],
+    runs: usize,
+) {
+    let given = [dot(rt, given[0]), dot(rt, given[1])];
     let seen = set.seen_below(&given).expect(rt, "memory");
     assert!(rt; seen.runs() == runs);
-    for (other, is_seen) in dots {
-        assert!(rt; seen.contains(dot(rt, *other)) == *is_seen);
-    }
+    assert_contains(rt, &seen, these, true);
+    assert_contains(rt, &seen, those, false);
+    drop(seen);
+}
+
+const THIRD: ToldDot = (0, 3);
+
+const LAST: ToldDot = (2, 131_070);
+
+// Asserts what is seen in the set of two live dots of site 0 with a dead one between them, of a live one of site 1, and of 65,534 dead ones
+// of site 2, each second one: with the runs of the others as many runs as there may be.
+fn assert_all_seen(rt: &impl Abort, set: &MemberSet) {
+    assert_seen(
+        rt,
+        set,
+        [THIRD, THIRD],
+        &[SECOND, THIRD],
+        &[FIRST, OTHER],
+        1,
+    );
+    assert_seen(rt, set, [FIRST, FIRST], &[FIRST], &[SECOND], 1);
+    assert_seen(
+        rt,
+        set,
+        [(0, 9), (1, 9)],
+        &[SECOND, (0, 9), (1, 9)],
+        &[FIRST, THIRD],
+        3,
+    );
+    assert_seen(
+        rt,
+        set,
+        [(2, 82), (2, 82)],
+        &[(2, 2), (2, 80)],
+        &[(2, 1), SECOND],
+        41,
+    );
+    assert_seen(
+        rt,
+        set,
+        [LAST, LAST],
+        &[(2, 131_068), LAST],
+        &[(2, 131_067), SECOND],
+        65_535,
+    );
+    // As many runs as there may be.
+    assert_seen(
+        rt,
+        set,
+        [THIRD, LAST],
+        &[SECOND, THIRD, (2, 131_068)],
+        &[FIRST],
+        65_536,
+    );
 }
 
 // Asserts which dots a member has, in their order, and its row: of equal stamps that of the least dot.
@@ -174,6 +205,8 @@ fn assert_dead_and_live(rt: &impl Abort, alloc: Global, set: &MemberSet) {
     let mut three = Context::new(alloc);
     three.insert_run(site, 1, 3).expect(rt, "room");
     assert!(rt; set.live_without(&three) == 1);
+    drop(dead);
+    drop(three);
 }
 
 #[test]
@@ -185,24 +218,11 @@ fn dots_rows_and_runs_are_read_of_a_set(rt: HostRuntime) {
         Kill(SECOND),
     ];
     let mut set = set_of(&rt, rt.alloc(), LIVE);
-    for half in 1..65_535 {
-        do_changes(&rt, &mut set, &[Kill((2, 2 * half))]);
-    }
-    for row in SEEN {
-        assert_seen(&rt, &set, *row);
-    }
+    kill_dots(&rt, &mut set, 2, 2, 65_534);
+    assert_all_seen(&rt, &set);
     assert_member(&rt, &set);
     assert_dead_and_live(&rt, rt.alloc(), &set);
     drop(set);
-}
-
-// Lets every second dot of a site be dead from the first count on, `dots` in all.
-fn kill_dots(rt: &impl Abort, set: &mut MemberSet, site: u16, dots: u64)
-    requires { dots ≤ 65536 }
-{
-    for index in 0..dots {
-        do_changes(rt, set, &[Kill((site, 2 * index + 1))]);
-    }
 }
 
 // Lets the first `dots` dots of a site be live.
@@ -252,7 +272,7 @@ fn live_and_dead(rt: &impl Abort, alloc: Global, live: (u16, u64), dead: (u16, u
 {
     let mut set = MemberSet::new(alloc);
     put_dots(rt, &mut set, live.0, live.1);
-    kill_dots(rt, &mut set, dead.0, dead.1);
+    kill_dots(rt, &mut set, dead.0, 1, dead.1);
     set
 }
 

@@ -34,4 +34,5 @@ fn a_total_is_raised_up_to_its_limit(rt: HostRuntime) {
     );
     assert_of(&rt, &totals, 0, 2, (1_000_000_000, 1));
     raise(&rt, &mut totals, Calls::Abandoned, Ok(2));
+    drop(totals);
 }

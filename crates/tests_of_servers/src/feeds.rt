@@ -34,12 +34,14 @@ fn assert_fault_stays(rt: &impl Abort, alloc: Global, bytes: &[u8], want: FeedFa
         assert_fault(rt, &mut feed, want);
         feed_all(rt, &mut feed, b"\n\na: b\n\n");
     }
+    drop(feed);
 }
 
 #[test]
 fn a_fault_stays_whatever_is_fed(rt: HostRuntime) {
     let many = lines(&rt, rt.alloc(), 129);
     assert_fault_stays(&rt, rt.alloc(), &many, FeedFault::TooManyFields);
+    drop(many);
     let long = [b'x'; 1025];
     assert_fault_stays(&rt, rt.alloc(), &long, FeedFault::LineTooLong);
 }
@@ -49,30 +51,32 @@ fn has_none(feed: &mut Feed) -> bool {
     matches!(feed.next_message(), Ok(None))
 }
 
-// Sixteen messages of 128 full lines, one byte at a time: quadratic time would not end in time.
+// Feeds a full line, one byte at a time, which ends no message.
+fn feed_line(rt: &impl Abort, feed: &mut Feed) {
+    for _ in 0..1024u32 {
+        feed_all(rt, feed, b"x");
+        assert!(rt; has_none(feed));
+    }
+    feed_all(rt, feed, b"\n");
+}
+
+// Feeds a message of 128 full lines.
+fn feed_message(rt: &impl Abort, feed: &mut Feed) {
+    for _ in 0..128u32 {
+        feed_line(rt, feed);
+    }
+    feed_all(rt, feed, b"\n");
+    assert!(rt; matches!(feed.next_message(), Ok(Some(_))));
+}
+
+// Sixteen messages, one byte at a time: quadratic time would not end in time.
 #[test]
 fn bytes_are_looked_at_once(rt: HostRuntime) {
     let mut feed = Feed::new(rt.alloc());
     for _ in 0..16u32 {
-        for _ in 0..128u32 {
-            for _ in 0..1024u32 {
-                feed_all(&rt, &mut feed, b"x");
-                assert!(rt; has_none(&mut feed));
-            }
-            feed_all(&rt, &mut feed, b"\n");
-        }
-        feed_all(&rt, &mut feed, b"\n");
-        assert!(rt; matches!(feed.next_message(), Ok(Some(_))));
+        feed_message(&rt, &mut feed);
     }
-}
-
-// Feeds a piece, once more where memory is refused, and answers whether it was.
-fn feed_again(rt: &impl Abort, feed: &mut Feed, piece: &[u8]) -> bool {
-    let fed = feed.feed(piece);
-    if fed.is_err() {
-        feed_all(rt, feed, piece);
-    }
-    fed.is_err()
+    drop(feed);
 }
 
 // Asserts what a message has under a name; nothing is wanted where `value` is empty.
@@ -83,17 +87,6 @@ fn assert_value(rt: &impl Abort, message: &Message, name: &[u8], value: &[u8]) {
     }
 }
 
-// Asserts what the next message has under a name; it is asked for once more where memory is refused. Answers whether it was.
-fn asks_again(rt: &impl Abort, feed: &mut Feed, name: &[u8], value: &[u8]) -> bool {
-    let (next, is_refused) = match feed.next_message() {
-        Err(FeedFault::Memory) => (feed.next_message(), true),
-        next => (next, false),
-    };
-    let message = next.expect(rt, "no fault").expect(rt, "a message");
-    assert_value(rt, &message, name, value);
-    is_refused
-}
-
 // A stream of three messages in pieces.
 const PIECES: &[&[u8]] = &[
     b"\r\nAction: Queue",
@@ -102,8 +95,39 @@ const PIECES: &[&[u8]] = &[
     b"\nx\n\ny: z\n\n",
 ];
 
+// Feeds the pieces, each once more where memory is refused. Sets `is_refused` then.
+fn feed_pieces(rt: &impl Abort, feed: &mut Feed, is_refused: &mut bool) {
+    for piece in PIECES {
+        if feed.feed(piece).is_err() {
+            *is_refused = true;
+            feed_all(rt, feed, piece);
+        }
+    }
+}
+
 // What each message has under a name; nothing where the value is empty.
 const VALUES: &[(&str, &str)] = &[("action", "QueueStatus"), ("x", ""), ("y", "z")];
+
+// The next message, which is asked for once more where memory is refused. Sets `is_refused` then.
+fn next_message(rt: &impl Abort, feed: &mut Feed, is_refused: &mut bool) -> Message {
+    let next = match feed.next_message() {
+        Err(FeedFault::Memory) => {
+            *is_refused = true;
+            feed.next_message()
+        }
+        next => next,
+    };
+    next.expect(rt, "no fault").expect(rt, "a message")
+}
+
+// Asserts what each message has under a name. Sets `is_refused` where memory is refused.
+fn assert_values(rt: &impl Abort, feed: &mut Feed, is_refused: &mut bool) {
+    for (name, value) in VALUES {
+        let message = next_message(rt, feed, is_refused);
+        assert_value(rt, &message, name.as_bytes(), value.as_bytes());
+        drop(message);
+    }
+}
 
 // The messages are the same, whether they come at once or memory is refused and they are asked for again. tools/memory_tests.py
 // runs this test with each allocation refused in turn.
@@ -112,13 +136,10 @@ fn a_feed_gives_the_same_messages_when_memory_comes_later(rt: HostRuntime) {
     assert!(rt; println!(rt; "ready").is_ok());
     let mut feed = Feed::new(rt.alloc());
     let mut is_refused = false;
-    for piece in PIECES {
-        is_refused = feed_again(&rt, &mut feed, piece) || is_refused;
-    }
-    for (name, value) in VALUES {
-        is_refused = asks_again(&rt, &mut feed, name.as_bytes(), value.as_bytes()) || is_refused;
-    }
+    feed_pieces(&rt, &mut feed, &mut is_refused);
+    assert_values(&rt, &mut feed, &mut is_refused);
     assert!(rt; has_none(&mut feed));
+    drop(feed);
     let end = if is_refused { "again" } else { "at once" };
     assert!(rt; println!(rt; "{end}").is_ok());
 }

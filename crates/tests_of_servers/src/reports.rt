@@ -37,8 +37,9 @@ impl Queues for Counted<'_> {
 #[test]
 fn a_report_of_other_queues_has_their_totals(rt: HostRuntime) {
     let alloc = rt.alloc();
+    let list = list(&rt, alloc, &["sales"]);
     let counted = Counted {
-        list: &list(&rt, alloc, &["sales"]),
+        list: &list,
         totals: CallTotals {
             completed: 3,
             abandoned: 1,
@@ -47,4 +48,8 @@ fn a_report_of_other_queues_has_their_totals(rt: HostRuntime) {
     let request = whole_status(alloc);
     let given = write_report(alloc, &counted, &request).expect(&rt, "memory");
     assert_report(&rt, &given, &[queue_block!("sales", "3", "1")]);
+    drop(given);
+    drop(request);
+    drop(counted);
+    drop(list);
 }

@@ -283,15 +283,21 @@ fn all_that_is_due_is_written_before_each_read(rt: HostRuntime) {
     }
 }
 
+// So many messages of one line each.
+fn short_messages(rt: &impl Abort, alloc: Global, number: usize) -> Vec<u8> {
+    let mut stream = Vec::new(alloc);
+    for _ in 0..number {
+        stream.extend_from_slice(b"x\n\n").expect(rt, "memory");
+    }
+    stream
+}
+
 #[test]
 fn a_session_has_more_messages_than_reads(rt: HostRuntime) {
     // One more than there may be reads, in pieces of 1,024 bytes.
     const MESSAGES: usize = 1_000_001;
     let alloc = rt.alloc();
-    let mut stream = Vec::new(alloc);
-    for _ in 0..MESSAGES {
-        stream.extend_from_slice(b"x\n\n").expect(&rt, "memory");
-    }
+    let stream = short_messages(&rt, alloc, MESSAGES);
     let taken = Cell::new(0);
     let mut reader = MemorySource::new(&stream, 1_024);
     let mut writer = CountingSink { taken: &taken };

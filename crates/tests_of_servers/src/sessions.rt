@@ -1,6 +1,6 @@
 //! What a session replies upon each answer, also those that no site gives to what was asked.
 use crate::shared::assert_text;
-use ami_session::{Act, Session};
+use ami_session::{Act, Pending, Session};
 use ami_text::{Feed, Message};
 use dots::Bytes;
 use replica::Refusal;
@@ -34,19 +34,28 @@ fn message(rt: &impl Abort, alloc: Global, lines: &str) -> Message {
     found.expect(rt, "a message")
 }
 
-// What a session does upon a message of these lines.
-fn act(rt: &impl Abort, alloc: Global, session: &mut Session, lines: &str) -> Act {
+// What a trusted session keeps of a message of these lines until the site has answered.
+fn pending(rt: &impl Abort, alloc: Global, lines: &str) -> Pending {
     let message = message(rt, alloc, lines);
-    session.handle(alloc, &message).expect(rt, "memory")
+    let mut session = Session::trusted();
+    let act = session.handle(alloc, &message).expect(rt, "memory");
+    drop(message);
+    drop(session);
+    match act {
+        Act::Ask(asked, pending) => {
+            drop(asked);
+            pending
+        }
+        _ => rt.panic("nothing is asked"),
+    }
 }
 
 // Asserts what a trusted session replies to a message of these lines upon an answer.
 fn assert_reply(rt: &impl Abort, alloc: Global, lines: &str, answer: Answer, wanted: &[&str]) {
-    let Act::Ask(_, pending) = act(rt, alloc, &mut Session::trusted(), lines) else {
-        rt.panic("nothing is asked");
-    };
+    let pending = pending(rt, alloc, lines);
     let given = pending.answer(alloc, answer).ok().expect(rt, "a reply");
     assert_text(rt, given.as_slice(), wanted);
+    drop(given);
 }
 
 // Asserts the reply to a message of these lines where the site refuses what they ask.

@@ -73,9 +73,8 @@ impl Write for Faulty {
     }
 }
 
-// The errors of a device, and what a source or a sink over it answers: an interruption is borne a
-// thousand times, and any other error not once.
-const ANSWERS: [(u32, ErrorKind, Result<usize, Failed>); 5] = [
+// What a source or a sink answers over a device with so many errors of a kind: it bears 999 interruptions, and no other error.
+const ANSWERS: &[(u32, ErrorKind, Result<usize, Failed>)] = &[
     (999, ErrorKind::Interrupted, Ok(1)),
     (1000, ErrorKind::Interrupted, Err(Failed)),
     (1, ErrorKind::BrokenPipe, Err(Failed)),
@@ -83,35 +82,46 @@ const ANSWERS: [(u32, ErrorKind, Result<usize, Failed>); 5] = [
     (1, ErrorKind::TimedOut, Err(Failed)),
 ];
 
+// A device whose reads and writes fail at first.
+fn faulty(errors: u32, kind: ErrorKind) -> Faulty {
+    Faulty {
+        errors,
+        kind,
+        at_flush: false,
+    }
+}
+
+// Asserts what a source answers to one read, for which its reader has answered all of its errors.
+fn assert_read(rt: &impl Abort, reader: Faulty, want: &Result<usize, Failed>) {
+    let mut source = StdSource::new(reader);
+    assert_same(rt, &source.read(&mut [0u8; 4]), want);
+    assert_same(rt, &source.into_inner().errors, &0);
+}
+
 #[test]
 fn a_reader_that_is_interrupted_is_read_again(rt: HostRuntime) {
     for (errors, kind, want) in ANSWERS {
-        let mut source = StdSource::new(Faulty {
-            errors,
-            kind,
-            at_flush: false,
-        });
-        assert_same(&rt, &source.read(&mut [0u8; 4]), &want);
-        assert_same(&rt, &source.into_inner().errors, &0);
+        assert_read(&rt, faulty(*errors, *kind), want);
     }
+}
+
+// Asserts what a sink answers to one write, for which its writer has answered all of its errors.
+fn assert_written(rt: &impl Abort, sink: StdSink<Faulty>, want: &Result<usize, Failed>) {
+    let mut sink = sink;
+    assert_same(rt, &sink.write(b"ab"), want);
+    assert_same(rt, &sink.into_inner().errors, &0);
 }
 
 #[test]
 fn a_writer_that_is_interrupted_is_written_to_again(rt: HostRuntime) {
     for (errors, kind, want) in ANSWERS {
-        let mut sink = StdSink::new(Faulty {
-            errors,
-            kind,
-            at_flush: false,
-        });
-        assert_same(&rt, &sink.write(b"ab"), &want);
-        assert_same(&rt, &sink.into_inner().errors, &0);
+        assert_written(&rt, StdSink::new(faulty(*errors, *kind)), want);
     }
 }
 
 // How often a sink may wait, how often its writer times out or would block, and what the sink answers. A write that waits once is the
 // sink's without a number.
-const WAITS: [(u32, u32, ErrorKind, Result<usize, Failed>); 6] = [
+const WAITS: &[(u32, u32, ErrorKind, Result<usize, Failed>)] = &[
     (3, 2, ErrorKind::WouldBlock, Ok(1)),
     (3, 2, ErrorKind::TimedOut, Ok(1)),
     (3, 3, ErrorKind::WouldBlock, Err(Failed)),
@@ -123,30 +133,26 @@ const WAITS: [(u32, u32, ErrorKind, Result<usize, Failed>); 6] = [
 #[test]
 fn a_writer_that_times_out_is_written_to_again(rt: HostRuntime) {
     for (waits, errors, kind, want) in WAITS {
-        let writer = Faulty {
-            errors,
-            kind,
-            at_flush: false,
-        };
-        let mut sink = StdSink::new(writer).with_waits(waits);
-        assert_same(&rt, &sink.write(b"ab"), &want);
-        assert_same(&rt, &sink.into_inner().errors, &0);
+        let sink = StdSink::new(faulty(*errors, *kind)).with_waits(*waits);
+        assert_written(&rt, sink, want);
     }
+}
+
+// A sink that was written to over a writer whose flushes fail at first. That write has given its bytes.
+fn unflushed(rt: &impl Abort, errors: u32, kind: ErrorKind) -> StdSink<Faulty> {
+    let mut sink = StdSink::new(Faulty {
+        errors,
+        kind,
+        at_flush: true,
+    });
+    assert_same(rt, &sink.write(b"a"), &Ok(1));
+    sink
 }
 
 // The write whose flush fails has given its bytes, so it is the next one that fails.
 #[test]
 fn a_writer_that_is_not_flushed_fails_at_the_next_write(rt: HostRuntime) {
     for (errors, kind, want) in ANSWERS {
-        let mut sink = StdSink::new(Faulty {
-            errors,
-            kind,
-            at_flush: true,
-        });
-        let Ok(1) = sink.write(b"a") else {
-            rt.panic("the write fails");
-        };
-        assert_same(&rt, &sink.write(b"b"), &want);
-        assert_same(&rt, &sink.into_inner().errors, &0);
+        assert_written(&rt, unflushed(&rt, *errors, *kind), want);
     }
 }
