@@ -39,7 +39,9 @@ fn names(rt: &impl Abort, alloc: Global, texts: &[&str]) -> Vec<QueueName> {
 
 pub(crate) fn list(rt: &impl Abort, alloc: Global, texts: &[&str]) -> QueueList {
     let names = names(rt, alloc, texts);
-    QueueList::new(alloc, &names).expect(rt, "a list")
+    let list = QueueList::new(alloc, &names).expect(rt, "a list");
+    drop(names);
+    list
 }
 
 // The replica of a site that knows nothing yet.

@@ -83,7 +83,7 @@ const ANSWERS: &[(u32, ErrorKind, Result<usize, Failed>)] = &[
 ];
 
 // A device whose reads and writes fail at first.
-fn faulty(errors: u32, kind: ErrorKind) -> Faulty {
+fn failing_device(errors: u32, kind: ErrorKind) -> Faulty {
     Faulty {
         errors,
         kind,
@@ -101,7 +101,7 @@ fn assert_read(rt: &impl Abort, reader: Faulty, want: &Result<usize, Failed>) {
 #[test]
 fn a_reader_that_is_interrupted_is_read_again(rt: HostRuntime) {
     for (errors, kind, want) in ANSWERS {
-        assert_read(&rt, faulty(*errors, *kind), want);
+        assert_read(&rt, failing_device(*errors, *kind), want);
     }
 }
 
@@ -115,7 +115,7 @@ fn assert_written(rt: &impl Abort, sink: StdSink<Faulty>, want: &Result<usize, F
 #[test]
 fn a_writer_that_is_interrupted_is_written_to_again(rt: HostRuntime) {
     for (errors, kind, want) in ANSWERS {
-        assert_written(&rt, StdSink::new(faulty(*errors, *kind)), want);
+        assert_written(&rt, StdSink::new(failing_device(*errors, *kind)), want);
     }
 }
 
@@ -133,7 +133,7 @@ const WAITS: &[(u32, u32, ErrorKind, Result<usize, Failed>)] = &[
 #[test]
 fn a_writer_that_times_out_is_written_to_again(rt: HostRuntime) {
     for (waits, errors, kind, want) in WAITS {
-        let sink = StdSink::new(faulty(*errors, *kind)).with_waits(*waits);
+        let sink = StdSink::new(failing_device(*errors, *kind)).with_waits(*waits);
         assert_written(&rt, sink, want);
     }
 }
