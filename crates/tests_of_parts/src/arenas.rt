@@ -1,17 +1,16 @@
 //! Arenas: values under ids.
-use crate::shared::assert_same;
 use op_arena::{Arena, ArenaFault, CellId};
 use std::process::Abort;
 use std::sync::atomic::{AtomicU64, Ordering};
 
-// Asks for room, and asserts what that gives.
-fn reserve<const LAST: u32>(
-    rt: &impl Abort,
-    arena: &mut Arena<u32, LAST>,
-    room: u32,
-    want: Result<(), ArenaFault>,
-) {
-    assert!(rt; arena.reserve(room) == want);
+// Makes room for so many more values.
+fn reserve<const LAST: u32>(rt: &impl Abort, arena: &mut Arena<u32, LAST>, room: u32) {
+    assert!(rt; arena.reserve(room).is_ok());
+}
+
+// Asserts that there aren't cells enough for so many more values.
+fn assert_full<const LAST: u32>(rt: &impl Abort, arena: &mut Arena<u32, LAST>, room: u32) {
+    assert!(rt; arena.reserve(room) == Err(ArenaFault::Full));
 }
 
 // Places a value, for which there must be room.
@@ -20,37 +19,31 @@ fn place<const LAST: u32>(rt: &impl Abort, arena: &mut Arena<u32, LAST>, value: 
     arena.place(value)
 }
 
-// Asserts the value of an id.
-fn assert_value<const LAST: u32>(
-    rt: &impl Abort,
-    arena: &Arena<u32, LAST>,
-    id: CellId,
-    want: Option<u32>,
-) {
-    assert!(rt; arena.get(id).copied() == want);
-}
-
-// Takes the value of an id, and asserts what it is.
-fn take<const LAST: u32>(
-    rt: &impl Abort,
-    arena: &mut Arena<u32, LAST>,
-    id: CellId,
-    want: Option<u32>,
-) {
-    assert!(rt; arena.take(id) == want);
-}
-
-// Places a value, whose id must be this, and takes it out again.
-fn place_and_take<const LAST: u32>(
+// Places a value, whose id must be this.
+fn place_at<const LAST: u32>(
     rt: &impl Abort,
     arena: &mut Arena<u32, LAST>,
     value: u32,
-    want: CellId,
+    index: u32,
+    generation: u32,
 ) {
     let id = place(rt, arena, value);
-    assert!(rt; id == want);
-    assert_value(rt, arena, id, Some(value));
-    take(rt, arena, id, Some(value));
+    assert!(rt; id == CellId::new(index, generation));
+}
+
+// Asserts the value of the id of this index in the first generation.
+fn assert_value<const LAST: u32>(rt: &impl Abort, arena: &Arena<u32, LAST>, index: u32, want: u32) {
+    assert!(rt; arena.get(CellId::new(index, 0)).copied() == Some(want));
+}
+
+// Asserts that the id of this index in the first generation has no value.
+fn assert_spent<const LAST: u32>(rt: &impl Abort, arena: &Arena<u32, LAST>, index: u32) {
+    assert!(rt; arena.get(CellId::new(index, 0)).is_none());
+}
+
+// Takes the value of the id of this index in the first generation, and asserts what it is.
+fn take<const LAST: u32>(rt: &impl Abort, arena: &mut Arena<u32, LAST>, index: u32, want: u32) {
+    assert!(rt; arena.take(CellId::new(index, 0)) == Some(want));
 }
 
 // Asserts how many values there are, and how many cells are retired.
@@ -63,28 +56,30 @@ fn assert_cells<const LAST: u32>(
     assert!(rt; arena.len() == values && arena.retired() == retired);
 }
 
-// Asserts for how many more values there is room.
-fn assert_spare<const LAST: u32>(rt: &impl Abort, arena: &Arena<u32, LAST>, spare: u32) {
-    assert_eq!(rt; arena.spare(), spare);
+// Places a value in each cell from the second on, and takes it out again.
+fn place_and_take_all(rt: &impl Abort, arena: &mut Arena<u32, 0>) {
+    for index in 1..1_048_576 {
+        place_at(rt, arena, 7, index, 0);
+        assert_value(rt, arena, index, 7);
+        take(rt, arena, index, 7);
+    }
 }
 
 // An arena of one value and of 1,048,575 retired cells is full, and its value stays at its id.
 #[test]
 fn a_cell_of_one_generation_is_retired_after_one_value(rt: HostRuntime) {
     let mut arena: Arena<u32, 0> = Arena::new(rt.alloc());
-    reserve(&rt, &mut arena, 1_048_576, Ok(()));
-    let kept = place(&rt, &mut arena, 42);
-    for index in 1..1_048_576 {
-        place_and_take(&rt, &mut arena, 7, CellId::new(index, 0));
-    }
+    reserve(&rt, &mut arena, 1_048_576);
+    place_at(&rt, &mut arena, 42, 0, 0);
+    place_and_take_all(&rt, &mut arena);
     assert_cells(&rt, &arena, 1, 1_048_575);
-    reserve(&rt, &mut arena, 1, Err(ArenaFault::Full));
-    for (index, want) in [(0, Some(42)), (1, None), (1_048_575, None)] {
-        assert_value(&rt, &arena, CellId::new(index, 0), want);
-    }
-    take(&rt, &mut arena, kept, Some(42));
+    assert_full(&rt, &mut arena, 1);
+    assert_value(&rt, &arena, 0, 42);
+    assert_spent(&rt, &arena, 1);
+    assert_spent(&rt, &arena, 1_048_575);
+    take(&rt, &mut arena, 0, 42);
     assert_cells(&rt, &arena, 0, 1_048_576);
-    reserve(&rt, &mut arena, 1, Err(ArenaFault::Full));
+    assert_full(&rt, &mut arena, 1);
     drop(arena);
 }
 
@@ -110,60 +105,84 @@ fn place_counted<'a>(
     arena.place(Counted { drops })
 }
 
+// Places so many values that count their drops. The id of the last.
+fn place_all_counted<'a>(
+    rt: &impl Abort,
+    arena: &mut Arena<Counted<'a>, 3>,
+    drops: &'a AtomicU64,
+    values: u32,
+) -> CellId {
+    assert!(rt; arena.reserve(values).is_ok());
+    let mut last = place_counted(rt, arena, drops);
+    for _ in 1..values {
+        last = place_counted(rt, arena, drops);
+    }
+    last
+}
+
+// Takes the value of an id, and drops it alone.
+fn take_counted<'a>(
+    rt: &impl Abort,
+    arena: &mut Arena<Counted<'a>, 3>,
+    drops: &'a AtomicU64,
+    id: CellId,
+) {
+    let taken = arena.take(id);
+    assert_drops(rt, drops, 0);
+    drop(taken);
+    assert_drops(rt, drops, 1);
+}
+
 fn assert_drops(rt: &impl Abort, drops: &AtomicU64, want: u64) {
-    assert_eq!(rt; drops.load(Ordering::SeqCst), want);
+    assert!(rt; drops.load(Ordering::SeqCst) == want);
 }
 
 #[test]
 fn each_value_is_dropped_once(rt: HostRuntime) {
     let drops = AtomicU64::new(0);
     let mut arena: Arena<Counted<'_>, 3> = Arena::new(rt.alloc());
-    assert!(rt; arena.reserve(40).is_ok());
-    for _ in 0..39 {
-        place_counted(&rt, &mut arena, &drops);
-    }
-    let last = place_counted(&rt, &mut arena, &drops);
-    assert_same(&rt, &arena.len(), &40);
-    let taken = arena.take(last);
-    assert_drops(&rt, &drops, 0);
-    drop(taken);
-    assert_drops(&rt, &drops, 1);
+    let last = place_all_counted(&rt, &mut arena, &drops, 40);
+    assert!(rt; arena.len() == 40);
+    take_counted(&rt, &mut arena, &drops, last);
     drop(arena);
     assert_drops(&rt, &drops, 40);
+}
+
+// Places a value in each cell.
+fn place_all(rt: &impl Abort, arena: &mut Arena<u32, 9>) {
+    for value in 0..1_048_576 {
+        place_at(rt, arena, value, value, 0);
+        assert_value(rt, arena, value, value);
+    }
 }
 
 #[test]
 fn an_arena_has_1_048_576_cells(rt: HostRuntime) {
     let mut arena: Arena<u32, 9> = Arena::new(rt.alloc());
-    reserve(&rt, &mut arena, 1_048_577, Err(ArenaFault::Full));
-    assert_spare(&rt, &arena, 0);
-    reserve(&rt, &mut arena, 1_048_576, Ok(()));
-    assert_spare(&rt, &arena, 1_048_576);
-    for value in 0..1_048_576 {
-        let id = place(&rt, &mut arena, value);
-        assert!(rt; id == CellId::new(value, 0));
-        assert_value(&rt, &arena, id, Some(value));
-    }
+    assert_full(&rt, &mut arena, 1_048_577);
+    assert!(rt; arena.spare() == 0);
+    reserve(&rt, &mut arena, 1_048_576);
+    assert!(rt; arena.spare() == 1_048_576);
+    place_all(&rt, &mut arena);
     assert_cells(&rt, &arena, 1_048_576, 0);
-    assert_spare(&rt, &arena, 0);
-    reserve(&rt, &mut arena, 1, Err(ArenaFault::Full));
-    for index in [1, 2, 16, 1_048_575] {
-        assert_value(&rt, &arena, CellId::new(index, 0), Some(index));
-    }
+    assert!(rt; arena.spare() == 0);
+    assert_full(&rt, &mut arena, 1);
+    assert_value(&rt, &arena, 1, 1);
+    assert_value(&rt, &arena, 2, 2);
+    assert_value(&rt, &arena, 16, 16);
+    assert_value(&rt, &arena, 1_048_575, 1_048_575);
     drop(arena);
 }
 
 #[test]
 fn the_cell_that_was_taken_last_is_used_first(rt: HostRuntime) {
     let mut arena: Arena<u32, 9> = Arena::new(rt.alloc());
-    reserve(&rt, &mut arena, 2, Ok(()));
-    let first = place(&rt, &mut arena, 1);
-    let second = place(&rt, &mut arena, 2);
-    take(&rt, &mut arena, first, Some(1));
-    take(&rt, &mut arena, second, Some(2));
-    for id in [second, first] {
-        let next = place(&rt, &mut arena, 3);
-        assert!(rt; next == CellId::new(id.index(), 1));
-    }
+    reserve(&rt, &mut arena, 2);
+    let first = place(&rt, &mut arena, 1).index();
+    let second = place(&rt, &mut arena, 2).index();
+    take(&rt, &mut arena, first, 1);
+    take(&rt, &mut arena, second, 2);
+    place_at(&rt, &mut arena, 3, second, 1);
+    place_at(&rt, &mut arena, 3, first, 1);
     drop(arena);
 }

@@ -21,10 +21,15 @@ fn assert_dead(rt: &impl Abort, set: &MemberSet, id: CellId) {
     assert!(rt; set.id(dot(rt, FIRST)).is_none());
 }
 
+// Joins a set, which agrees.
+fn join(rt: &impl Abort, set: &mut MemberSet, other: MemberSet) {
+    set.join(other).ok().expect(rt, "sets that agree");
+}
+
 // Joins a set with the first dot and another one into one of the first dot. Then the first dot dies, and one more gets live.
 fn assert_ids(rt: &impl Abort, set: &mut MemberSet, joined: MemberSet) {
     let first = id_of(rt, set, FIRST, SIP_1);
-    assert!(rt; set.agrees(&joined) && set.join(joined).is_ok());
+    join(rt, set, joined);
     let other = id_of(rt, set, OTHER, SIP_2);
     assert!(rt; id_of(rt, set, FIRST, SIP_1) == first && other != first);
     do_changes(rt, set, &[Kill(FIRST)]);

@@ -1,14 +1,14 @@
 //! Contexts: sets of dots, as runs.
 ghost use Rattle.std.specs.Prelude.{◌≤◌};
 
-use crate::shared::{ToldDot, assert_same, dot, site};
+use crate::shared::{ToldDot, dot, site};
 use causal_context::{Context, ContextFault, Run};
 use std::alloc::Global;
 use std::process::Abort;
 
 // Adds a dot, for which there is room.
 fn insert(rt: &impl Abort, context: &mut Context, told: ToldDot) {
-    assert!(rt; context.insert(dot(rt, told)) == Ok(()));
+    assert!(rt; context.insert(dot(rt, told)).is_ok());
 }
 
 // The context of one dot.
@@ -32,18 +32,25 @@ fn every_second(rt: &impl Abort, alloc: Global, first: u64, runs: u64) -> Contex
 
 // Asserts how many runs there are, and the prefix of site 0.
 fn assert_runs(rt: &impl Abort, context: &Context, runs: usize, prefix: u64) {
-    assert_eq!(rt; context.runs(), runs);
-    assert_eq!(rt; context.prefix(site(rt, 0)), prefix);
+    assert!(rt; context.runs() == runs);
+    assert!(rt; context.prefix(site(rt, 0)) == prefix);
 }
 
-// Joins another context, and asserts what that gives.
-fn join(rt: &impl Abort, context: &mut Context, other: &Context, want: Result<(), ContextFault>) {
-    assert!(rt; context.join(other) == want);
+// Joins another context, for which there is room.
+fn join(rt: &impl Abort, context: &mut Context, other: &Context) {
+    assert!(rt; context.join(other).is_ok());
 }
 
-// Asserts whether a context covers another.
-fn assert_covers(rt: &impl Abort, context: &Context, other: &Context, want: bool) {
-    assert!(rt; context.covers(other) == want);
+// Asserts that the join of another context is refused for too many runs.
+fn assert_too_many(rt: &impl Abort, context: &mut Context, other: &Context) {
+    assert!(rt; context.join(other) == Err(ContextFault::RunsFull));
+    assert!(rt; context.prepare(other) == Err(ContextFault::RunsFull));
+    assert!(rt; !context.prepared(other));
+}
+
+// Asserts that a context covers another.
+fn assert_covers(rt: &impl Abort, context: &Context, other: &Context) {
+    assert!(rt; context.covers(other));
 }
 
 // Asserts that two contexts have the same runs.
@@ -51,18 +58,23 @@ fn assert_same_runs(rt: &impl Abort, context: &Context, other: &Context) {
     assert!(rt; context.as_slice() == other.as_slice());
 }
 
+// Asserts that a context is one run of site 0, from 1 to `last`.
+fn assert_one_run(rt: &impl Abort, context: &Context, last: u64) {
+    let run = Run {
+        site: site(rt, 0),
+        first: 1,
+        last,
+    };
+    assert!(rt; context.as_slice() == [run].as_slice());
+}
+
 #[test]
 fn runs_that_touch_are_joined_to_one(rt: HostRuntime) {
     let mut context = every_second(&rt, rt.alloc(), 1, 65_536);
     let other = every_second(&rt, rt.alloc(), 2, 65_535);
-    join(&rt, &mut context, &other, Ok(()));
+    join(&rt, &mut context, &other);
     assert_runs(&rt, &context, 1, 131_071);
-    let whole = Run {
-        site: site(&rt, 0),
-        first: 1,
-        last: 131_071,
-    };
-    assert_eq!(rt; context.as_slice(), [whole].as_slice());
+    assert_one_run(&rt, &context, 131_071);
     drop(context);
     drop(other);
 }
@@ -72,15 +84,12 @@ fn a_join_of_one_run_too_many_is_refused(rt: HostRuntime) {
     let mut context = every_second(&rt, rt.alloc(), 1, 65_536);
     let before = context.copy().expect(&rt, "memory");
     let other = of_dot(&rt, rt.alloc(), (1, 1));
-    let full = Err(ContextFault::RunsFull);
-    join(&rt, &mut context, &other, full);
-    assert_same(&rt, &context.prepare(&other), &full);
-    assert!(rt; !context.prepared(&other));
+    assert_too_many(&rt, &mut context, &other);
     assert_same_runs(&rt, &context, &before);
     // One dot that two runs lack makes room for one run.
     insert(&rt, &mut context, (0, 2));
     assert_runs(&rt, &context, 65_535, 3);
-    join(&rt, &mut context, &other, Ok(()));
+    join(&rt, &mut context, &other);
     assert_runs(&rt, &context, 65_536, 3);
     drop(context);
     drop(before);
@@ -91,16 +100,15 @@ fn a_join_of_one_run_too_many_is_refused(rt: HostRuntime) {
 #[test]
 fn few_runs_may_pass_the_limit_before_the_last(rt: HostRuntime) {
     let mut context = every_second(&rt, rt.alloc(), 1, 65_534);
-    for count in [1, 3] {
-        insert(&rt, &mut context, (1, count));
-    }
+    insert(&rt, &mut context, (1, 1));
+    insert(&rt, &mut context, (1, 3));
     let mut other = of_dot(&rt, rt.alloc(), (0, 131_075));
     insert(&rt, &mut other, (1, 2));
-    join(&rt, &mut context, &other, Ok(()));
+    join(&rt, &mut context, &other);
     assert_runs(&rt, &context, 65_536, 1);
-    assert_covers(&rt, &context, &other, true);
+    assert_covers(&rt, &context, &other);
     insert(&rt, &mut other, (2, 1));
-    join(&rt, &mut context, &other, Err(ContextFault::RunsFull));
+    assert_too_many(&rt, &mut context, &other);
     assert_runs(&rt, &context, 65_536, 1);
     drop(context);
     drop(other);

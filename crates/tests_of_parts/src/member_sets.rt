@@ -184,28 +184,40 @@ fn assert_all_seen(rt: &impl Abort, set: &MemberSet) {
     );
 }
 
-// Asserts which dots a member has, in their order, and its row: of equal stamps that of the least dot.
-fn assert_member(rt: &impl Abort, set: &MemberSet) {
+// Asserts which dots SIP/2 has, in their order.
+fn assert_dots(rt: &impl Abort, set: &MemberSet) {
     let sip = member(rt, SIP_2);
     let mut dots = set.dots(&sip);
-    for wanted in [FIRST, OTHER] {
-        assert!(rt; dots.next() == Some(dot(rt, wanted)));
-    }
+    assert!(rt; dots.next() == Some(dot(rt, FIRST)));
+    assert!(rt; dots.next() == Some(dot(rt, OTHER)));
     assert!(rt; dots.next().is_none());
-    let row = set.row(&sip).expect(rt, "a row");
-    assert!(rt; row.penalty == 7 && !row.paused && row.name.is_empty() && row.ring);
-    assert!(rt; set.row(&member(rt, "SIP/3")).is_none());
 }
 
-// Asserts the dead dots of site 0, and how many dots are live but for its first three.
-fn assert_dead_and_live(rt: &impl Abort, alloc: Global, set: &MemberSet) {
-    let site = site(rt, 0);
-    let dead = set.dead_of(site).expect(rt, "memory");
+// Asserts the row of SIP/2, which is of equal stamps that of the least dot.
+fn assert_row(rt: &impl Abort, set: &MemberSet) {
+    let sip = member(rt, SIP_2);
+    let row = set.row(&sip).expect(rt, "a row");
+    assert!(rt; row.penalty == 7 && !row.paused && row.name.is_empty() && row.ring);
+}
+
+// Asserts that SIP/3 has no row.
+fn assert_no_row(rt: &impl Abort, set: &MemberSet) {
+    let sip = member(rt, "SIP/3");
+    assert!(rt; set.row(&sip).is_none());
+}
+
+// Asserts the dead dots of site 0.
+fn assert_dead(rt: &impl Abort, set: &MemberSet) {
+    let dead = set.dead_of(site(rt, 0)).expect(rt, "memory");
     assert!(rt; dead.contains(dot(rt, SECOND)) && dead.runs() == 1);
-    let mut three = Context::new(alloc);
-    three.insert_run(site, 1, 3).expect(rt, "room");
-    assert!(rt; set.live_without(&three) == 1);
     drop(dead);
+}
+
+// Asserts how many dots are live but for the first three of site 0.
+fn assert_live(rt: &impl Abort, alloc: Global, set: &MemberSet) {
+    let mut three = Context::new(alloc);
+    three.insert_run(site(rt, 0), 1, 3).expect(rt, "room");
+    assert!(rt; set.live_without(&three) == 1);
     drop(three);
 }
 
@@ -220,8 +232,11 @@ fn dots_rows_and_runs_are_read_of_a_set(rt: HostRuntime) {
     let mut set = set_of(&rt, rt.alloc(), LIVE);
     kill_dots(&rt, &mut set, 2, 2, 65_534);
     assert_all_seen(&rt, &set);
-    assert_member(&rt, &set);
-    assert_dead_and_live(&rt, rt.alloc(), &set);
+    assert_dots(&rt, &set);
+    assert_row(&rt, &set);
+    assert_no_row(&rt, &set);
+    assert_dead(&rt, &set);
+    assert_live(&rt, rt.alloc(), &set);
     drop(set);
 }
 
@@ -234,33 +249,50 @@ fn put_dots(rt: &impl Abort, set: &mut MemberSet, site: u16, dots: u64)
     }
 }
 
+// Asserts that a join lacked memory, and that both sets say what they said before it.
+fn assert_refused(
+    rt: &impl Abort,
+    set: &MemberSet,
+    back: MemberSet,
+    fault: JoinFault,
+    before: &MemberSet,
+    other_before: &MemberSet,
+) {
+    assert!(rt; fault == JoinFault::Memory);
+    assert!(rt; set.same(before));
+    assert!(rt; back.same(other_before));
+    drop(back);
+}
+
 // Joins a set, and answers whether there was memory for that. Where there was none, both say what they said.
 fn is_joined(
     rt: &impl Abort,
     set: &mut MemberSet,
     other: MemberSet,
-    before: (&MemberSet, &MemberSet),
+    before: &MemberSet,
+    other_before: &MemberSet,
 ) -> bool {
-    let Err((fault, back)) = set.join(other) else {
-        return true;
-    };
-    assert!(rt; fault == JoinFault::Memory);
-    assert!(rt; set.same(before.0) && back.same(before.1));
-    drop(back);
-    false
+    match set.join(other) {
+        Ok(()) => true,
+        Err((fault, back)) => {
+            assert_refused(rt, set, back, fault, before, other_before);
+            false
+        }
+    }
+}
+
+// Prints a word on a line of its own.
+fn print(rt: &(impl Abort + Print), word: &str) {
+    assert!(rt; println!(rt; "{word}").is_ok());
 }
 
 // Joins a set, whatever memory there is, and prints how that ended.
 fn join_if_it_can(rt: &(impl Abort + Print), set: &mut MemberSet, other: MemberSet) {
     let before = set.copy().expect(rt, "memory");
     let other_before = other.copy().expect(rt, "memory");
-    assert!(rt; println!(rt; "ready").is_ok());
-    let end = if is_joined(rt, set, other, (&before, &other_before)) {
-        "joined"
-    } else {
-        "refused"
-    };
-    assert!(rt; println!(rt; "{end}").is_ok());
+    print(rt, "ready");
+    let is_joined = is_joined(rt, set, other, &before, &other_before);
+    print(rt, if is_joined { "joined" } else { "refused" });
     drop(before);
     drop(other_before);
 }

@@ -7,7 +7,6 @@ use dots::{Dot, Interface, Member, Penalty, SiteId, Stamp};
 use lww_registers::{Fields, Register};
 use member_orset::{JoinFault, MemberSet};
 use std::alloc::Global;
-use std::fmt::Debug;
 use std::process::Abort;
 
 // A dot, told as its site and its count.
@@ -33,11 +32,6 @@ pub(crate) enum Change {
     Assert(ToldDot, ToldMember, u64, u32),
     // A dot is killed.
     Kill(ToldDot),
-}
-
-// Asserts that a value is the wanted one.
-pub(crate) fn assert_same<T: PartialEq + Debug>(rt: &impl Abort, value: &T, want: &T) {
-    assert_eq!(rt; value, want);
 }
 
 pub(crate) fn site(rt: &impl Abort, number: u16) -> SiteId {

@@ -1,32 +1,42 @@
 //! Values at their limits, with what each must be.
-use crate::shared::{assert_same, site};
+use crate::shared::site;
 use dots::{Dot, Interface, Pause, Penalty, QueueName, SiteId, Stamp, Text80, TextFault};
 use std::process::Abort;
 
 const GREATEST: u64 = 1_099_511_627_776;
 
+fn assert_site(rt: &impl Abort, number: u16, is_site: bool) {
+    assert!(rt; SiteId::new(number).is_some() == is_site);
+}
+
+fn assert_penalty(rt: &impl Abort, number: u32, is_penalty: bool) {
+    assert!(rt; Penalty::new(number).is_some() == is_penalty);
+}
+
 #[test]
 fn sites_and_penalties_have_limits(rt: HostRuntime) {
-    for (number, is_site) in [(0, true), (63, true), (64, false), (65535, false)] {
-        assert_same(&rt, &SiteId::new(number).is_some(), &is_site);
-    }
-    for (number, is_penalty) in [(0, true), (2_147_483_647, true), (2_147_483_648, false)] {
-        assert_same(&rt, &Penalty::new(number).is_some(), &is_penalty);
-    }
+    assert_site(&rt, 0, true);
+    assert_site(&rt, 63, true);
+    assert_site(&rt, 64, false);
+    assert_site(&rt, 65_535, false);
+    assert_penalty(&rt, 0, true);
+    assert_penalty(&rt, 2_147_483_647, true);
+    assert_penalty(&rt, 2_147_483_648, false);
+}
+
+// Asserts whether a number is a count of a dot, and a time of a stamp.
+fn assert_count(rt: &impl Abort, number: u64, is_count: bool) {
+    let site = site(rt, 63);
+    assert!(rt; Dot::new(site, number).is_some() == is_count);
+    assert!(rt; Stamp::new(number, site).is_some() == is_count);
 }
 
 #[test]
 fn counts_and_times_have_limits(rt: HostRuntime) {
-    let site = site(&rt, 63);
-    for (count, is_count) in [
-        (0, false),
-        (1, true),
-        (GREATEST, true),
-        (GREATEST + 1, false),
-    ] {
-        assert_same(&rt, &Dot::new(site, count).is_some(), &is_count);
-        assert_same(&rt, &Stamp::new(count, site).is_some(), &is_count);
-    }
+    assert_count(&rt, 0, false);
+    assert_count(&rt, 1, true);
+    assert_count(&rt, GREATEST, true);
+    assert_count(&rt, GREATEST + 1, false);
 }
 
 // Asserts the fault of bytes as a text, and as a name.
@@ -36,9 +46,9 @@ fn assert_faults(
     text_fault: Option<TextFault>,
     name_fault: Option<TextFault>,
 ) {
-    assert_same(rt, &Text80::new(bytes).err(), &text_fault);
-    assert_same(rt, &Interface::new(bytes).err(), &name_fault);
-    assert_same(rt, &QueueName::new(bytes).err(), &name_fault);
+    assert!(rt; Text80::new(bytes).err() == text_fault);
+    assert!(rt; Interface::new(bytes).err() == name_fault);
+    assert!(rt; QueueName::new(bytes).err() == name_fault);
 }
 
 #[test]

@@ -3,12 +3,11 @@ use dots::{Bytes, QueueName, SiteId, Text80};
 use replica::{QueueList, Replica};
 use status_report::StatusRequest;
 use std::alloc::Global;
-use std::fmt::Debug;
 use std::process::Abort;
 
 // Asserts that a value is the wanted one.
-pub(crate) fn assert_same<T: PartialEq + Debug>(rt: &impl Abort, value: &T, want: &T) {
-    assert_eq!(rt; value, want);
+pub(crate) fn assert_same<T: PartialEq>(rt: &impl Abort, value: &T, want: &T) {
+    assert!(rt; *value == *want);
 }
 
 // Asserts what bytes are.
