@@ -58,12 +58,12 @@ fn assert_same_runs(rt: &impl Abort, context: &Context, other: &Context) {
     assert!(rt; context.as_slice() == other.as_slice());
 }
 
-// Asserts that a context is one run of site 0, from 1 to `last`.
-fn assert_one_run(rt: &impl Abort, context: &Context, last: u64) {
+// Asserts that a context is one run of site 0, from 1 to 131,071.
+fn assert_one_run(rt: &impl Abort, context: &Context) {
     let run = Run {
         site: site(rt, 0),
         first: 1,
-        last,
+        last: 131_071,
     };
     assert!(rt; context.as_slice() == [run].as_slice());
 }
@@ -74,7 +74,7 @@ fn runs_that_touch_are_joined_to_one(rt: HostRuntime) {
     let other = every_second(&rt, rt.alloc(), 2, 65_535);
     join(&rt, &mut context, &other);
     assert_runs(&rt, &context, 1, 131_071);
-    assert_one_run(&rt, &context, 131_071);
+    assert_one_run(&rt, &context);
     drop(context);
     drop(other);
 }
