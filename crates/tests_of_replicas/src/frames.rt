@@ -3,6 +3,7 @@
 use crate::parse_frames::bytes_of;
 use delta_codec::{DecodeFault, Frame, decode, encode};
 use std::alloc::Global;
+use std::io::Print;
 use std::process::Abort;
 
 // Whether bytes have a fault.
@@ -41,6 +42,11 @@ fn is_read_and_spelled(rt: &impl Abort, alloc: Global, bytes: &[u8], again: &[u8
     }
 }
 
+// Prints a word on a line of its own.
+fn print(rt: &(impl Abort + Print), word: &str) {
+    assert!(rt; println!(rt; "{word}").is_ok());
+}
+
 // A frame without a ring has the same bytes in both versions, but for the version itself. Whatever memory there is, what is at fault up to
 // the heading is told. tools/memory_tests.py runs this test with each allocation refused in turn.
 #[test]
@@ -49,12 +55,10 @@ fn a_frame_is_read_and_spelled_again_or_memory_is_wanted(rt: HostRuntime) {
     let mut again = bytes_of(&rt, rt.alloc(), "ADDED");
     *again.get_mut(6).expect(&rt, "a version") = 2;
     let (_, front) = bytes.split_last().expect(&rt, "a byte");
-    assert!(rt; println!(rt; "ready").is_ok());
+    print(&rt, "ready");
     assert!(rt; has_fault(rt.alloc(), front, DecodeFault::Truncated));
-    let end = if is_read_and_spelled(&rt, rt.alloc(), &bytes, &again) {
-        "spelled"
-    } else {
-        "refused"
-    };
-    assert!(rt; println!(rt; "{end}").is_ok());
+    let is_spelled = is_read_and_spelled(&rt, rt.alloc(), &bytes, &again);
+    print(&rt, if is_spelled { "spelled" } else { "refused" });
+    drop(bytes);
+    drop(again);
 }

@@ -11,6 +11,7 @@ use site_worker::{
 use sites_world::World;
 use status_report::{Ask, report};
 use std::alloc::Global;
+use std::io::Print;
 use std::process::Abort;
 use std::sync::Wait;
 use std::sync::atomic::AtomicU64;
@@ -379,6 +380,11 @@ fn end_of(
     }
 }
 
+// Prints a word on a line of its own.
+fn print(rt: &(impl Abort + Print), word: &str) {
+    assert!(rt; println!(rt; "{word}").is_ok());
+}
+
 // Runs three sites, and prints how that ended; tools/memory_tests.py runs this test with each allocation refused in turn.
 #[test]
 fn memory_of_a_run(rt: HostRuntime) {
@@ -386,14 +392,14 @@ fn memory_of_a_run(rt: HostRuntime) {
     let list = list(&rt, alloc);
     let works = works_of_three(&rt, alloc);
     let mut journals = Vec::with_capacity(alloc, 3).expect(&rt, "memory");
-    assert!(rt; println!(rt; "ready").is_ok());
+    print(&rt, "ready");
     let end = match ran(&rt, alloc, &list, works) {
         Ok(ends) => end_of(&rt, alloc, ends, &mut journals),
         Err(RunFault::NoThread) => "no thread",
         Err(RunFault::Memory) => "no run",
         Err(RunFault::BadSites) => rt.panic("three sites"),
     };
-    assert!(rt; println!(rt; "{end}").is_ok());
+    print(&rt, end);
     drop(list);
     drop(journals);
 }
