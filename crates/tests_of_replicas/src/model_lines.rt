@@ -128,6 +128,14 @@ fn outcome_text(rt: &impl Abort, alloc: Global, outcome: &Outcome) -> String {
     string(rt, alloc, text)
 }
 
+// Keeps the frame that came of a step, if one did.
+fn keep_frame(rt: &impl Abort, world: &mut World, outcome: Outcome) {
+    match outcome {
+        Outcome::Framed { frame, .. } => world.frames.push(frame).expect(rt, "memory"),
+        other => drop(other),
+    }
+}
+
 // Lets a site do a step, and gives what comes of it.
 fn do_step(rt: &impl Abort, alloc: Global, world: &mut World, at: &str, step: &Step) -> String {
     let site = site(rt, at);
@@ -135,9 +143,7 @@ fn do_step(rt: &impl Abort, alloc: Global, world: &mut World, at: &str, step: &S
     let (known, outcome) = after.expect(rt, "memory");
     let given = outcome_text(rt, alloc, &outcome);
     *site_at_mut(rt, world, at) = known;
-    if let Outcome::Framed { frame, .. } = outcome {
-        world.frames.push(frame).expect(rt, "memory");
-    }
+    keep_frame(rt, world, outcome);
     given
 }
 
@@ -150,25 +156,28 @@ fn row_of(rt: &impl Abort, alloc: Global, known: &[Operation], member: &Member) 
 // The interfaces of a queue with their penalties.
 fn rows_text(rt: &impl Abort, alloc: Global, known: &[Operation], queue: u16) -> String {
     let mut text = String::new(alloc);
-    for (interface, row) in rows(alloc, known, queue).expect(rt, "memory").iter() {
+    let rows = rows(alloc, known, queue).expect(rt, "memory");
+    for (interface, row) in rows.as_slice() {
         let (of, penalty) = (utf8(rt, interface.as_bytes()), row.penalty);
         let one = format!(in alloc; "[{of} {penalty}]").expect(rt, "memory");
         push(rt, &mut text, &one);
+        drop(one);
     }
+    drop(rows);
     text
 }
 
 // The visible dots of a member.
 fn dots_text(rt: &impl Abort, alloc: Global, known: &[Operation], member: &Member) -> String {
     let mut text = String::new(alloc);
-    for dot in dots_of_member(alloc, known, member)
-        .expect(rt, "memory")
-        .iter()
-    {
+    let dots = dots_of_member(alloc, known, member).expect(rt, "memory");
+    for dot in dots.as_slice() {
         let (site, count) = (dot.site().number(), dot.count());
         let one = format!(in alloc; "[{site}.{count}]").expect(rt, "memory");
         push(rt, &mut text, &one);
+        drop(one);
     }
+    drop(dots);
     text
 }
 
@@ -224,13 +233,16 @@ fn report_text(
         action_id: Bytes::new(Vec::new(alloc)),
     };
     let given = status(alloc, known, list, &request).expect(rt, "memory");
+    drop(request);
     let mut text = utf8(rt, &given);
     for (name, told) in reports {
         if report(rt, alloc, told).as_str() == text {
             text = name;
         }
     }
-    string(rt, alloc, text)
+    let named = string(rt, alloc, text);
+    drop(given);
+    named
 }
 
 // What a line gives at a site: what is seen of what it knows, or what comes of a step.
@@ -289,6 +301,7 @@ fn assert_each(rt: &impl Abort, alloc: Global, world: &mut World, names: &Names,
             let (told, wanted) = line_and_wanted(line);
             let given = given(rt, alloc, world, names, &mut told.split_whitespace());
             assert_given(rt, told, &given, wanted);
+            drop(given);
         }
     }
 }

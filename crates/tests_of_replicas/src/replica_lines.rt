@@ -89,6 +89,8 @@ fn rows_text(rt: &impl Abort, alloc: Global, replica: &Replica, queue: u16) -> S
         let of = utf8(rt, interface.as_bytes());
         let one = format!(in alloc; "[{of} {row}]").expect(rt, "memory");
         push(rt, &mut text, &one);
+        drop(one);
+        drop(row);
     }
     if text.is_empty() {
         push(rt, &mut text, "none");
@@ -120,6 +122,7 @@ fn assert_each(rt: &impl Abort, alloc: Global, replica: &mut Replica, lines: &st
             let (told, wanted) = line_and_wanted(line);
             let given = given(rt, alloc, replica, &mut told.split_whitespace());
             assert_given(rt, told, &given, wanted);
+            drop(given);
         }
     }
 }
