@@ -1,4 +1,6 @@
 //! Sources and sinks over readers and writers of std's.
+ghost use Rattle.std.specs.Prelude.{◌≡◌, false};
+
 use crate::shared::{assert_bytes, assert_same};
 use ami_text::{Failed, Sink, Source, StdSink, StdSource};
 use std::io;
@@ -106,7 +108,9 @@ fn a_reader_that_is_interrupted_is_read_again(rt: HostRuntime) {
 }
 
 // Asserts what a sink answers to one write, for which its writer has answered all of its errors.
-fn assert_written(rt: &impl Abort, sink: StdSink<Faulty>, want: &Result<usize, Failed>) {
+fn assert_written(rt: &impl Abort, sink: StdSink<Faulty>, want: &Result<usize, Failed>)
+    requires { sink.failed ≡ false }
+{
     let mut sink = sink;
     assert_same(rt, &sink.write(b"ab"), want);
     assert_same(rt, &sink.into_inner().errors, &0);
@@ -139,13 +143,17 @@ fn a_writer_that_times_out_is_written_to_again(rt: HostRuntime) {
 }
 
 // A sink that was written to over a writer whose flushes fail at first. That write has given its bytes.
-fn unflushed(rt: &impl Abort, errors: u32, kind: ErrorKind) -> StdSink<Faulty> {
+fn unflushed(rt: &impl Abort, errors: u32, kind: ErrorKind) -> StdSink<Faulty>
+    ensures { result.failed ≡ false }
+{
     let mut sink = StdSink::new(Faulty {
         errors,
         kind,
         at_flush: true,
     });
-    assert_same(rt, &sink.write(b"a"), &Ok(1));
+    let Ok(1) = sink.write(b"a") else {
+        rt.panic("the write fails");
+    };
     sink
 }
 
