@@ -67,6 +67,9 @@ impl Delta {
         (self.members, self.totals)
     }
 
+    /// Drops it, which gives back its memory.
+    pub fn discard(self) {}
+
     /// Its set of members. It takes no memory, like all that only reads and has no fault.
     pub fn members(&self) -> &MemberSet
         ensures value { result.now ≡ self.now.members }
@@ -168,8 +171,8 @@ impl Delta {
         ensures retired { IfOk result (λ copy. copy.members.retired ≡ 0) }
         ensures limits { IfOk result (λ copy. IsWithinLimits copy.members) }
     {
-        let members = self.members.copy()?;
         let totals = self.totals.copy()?;
+        let members = self.members.copy()?;
         Ok(Delta::of(members, totals))
     }
 }
