@@ -51,10 +51,17 @@ pub(crate) fn join_both(
         (IsWithinLimits state.new.members × IsWithinLimits pending.new.members) }
 {
     let Ok(copy) = change.copy() else {
+        change.discard();
         return Err(Refusal::Memory);
     };
-    make_room(state, &change)?;
+    if let Err(refusal) = make_room(state, &change) {
+        copy.discard();
+        change.discard();
+        return Err(refusal);
+    }
     if let Err(refusal) = make_room(pending, &copy) {
+        copy.discard();
+        change.discard();
         return Err(refusal);
     }
     state.absorb(change);

@@ -180,7 +180,10 @@ impl Replica {
     {
         let list = self.list.copy()?;
         let state = self.state.copy()?;
-        let pending = self.pending.copy()?;
+        let Ok(pending) = self.pending.copy() else {
+            state.discard();
+            return Err(Memory);
+        };
         Ok(Replica {
             site: self.site,
             list,
