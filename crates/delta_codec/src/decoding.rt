@@ -38,10 +38,11 @@ fn read_content(alloc: Global, bytes: &[u8]) -> Result<Frame, DecodeFault>
     let context = read_runs(alloc, &mut reader)?;
     let members = read_cells(alloc, version, context, &mut reader)?;
     let totals = read_totals(alloc, &mut reader)?;
+    let delta = Delta::of(members, totals);
     if !reader.is_at_end() {
+        delta.discard();
         return Err(DecodeFault::BadRange);
     }
-    let delta = Delta::of(members, totals);
     Ok(Frame {
         maker,
         number,
