@@ -393,10 +393,10 @@ impl MemberSet {
         ensures spent { IfOk result (λ copy. copy.spent ≡ set.empty) }
         ensures retired { IfOk result (λ copy. copy.retired ≡ 0) }
     {
+        let Ok(context) = self.context.copy() else {
+            return Err(Memory);
+        };
         let cells = self.cells.copy()?;
-        match self.context.copy() {
-            Ok(context) => Ok(MemberSet { context, cells }),
-            Err(_) => Err(Memory),
-        }
+        Ok(MemberSet { context, cells })
     }
 }

@@ -9,5 +9,5 @@ invariant_of-result c =
     let kept = subst (λ (X : Type 0). X) (λ i. AreKept (sym c.in-Ok.ensures.ok i) (sym c.in_ok-cells.ensures.live i)) c.self.invariant.kept in
     set_unspent c.in-Ok.context.dots c.in_ok-cells.cells.live c.in_ok-cells.cells.spent kept c.in_ok-cells.ensures.spent
 
-pub returns-in-Ok-clause-retired : goal.returns-in-Ok-clause-retired
-returns-in-Ok-clause-retired c = none_retired _ c.in_ok-cells.cells.spent c.in_ok-cells.ensures.spent
+pub returns-clause-retired : goal.returns-clause-retired
+returns-clause-retired c = none_retired _ c.in_ok-cells.cells.spent c.in_ok-cells.ensures.spent
