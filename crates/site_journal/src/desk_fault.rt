@@ -13,10 +13,10 @@ pub enum DeskFault {
     #[error("journal full")]
     JournalFull,
     /// The bytes are no frame, or more follows it.
-    #[error("{0}")]
+    #[error(transparent)]
     Decode(DecodeFault),
     /// The site refuses the frame, for this cause.
-    #[error("{0}")]
+    #[error(transparent)]
     Take(TakeFault),
     /// The site has made 2^40 frames.
     #[error("numbers used up")]

@@ -22,6 +22,7 @@ use replica::{Frame, Refusal, Replica, TakeFault};
 use status_report::{Answer, Ask, ask};
 use std::alloc::Global;
 use std::marker::Model;
+use std::mem;
 
 /// How many steps may stand in a journal at most.
 pub const MOST_STEPS: u32 = 1_000_000;
@@ -80,7 +81,10 @@ fn cut_twice(alloc: Global, replica: &mut Replica) -> Result<(Option<Bytes>, Opt
     let number = replica.last().2 + 1;
     let (kept, given) = spelled(alloc, replica.site(), number, replica.pending())?;
     match replica.cut() {
-        Ok(Some(_)) => Ok((Some(kept), Some(given))),
+        Ok(Some(frame)) => {
+            drop(frame);
+            Ok((Some(kept), Some(given)))
+        }
         _ => unreachable!(),
     }
 }
@@ -95,8 +99,15 @@ fn whole_twice(alloc: Global, replica: &mut Replica) -> Result<(Bytes, Bytes), M
     let number = replica.last().2 + 1;
     let (kept, given) = spelled(alloc, replica.site(), number, replica.state())?;
     match replica.whole() {
-        Ok(_) => Ok((kept, given)),
-        Err(_) => Err(Memory),
+        Ok(frame) => {
+            drop(frame);
+            Ok((kept, given))
+        }
+        Err(_) => {
+            drop(kept);
+            drop(given);
+            Err(Memory)
+        }
     }
 }
 
@@ -109,6 +120,7 @@ fn frame_in(alloc: Global, bytes: &[u8]) -> Result<Frame, DecodeFault>
 {
     let (frame, len) = decode(alloc, bytes)?;
     if len < bytes.len() {
+        drop(frame);
         return Err(DecodeFault::BadRange);
     }
     Ok(frame)
@@ -284,6 +296,8 @@ impl Journaled {
             return Err(DeskFault::Memory);
         };
         let Ok((answer, told)) = ask_twice(self.alloc, &mut self.replica, asked) else {
+            drop(kept);
+            drop(given);
             return Err(DeskFault::Memory);
         };
         self.steps.push_reserved(Step {
@@ -399,13 +413,17 @@ impl Journaled {
             Err(fault) => return Err((decode_fault(fault), bytes)),
         };
         if self.steps.reserve(1).is_err() {
+            drop(frame);
             return Err((DeskFault::Memory, bytes));
         }
         let kept = Bytes::new(bytes);
         let Ok(given) = kept.copy() else {
+            drop(frame);
             return Err((DeskFault::Memory, kept.into_vec()));
         };
-        if let Err((fault, _)) = self.replica.take(frame) {
+        if let Err((fault, refused)) = self.replica.take(frame) {
+            drop(refused);
+            drop(given);
             return Err((take_fault(fault), kept.into_vec()));
         }
         self.steps.push_reserved(Step {
@@ -428,7 +446,7 @@ impl Journaled {
         let base = self.replica.copy()?;
         self.start += self.steps.len() as u64;
         self.steps.clear();
-        self.base = base;
+        drop(mem::replace(&mut self.base, base));
         Ok(())
     }
 }

@@ -19,7 +19,7 @@ pub returns-clause-leads : goal.returns-clause-leads
 returns-clause-leads c =
     let old = c.args.replica.now in
     let new = c.cut.new.self in
-    let frame = c.in-Ok-Some.field-0-0 in
+    let frame = c.in-Ok-Some.frame in
     let made : HasCut old frame new = subst (λ x. IfSome x (λ f. HasCut old f new)) c.in-Ok-Some.field-0-is c.in-Ok-Some.ensures.frame in
     let spelled = spells_same_in _ _ frame c.in_ok-kept.kept c.in_ok-kept.ensures.spelled (record {
       maker = c.site.ensures ∙ sym made.heading.maker;

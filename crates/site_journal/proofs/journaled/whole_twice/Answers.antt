@@ -11,7 +11,7 @@ pub returns-in-Ok-clause-leads : goal.returns-in-Ok-clause-leads
 returns-in-Ok-clause-leads c =
     let old = c.args.replica.now in
     let new = c.whole.new.self in
-    let frame = c.in-Ok.field-0 in
+    let frame = c.in-Ok.frame in
     let made : HasCopied old frame new = c.in-Ok.ensures.frame in
     let spelled = spells_same_in _ _ frame c.in_ok-kept.kept c.in_ok-kept.ensures.spelled (record {
       maker = c.site.ensures ∙ sym made.heading.maker;
