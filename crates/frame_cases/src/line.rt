@@ -4,6 +4,7 @@ use delta::Delta;
 use hex::FromHexError;
 use std::alloc::Global;
 use std::io::{self, ErrorKind, Write};
+use std::mem;
 
 // What the bytes of a line are.
 #[derive(Clone, Copy)]
@@ -24,18 +25,29 @@ pub(crate) fn give_line<W: Write>(
         return Ok(());
     }
     if line == "new" {
-        *held = Delta::empty(alloc);
+        drop(mem::replace(held, Delta::empty(alloc)));
         return Ok(());
     }
     let (kind, digits) = kind_of(line);
     match hex::decode(alloc, digits) {
-        Ok(bytes) => match kind {
-            Kind::Frame => say_front(alloc, out, &bytes),
-            Kind::Stream => say_stream(alloc, out, &bytes),
-            Kind::Join => say_joined(alloc, out, held, &bytes),
-        },
+        Ok(bytes) => give_bytes(alloc, out, held, kind, &bytes),
         Err(FromHexError::OutOfMemory) => Err(io::Error::from(ErrorKind::OutOfMemory)),
         Err(_) => writeln!(out, "no hexadecimal"),
+    }
+}
+
+// Writes what bytes of a kind give.
+fn give_bytes<W: Write>(
+    alloc: Global,
+    out: &mut W,
+    held: &mut Delta,
+    kind: Kind,
+    bytes: &[u8],
+) -> io::Result<()> {
+    match kind {
+        Kind::Frame => say_front(alloc, out, bytes),
+        Kind::Stream => say_stream(alloc, out, bytes),
+        Kind::Join => say_joined(alloc, out, held, bytes),
     }
 }
 

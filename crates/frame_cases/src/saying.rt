@@ -9,7 +9,9 @@ use std::io::{self, Write};
 pub(crate) fn say_front<W: Write>(alloc: Global, out: &mut W, bytes: &[u8]) -> io::Result<()> {
     match decode(alloc, bytes) {
         Ok((frame, len)) => {
-            say_frame(alloc, out, &frame)?;
+            let said = say_frame(alloc, out, &frame);
+            drop(frame);
+            said?;
             if len < bytes.len() {
                 writeln!(out, "behind it {}", bytes.len() - len)?;
             }
@@ -25,17 +27,35 @@ pub(crate) fn say_stream<W: Write>(alloc: Global, out: &mut W, bytes: &[u8]) -> 
     let mut splitter = Splitter::new(alloc);
     for at in 0..bytes.len() {
         splitter.feed(&bytes[at..at + 1])?;
-        let next = splitter.next_frame();
-        if !matches!(next, Ok(None)) {
-            writeln!(out, "at byte {}", at + 1)?;
-        }
-        match next {
-            Ok(Some(frame)) => say_frame(alloc, out, &frame)?,
-            Ok(None) => {}
-            Err(fault) => say_fault(out, fault)?,
-        }
+        say_next(alloc, out, at + 1, splitter.next_frame())?;
     }
     Ok(())
+}
+
+// Writes what a stream gives once this many of its bytes have come. It writes nothing where that is
+// neither a frame nor a fault.
+fn say_next<W: Write>(
+    alloc: Global,
+    out: &mut W,
+    come: usize,
+    next: Result<Option<Frame>, DecodeFault>,
+) -> io::Result<()> {
+    match next {
+        Ok(None) => Ok(()),
+        Ok(Some(frame)) => {
+            say_come(out, come)?;
+            say_frame(alloc, out, &frame)
+        }
+        Err(fault) => {
+            say_come(out, come)?;
+            say_fault(out, fault)
+        }
+    }
+}
+
+// Writes how many bytes of a stream have come.
+fn say_come<W: Write>(out: &mut W, come: usize) -> io::Result<()> {
+    writeln!(out, "at byte {come}")
 }
 
 // Joins the delta of the frame that the bytes begin with into what is held, and writes what is held then, with the rows that its
@@ -50,7 +70,8 @@ pub(crate) fn say_joined<W: Write>(
         Ok((frame, _)) => frame,
         Err(fault) => return say_fault(out, fault),
     };
-    if let Err((fault, _)) = held.join(frame.delta) {
+    if let Err((fault, refused)) = held.join(frame.delta) {
+        drop(refused);
         writeln!(out, "refused {fault:?}")?;
     }
     say_delta(out, held)?;
