@@ -104,16 +104,30 @@ fn right_words<'a>(
     seconds: &'a str,
 ) -> Result<CommandWords<'a>, Error> {
     let matches = command(alloc, seconds)?.try_get_matches_from(words)?;
+    let found = words_of(alloc, &matches);
+    drop(matches);
+    Ok(found?)
+}
+
+// The words of the subcommand that was found.
+fn words_of<'a>(alloc: Global, matches: &ArgMatches<'a>) -> Result<CommandWords<'a>, AllocError> {
     if let Some(serve) = matches.subcommand_matches("serve") {
-        return Ok(CommandWords::Serve(serve_words(alloc, serve)?));
+        return serve_words(alloc, serve).map(CommandWords::Serve);
     }
-    let mut sites = 0;
-    let mut queues = Vec::new(alloc);
-    if let Some(script) = matches.subcommand_matches("script") {
-        sites = script.get_one::<u16>("SITES").unwrap_or(0);
-        queues = queues_of(alloc, script)?;
+    match matches.subcommand_matches("script") {
+        Some(script) => script_words(alloc, script).map(CommandWords::Script),
+        None => Ok(CommandWords::Script(ScriptWords {
+            sites: 0,
+            queues: Vec::new(alloc),
+        })),
     }
-    Ok(CommandWords::Script(ScriptWords { sites, queues }))
+}
+
+fn script_words<'a>(alloc: Global, script: &ArgMatches<'a>) -> Result<ScriptWords<'a>, AllocError> {
+    Ok(ScriptWords {
+        sites: script.get_one::<u16>("SITES").unwrap_or(0),
+        queues: queues_of(alloc, script)?,
+    })
 }
 
 fn serve_words<'a>(alloc: Global, serve: &ArgMatches<'a>) -> Result<ServeWords<'a>, AllocError> {
@@ -177,7 +191,7 @@ fn script<'a>(alloc: Global) -> Result<Command<'a>, AllocError> {
         .arg(queues(alloc))
 }
 
-fn serve<'a>(alloc: Global, seconds: &'a str) -> Result<Command<'a>, AllocError> {
+fn serve_args<'a>(alloc: Global, seconds: &'a str) -> [Arg<'a>; 8] {
     let bind = option(alloc, "bind", "ADDRESS", "The address that is listened on");
     let idle = option(
         alloc,
@@ -185,28 +199,40 @@ fn serve<'a>(alloc: Global, seconds: &'a str) -> Result<Command<'a>, AllocError>
         "SECONDS",
         "How long a client may be silent; 0 for ever",
     );
+    [
+        bind.default_value("127.0.0.1"),
+        option(alloc, "greeting", "TEXT", "The line that greets a client"),
+        idle.default_value(seconds).value_parser(value_parser!(u64)),
+        sites(alloc, "How many sites there are, 1 to 8", 8),
+        port(alloc),
+        login_word(alloc, "USER", "The user who may log in"),
+        login_word(alloc, "SECRET", "The secret of the user"),
+        queues(alloc),
+    ]
+}
+
+fn serve<'a>(alloc: Global, seconds: &'a str) -> Result<Command<'a>, AllocError> {
+    let args = Vec::from_array(alloc, serve_args(alloc, seconds))?;
     Command::new(alloc, "serve")
         .about("Serves Manager clients, each site at a port of its own")
         .after_help(SERVE_EXAMPLE)
-        .arg(bind.default_value("127.0.0.1"))?
-        .arg(option(alloc, "greeting", "TEXT", "The line that greets a client"))?
-        .arg(idle.default_value(seconds).value_parser(value_parser!(u64)))?
-        .arg(sites(alloc, "How many sites there are, 1 to 8", 8))?
-        .arg(port(alloc))?
-        .arg(login_word(alloc, "USER", "The user who may log in"))?
-        .arg(login_word(alloc, "SECRET", "The secret of the user"))?
-        .arg(queues(alloc))
+        .args(args)
 }
 
 fn command<'a>(alloc: Global, seconds: &'a str) -> Result<Command<'a>, AllocError> {
     let script = script(alloc)?;
-    let serve = serve(alloc, seconds)?;
-    Command::new(alloc, "queue_sites")
+    let command = Command::new(alloc, "queue_sites")
         .about("The queue membership service of a call centre with several sites")
         .version("0.1.0")
         .subcommand_required(true)
-        .subcommand(script)?
-        .subcommand(serve)
+        .subcommand(script)?;
+    match serve(alloc, seconds) {
+        Ok(serve) => command.subcommand(serve),
+        Err(error) => {
+            drop(command);
+            Err(error)
+        }
+    }
 }
 
 fn script_request<R: AllocGlobal + Eprint>(rt: &R, words: &ScriptWords<'_>) -> io::Result<Request> {
