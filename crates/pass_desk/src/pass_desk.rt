@@ -58,6 +58,32 @@ fn answer_by<L: SiteLedger, R: Wait>(
     }
 }
 
+// What the site answers, by this pass. Where its journal is full, the journal's steps are dropped
+// first.
+fn answer_with_room<L: SiteLedger, R: Wait>(
+    rt: &R,
+    desk: &SiteDesk<L>,
+    pass: &mut Pass<L>,
+    asked: &Ask,
+) -> Result<Answer, DeskDown>
+    ensures answered { IfOk result (λ answer.
+        AnswersByPass L.site L.names pass.old asked.now answer pass.new) }
+    ensures refused { OnErr result (pass.new ≡ pass.old) }
+{
+    match answer_by(rt, desk, pass, asked) {
+        Ok(answer) => return Ok(answer),
+        Err(DeskFault::JournalFull) => {}
+        Err(_) => return Err(DeskDown),
+    }
+    if desk.checkpoint(rt).is_err() {
+        return Err(DeskDown);
+    }
+    match answer_by(rt, desk, pass, asked) {
+        Ok(answer) => Ok(answer),
+        Err(_) => Err(DeskDown),
+    }
+}
+
 impl<'a, L: SiteLedger, R: Wait> Desk<R> for PassDesk<'a, L> {
     ghost answers = { λ old asked answer new.
         AnswersByPass L.site L.names old asked answer new };
@@ -69,20 +95,8 @@ impl<'a, L: SiteLedger, R: Wait> Desk<R> for PassDesk<'a, L> {
     /// `DeskDown`: memory was wanting, for the answer or for that; or the journal was full again, or is shorter than the pass has seen.
     /// Nothing was asked.
     fn ask(&mut self, rt: &R, asked: Ask) -> Result<Answer, DeskDown> {
-        let desk = self.desk;
-        let pass = &mut self.pass;
-        match answer_by(rt, desk, pass, &asked) {
-            Ok(answer) => return Ok(answer),
-            Err(DeskFault::JournalFull) => {}
-            Err(_) => return Err(DeskDown),
-        }
-        if desk.checkpoint(rt).is_err() {
-            return Err(DeskDown);
-        }
-        let again = answer_by(rt, desk, pass, &asked);
-        match again {
-            Ok(answer) => Ok(answer),
-            Err(_) => Err(DeskDown),
-        }
+        let answered = answer_with_room(rt, self.desk, &mut self.pass, &asked);
+        drop(asked);
+        answered
     }
 }
