@@ -13,8 +13,21 @@ use std::io::{self, BufWriter, Write};
 fn main(rt: HostRuntime) -> io::Result<()> {
     let mut out = BufWriter::new(rt.alloc(), io::writer(&rt))?;
     let mut held = Delta::empty(rt.alloc());
-    for line in rt.lines(rt.alloc()) {
-        give_line(rt.alloc(), &mut out, &mut held, line?.as_str())?;
-    }
+    let given = give_lines(&rt, &mut out, &mut held);
+    drop(held);
+    given?;
     out.flush()
+}
+
+// Writes what each line of standard input gives.
+fn give_lines<R: AllocGlobal + Input, W: Write>(
+    rt: &R,
+    out: &mut W,
+    held: &mut Delta,
+) -> io::Result<()> {
+    for line in rt.lines(rt.alloc()) {
+        let line = line?;
+        give_line(rt.alloc(), out, held, line.as_str())?;
+    }
+    Ok(())
 }
