@@ -1,7 +1,8 @@
 use thiserror::Error;
 
-/// Why a command was not done. Of several causes the first of this list is answered, but that a want of memory may hide each other
-/// one (this project's own).
+/// Why a command was refused. Where several causes stand, the command answers the first of this
+/// list. `Memory` may stand in place of `MembersFull` and `Exhausted`, and of no other refusal (this
+/// project's own).
 #[derive(Clone, Copy, Debug, PartialEq, Eq, Error)]
 pub enum Refusal {
     /// The queue isn't in the list.
