@@ -61,12 +61,19 @@ def remove(site, interface):
 
 
 def members_past_the_limit():
-    """A site with as many members as it may have refuses one more. It shows them all, and takes its own frame of them all while its
-    buffer is as full. A site with one of its own refuses that frame, and takes it once that one is removed."""
+    """A site with as many members as it may have refuses one more. After a remove it adds that one,
+    and is as full again. It shows all members, and takes its own frame of them all while its buffer is
+    as full. A site with one of its own refuses that frame, and takes it once that one is removed."""
     interfaces = [f"SIP/{it}" for it in range(MOST_MEMBERS)]
+    one_more = f"SIP/{MOST_MEMBERS}"
     told = [(add(0, it), ADDED) for it in interfaces]
     told += [
-        (add(0, f"SIP/{MOST_MEMBERS}"), FULL),
+        (add(0, one_more), FULL),
+        (remove(0, "SIP/0"), REMOVED),
+        (add(0, one_more), ADDED),
+        (add(0, "SIP/0"), FULL),
+        (remove(0, one_more), REMOVED),
+        (add(0, "SIP/0"), ADDED),
         ("0 ami Action: QueueStatus", report(interfaces)),
         ("0 whole", "entry 0\n"),
         ("0 take 0", "taken\n"),
