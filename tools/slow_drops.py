@@ -3,7 +3,8 @@
 The proof of a function that owns several droppable values, of which each way out drops others, takes 4 to 28 times as long as one
 that calls `drop` for each before it returns early. The checks that stand in out/incremental show how many such values a function has.
 For each function with three or more, in these crates or in all, a line has the function, that number, and the seconds that its check took.
-The seconds are those of the last check that proved the function; they are exact where that check had one job.
+The seconds are those of the last check that proved the function; they are exact where that check had one job. What earlier checks left
+counts too, so that a function which was mended goes once the crate is checked with an empty out/incremental.
 """
 import os
 import re

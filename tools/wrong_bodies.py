@@ -41,6 +41,7 @@ from typing import NamedTuple
 import build
 import prove
 from crates import TOP, all_crates, below, folder
+from proof_seconds import read_table
 
 FOLDER = "wrong-bodies"
 LOGS = f"{TOP}/out/{FOLDER}"
@@ -59,7 +60,6 @@ SAYS_LITTLE = re.compile(
     r"has no field|is not in scope|has no `|was not admitted"
     r"|ran out of |outgrew the memory limit|stopped at the step limit"
 )
-SECONDS_OF_A_BYTE = 1 / 500  # of code; it only says which crates to begin with
 
 # Edits of a crate that show nothing: of each the function that it names, what it changes, and what
 # its failure must say. The first shows something.
@@ -378,10 +378,10 @@ class Kept:
         os.replace(file.name, f"{self.at}/{name}-{its_sum}")
 
     def seconds(self, name):
-        """How long the last run of a crate took that passed, or else what its code lets expect."""
+        """How long the last run of a crate took that passed, or else its proof."""
         paths = [f"{self.at}/{it}" for it in os.listdir(self.at) if it.startswith(f"{name}-")]
         found = self.of(max(paths, key=os.path.getmtime)) if paths else None
-        return found.seconds if found else SECONDS_OF_A_BYTE * build.size(name)
+        return found.seconds if found else min(it.processor for it in read_table()[name].values())
 
 
 def sum_of(rt, crate):
