@@ -19,14 +19,12 @@ def processes():
     return found
 
 
-def work_of(words, folder):
-    """The crate and the part that a process works for, told from its words and the folder that it is in."""
+def work_of(words):
+    """The crate and the part that a process works for, by its words."""
     named = re.search(r"--crate-name (\w+)", words)
     if named and " --only " in words:
         return None  # a quick pass over the sources, before any proof
     if named:
-        if "/rt-edit-" in folder:
-            return named[1], "edits"
         if "--crate-checked" in words:
             return named[1], "runs"
         return named[1], "tests" if " --test " in words else "proof"
@@ -42,7 +40,7 @@ def work(pid):
     try:
         with open(f"/proc/{pid}/cmdline", "rb") as file:
             words = file.read().replace(b"\0", b" ").decode(errors="replace")
-        return work_of(words, os.readlink(f"/proc/{pid}/cwd"))
+        return work_of(words)
     except OSError:
         return None
 
