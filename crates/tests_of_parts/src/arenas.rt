@@ -186,3 +186,31 @@ fn the_cell_that_was_taken_last_is_used_first(rt: HostRuntime) {
     place_at(&rt, &mut arena, 3, first, 1);
     drop(arena);
 }
+
+// One cell of two generations holds two values, one after the other.
+#[test]
+fn a_taken_cell_is_used_in_its_next_generation(rt: HostRuntime) {
+    let mut arena: Arena<u32, 1> = Arena::new(rt.alloc());
+    reserve(&rt, &mut arena, 1);
+    place_at(&rt, &mut arena, 7, 0, 0);
+    take(&rt, &mut arena, 0, 7);
+    place_at(&rt, &mut arena, 8, 0, 1);
+    assert_spent(&rt, &arena, 0);
+    assert!(rt; arena.take(CellId::new(0, 1)) == Some(8));
+    assert!(rt; arena.get(CellId::new(0, 1)).is_none());
+    assert!(rt; arena.take(CellId::new(0, 0)).is_none());
+    assert_cells(&rt, &arena, 0, 1);
+    drop(arena);
+}
+
+#[test]
+fn growth_changes_no_value(rt: HostRuntime) {
+    let mut arena: Arena<u32, 4_294_967_295> = Arena::new(rt.alloc());
+    reserve(&rt, &mut arena, 1);
+    place_at(&rt, &mut arena, 42, 0, 0);
+    reserve(&rt, &mut arena, 100_000);
+    assert!(rt; arena.spare() >= 100_000);
+    assert_value(&rt, &arena, 0, 42);
+    assert_cells(&rt, &arena, 1, 0);
+    drop(arena);
+}

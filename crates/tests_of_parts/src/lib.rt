@@ -1,4 +1,4 @@
-//! Tests of what a site's state is made of, by their public calls: values, arenas, devectors, contexts, totals and sets of members.
+//! Tests of what a site's state is made of, by their public calls: values, arenas, devectors, contexts, totals, sets of members and deltas.
 //! This crate has no code of its own.
 #![tactic(auto)]
 
@@ -8,6 +8,8 @@ mod arenas;
 mod cell_ids;
 #[cfg(test)]
 mod contexts;
+#[cfg(test)]
+mod deltas;
 #[cfg(test)]
 mod devectors;
 #[cfg(test)]

@@ -1,4 +1,4 @@
-//! What these tests make and assert alike: values, which are told as numbers and texts, and sets that are made of them.
+//! What these tests make and assert alike: values, which are told as numbers and texts, and sets and totals that are made of them.
 ghost use Rattle.std.specs.Prelude.{◌≢◌, None};
 ghost use Rattle.member_orset.specs.Members.{HasField};
 
@@ -6,6 +6,7 @@ use Change::{Assert, Kill};
 use dots::{Dot, Interface, Member, Penalty, SiteId, Stamp};
 use lww_registers::{Fields, Register};
 use member_orset::{JoinFault, MemberSet};
+use site_totals::{CallTotals, Totals};
 use std::alloc::Global;
 use std::process::Abort;
 
@@ -92,4 +93,16 @@ pub(crate) fn set_of(rt: &impl Abort, alloc: Global, changes: &[Change]) -> Memb
     let mut set = MemberSet::new(alloc);
     do_changes(rt, &mut set, changes);
     set
+}
+
+// The totals of the calls that one site has completed in queue 0.
+pub(crate) fn totals_of(rt: &impl Abort, alloc: Global, number: u16, completed: u16) -> Totals {
+    let mut totals = Totals::new(alloc);
+    let calls = CallTotals {
+        completed: u64::from(completed),
+        abandoned: 0,
+    };
+    let reached = totals.reach(site(rt, number), 0, calls);
+    reached.expect(rt, "memory");
+    totals
 }
