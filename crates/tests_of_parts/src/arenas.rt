@@ -214,3 +214,19 @@ fn growth_changes_no_value(rt: HostRuntime) {
     assert_cells(&rt, &arena, 1, 0);
     drop(arena);
 }
+
+// Three retired cells and room for 1,048,574 values are one cell too many.
+#[test]
+fn retired_cells_count_towards_the_limit(rt: HostRuntime) {
+    let mut arena: Arena<u32, 0> = Arena::new(rt.alloc());
+    reserve(&rt, &mut arena, 3);
+    place_at(&rt, &mut arena, 1, 0, 0);
+    take(&rt, &mut arena, 0, 1);
+    place_at(&rt, &mut arena, 2, 1, 0);
+    take(&rt, &mut arena, 1, 2);
+    place_at(&rt, &mut arena, 3, 2, 0);
+    take(&rt, &mut arena, 2, 3);
+    assert_cells(&rt, &arena, 0, 3);
+    assert_full(&rt, &mut arena, 1_048_574);
+    drop(arena);
+}

@@ -113,3 +113,14 @@ fn few_runs_may_pass_the_limit_before_the_last(rt: HostRuntime) {
     drop(context);
     drop(other);
 }
+
+#[test]
+fn counts_before_a_run_to_the_last_one_make_it_the_prefix(rt: HostRuntime) {
+    let mut context = Context::new(rt.alloc());
+    let first = site(&rt, 0);
+    assert!(rt; context.insert_run(first, 5, 1_099_511_627_776).is_ok());
+    assert_runs(&rt, &context, 1, 0);
+    assert!(rt; context.insert_run(first, 1, 4).is_ok());
+    assert_runs(&rt, &context, 1, 1_099_511_627_776);
+    drop(context);
+}
