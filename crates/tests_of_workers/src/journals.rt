@@ -1,9 +1,9 @@
 //! Journals of a site: their steps, the receipts of these, and what they keep.
 use crate::asks::{add, status};
 use crate::frames::ADDED;
-use crate::journal_steps::{called, cut, frame, journal, knows, shown, take};
+use crate::journal_steps::{called, cut, frame, journal, journal_of, knows, replica, shown, take};
 use replica::Refusal;
-use site_journal::{Journaled, Receipt, SettleFault, Step, StepDeed, settle};
+use site_journal::{DeskFault, Journaled, Receipt, SettleFault, Step, StepDeed, settle};
 use status_report::{Answer, Ask};
 use std::alloc::Global;
 use std::process::Abort;
@@ -178,5 +178,34 @@ fn receipts_settle_where_they_are_those_of_the_steps(rt: HostRuntime) {
     assert!(rt; own.checkpoint().is_ok());
     let fault = SettleFault::Checkpointed;
     assert_settles(&rt, alloc, &own, &[1], &[0, 2], Some(fault));
+    drop(own);
+}
+
+// Makes a frame of all by a pass.
+fn make_whole(rt: &impl Abort, journal: &mut Journaled, pass: u32) {
+    let step = journal.whole(pass).ok().expect(rt, "a step");
+    assert!(rt; step.pass == pass && matches!(step.deed, StepDeed::Whole(_)));
+    drop(step);
+}
+
+// Asks twice in a journal of two steps, which is full then, and goes on behind a checkpoint.
+fn fill_and_go_on(rt: &impl Abort, alloc: Global, journal: &mut Journaled) {
+    ask_status(rt, alloc, journal);
+    ask_status(rt, alloc, journal);
+    assert!(rt; journal.cut(7).err() == Some(DeskFault::JournalFull));
+    assert!(rt; journal.checkpoint().is_ok());
+    assert_length(rt, journal, 2, 2);
+    cut_nothing(rt, journal, 7);
+    assert_length(rt, journal, 3, 2);
+    make_whole(rt, journal, 8);
+    assert_length(rt, journal, 4, 2);
+}
+
+#[test]
+fn a_full_journal_goes_on_behind_a_checkpoint(rt: HostRuntime) {
+    let mut own = journal_of(&rt, rt.alloc(), replica(&rt, rt.alloc(), 0), 2);
+    fill_and_go_on(&rt, rt.alloc(), &mut own);
+    let fault = SettleFault::Checkpointed;
+    assert_settles(&rt, rt.alloc(), &own, &[1], &[0], Some(fault));
     drop(own);
 }

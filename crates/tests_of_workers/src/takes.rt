@@ -98,6 +98,20 @@ fn assert_desk_refuses<L: SiteLedger, R: Abort + Wait>(
     drop(back);
 }
 
+// Asserts that a desk gives back each front of a frame.
+fn assert_refuses_fronts<L: SiteLedger, R: Abort + Wait>(
+    rt: &R,
+    alloc: Global,
+    desk: &SiteDesk<L>,
+    pass: &mut Pass<L>,
+    frame: &[u8],
+) {
+    let truncated = DeskFault::Decode(DecodeFault::Truncated);
+    for len in 0..frame.len() {
+        assert_desk_refuses(rt, alloc, desk, pass, &frame[..len], truncated);
+    }
+}
+
 // Asserts that a desk gives back bytes that are no frame, and a frame of its own site, and does no step.
 pub(crate) fn assert_refuses<L: SiteLedger, R: Abort + Wait>(
     rt: &R,
@@ -113,6 +127,8 @@ pub(crate) fn assert_refuses<L: SiteLedger, R: Abort + Wait>(
         assert_desk_refuses(rt, alloc, &desk, &mut first, &bytes, fault);
         drop(bytes);
     }
+    assert_refuses_fronts(rt, alloc, &desk, &mut first, ADDED);
+    assert_refuses_fronts(rt, alloc, &desk, &mut first, NOT_RUNG);
     let fault = DeskFault::Take(TakeFault::NotMine);
     assert_desk_refuses(rt, alloc, &desk, &mut first, ADDED, fault);
     assert!(rt; first.seen() == 0);
