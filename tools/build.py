@@ -108,7 +108,7 @@ class Build:
         crates, measured = all_crates(), read_table()
         names = [it for it in crates if it in wanted or any(it in below(crates, other) for other in wanted)]
         self.log, self.progress, self.below = log, progress, {it: below(crates, it) for it in names}
-        self.longest = ways(crates, names, {it: min(measured[it].values()).clock for it in names})
+        self.longest = ways(crates, names, {it: min(measured[it].values()) for it in names})
         self.quickest = {it: quickest(measured[it]) for it in names}
         self.jobs, self.proved, self.running = at_once(), set(), []
         self.left = sorted(names, key=lambda it: -self.longest[it])
@@ -158,8 +158,7 @@ class Build:
         """Makes a program of which all below is proved, and answers whether that went well."""
         try:
             with locked([*self.below, name]):
-                jobs = min(quickest(read_table()[name]), self.jobs)
-                self.begin(Run(name, jobs, proving("run", name, jobs, "--", *stored_words(name))))
+                self.begin(Run(name, self.jobs, proving("run", name, self.jobs, "--", *stored_words(name))))
                 return self.wait()
         finally:
             self.stop()

@@ -1,4 +1,4 @@
-"""The seconds that the proof of each crate takes, by the number of its jobs: what tools/build.py orders proofs by.
+"""The seconds by the clock that the proof of each crate takes, by the number of its jobs: what tools/build.py orders proofs by.
 
     proof_seconds.py           writes into tools/proof_seconds.txt what the last build measured (out/build.log);
                                rows of other crates, and of other numbers of jobs, stay
@@ -9,50 +9,40 @@ import collections
 import os
 import re
 import sys
-from typing import NamedTuple
 
 from crates import TOP, all_crates
 
 TABLE = f"{TOP}/tools/proof_seconds.txt"
 LOG = f"{TOP}/out/build.log"
-HEAD = "# crate, jobs, seconds by the clock, seconds of one processor"
-OF_CRATE = re.compile(r"== (\w+): (\d+):(\d\d) with (\d+) jobs, (\d+):(\d\d) of one processor")
-
-
-class Took(NamedTuple):
-    """What the proof of a crate took: seconds by the clock, and of one processor."""
-
-    clock: int
-    processor: int
-
-
-UNMEASURED = {1: Took(60, 60)}
+HEAD = "# crate, jobs, seconds by the clock"
+OF_CRATE = re.compile(r"== (\w+): (\d+):(\d\d) with (\d+) jobs, ")
+UNMEASURED = {1: 60}
 
 
 def read_table():
-    """What the proof of each crate took with each number of jobs that was measured; of a crate that was not, a guess."""
+    """The seconds of each crate with each number of jobs that was measured; of a crate that was not, a guess."""
     found = collections.defaultdict(lambda: UNMEASURED)
     with open(TABLE, encoding="utf-8") as file:
         for line in file:
             if not line.startswith("#"):
-                crate, jobs, *seconds = line.split()
-                found[crate] = found.get(crate, {}) | {int(jobs): Took(*map(int, seconds))}
+                crate, jobs, seconds = line.split()
+                found[crate] = found.get(crate, {}) | {int(jobs): int(seconds)}
     return found
 
 
 def quickest(rows):
-    """The number of jobs with which a proof takes least time by the clock."""
+    """The number of jobs with which a proof takes least time."""
     return min(rows, key=rows.get)
 
 
 def read_log():
-    """The same of the last build."""
+    """The crates of the last build, each with its number of jobs and its seconds."""
     with open(LOG, encoding="utf-8") as file:
         for line in file:
             row = OF_CRATE.match(line)
             if row:
-                minutes, seconds, jobs, of_one, rest = map(int, row.groups()[1:])
-                yield row[1], jobs, Took(60 * minutes + seconds, 60 * of_one + rest)
+                minutes, seconds, jobs = map(int, row.groups()[1:])
+                yield row[1], jobs, 60 * minutes + seconds
 
 
 def main():
@@ -60,9 +50,9 @@ def main():
         print(f"proof_seconds: there is no {LOG}: build the program from nothing first", file=sys.stderr)
         return 1
     table = read_table()
-    for crate, jobs, took in read_log():
-        table[crate] = table.get(crate, {}) | {jobs: took}
-    rows = [f"{crate} {jobs} {took.clock} {took.processor}" for crate in all_crates() for jobs, took in sorted(table.get(crate, {}).items())]
+    for crate, jobs, seconds in read_log():
+        table[crate] = table.get(crate, {}) | {jobs: seconds}
+    rows = [f"{crate} {jobs} {seconds}" for crate in all_crates() for jobs, seconds in sorted(table.get(crate, {}).items())]
     with open(TABLE, "w", encoding="utf-8") as file:
         file.write("\n".join([HEAD, *rows]) + "\n")
     return 0

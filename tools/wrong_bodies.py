@@ -381,7 +381,7 @@ class Kept:
         """How long the last run of a crate took that passed, or else its proof."""
         paths = [f"{self.at}/{it}" for it in os.listdir(self.at) if it.startswith(f"{name}-")]
         found = self.of(max(paths, key=os.path.getmtime)) if paths else None
-        return found.seconds if found else min(it.processor for it in read_table()[name].values())
+        return found.seconds if found else min(read_table()[name].values())
 
 
 def sum_of(rt, crate):
