@@ -87,6 +87,12 @@ class Run:
             self.status = self.process.returncode = os.waitstatus_to_exitcode(status)
         return pid != 0
 
+    def go_behind(self, others):
+        """Takes less of the processors, or more, where another number of runs goes before it. Only root may take more."""
+        self.behind = others
+        with contextlib.suppress(OSError):
+            os.setpriority(os.PRIO_PGRP, self.process.pid, min(NICENESS * others, MOST_NICENESS))
+
     def stop(self):
         with contextlib.suppress(ProcessLookupError):
             os.killpg(self.process.pid, signal.SIGTERM)
@@ -114,16 +120,21 @@ class Build:
         self.left = sorted(names, key=lambda it: -self.longest[it])
         progress.count += len(names)
 
+    def way_left(self, run):
+        """The seconds of the longest way to the top that a run still has before it."""
+        return self.longest[run.crate] - (time.monotonic() - run.started)
+
     def start(self):
-        """Starts crates of which all below are proved. That with the longest way to the top of all that are left goes first, with as many
-        jobs as were measured to take it least time. Each other has one job, and goes behind those with longer ways."""
+        """Starts crates of which all below are proved, those with the longest way to the top first. One that at most one run goes before
+        has as many jobs as were measured to take it least time, each other has one. Each run goes behind those with longer ways."""
         ready = [it for it in self.left if self.below[it] <= self.proved]
         for crate in ready[:self.jobs - len(self.running)]:
-            is_first = crate == self.left[0] and all(it.behind for it in self.running)
-            jobs = min(self.quickest[crate], self.jobs) if is_first else 1
-            behind = 0 if is_first else max(sum(self.longest[it.crate] > self.longest[crate] for it in self.running), 1)
+            behind = sum(self.way_left(it) > self.longest[crate] for it in self.running)
+            jobs = min(self.quickest[crate], self.jobs) if behind < 2 else 1
             self.begin(Run(crate, jobs, proving("check" if is_program(crate) else "lib", crate, jobs), behind))
             self.left.remove(crate)
+        for run in self.running:
+            run.go_behind(sum(self.way_left(it) > self.way_left(run) for it in self.running))
 
     def begin(self, run):
         self.running.append(run)

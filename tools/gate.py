@@ -8,10 +8,11 @@ import subprocess
 import threading
 import time
 
+import prove
 from crates import TOP
 from watch import Watch
 
-MEMORY_OF_A_PROOF = 5_000_000_000
+MEMORY_OF_A_PROOF = 4_500_000_000
 PARTS = ("proof", "tests", "wrong bodies", "runs")
 SHORT = 3  # minutes; the crates that take less have one row
 
@@ -34,10 +35,9 @@ def lines_of(table, all_seconds):
 
 def one_job_each():
     """What has `rt ci` give each proof one job, where memory is ample for a proof a processor: more jobs take more of the processors."""
-    with open("/proc/meminfo", encoding="ascii") as file:
-        free = next(1024 * int(line.split()[1]) for line in file if line.startswith("MemAvailable:"))
-    processors = len(os.sched_getaffinity(0))
-    return {"RT_JOBS": str(processors)} if free >= processors * MEMORY_OF_A_PROOF else {}
+    rt = prove.loaded()
+    is_ample = rt.free() >= rt.processors() * MEMORY_OF_A_PROOF
+    return {"RT_JOBS": str(rt.processors())} if is_ample and "RT_JOBS" not in os.environ else {}
 
 
 def run():

@@ -150,12 +150,12 @@ def run(room, seconds, words, given):
 def status_of(seconds, streams, output, messages):
     """Shows the rest of what the program wrote. Returns its status."""
     last = re.search(rb"^run=(\S+)(?: status=(\d+))?.* proved=no\n\Z", messages, re.M)
-    checked = [*re.finditer(rb"^checked: (?:no-answer: |fault )?(.*)\n", messages, re.M)][-1:]
+    checked = [*re.finditer(rb"checked: (?:no-answer: |fault )?(.*)\n", messages)][-1:]
     how = last[1].decode() if last else "none"
     why = checked[0][1].decode(errors="replace") if checked else ""
+    streams[0].show_rest(output)
     if how == "ended":
-        streams[0].show_rest(output)
-        streams[1].show_rest(messages[: checked[0].start()])
+        streams[1].show_rest(messages[: checked[0].start()] if checked else b"")
         return int(last[2])
     if how == "fault":
         raise Ended(FAULT, f"the program stopped at a fault: {why}")

@@ -6,6 +6,7 @@
 Only a build from nothing, with nothing beside it, measures what a first run takes.
 """
 import collections
+import contextlib
 import os
 import re
 import sys
@@ -17,16 +18,16 @@ LOG = f"{TOP}/out/build.log"
 HEAD = "# crate, jobs, seconds by the clock"
 OF_CRATE = re.compile(r"== (\w+): (\d+):(\d\d) with (\d+) jobs, ")
 UNMEASURED = {1: 60}
+SHORTEST = 8  # no proof from nothing takes less than these seconds
 
 
 def read_table():
-    """The seconds of each crate with each number of jobs that was measured; of a crate that was not, a guess."""
+    """The seconds of each crate with each number of jobs that was measured; of a crate that was not, a guess. They only order proofs, so
+    that a missing table, or a line of it that is none, is passed over."""
     found = collections.defaultdict(lambda: UNMEASURED)
-    with open(TABLE, encoding="utf-8") as file:
-        for line in file:
-            if not line.startswith("#"):
-                crate, jobs, seconds = line.split()
-                found[crate] = found.get(crate, {}) | {int(jobs): int(seconds)}
+    with contextlib.suppress(OSError), open(TABLE, encoding="utf-8") as file:
+        for row in re.finditer(r"(?m)^(\w+) (\d+) (\d+)$", file.read()):
+            found[row[1]] = found.get(row[1], {}) | {int(row[2]): int(row[3])}
     return found
 
 
@@ -42,7 +43,8 @@ def read_log():
             row = OF_CRATE.match(line)
             if row:
                 minutes, seconds, jobs = map(int, row.groups()[1:])
-                yield row[1], jobs, 60 * minutes + seconds
+                if 60 * minutes + seconds >= SHORTEST:
+                    yield row[1], jobs, 60 * minutes + seconds
 
 
 def main():

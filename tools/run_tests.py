@@ -1,7 +1,7 @@
 """Runs what must pass, and tells at the end what was run and how long each part of it took.
 
-    ./test                     the whole gate, the wrong bodies, the program from the command line, the cases, sites that work on
-                               what is drawn by lot, the server, and tests with each allocation refused
+    ./test                     the whole gate, the wrong bodies, the program from the command line, the cases, sites under
+                               random workloads, the server, and tests with each allocation refused
     ./test CRATE..             what a change of these crates can break: layout, proofs, tests and stored runs of these and
                                of the crates that stand on them, over the work that earlier checks kept, and the
                                wrong bodies of these
@@ -86,7 +86,7 @@ def run_cases(parts, kinds=tuple(cases.KINDS)):
 
 
 def run_sites(parts):
-    parts.run("sites that work on what is drawn by lot", part_of(site_tests.run_all))
+    parts.run("sites under random workloads", part_of(site_tests.run_all))
 
 
 def run_server(parts):
@@ -125,7 +125,7 @@ def whole():
     parts.run("the gate", gate_part)
     table, seconds = times
     if not parts.has_failed:
-        parts.run("edits that show nothing", lambda: wrong_bodies.self_test(is_gate_passed=True))
+        parts.run("self-test of the wrong bodies", lambda: wrong_bodies.self_test(is_gate_passed=True))
         for crate, more in run_wrong_bodies(parts, all_crates(), is_gate_passed=True).items():
             table[crate, "wrong bodies"] = more
             seconds += more

@@ -323,7 +323,7 @@ REFUSALS = (b"Unable to add interface: Already there", b"Unable to remove interf
 
 
 def ask_by_lot(client, lot, asks):
-    """Asks so often what is drawn by lot. Each reply has the ID of its ask."""
+    """Asks this often, at random. Each reply has the ID of its ask."""
     for number in range(asks):
         queue, interface, fields = lot.choice(QUEUES), f"SIP/{lot.randrange(20)}", {"ActionID": number}
         action = lot.choice(["QueueAdd", "QueueAdd", "QueueRemove", "QueuePause", "QueuePenalty", "QueueMemberRingInUse", "QueueStatus"])
@@ -343,14 +343,14 @@ def ask_by_lot(client, lot, asks):
 
 
 def work(server, site, seed, asks):
-    """A client of a site that asks by lot."""
+    """A client of a site that asks at random."""
     with server.logged_in(site) as client:
         ask_by_lot(client, random.Random(seed), asks)
         client.leave()
 
 
 def clients_at_once(sites=8, asks=1_000):
-    """Four clients of each of eight sites ask by lot, all at once; soon after the last, all sites show the same."""
+    """Four clients of each of eight sites ask at random, all at once; soon after the last, all sites show the same."""
     with Server(sites, QUEUES) as server, concurrent.futures.ThreadPoolExecutor(SLOTS * sites) as threads:
         jobs = [threads.submit(work, server, it % sites, it, asks) for it in range(SLOTS * sites)]
         for it in jobs:

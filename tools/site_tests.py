@@ -1,4 +1,4 @@
-"""Runs site_runs, whose sites work on what is drawn by lot: what it tells of a few sites, in one thread and as threads, of wrong words,
+"""Runs site_runs, whose sites have random workloads: what it prints of a few sites, in one thread and as threads, of wrong words,
 and where one of its allocations is refused."""
 import sys
 import tempfile

@@ -49,15 +49,15 @@ LOGS = f"{TOP}/out/{FOLDER}"
 VERDICT = re.compile(r"(fn|struct|enum|union|trait|impl) (\S+): (.+)")
 VERDICTS = ("proved", "not proved", "no proof", "could not tell")
 OPEN_GOAL = re.compile(r"note: \S+:\d+:\d+: (?:it is not proved that |`search` found no proof)")
-OF_A_PROOF = r"(?:\./)?proofs/(\S+)/(?:Answers|Invariants|Proof)\.antt:\d+:\d+: error: (.*)"
+OF_A_PROOF = r"(?:\./)?proofs/(\S+)/(Answers|Invariants|Proof)\.antt:\d+:\d+: error: (.*)"
 # Where a proof has lost an answer, an open goal may only lack that, unless the prover says this.
 IS_FALSE = "the facts known there allow values at which this goal is false"
 ENDED = re.compile(r"only=\d+ proved=\d+")
 NO_FUNCTION = re.compile(r"(?m)^rattle: error: .* has no function `(\S+)`")
-# A proof names what the edit took away, or cites one that does, or the prover met a limit of its
-# own: none of that says anything of the contract.
+# A proof names what the edit took away, or cites one that does, or the check met a limit: none of
+# that says anything of the contract. Nor does an error of an invariant, whose types may have changed.
 SAYS_LITTLE = re.compile(
-    r"has no field|is not in scope|has no `|was not admitted"
+    r"has no field|is not in scope|has no `|was not admitted|which was rejected, (?:was|were) not"
     r"|ran out of |outgrew the memory limit|stopped at the step limit"
 )
 
@@ -146,7 +146,7 @@ def functions_in(lines, crate):
     for line in lines:
         if found := re.match(OF_A_PROOF, line):
             name = f"{crate}::{found[1].replace('/', '::')}"
-            errors.setdefault(name, []).append(found[2])
+            errors.setdefault(name, []).append((found[2], found[3]))
     for line in lines:
         if OPEN_GOAL.match(line):
             goals.append(line)
@@ -156,8 +156,9 @@ def functions_in(lines, crate):
         if kind == "fn":
             verdict = next((it for it in VERDICTS if said.startswith(it)), said)
             of_proof = errors.get(name, [])
-            little = [it for it in of_proof if SAYS_LITTLE.search(it)]
-            refused = [it for it in of_proof if it not in little]
+            is_little = lambda part, it: part == "Invariants" or SAYS_LITTLE.search(it)
+            little = [it for part, it in of_proof if is_little(part, it)]
+            refused = [it for part, it in of_proof if not is_little(part, it)]
             refused += [it for it in goals if not little or IS_FALSE in it]
             calls = re.findall(r"`([^`]+)`", said.partition("it calls ")[2])
             functions[name] = Function(verdict, refused, little, calls)
@@ -199,6 +200,8 @@ def shortcoming(function):
 class Tries:
     """The tries of a crate's wrong bodies."""
 
+    running, is_ending = set(), False  # the checks of all crates, and whether no more may begin
+
     def __init__(self, rt, crate, files, guard):
         self.rt, self.crate, self.files, self.guard = rt, crate, files, guard
         self.place = folder(crate.name)
@@ -222,6 +225,8 @@ class Tries:
                 self.fail(name, "has no line 'function: PATH', or several")
             elif why:
                 self.fail(name, f"can't be applied: {why}")
+            elif not all(it.startswith("src/") for it in re.findall(r"(?m)^file: (.*)$", text)):
+                self.fail(name, "changes a file outside src/")
             else:
                 lines = changed_lines(text, self.place)
                 self.edits.append(Edit(name, functions[0], text, lines))
@@ -237,10 +242,13 @@ class Tries:
 
     def put_in(self, edits, room):
         """Puts wrong bodies into a copy of the crate, and answers which: each that shares neither
-        its function nor a line with one before it, and that can still be applied."""
-        inside = []
+        its function nor a line with one before it, and that can still be applied. One that changes
+        several files may change what other functions stand on, so it is put in alone."""
+        inside, is_wide = [], lambda edit: len({path for path, _ in edit.lines}) > 1
         for edit in edits:
             if any(edit.function == it.function or edit.lines & it.lines for it in inside):
+                continue
+            if inside and (is_wide(edit) or is_wide(inside[0])):
                 continue
             texts, why = self.rt.edited(edit.text, room)
             if why:
@@ -261,8 +269,10 @@ class Tries:
                 pipe = {"stdin": subprocess.DEVNULL, "stdout": said, "stderr": subprocess.STDOUT}
                 whole = [*self.guard, self.rt.rtlib.RATTLE, "check", *words]
                 process = subprocess.Popen(whole, cwd=room, **pipe)
+                self.running.add(process)
                 _, status, used = os.wait4(process.pid, 0)
                 process.returncode = os.waitstatus_to_exitcode(status)
+                self.running.discard(process)
                 said.seek(0)
                 text = said.read()
             self.seconds += used.ru_utime + used.ru_stime
@@ -278,9 +288,12 @@ class Tries:
         """Tries the wrong bodies, in as few checks as they need."""
         self.read()
         left = self.edits
-        while left:
+        while left and not self.is_ending:
             with self.copy() as room:
                 inside = self.put_in(left, room)
+                if not inside:
+                    self.fail(", ".join(it.name for it in left), "can't be applied any more")
+                    break
                 again = self.judge(inside, *self.check(room, [it.function for it in inside]))
             left = [it for it in left if it in again or it not in inside]
         return self.result()
@@ -290,7 +303,7 @@ class Tries:
         lines = said.rstrip("\n").split("\n")
         paths = {path for it in edits for path, _ in it.lines}
         unread = [it for it in lines if " error[" in it or self.rt.unread(it, paths)]
-        if unread or status != 1 or not ENDED.fullmatch(lines[-1]):
+        if unread or status not in (0, 1) or not ENDED.fullmatch(lines[-1]):
             return self.judge_unread(edits, status, lines, unread)
         functions, others = functions_in(lines, self.crate.name)
         wrong = {it.function for it in edits}
@@ -448,6 +461,14 @@ def over_libraries(rt, names, is_gate_passed):
         yield crates or stack.enter_context(as_proved_here(rt, names))
 
 
+def end_checks(pool):
+    """Ends the checks that still run, as after Ctrl-C, and begins no more."""
+    Tries.is_ending = True
+    pool.shutdown(wait=False, cancel_futures=True)
+    for it in [*Tries.running]:
+        it.terminate()
+
+
 def line_of(name, result, is_control):
     checks = f"{result.checks} check{'s' * (result.checks != 1)}"
     what = "shown to be proved as they stand" if is_control else "refused"
@@ -456,45 +477,49 @@ def line_of(name, result, is_control):
 
 
 def run(names, is_gate_passed=False, is_control=False):
-    """Tries the wrong bodies of these crates. Answers whether all are refused, lines that tell of
+    """Tries the wrong bodies of these crates. Answers whether all are refused, lines that report
     it, and the seconds of each crate."""
     os.makedirs(LOGS, exist_ok=True)
-    rt, names = loaded(), [it for it in all_crates() if it in names and files_of(it)]
+    rt, without = loaded(), [it for it in all_crates() if it in names and not files_of(it)]
+    names = [it for it in all_crates() if it in names and it not in without]
     kept, crates = Kept(rt), crates_at(rt, TOP)
     sums = {it: sum_of(rt, crates[it]) for it in names}
     left = [it for it in names if is_control or not kept.has(it, sums[it])]
-    told = [f"    {it}: all refused earlier" for it in names if it not in left]
+    report = [f"    {it}: all refused earlier" for it in names if it not in left]
+    report += [f"    {len(without)} crates have none: {' '.join(without)}"] if without else []
     left.sort(key=kept.seconds, reverse=True)
     seconds, causes = {}, []
     if not left:
-        return True, told, seconds
-    pools = concurrent.futures.ThreadPoolExecutor(build.at_once())
-    with over_libraries(rt, left, is_gate_passed) as built, pools as pool:
+        return True, report, seconds
+    with contextlib.ExitStack() as stack:
+        built = stack.enter_context(over_libraries(rt, left, is_gate_passed))
+        pool = stack.enter_context(concurrent.futures.ThreadPoolExecutor(build.at_once()))
         if not built:
-            return False, [*told, "    they are not proved as they stand"], seconds
+            return False, [*report, "    they are not proved as they stand"], seconds
         # with which each check ends where this run does
         guard = rt.rtlib.guarded()
         tries = {it: Tries(rt, built[it], files_of(it), guard) for it in left}
         call = Tries.control if is_control else Tries.try_all
         running = {pool.submit(call, it): name for name, it in tries.items()}
+        stack.callback(end_checks, pool)
         for task in concurrent.futures.as_completed(running):
             name, result = running[task], task.result()
             seconds[name] = result.seconds
             lines = [line_of(name, result, is_control), *result.causes]
             print("\n".join(f"wrong bodies: {it}" for it in lines), flush=True)
-            told += [f"    {it}" for it in lines]
+            report += [f"    {it}" for it in lines]
             causes += result.causes
             is_kept = not is_control and not result.causes
             if is_kept and sum_of(rt, crates[name]) == sums[name]:
                 kept.keep(name, sums[name], result)
-    return not causes, told, seconds
+    return not causes, report, seconds
 
 
 def self_test(is_gate_passed=False):
     """Tries edits that show nothing. Answers whether each fails by its name and for its cause, and
-    lines that tell of it."""
+    lines that report it."""
     os.makedirs(LOGS, exist_ok=True)
-    rt, told = loaded(), []
+    rt, report = loaded(), []
     with contextlib.ExitStack() as stack:
         built = stack.enter_context(over_libraries(rt, [SELF_TEST], is_gate_passed))
         if not built:
@@ -509,17 +534,17 @@ def self_test(is_gate_passed=False):
     for name, (*_, wanted) in SELF_TESTS.items():
         said = [it for it in causes if it.startswith(f"{SELF_TEST}/{name}.edit: ")]
         if len(said) != bool(wanted) or any(wanted not in it for it in said):
-            told.append(f"    {name} must fail with '{wanted or 'nothing'}', and not with {said}")
+            report.append(f"    {name} must fail with '{wanted or 'nothing'}', and not with {said}")
     if not any("held_bytes::drop_front is refused too" in it for it in causes):
-        told.append("    no cause names the function that is refused too")
+        report.append("    no cause names the function that is refused too")
     good = [f"    {len(SELF_TESTS) - 1} edits that show nothing fail, each by its name"]
-    return not told, told or good
+    return not report, report or good
 
 
 def main(words):
     if words == ["--self-test"]:
-        passed, told = self_test()
-        print("\n".join(told))
+        passed, report = self_test()
+        print("\n".join(report))
         return 0 if passed else 1
     is_control = words[:1] == ["--control"]
     names = words[1:] if is_control else words
