@@ -17,6 +17,7 @@ import shutil
 import subprocess
 import sys
 import time
+import traceback
 
 import build
 import cases
@@ -43,7 +44,10 @@ class Parts:
         """Runs a part, which answers whether it passed and lines to be told."""
         print(f"test: {name}", flush=True)
         started = time.monotonic()
-        passed, told = part()
+        try:
+            passed, told = part()
+        except Exception:  # of the part alone: the others run, and all is reported
+            passed, told = False, [f"    {it}" for it in traceback.format_exc().splitlines()]
         seconds = time.monotonic() - started
         self.has_failed = self.has_failed or not passed
         said = "passed" if passed else "FAILED"
@@ -129,7 +133,6 @@ def whole():
         for crate, more in run_wrong_bodies(parts, all_crates(), is_gate_passed=True).items():
             table[crate, "wrong bodies"] = more
             seconds += more
-    if not parts.has_failed:
         run_program(parts, is_gate_passed=True)
         run_cases(parts)
         run_at_limits(parts)
