@@ -127,7 +127,7 @@ def whole():
         return status == 0, [told]
 
     parts.run("the gate", gate_part)
-    table, seconds = times
+    table, seconds = times or ({}, 0)
     if not parts.has_failed:
         parts.run("self-test of the wrong bodies", lambda: wrong_bodies.self_test(is_gate_passed=True))
         for crate, more in run_wrong_bodies(parts, all_crates(), is_gate_passed=True).items():
