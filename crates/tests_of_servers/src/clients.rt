@@ -4,8 +4,9 @@ use crate::serving::{HERE, SHORT};
 use std::io::{Read, Write};
 use std::net::{Net, SocketAddr, TcpListener, TcpStream};
 use std::process::Abort;
+use std::sync::atomic::{AtomicBool, Ordering};
 use std::thread;
-use std::thread::yield_now;
+use std::thread::{Threads, join, yield_now};
 use std::time::{Clock, Duration};
 
 // What is sent, and what must be read then.
@@ -177,6 +178,76 @@ fn tell_one_of_two<R: Net<Listener = TcpListener, Stream = TcpStream> + Abort>(r
     hold_session(rt, port.saturating_add(1), &[GREETING, LOGIN, LOGOFF]);
 }
 
+// A status of the queue with SIP/1.
+const STATUS: Exchange = Exchange {
+    sent: "Action: QueueStatus\r\n\r\n",
+    read: replies::REPORT,
+};
+
+// How often a client looks for a flag: a thousand times each of these turns.
+const TURNS: u32 = 1_000_000;
+
+// Whether a flag is seen within 1,000,000,000 looks.
+fn sees(flag: &AtomicBool) -> bool {
+    for _ in 0..TURNS {
+        for _ in 0..1_000u32 {
+            if flag.load(Ordering::SeqCst) {
+                return true;
+            }
+        }
+        yield_now();
+    }
+    false
+}
+
+// Logs in, and looks for the end of the other client, whose member it must see then. It logs off in either case, so that the
+// server ends. Whether it saw that end.
+fn see<R: Net<Listener = TcpListener, Stream = TcpStream> + Abort>(
+    rt: &R,
+    port: u16,
+    is_in: &AtomicBool,
+    is_done: &AtomicBool,
+) -> bool {
+    let stream = connected(rt, port);
+    talk(rt, &stream, &[GREETING, LOGIN]);
+    is_in.store(true, Ordering::SeqCst);
+    let saw = sees(is_done);
+    if saw {
+        talk(rt, &stream, &[STATUS]);
+    }
+    talk_to_the_end(rt, &stream, &[LOGOFF]);
+    drop(stream);
+    saw
+}
+
+// A whole session, once the other client is logged in.
+fn add<R: Net<Listener = TcpListener, Stream = TcpStream> + Abort>(
+    rt: &R,
+    port: u16,
+    is_in: &AtomicBool,
+    is_done: &AtomicBool,
+) {
+    assert!(rt; sees(is_in));
+    hold_session(rt, port, &[GREETING, LOGIN, ADD, LOGOFF]);
+    is_done.store(true, Ordering::SeqCst);
+}
+
+// Two sessions at once, of which the first must see the end of the second.
+fn meet<R: Net<Listener = TcpListener, Stream = TcpStream> + Abort + Threads + Sync>(
+    rt: &R,
+    port: u16,
+) {
+    let is_in = AtomicBool::new(false);
+    let is_done = AtomicBool::new(false);
+    let (is_in, is_done) = (&is_in, &is_done);
+    let (saw, _) = join(
+        rt,
+        move || see(rt, port, is_in, is_done),
+        move || add(rt, port, is_in, is_done),
+    );
+    assert!(rt; saw);
+}
+
 /// What the clients of a server do.
 #[derive(Clone, Copy)]
 pub enum Clients {
@@ -184,15 +255,18 @@ pub enum Clients {
     One(Client),
     /// A session with each of two sites, of which the first is told of SIP/1.
     OfTwoSites,
+    /// Two sessions, of which the first sees what the second has added.
+    AtOnce,
 }
 
 /// Does what clients do at this port.
 pub fn act<R>(rt: &R, port: u16, clients: Clients)
 where
-    R: Net<Listener = TcpListener, Stream = TcpStream> + Abort + Clock,
+    R: Net<Listener = TcpListener, Stream = TcpStream> + Abort + Threads + Clock + Sync,
 {
     match clients {
         Clients::One(client) => visit(rt, port, client),
         Clients::OfTwoSites => tell_one_of_two(rt, port),
+        Clients::AtOnce => meet(rt, port),
     }
 }

@@ -233,3 +233,12 @@ fn the_log_tells_who_listens(rt: HostRuntime) {
     drop(log);
     drop(taken);
 }
+
+#[test]
+fn a_client_sees_what_another_adds_meanwhile(rt: HostRuntime) {
+    let alloc = rt.alloc();
+    let journals = served_to(&rt, alloc, 24_520, 1, Limit::Usual, 2, Clients::AtOnce);
+    assert!(&rt; journals.len() == 1);
+    assert_shows(&rt, alloc, &journals, REPORT);
+    drop(journals);
+}
