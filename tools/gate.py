@@ -14,19 +14,13 @@ from watch import Watch
 
 MEMORY_OF_A_PROOF = 4_500_000_000
 PARTS = ("proof", "tests", "wrong bodies", "runs")
-SHORT = 3  # minutes; the crates that take less have one row
 
 
 def lines_of(table, all_seconds):
     """The table of seconds by crate and part, in minutes of one processor: a line a crate, the longest first."""
     minutes = {crate: [table.get((crate, part), 0) / 60 for part in PARTS] for crate, _ in table}
-    long = sorted((it for it in minutes if sum(minutes[it]) >= SHORT), key=lambda it: -sum(minutes[it]))
-    short = [row for crate, row in minutes.items() if crate not in long]
-    sums = [sum(it) for it in zip(*minutes.values())]
-    rows = [[f"`{it}`", *minutes[it], sum(minutes[it])] for it in long]
-    if short:
-        of_short = [sum(it) for it in zip(*short)]
-        rows.append([f"{len(short)} others", *of_short, sum(of_short)])
+    sums = [sum(it) for it in zip(*minutes.values())] or [0] * len(PARTS)
+    rows = [[f"`{crate}`", *it, sum(it)] for crate, it in sorted(minutes.items(), key=lambda row: -sum(row[1]))]
     rows += [["rest", *[None] * len(PARTS), all_seconds / 60 - sum(sums)], ["all", *sums, all_seconds / 60]]
     shown = lambda it: it if isinstance(it, str) else "" if it is None else f"{it:.1f}"
     lines = [["crate", *PARTS, "all"], ["---", *["--:"] * (len(PARTS) + 1)], *[[shown(it) for it in row] for row in rows]]

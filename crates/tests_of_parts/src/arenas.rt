@@ -3,12 +3,12 @@ use op_arena::{Arena, ArenaFault, CellId};
 use std::process::Abort;
 use std::sync::atomic::{AtomicU64, Ordering};
 
-// Makes room for so many more values.
+// Makes room for a number of further values.
 fn reserve<const LAST: u32>(rt: &impl Abort, arena: &mut Arena<u32, LAST>, room: u32) {
     assert!(rt; arena.reserve(room).is_ok());
 }
 
-// Asserts that there aren't cells enough for so many more values.
+// Asserts that there aren't cells enough for a number of further values.
 fn assert_full<const LAST: u32>(rt: &impl Abort, arena: &mut Arena<u32, LAST>, room: u32) {
     assert!(rt; arena.reserve(room) == Err(ArenaFault::Full));
 }
@@ -105,7 +105,7 @@ fn place_counted<'a>(
     arena.place(Counted { drops })
 }
 
-// Places so many values that count their drops. The id of the last.
+// Places a number of values that count their drops. Returns the id of the last.
 fn place_all_counted<'a>(
     rt: &impl Abort,
     arena: &mut Arena<Counted<'a>, 3>,

@@ -5,7 +5,7 @@ use delta::{Delta, JoinFault};
 use std::alloc::Global;
 use std::process::Abort;
 
-// A delta of the first dot, live as this member, and of so many calls that site 0 has completed in queue 0.
+// A delta of the first dot, live as this member, and of a number of calls that site 0 completed in queue 0.
 fn delta_of(rt: &impl Abort, alloc: Global, by: ToldMember, completed: u16) -> Delta {
     Delta::of(
         set_of(rt, alloc, &[Assert(FIRST, by, 5, 7)]),

@@ -113,7 +113,7 @@ fn steps_are_dropped_of_a_journal_that_is_full_or_keeps_too_much(rt: HostRuntime
     assert_asked(&rt, alloc, 10, 1, 203, false, 0);
 }
 
-// A desk that refuses so many asks in turn, does one more, and then gives no answer.
+// A desk that refuses a number of asks in turn, does one more, and then gives no answer.
 #[derive(Drop)]
 struct ShortDesk {
     refusals: u32,

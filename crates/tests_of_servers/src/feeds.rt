@@ -9,7 +9,7 @@ fn feed_all(rt: &impl Abort, feed: &mut Feed, piece: &[u8]) {
     assert!(rt; feed.feed(piece).is_ok());
 }
 
-// So many lines, none of them empty.
+// A number of lines, none of them empty.
 fn lines(rt: &impl Abort, alloc: Global, number: usize) -> Vec<u8> {
     let mut bytes = Vec::new(alloc);
     for _ in 0..number {

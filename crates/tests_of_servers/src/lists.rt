@@ -11,7 +11,7 @@ fn numbered(rt: &impl Abort, alloc: Global, number: u32) -> QueueName {
     name(rt, text.as_bytes())
 }
 
-// So many names: those up to this number differ, and those behind it are the same.
+// A list of names: those up to a number are different, and those after it are the same.
 fn many_names(rt: &impl Abort, alloc: Global, count: u32, last: u32) -> Vec<QueueName> {
     let mut names = Vec::new(alloc);
     for number in 0..count {

@@ -34,7 +34,7 @@ fn end_of(
     end
 }
 
-// A device that takes or gives at most so many bytes at once, and fails behind a number of calls.
+// A device that takes or gives a limited number of bytes at once, and fails after a number of calls.
 #[derive(Clone, Copy)]
 struct Device {
     most: usize,

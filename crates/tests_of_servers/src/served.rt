@@ -80,9 +80,9 @@ fn serve_session<S: Source, W: Sink, D: Desk<()>>(
     serve(&(), alloc, reader, writer, session, desk)
 }
 
-// How a session upon this stream ends whose reader gives a byte a read, and fails behind a number of reads; whose writer takes a number
-// of bytes a write, and fails behind a number of writes; and whose desk gives a number of answers. How many bytes were written is
-// answered too: they are a front of the texts.
+// How a session on this stream ends. Its reader gives a byte a read and fails after a number of reads. Its writer takes a number of
+// bytes a write and fails after a number of writes. Its desk gives a number of answers. Returns too how many bytes were written: they
+// are a prefix of the texts.
 fn end_of_failing(
     rt: &impl Abort,
     alloc: Global,
@@ -111,8 +111,8 @@ const NEVER: u64 = 1_000;
 
 const WRITE: Result<(), ServeFault> = Err(ServeFault::Write);
 
-// Asserts how a session ends whose devices fail behind a number of reads or of writes, each of at most so many bytes, and whose desk gives a
-// number of answers; and the least and the most bytes that are written.
+// Asserts how a session ends whose devices fail after a number of reads or writes, of a limited number of bytes each, and whose desk
+// gives a number of answers. Asserts too the least and the most bytes that it writes.
 fn assert_end(
     rt: &impl Abort,
     alloc: Global,
@@ -143,7 +143,7 @@ fn assert_reads(
     }
 }
 
-// Asserts how a session ends whose writer takes at most so many bytes a write, and fails behind a number of writes.
+// Asserts how a session ends whose writer takes a limited number of bytes a write, and fails after a number of writes.
 fn assert_writes(
     rt: &impl Abort,
     alloc: Global,
@@ -159,7 +159,7 @@ fn assert_writes(
     }
 }
 
-// Asserts that a session ends behind so many answers, with so many bytes.
+// Asserts that a session ends after a number of answers, and how many bytes it has written then.
 fn assert_down(rt: &impl Abort, alloc: Global, answers: u32, written: usize) {
     let wanted = Err(ServeFault::DeskDown);
     assert_end(
@@ -283,7 +283,7 @@ fn all_that_is_due_is_written_before_each_read(rt: HostRuntime) {
     }
 }
 
-// So many messages of one line each.
+// A number of messages of one line each.
 fn short_messages(rt: &impl Abort, alloc: Global, number: usize) -> Vec<u8> {
     let mut stream = Vec::new(alloc);
     for _ in 0..number {
@@ -311,8 +311,8 @@ fn a_session_has_more_messages_than_reads(rt: HostRuntime) {
 
 const WANTING: &str = "Response: Error\r\nMessage: Out of memory\r\n\r\n";
 
-// How a session upon an add and a status has ended that lacked memory at most once, as a word. What was written is the greeting
-// and whole replies; or the desk lacked memory, the reply tells so, and the session went on.
+// How a session with an add and a status ended that ran out of memory at most once, as a word. It wrote the greeting and whole
+// replies; or the desk ran out of memory, the reply says so, and the session went on.
 fn end_of(rt: &impl Abort, served: Result<(), ServeFault>, written: &[u8]) -> &'static str {
     let whole = [GREETING, ADDED, REPORT];
     if let Err(fault) = served {

@@ -39,7 +39,7 @@ pub fn bound<R: Net<Listener = TcpListener, Stream = TcpStream> + Abort>(
     listener.ok().expect(rt, "a free port")
 }
 
-/// Whether so many ports from the first on can be bound.
+/// Whether a number of ports from the first on can be bound.
 pub fn are_free<R: Net<Listener = TcpListener, Stream = TcpStream>>(
     rt: &R,
     first: u16,
@@ -70,7 +70,7 @@ pub fn free_port<R: Net<Listener = TcpListener, Stream = TcpStream>>(
     port
 }
 
-/// So many sites at this port, for the user `admin` with the secret `s3`.
+/// A number of sites at this port, for the user `admin` with the secret `s3`.
 pub fn settings(
     rt: &impl Abort,
     sites: u16,

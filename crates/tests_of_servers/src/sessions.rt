@@ -1,4 +1,4 @@
-//! What a session replies upon each answer, also those that no site gives to what was asked.
+//! What a session replies to each answer, also to answers that no site gives to what was asked.
 use crate::shared::assert_text;
 use ami_session::{Act, Pending, Session};
 use ami_text::{Feed, Message};
@@ -50,7 +50,7 @@ fn pending(rt: &impl Abort, alloc: Global, lines: &str) -> Pending {
     }
 }
 
-// Asserts what a trusted session replies to a message of these lines upon an answer.
+// Asserts what a trusted session replies to a message of these lines after an answer.
 fn assert_reply(rt: &impl Abort, alloc: Global, lines: &str, answer: Answer, wanted: &[&str]) {
     let pending = pending(rt, alloc, lines);
     let given = pending.answer(alloc, answer).ok().expect(rt, "a reply");
@@ -64,7 +64,7 @@ fn assert_refused(rt: &impl Abort, alloc: Global, lines: &str, refusal: Refusal,
     assert_reply(rt, alloc, lines, Answer::Refused(refusal), &wanted);
 }
 
-// Asserts the reply to a message of these lines upon each refusal. That of `NotThere` has this text.
+// Asserts the reply to a message of these lines after each refusal. That of `NotThere` has this text.
 fn assert_refusals(rt: &impl Abort, alloc: Global, lines: &str, not_there: &str) {
     assert_refused(rt, alloc, lines, Refusal::NoSuchQueue, "No such queue");
     assert_refused(

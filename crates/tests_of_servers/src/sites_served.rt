@@ -39,7 +39,7 @@ fn has_done(journal: &Journaled) -> bool {
     done
 }
 
-// The journals of sites of which each has had so many sessions.
+// The journals of sites after each has had a number of sessions.
 fn journals_of<R>(rt: &R, alloc: Global, settings: &ServerSettings, sessions: u32) -> Vec<Journaled>
 where
     R: Net<Listener = TcpListener, Stream = TcpStream>
@@ -55,7 +55,7 @@ where
     ended.expect(rt, "journals")
 }
 
-// The journals of sites at the first free port, which are served to clients that have so many sessions at each.
+// The journals of sites at the first free port, which are served to clients that have a number of sessions at each.
 fn served_to<R>(
     rt: &R,
     alloc: Global,
@@ -133,7 +133,7 @@ where
 #[test]
 fn clients_that_take_too_long_lose_their_places(rt: HostRuntime) {
     let alloc = rt.alloc();
-    // No message within the time for the first; nothing within the time for silence; and a message in time, upon which silence is right.
+    // No message within the time for the first; nothing within the time for silence; and a message in time, after which silence is right.
     assert_served(&rt, alloc, 24_460, Limit::FirstMessage, Client::InLogin);
     assert_served(&rt, alloc, 24_480, Limit::Idle, Client::LoggedIn);
     assert_served(&rt, alloc, 24_500, Limit::FirstMessage, Client::Silent);

@@ -75,7 +75,7 @@ impl Write for Faulty {
     }
 }
 
-// What a source or a sink answers over a device with so many errors of a kind: it bears 999 interruptions, and no other error.
+// What a source or a sink answers over a device with a number of errors of a kind: it bears 999 interruptions, and no other error.
 const ANSWERS: &[(u32, ErrorKind, Result<usize, Failed>)] = &[
     (999, ErrorKind::Interrupted, Ok(1)),
     (1000, ErrorKind::Interrupted, Err(Failed)),

@@ -206,7 +206,7 @@ fn events_at_no_site_and_of_no_entry_are_told(rt: HostRuntime) {
     drop(world);
 }
 
-// So many cuts of the second site.
+// A number of cuts of the second site.
 fn cuts(rt: &impl Abort, alloc: Global, count: u32) -> Vec<Event> {
     let mut cuts = Vec::new(alloc);
     for _ in 0..count {
