@@ -1,0 +1,4 @@
+pub mod Refusals
+pub mod Cards
+pub mod Codes
+pub mod Hellos

@@ -1,0 +1,6 @@
+//! The roll of the sites of a call centre (this project's own): which store each site number belongs to.
+#![tactic(auto)]
+
+mod roll;
+
+pub use roll::{Identity, Roll};

@@ -1,0 +1,101 @@
+ghost use Rattle.std.specs.Prelude.{◌≡◌, ◌⊎◌, ◌≤◌, IfSome, IsOk, ◌≢◌, ◌↔◌, ◌<◌, IfOk, IsErrOf};
+ghost use Rattle.std.specs.Prelude.{IsSomeAnd, None, OnErr, OnOk, Some, replicate, slice_set};
+ghost use Rattle.dots.specs.Values.{IsSite};
+ghost use Rattle.link_hello.specs.Cards.{IsOfOurs, IsOlder};
+ghost use Rattle.roll.specs.Rolls.{IsPeer, identity_of, seen_with};
+
+use dots::{SITES, SiteId};
+use link_hello::{Card, Refusal, judge};
+use std::marker::Model;
+
+// How many site numbers there are.
+const NUMBERS: usize = SITES as usize;
+
+/// Which store a site is of, and the greatest start count that was seen of it.
+#[derive(Clone, Copy, Debug, PartialEq, Eq)]
+pub struct Identity {
+    /// The 16 bytes that name the store.
+    pub store: [u8; 16],
+    /// How often the store was started.
+    pub starts: u64,
+}
+
+/// The stores that were seen, one for each of the 64 site numbers. A number stays that of the first store that was seen with it, and its
+/// start count never falls.
+#[derive(Drop)]
+pub struct Roll {
+    seen: [Option<Identity>; NUMBERS],
+}
+
+impl Model for Roll {
+    ghost use Rattle.std.specs.Prelude.{List, Option};
+    ghost use Rattle.roll.specs.declared.roll.Identity.{Identity};
+
+    ghost Value = { List (Option Identity) };
+
+    ghost view = { λ r. r.seen };
+}
+
+impl Roll {
+    /// A roll on which no store was seen.
+    pub fn new() -> Roll
+        ensures { result ≡ replicate SITES None }
+    {
+        Roll {
+            seen: [None; NUMBERS],
+        }
+    }
+
+    /// Judges another site's card, and keeps its store and start count where nothing is wrong with it. `own` is this site's card.
+    ///
+    /// Errors, in order: `NoSuchSite`, `OtherQueues`, `Itself`, `OlderCopy`, `SameNumber`, by `judge`; `TakenNumber` if the card's number
+    /// was seen with another store; `OlderCopy` if it was seen with this store and a greater start count. They change nothing.
+    pub fn admit(&mut self, own: &Card, card: &Card) -> Result<SiteId, Refusal>
+        ensures site { IfOk result (λ site. site ≡ card.now.number) }
+        ensures kept { OnOk result (self.new
+            ≡ slice_set self.old card.now.number (Some (identity_of card.now))) }
+        ensures admitted { IsOk result ↔ (IsPeer own.now card.now
+            × IfSome (seen_with self.old card.now.number) (λ seen.
+            (seen.store ≡ card.now.store) × (seen.starts ≤ card.now.starts))) }
+        ensures err { OnErr result (self.new ≡ self.old) }
+        ensures judged { IsErrOf result Refusal.WrongSecret → ⊥ }
+        ensures no_such_site { IsErrOf result Refusal.NoSuchSite
+            ↔ (IsSite card.now.number → ⊥) }
+        ensures other_queues { IsErrOf result Refusal.OtherQueues
+            ↔ (IsSite card.now.number × (card.now.queues ≢ own.now.queues)) }
+        ensures itself { IsErrOf result Refusal.Itself
+            ↔ (IsOfOurs own.now card.now × (card.now ≡ own.now)) }
+        ensures same_number { IsErrOf result Refusal.SameNumber ↔ (IsOfOurs own.now card.now
+            × (card.now.number ≡ own.now.number) × (card.now ≢ own.now)
+            × (IsOlder own.now card.now → ⊥)) }
+        ensures taken_number { IsErrOf result Refusal.TakenNumber ↔ (IsPeer own.now card.now
+            × IsSomeAnd (seen_with self.old card.now.number) (λ seen.
+            seen.store ≢ card.now.store)) }
+        ensures older_copy { IsErrOf result Refusal.OlderCopy
+            ↔ ((IsOfOurs own.now card.now × IsOlder own.now card.now)
+            ⊎ (IsPeer own.now card.now
+            × IsSomeAnd (seen_with self.old card.now.number) (λ seen.
+            (seen.store ≡ card.now.store) × (card.now.starts < seen.starts)))) }
+    {
+        if let Some(refusal) = judge(own, card) {
+            return Err(refusal);
+        }
+        let Some(site) = card.site() else {
+            return Err(Refusal::NoSuchSite);
+        };
+        let place = usize::from(card.number);
+        if let Some(seen) = self.seen[place] {
+            if seen.store != card.store {
+                return Err(Refusal::TakenNumber);
+            }
+            if card.starts < seen.starts {
+                return Err(Refusal::OlderCopy);
+            }
+        }
+        self.seen[place] = Some(Identity {
+            store: card.store,
+            starts: card.starts,
+        });
+        Ok(site)
+    }
+}
