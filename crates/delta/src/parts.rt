@@ -60,6 +60,7 @@ pub(crate) fn absorb_members(members: &mut MemberSet, other: MemberSet)
     ensures limits { IsWithinLimits members.new }
 {
     if knows_nothing(&other) {
+        drop(other);
         return;
     }
     members.absorb(other);

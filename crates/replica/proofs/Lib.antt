@@ -36,6 +36,7 @@ pub mod SmallSites
 pub mod StandingSites
 pub mod StepLaws
 pub mod TakenCopies
+pub mod RestoredSites
 pub mod TakenSites
 pub mod TakingIn
 pub mod TracesMade

@@ -39,7 +39,7 @@ use Rattle.replica.proofs.StandingSites.{equal_same, taken_stands}
 -- ---- what a delta says that a site may hear
 
 -- of the site's own dots it knows none past the last count
-up_to : (site last : ℕ) (d : DeltaState) → (HasDotPast site last d.members.known → ⊥) → KnowsUpTo site last d
+pub up_to : (site last : ℕ) (d : DeltaState) → (HasDotPast site last d.members.known → ⊥) → KnowsUpTo site last d
 up_to site last d none = record {
   counts = λ count some known. at count (λ past. none (record { count = count; known_dot = known; past = past }));
 }
@@ -57,7 +57,7 @@ written_up_to site last field none entry is =
     at false s time e no_more = omega arith
 
 -- so its own stamps are up to the last time
-stamps_up_to : (site last : ℕ) (d : DeltaState) → (HasStampPast site last d.members → ⊥) → HasOwnStamps site last d
+pub stamps_up_to : (site last : ℕ) (d : DeltaState) → (HasStampPast site last d.members → ⊥) → HasOwnStamps site last d
 stamps_up_to site last d none dot held live = record {
   penalty = written_up_to site last held.1.penalty (λ w. none (record { dot = dot; held = held; live = live; past = inl w }));
   pause = written_up_to site last held.1.pause (λ w. none (record { dot = dot; held = held; live = live; past = inr (inl w) }));
@@ -66,7 +66,7 @@ stamps_up_to site last d none dot held live = record {
 }
 
 -- and it is of the site's queues
-in_queues : (n : ℕ) (d : DeltaState) → (SpeaksOfStrangeQueue n d → ⊥) → AreInQueues n d
+pub in_queues : (n : ℕ) (d : DeltaState) → (SpeaksOfStrangeQueue n d → ⊥) → AreInQueues n d
 in_queues n d none = record {
   members = λ dot held live. at held.0.queue (λ strange. none (inl (record { dot = dot; held = held; live = live; strange = strange })));
   totals = λ key totals counted. at key.queue (λ strange. none (inr (record { key = key; totals = totals; counted = counted; strange = strange })));

@@ -23,3 +23,4 @@ pub mod Steps
 pub mod Taking
 pub mod Writing
 pub mod Replicas
+pub mod Restoring

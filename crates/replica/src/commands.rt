@@ -73,8 +73,8 @@ impl Replica {
     /// time of an add is one past the site's last; that of the others is past all that they replace too;
     /// 6 `TotalFull` where the site's own total of these calls in the queue is 1,000,000,000;
     /// 7 `Memory`, which may stand in place of 4 and 5, and of what would be made, and never of the others. The order is this project's own.
-    pub fn command(&mut self, command: Command) -> Result<(), Refusal>
-        ensures meaning { IsDone self.old (meaning_at self.old (change_of command))
+    pub fn command(&mut self, command: &Command) -> Result<(), Refusal>
+        ensures meaning { IsDone self.old (meaning_at self.old (change_of command.now))
             self.new result }
         ensures unchanged { OnErr result (IsUnchanged self.old self.new) }
         ensures site { self.new.site ≡ self.old.site }
@@ -83,7 +83,7 @@ impl Replica {
         // Where the replica stands for what a site knows, it is the command's meaning there.
         ensures knowledge { (s : SiteKnowledge) → StandsFor self.old s
             → IsMeant self.old self.new result
-            (step self.old.site self.old.names s (Do (change_of command))) }
+            (step self.old.site self.old.names s (Do (change_of command.now))) }
     {
         match self.plan(command) {
             Ok(planned) => self.make(planned.change, planned.count, planned.time),
@@ -92,8 +92,8 @@ impl Replica {
     }
 
     // What is to be made of a command.
-    fn plan(&self, command: Command) -> Result<Planned, Refusal>
-        ensures { IsPlanned self.now (meaning_at self.now (change_of command)) result }
+    fn plan(&self, command: &Command) -> Result<Planned, Refusal>
+        ensures { IsPlanned self.now (meaning_at self.now (change_of command.now)) result }
     {
         match command {
             Command::Add {
@@ -102,25 +102,25 @@ impl Replica {
                 penalty,
                 paused,
                 label,
-            } => self.plan_add(&queue, interface, penalty, paused, label),
-            Command::Remove { queue, interface } => self.plan_remove(&queue, &interface),
+            } => self.plan_add(queue, interface.copy(), *penalty, *paused, label.copy()),
+            Command::Remove { queue, interface } => self.plan_remove(queue, interface),
             Command::Pause {
                 queue,
                 interface,
                 pause,
-            } => self.plan_setting(queue, &interface, Setting::Pause(pause)),
+            } => self.plan_setting(queue, interface, Setting::Pause(pause.copy())),
             Command::Penalty {
                 queue,
                 interface,
                 penalty,
-            } => self.plan_setting(queue, &interface, Setting::Penalty(penalty)),
+            } => self.plan_setting(queue, interface, Setting::Penalty(*penalty)),
             Command::RingInUse {
                 queue,
                 interface,
                 ring,
-            } => self.plan_setting(queue, &interface, Setting::Ring(ring)),
-            Command::Completed { queue } => self.plan_count(&queue, Calls::Completed),
-            Command::Abandoned { queue } => self.plan_count(&queue, Calls::Abandoned),
+            } => self.plan_setting(queue, interface, Setting::Ring(*ring)),
+            Command::Completed { queue } => self.plan_count(queue, Calls::Completed),
+            Command::Abandoned { queue } => self.plan_count(queue, Calls::Abandoned),
         }
     }
 
@@ -218,17 +218,17 @@ impl Replica {
     // One field that is set in a queue, or in every one.
     fn plan_setting(
         &self,
-        queue: Option<QueueName>,
+        queue: &Option<QueueName>,
         interface: &Interface,
         setting: Setting,
     ) -> Result<Planned, Refusal>
         ensures { IsPlanned self.now
-            (meaning_at self.now (SetField queue interface.now (setting_of setting))) result }
+            (meaning_at self.now (SetField queue.now interface.now (setting_of setting))) result }
     {
         let Some(queue) = queue else {
             return self.plan_write(None, interface, setting);
         };
-        match self.list.position(&queue) {
+        match self.list.position(queue) {
             Some(number) => self.plan_write(Some(number), interface, setting),
             None => Err(Refusal::NoSuchQueue),
         }

@@ -1,6 +1,7 @@
 //! What no site takes of another: what is of a queue that it doesn't have, and what it hasn't made itself.
 ghost use Rattle.std.specs.Prelude.{◌≡◌, ◌⊎◌, ◌↔◌, ◌<◌, ◌≤◌, Any, Err, IsTrue, OnErr, OnOk, length};
 ghost use Rattle.std.specs.FinMap as map;
+ghost use Rattle.operations.specs.Totals.{InLimits};
 ghost use Rattle.replica.specs.Taking.{CountsMore, HasDotPast, HasFieldPast, HasMemberPast};
 ghost use Rattle.replica.specs.Taking.{IsEntryPast, IsNotMine, IsWrittenPast, MayHear};
 ghost use Rattle.replica.specs.Taking.{SpeaksOfStrangeQueue};
@@ -14,7 +15,7 @@ use member_orset::MemberSet;
 use site_totals::{TotalKey, Totals};
 
 // Whether some live dot is of a member in a queue whose number isn't below this one. It takes no memory, like all that is here.
-fn has_strange_member(members: &MemberSet, queues: u16) -> bool
+pub(crate) fn has_strange_member(members: &MemberSet, queues: u16) -> bool
     ensures { IsTrue result ↔ Any (λ e. queues ≤ e.1.0.queue) (map.entries members.now.live) }
 {
     for (_dot, cell) in members.iter() {
@@ -26,8 +27,10 @@ fn has_strange_member(members: &MemberSet, queues: u16) -> bool
 }
 
 // Whether some total is of a queue whose number isn't below this one.
-fn has_strange_total(totals: &Totals, queues: u16) -> bool
-    ensures { IsTrue result ↔ Any (λ e. queues ≤ e.0.queue) (map.entries totals.now.entries) }
+pub(crate) fn has_strange_total(totals: &Totals, queues: u16) -> bool
+    ensures test { IsTrue result
+        ↔ Any (λ e. queues ≤ e.0.queue) (map.entries totals.now.entries) }
+    ensures limits { InLimits totals.now.entries }
 {
     totals.iter().any(|(key, _)| key.queue() >= queues)
 }
@@ -54,7 +57,7 @@ fn has_run_past(runs: &[Run], site: SiteId, last: u64) -> bool
 }
 
 // Whether a context has a dot of this site of a count past this one.
-fn has_dot_past(context: &Context, site: SiteId, last: u64) -> bool
+pub(crate) fn has_dot_past(context: &Context, site: SiteId, last: u64) -> bool
     ensures { IsTrue result ↔ HasDotPast site last context.now.dots }
 {
     has_run_past(context.as_slice(), site, last)
@@ -88,7 +91,7 @@ fn has_field_past(fields: &Fields, site: SiteId, last: u64) -> bool
 }
 
 // Whether a field of some live dot was written under a stamp of this site and of a time past this one.
-fn has_stamp_past(members: &MemberSet, site: SiteId, last: u64) -> bool
+pub(crate) fn has_stamp_past(members: &MemberSet, site: SiteId, last: u64) -> bool
     ensures { IsTrue result
         ↔ Any (λ e. HasFieldPast site last e.1.1) (map.entries members.now.live) }
 {

@@ -1,5 +1,5 @@
 //! Frames: what a site sends to others, and what it takes of them.
-ghost use Rattle.std.specs.Prelude.{◌≡◌, ◌↔◌, Err, IfErr, IfOk, IfSome, IsOk, None, Ok, OnErr};
+ghost use Rattle.std.specs.Prelude.{◌≡◌, ◌+◌, ◌↔◌, Err, IfErr, IfOk, IfSome, IsOk, None, Ok, OnErr};
 ghost use Rattle.std.specs.Prelude.{OnOk};
 ghost use Rattle.operations.specs.Knowledge.{Knowledge};
 ghost use Rattle.delta.specs.DeltaStates.{IsEmpty};
@@ -87,6 +87,24 @@ impl Replica {
             number: self.frames,
             delta,
         })
+    }
+
+    /// Uses up the site's next frame number and returns it: the number of a frame of all that the site knows, of which the caller
+    /// writes the bytes from the state itself, so that no copy of the state is made (this project's own). It takes no memory. The one
+    /// fault is `Exhausted`, exactly where the site has made 2^40 frames; it changes nothing.
+    pub fn use_frame_number(&mut self) -> Result<u64, CutFault>
+        ensures number { IfOk result (λ number. number ≡ self.old.frames + 1) }
+        ensures used { OnOk result
+            (self.new ≡ record self.old { frames = self.old.frames + 1 }) }
+        ensures exhausted { (result ≡ Err CutFault.Exhausted) ↔ (self.old.frames ≡ MOST_COUNT) }
+        ensures only { IfErr result (λ fault. fault ≡ CutFault.Exhausted) }
+        ensures err { OnErr result (self.new ≡ self.old) }
+    {
+        if self.frames == MOST_COUNT {
+            return Err(CutFault::Exhausted);
+        }
+        self.frames += 1;
+        Ok(self.frames)
     }
 
     /// Joins what a frame says into the state, whoever made it; the buffer stays as it is (RR-7506: a replica merges what it

@@ -17,3 +17,6 @@ pub use iter::Iter;
 pub use total_fault::TotalFault;
 pub use total_key::TotalKey;
 pub use totals::Totals;
+
+/// The kind of the calls that a total counts: another name of [`Calls`], which stands in `dots`.
+pub type Kind = Calls;

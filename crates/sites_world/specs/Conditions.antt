@@ -1,5 +1,5 @@
 -- What comes of events, told by conditions alone: by the states of sites and the frames of the pool before them and after them.
-use Rattle.std.specs.Prelude.{ℕ, ◌≡◌, ◌<◌, ◌≤◌, List, [], ◌∷◌, ◌++◌, Option, Some, None, Result, Ok, Err, length, slice_get, slice_set}
+use Rattle.std.specs.Prelude.{ℕ, ◌≡◌, ◌<◌, ◌≤◌, ⊤, List, [], ◌∷◌, ◌++◌, Option, Some, None, Result, Ok, Err, length, slice_get, slice_set}
 use Rattle.dots.specs.declared.limits.TheConstants.{MOST_COUNT, MOST_LIVE, MOST_RUNS}
 use Rattle.member_orset.specs.Members.{cells_joined, runs_joined}
 use Rattle.delta.specs.DeltaStates.{DeltaState, IsEmpty, IsSame}
@@ -52,6 +52,17 @@ ComesOfWhole entries old (Cut (Ok (Some place))) new added = (place ≡ entries)
 ComesOfWhole entries old (Cut (Err fault)) new added = (fault ≡ Exhausted) × (old.frames ≡ MOST_COUNT) × (new ≡ old) × (added ≡ [])
 ComesOfWhole entries old NoMemory new added = (new ≡ old) × (added ≡ [])
 ComesOfWhole entries old other new added = ⊥
+
+-- a site in state `s` has a frame to cut: its buffer isn't empty, and a number is left
+abbrev pub HasFrameToCut : SiteState → Type 0
+HasFrameToCut s = (IsEmpty s.pending → ⊥) × (s.frames < MOST_COUNT)
+
+-- where event `e` is a cut or a whole, its site in state `s` has a frame to make, and a number is left
+abbrev pub HasFrameToMake : Event → SiteState → Type 0
+HasFrameToMake (event.Ask site asked) s = ⊤
+HasFrameToMake (event.Cut site) s = HasFrameToCut s
+HasFrameToMake (event.Whole site) s = s.frames < MOST_COUNT
+HasFrameToMake (event.Take site place) s = ⊤
 
 -- the take of delta `d` leads a site from its state `old` to `new`: it is taken; or it is too much,
 -- in live dots or else in runs, or memory is wanting, and the site says what it said

@@ -1,15 +1,16 @@
 //! Events, one by one: what each does at its site, and what comes of it.
-ghost use Rattle.std.specs.Prelude.{◌≡◌, ◌<◌, ◌≤◌, ◌+◌, ◌++◌, ℕ, List, [], ◌∷◌, Err, Ok, Some};
-ghost use Rattle.std.specs.Prelude.{length, option_map, slice_get, true, vec_len, vec_capacity};
-ghost use Rattle.dots.specs.declared.limits.TheConstants.{MOST_COUNT};
+ghost use Rattle.std.specs.Prelude.{◌≡◌, ◌↔◌, ◌<◌, ◌≤◌, ◌+◌, ◌++◌, ℕ, List, [], ◌∷◌, Err, IsTrue};
+ghost use Rattle.std.specs.Prelude.{Ok, OnErr, OnOk, Some, length, option_map, slice_get, true};
+ghost use Rattle.std.specs.Prelude.{vec_len, vec_capacity};
 ghost use Rattle.operations.specs.Knowledge.{Knowledge};
 ghost use Rattle.delta.specs.Standing.{IsDeltaOf};
-ghost use Rattle.replica.specs.Site.{IsUnchanged};
+ghost use Rattle.replica.specs.Site.{IsUnchanged, SiteState};
 ghost use Rattle.replica.specs.Standing.{StandsFor};
 ghost use Rattle.replica.specs.Steps.{Cut, SiteKnowledge, Take, Whole, step};
 ghost use Rattle.status_report.specs.Knowing.{answer_in};
 ghost use Rattle.sites_world.specs.Conditions.{ComesAt, ComesOfAsk, ComesOfCut, ComesOfEntry};
 ghost use Rattle.sites_world.specs.Conditions.{ComesOfWhole, GrowsBy, EventsLead, EventLeads};
+ghost use Rattle.sites_world.specs.Conditions.{HasFrameToCut, HasFrameToMake};
 ghost use Rattle.sites_world.specs.Outcomes.{changes_nothing};
 ghost use Rattle.sites_world.specs.Telling.{HasEntry, HasHappenedAt, IsAnsweredSo, IsFramedSo};
 ghost use Rattle.sites_world.specs.Telling.{IsTakenSo, MayBeTaken};
@@ -20,7 +21,7 @@ ghost use Rattle.sites_world.specs.WorldStates.{Correspond, HasHappened, HaveHap
 ghost use Rattle.sites_world.specs.WorldStates.{IsWorld, StandsForWorld};
 
 use crate::{Event, Outcome};
-use dots::SiteId;
+use dots::{MOST_COUNT, Memory, SiteId};
 use replica::{CutFault, Frame, Refusal, Replica, TakeFault};
 use status_report::{Answer, Ask, ask};
 use std::alloc::Global;
@@ -44,7 +45,27 @@ fn ask_site(alloc: Global, replica: &mut Replica, asked: Ask) -> Outcome
     ensures unchanged { changes_nothing result ≡ true → IsUnchanged replica.old replica.new }
     ensures conditions { ComesOfAsk replica.old asked result replica.new }
 {
-    answer_told(ask(alloc, replica, asked))
+    answer_told(ask(alloc, replica, &asked))
+}
+
+// Whether a site has a frame to cut: its buffer isn't empty, and a number is left.
+fn has_frame_to_cut(replica: &Replica) -> bool
+    ensures { IsTrue result ↔ HasFrameToCut replica.now }
+{
+    !replica.pending().is_empty() && replica.last().2 < MOST_COUNT
+}
+
+// Reserves room in the pool for a frame, where `makes` says that there is one to make.
+fn make_room(pool: &mut Vec<Frame>, makes: bool) -> Result<(), Memory>
+    ensures room { OnOk result (makes ≡ true → vec_len pool.new + 1 ≤ vec_capacity pool.new) }
+    ensures pool { pool.new.items ≡ pool.old.items }
+    ensures wanted { OnErr result (makes ≡ true) }
+    ensures full { OnErr result (vec_capacity pool.old < vec_len pool.old + 1) }
+{
+    if !makes {
+        return Ok(());
+    }
+    pool.reserve(1)
 }
 
 // Puts a site's buffer into a frame at the end of the pool, or tells why there is none.
@@ -59,8 +80,10 @@ fn cut_site(replica: &mut Replica, pool: &mut Vec<Frame>) -> Outcome
         (ComesOfCut (length pool.old.items) replica.old result replica.new)
         pool.old.items pool.new.items }
     ensures room { result ≡ Outcome.NoMemory → vec_capacity pool.old < vec_len pool.old + 1 }
+    ensures memory { result ≡ Outcome.NoMemory → HasFrameToCut replica.old }
 {
-    if pool.reserve(1).is_err() {
+    let makes = has_frame_to_cut(replica);
+    if make_room(pool, makes).is_err() {
         return Outcome::NoMemory;
     }
     match replica.cut() {
@@ -92,11 +115,10 @@ fn whole_site(replica: &mut Replica, pool: &mut Vec<Frame>) -> Outcome
     ensures conditions { GrowsBy
         (ComesOfWhole (length pool.old.items) replica.old result replica.new)
         pool.old.items pool.new.items }
-    ensures exhausted { replica.old.frames ≡ MOST_COUNT
-        → vec_len pool.old + 1 ≤ vec_capacity pool.old
-        → result ≡ Outcome.Cut (Err CutFault.Exhausted) }
+    ensures memory { result ≡ Outcome.NoMemory → replica.old.frames < MOST_COUNT }
 {
-    if pool.reserve(1).is_err() {
+    let makes = replica.last().2 < MOST_COUNT;
+    if make_room(pool, makes).is_err() {
         return Outcome::NoMemory;
     }
     match replica.whole() {
@@ -172,6 +194,7 @@ fn happen_at(alloc: Global, replica: &mut Replica, pool: &mut Vec<Frame>, event:
         → GrowsBy (ComesAt pool.old.items replica.old event result replica.new)
         pool.old.items pool.new.items }
     ensures entry { result ≡ Outcome.NoMemory → HasEntry pool.old.items event }
+    ensures memory { result ≡ Outcome.NoMemory → HasFrameToMake event replica.old }
     ensures unchanged { changes_nothing result ≡ true → IsUnchanged replica.old replica.new }
     ensures pool { changes_nothing result ≡ true → pool.new.items ≡ pool.old.items }
 {
@@ -205,6 +228,8 @@ pub(crate) fn happen(
         event result
         (record { names = names; sites = sites.new.items; pool = pool.new.items }) }
     ensures values { HasValuesWithinLimits event }
+    ensures memory { result ≡ Outcome.NoMemory → (state : SiteState)
+        → slice_get sites.old.items (site_of event) ≡ Some state → HasFrameToMake event state }
     ensures count { length sites.new.items ≡ length sites.old.items }
     ensures unchanged { changes_nothing result ≡ true
         → Correspond (λ site. IsUnchanged) sites.old.items sites.new.items }

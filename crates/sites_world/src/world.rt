@@ -3,9 +3,10 @@ ghost use Rattle.std.specs.Prelude.{length, option_map, slice_get, true};
 ghost use Rattle.delta.specs.Frames.{IsInRanges};
 ghost use Rattle.replica.specs.Queues.{AreQueues};
 ghost use Rattle.replica.specs.Site.{SiteState};
-ghost use Rattle.sites_world.specs.Conditions.{EventsLead, EventLeads};
+ghost use Rattle.sites_world.specs.Conditions.{EventsLead, EventLeads, HasFrameToMake};
 ghost use Rattle.sites_world.specs.Outcomes.{changes_nothing};
 ghost use Rattle.sites_world.specs.Worlds.{IsReached, World as world_of_operations, new_world};
+ghost use Rattle.sites_world.specs.Worlds.{site_of};
 ghost use Rattle.sites_world.specs.WorldStates.{HasHappened, HasNoneRetired, HaveHappened};
 ghost use Rattle.sites_world.specs.WorldStates.{IsSiteOf, IsUnchanged, IsWorld, StandsForWorld};
 ghost use Rattle.replica.specs.Steps.{new_site};
@@ -88,18 +89,22 @@ impl World {
     }
 
     /// Does an event at its site, and answers what comes of it: `NoSite` exactly where there is no such site, else, if it takes,
-    /// `NoEntry` exactly where there is no such entry. An event that memory is wanting for has the outcome `NoMemory`. Each other
-    /// event leads to what it leads to in the world of operations, with the outcome that it has there (RR-7506: what a site shows is
-    /// the reading of the updates that were delivered to it; the events are this project's own). So each report is the status text
-    /// of what its site knows then, and no frame is refused as `NoSuchQueue`, `NotMine` or `Conflict`. After `NoMemory`, and after
-    /// each other outcome that tells that nothing is changed, the sites say what they said and the pool is as it was. The clause `conditions` tells all of it of
-    /// states and frames alone, without a world of operations.
+    /// `NoEntry` exactly where there is no such entry. An event that memory is wanting for has the outcome `NoMemory`; a cut or a whole
+    /// has it only where there is a frame to make, and a number for it. Each other event leads to what it leads to in the world of
+    /// operations, with the outcome that it has there (RR-7506: what a site shows is the reading of the updates that were delivered to
+    /// it; the events are this project's own). So each report is the status text of what its site knows then, and no frame is refused
+    /// as `NoSuchQueue`, `NotMine` or `Conflict`. After `NoMemory`, and after each other outcome that tells that nothing is changed,
+    /// the sites say what they said and the pool is as it was. The clause `conditions` tells all of it of states and frames alone,
+    /// without a world of operations.
     pub fn happen(&mut self, event: Event) -> Outcome
         ensures was { IsWorld self.old }
         ensures meaning { (w : world_of_operations)
             → IsReached self.old.names (length self.old.sites) w → StandsForWorld self.old w
             → HasHappened self.new w event result }
         ensures conditions { EventLeads self.old event result self.new }
+        // A cut or a whole is `NoMemory` only where a frame was to be made, so never in place of a refusal or of an empty cut.
+        ensures memory { result ≡ Outcome.NoMemory → (state : SiteState)
+            → slice_get self.old.sites (site_of event) ≡ Some state → HasFrameToMake event state }
         ensures unchanged { changes_nothing result ≡ true → IsUnchanged self.old self.new }
         ensures names { self.new.names ≡ self.old.names }
         ensures count { length self.new.sites ≡ length self.old.sites }

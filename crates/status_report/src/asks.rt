@@ -1,7 +1,7 @@
 ghost use Rattle.std.specs.Prelude.{◌≡◌, ◌↔◌, IfOk, IsOk, IsTrue};
 
-use crate::StatusRequest;
-use dots::{Bytes, Memory};
+use crate::{SharedBytes, StatusRequest};
+use dots::Memory;
 use replica::{Command, Refusal};
 
 /// What may be asked of a site.
@@ -48,11 +48,11 @@ pub enum Answer {
     /// The command is refused, and nothing was changed.
     Refused(Refusal),
     /// The bytes of the report.
-    Report(Bytes),
+    Report(SharedBytes),
 }
 
 impl Answer {
-    /// The same answer once more. The one fault is want of memory, and a report alone takes some.
+    /// The same answer once more; a report is shared, and none of its bytes is copied. The one fault is `Memory`, as of a shared report.
     pub fn copy(&self) -> Result<Answer, Memory>
         ensures same { IfOk result (λ copy. copy ≡ self.now) }
         ensures done { self.now ≡ Answer.Done → IsOk result }

@@ -6,7 +6,7 @@ use Rattle.status_report.proofs.answer_status.Goals as goal
 
 -- the report is the text of what the site knows
 pub returns-in-Ok-clause-meaning : goal.returns-in-Ok-clause-meaning
-returns-in-Ok-clause-meaning c = λ s stands. inl (stands, ap Report (c.new.ensures ∙ c.in-Ok.ensures.value ∙ report_is c.args.replica.now s stands c.args.request.now))
+returns-in-Ok-clause-meaning c = λ s stands. inl (stands, ap Report (c.in-Ok.ensures ∙ report_is c.args.replica.now s stands c.args.request.now))
 
 -- want of memory may stand in its place
 pub returns-in-Err-clause-meaning : goal.returns-in-Err-clause-meaning

@@ -20,6 +20,6 @@ pub returns-else-has_strange_member : goal.returns-else-has_strange_member
 returns-else-has_strange_member c =
     let q = c.args.queues in
     let found = subst (λ (m : Members). IsTrue c.has_strange_member.result ↔ Any (λ (e : Dot × Holding). q ≤ e.1.0.queue) (map.entries m.live)) c.members.ensures.value c.has_strange_member.ensures in
-    let counted = subst (λ (t : Tally). IsTrue c.has_strange_total.result ↔ Any (λ (e : Key × CallTotals). q ≤ e.0.queue) (map.entries t.entries)) c.totals.ensures c.has_strange_total.ensures in
+    let counted = subst (λ (t : Tally). IsTrue c.has_strange_total.result ↔ Any (λ (e : Key × CallTotals). q ≤ e.0.queue) (map.entries t.entries)) c.totals.ensures c.has_strange_total.ensures.test in
     second_tells c.has_strange_total.result (failed c.has_strange_member.result (through found (strange_member q c.args.delta.now.members)) c.if-has_strange_member.false)
     (through counted (strange_total q c.args.delta.now.totals.entries))

@@ -18,8 +18,8 @@ returns-in-Ok-Some-clause-meaning c = λ s stands.
     let meant = subst (λ made. IsMeantCut new (Ok made) (cut s s.buffer)) c.in-Ok-Some.field-0-is (c.in-Ok-Some.ensures.meaning s stands) in
     let has = subst (λ made. IfSome made (λ frame. HasCut c.args.replica.now frame new)) c.in-Ok-Some.field-0-is c.in-Ok-Some.ensures.frame in
     let ranges = subst (λ made. IfSome made (λ frame. IsInRanges frame)) c.in-Ok-Some.field-0-is c.in-Ok-Some.ensures.in_ranges in
-    let grown = c.put_frame.ensures.pool ∙ ap (λ fs. fs ++ c.in-Ok-Some.frame ∷ []) c.reserve.ensures.items in
-    let told = c.put_frame.ensures.told ∙ ap (λ fs. Cut (Ok (Some (length fs)))) c.reserve.ensures.items in
+    let grown = c.put_frame.ensures.pool ∙ ap (λ fs. fs ++ c.in-Ok-Some.frame ∷ []) c.make_room.ensures.pool in
+    let told = c.put_frame.ensures.told ∙ ap (λ fs. Cut (Ok (Some (length fs)))) c.make_room.ensures.pool in
     subst (IsFramedSo new s old pool (cut s s.buffer)) (sym told)
     (told_frame new s old pool (cut s s.buffer) c.in-Ok-Some.frame meant.0 meant.1 (has.heading.maker ∙ sym has.site) ranges grown)
 
@@ -32,7 +32,7 @@ returns-in-Ok-Some-clause-conditions c =
     let frame = c.in-Ok-Some.frame in
     let has = subst (λ made. IfSome made (λ frame. HasCut replica frame new)) c.in-Ok-Some.field-0-is c.in-Ok-Some.ensures.frame in
     let ranges = subst (λ made. IfSome made (λ frame. IsInRanges frame)) c.in-Ok-Some.field-0-is c.in-Ok-Some.ensures.in_ranges in
-    let told = c.put_frame.ensures.told ∙ ap (λ fs. Cut (Ok (Some (length fs)))) c.reserve.ensures.items in
+    let told = c.put_frame.ensures.told ∙ ap (λ fs. Cut (Ok (Some (length fs)))) c.make_room.ensures.pool in
     record {
       added = frame ∷ [];
       comes = subst (λ o. ComesOfCut (length old) replica o new (frame ∷ [])) (sym told) (
@@ -45,5 +45,5 @@ returns-in-Ok-Some-clause-conditions c =
           made = has;
         },
       );
-      is = c.put_frame.ensures.pool ∙ ap (λ fs. fs ++ frame ∷ []) c.reserve.ensures.items;
+      is = c.put_frame.ensures.pool ∙ ap (λ fs. fs ++ frame ∷ []) c.make_room.ensures.pool;
     }

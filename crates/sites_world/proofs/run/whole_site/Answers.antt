@@ -15,8 +15,8 @@ returns-in-Ok-clause-meaning c = λ s stands.
     let pool = c.put_frame.new.pool.items in
     let meant = c.in-Ok.ensures.meaning s stands in
     let has = c.in-Ok.ensures.frame in
-    let grown = c.put_frame.ensures.pool ∙ ap (λ fs. fs ++ c.in-Ok.frame ∷ []) c.reserve.ensures.items in
-    let told = c.put_frame.ensures.told ∙ ap (λ fs. Cut (Ok (Some (length fs)))) c.reserve.ensures.items in
+    let grown = c.put_frame.ensures.pool ∙ ap (λ fs. fs ++ c.in-Ok.frame ∷ []) c.make_room.ensures.pool in
+    let told = c.put_frame.ensures.told ∙ ap (λ fs. Cut (Ok (Some (length fs)))) c.make_room.ensures.pool in
     subst (IsFramedSo new s old pool (after_frame s s.known s.buffer)) (sym told)
     (told_frame new s old pool (after_frame s s.known s.buffer) c.in-Ok.frame meant.0 meant.1 (has.heading.maker ∙ sym has.site) c.in-Ok.ensures.in_ranges grown)
 
@@ -28,10 +28,10 @@ returns-in-Ok-clause-conditions c =
     let old = c.args.pool.now.items in
     let frame = c.in-Ok.frame in
     let has = c.in-Ok.ensures.frame in
-    let told = c.put_frame.ensures.told ∙ ap (λ fs. Cut (Ok (Some (length fs)))) c.reserve.ensures.items in
+    let told = c.put_frame.ensures.told ∙ ap (λ fs. Cut (Ok (Some (length fs)))) c.make_room.ensures.pool in
     record {
       added = frame ∷ [];
       comes = subst (λ o. ComesOfWhole (length old) replica o new (frame ∷ [])) (sym told)
           (refl, frame, refl, record { left = number_left replica frame has.heading c.in-Ok.ensures.in_ranges; made = has });
-      is = c.put_frame.ensures.pool ∙ ap (λ fs. fs ++ frame ∷ []) c.reserve.ensures.items;
+      is = c.put_frame.ensures.pool ∙ ap (λ fs. fs ++ frame ∷ []) c.make_room.ensures.pool;
     }

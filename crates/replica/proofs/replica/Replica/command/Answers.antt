@@ -13,9 +13,9 @@ returns-in-Ok-clause-meaning c =
 pub returns-in-Ok-clause-knowledge : goal.returns-in-Ok-clause-knowledge
 returns-in-Ok-clause-knowledge c = λ s stands.
     let before = c.make.ensures.before in
-    done_means c.args.self.now c.make.new.self s (change_of c.args.command) c.make.result stands
+    done_means c.args.self.now c.make.new.self s (change_of c.args.command.now) c.make.result stands
     (plan_done c.args.self.now c.make.new.self _ c.in-Ok.planned c.make.result before.kept before.state_limits before.pending_limits c.in-Ok.ensures c.make.ensures.made)
 
 pub returns-in-Err-clause-knowledge : goal.returns-in-Err-clause-knowledge
-returns-in-Err-clause-knowledge c = λ s stands. done_means c.args.self.now c.args.self.now s (change_of c.args.command) (Err c.in-Err.refusal) stands
-    (refusal_done c.args.self.now (meaning_at c.args.self.now (change_of c.args.command)) c.in-Err.refusal c.in-Err.ensures)
+returns-in-Err-clause-knowledge c = λ s stands. done_means c.args.self.now c.args.self.now s (change_of c.args.command.now) (Err c.in-Err.refusal) stands
+    (refusal_done c.args.self.now (meaning_at c.args.self.now (change_of c.args.command.now)) c.in-Err.refusal c.in-Err.ensures)

@@ -1,0 +1,68 @@
+ghost use Rattle.std.specs.Prelude.{◌≡◌, ◌↔◌, IsTrue, IfOk};
+
+use dots::Memory;
+use std::alloc::Global;
+use std::marker::Model;
+use std::sync::Arc;
+
+/// Bytes that several owners have, such as a report that stands in a journal and is written to a client. A copy is one owner more, and
+/// copies no byte (this project's own).
+#[derive(Drop)]
+pub struct SharedBytes {
+    shared: Arc<Vec<u8>>,
+}
+
+impl Model for SharedBytes {
+    ghost use Rattle.std.specs.Arc.{arc_value};
+    ghost use Rattle.std.specs.Prelude.{ℕ, List};
+
+    ghost Value = { List ℕ };
+
+    ghost view = { λ b. (arc_value b.shared).items };
+}
+
+impl SharedBytes {
+    /// Shares the bytes of a vector, which are not copied. The one fault is want of memory.
+    pub fn new(alloc: Global, bytes: Vec<u8>) -> Result<SharedBytes, Memory>
+        ensures { IfOk result (λ made. made ≡ bytes.items) }
+    {
+        match Arc::new(alloc, bytes) {
+            Ok(shared) => Ok(SharedBytes { shared }),
+            Err(_) => Err(Memory),
+        }
+    }
+
+    /// The bytes.
+    pub fn as_slice(&self) -> &[u8]
+        ensures { result.now ≡ self.now }
+    {
+        self.shared.as_slice()
+    }
+
+    /// The same bytes, with one owner more. It takes no memory. The one fault is `Memory`, where they have 2^63 - 1 owners.
+    pub fn copy(&self) -> Result<SharedBytes, Memory>
+        ensures { IfOk result (λ copy. copy ≡ self.now) }
+    {
+        let shared = Arc::try_clone(&self.shared)?;
+        Ok(SharedBytes { shared })
+    }
+
+    /// Gives up this owner for the bytes: the vector itself where it was the only owner, else a copy of it. The one fault is want of
+    /// memory, for that copy.
+    pub fn into_vec(self, alloc: Global) -> Result<Vec<u8>, Memory>
+        ensures { IfOk result (λ bytes. bytes.items ≡ self) }
+    {
+        let SharedBytes { shared } = self;
+        match Arc::try_unwrap(shared) {
+            Ok(bytes) => Ok(bytes),
+            Err(shared) => Vec::from_slice(alloc, shared.as_slice()),
+        }
+    }
+
+    /// Whether both are the same bytes.
+    pub fn same(&self, other: &SharedBytes) -> bool
+        ensures { IsTrue result ↔ (self.now ≡ other.now) }
+    {
+        self.as_slice() == other.as_slice()
+    }
+}
