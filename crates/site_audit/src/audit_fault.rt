@@ -7,9 +7,9 @@ pub enum AuditFault {
     /// The journals aren't those of the sites 0, 1, .. in their order, or have two lists of queues.
     #[error("not the journals of sites 0, 1 and so on, with one list of queues")]
     WrongSites,
-    /// The first site whose journal hasn't all that the site did: steps were dropped, or it began from a replica that wasn't new.
-    #[error("the journal of site {0} isn't whole")]
-    NotWhole(u16),
+    /// The first site whose journal isn't fresh: steps were dropped, or it began from a replica that wasn't new.
+    #[error("the journal of site {0} isn't fresh")]
+    NotFresh(u16),
     /// The least site that has steps left where no event gives any site its next, and the position of its first that is left.
     #[error("no run: site {0}, position {1}")]
     NoRun(u16, u64),

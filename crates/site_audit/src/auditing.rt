@@ -45,7 +45,7 @@ fn is_new(replica: &Replica) -> bool
         && frames == 0
 }
 
-// Whether a journal has all that its site did: no step was dropped, and it began from a new replica.
+// Whether a journal is fresh: no step was dropped, and it began from a new replica. So it has all that its site did.
 fn is_from_new(journal: &Journaled) -> bool
     ensures whole { IsTrue result ↔ IsFromNew journal.now }
     ensures journal { IsJournal journal.now }
@@ -53,7 +53,7 @@ fn is_from_new(journal: &Journaled) -> bool
     journal.start() == 0 && is_new(journal.base())
 }
 
-// The first site whose journal hasn't all that the site did, if there is one.
+// The first site whose journal isn't fresh, if there is one.
 fn first_stale(journals: &[Journaled]) -> Option<usize>
     ensures stale { IfSome result (λ site. IsFirstStale journals.now site) }
     ensures whole { IfNone result ((site : ℕ) (j : JournalState)
@@ -89,20 +89,21 @@ fn least_left(journals: &[Journaled], at: &[usize]) -> Option<usize>
     None
 }
 
-/// One list of events that gives each site exactly its journal: of the journals of the sites 0, 1, .. in their order, each from a new
-/// replica on. In the world of operations each ask is answered as the journal has it, and each frame that is made or taken is the one
-/// that the bytes there spell; behind the last event each site knows what its replica stands for. No journals give no events. The list
-/// has one event for each step, in an order of the audit's own. No frame is decoded: one that is taken is found by its bytes among
-/// those that were made, and so not where they are of an older version. Faults, in order: 1 `WrongSites`, exactly where the journals
-/// aren't those of the sites 0, 1, .. in order, or have two lists of queues; 2 `NotWhole`, exactly where a journal hasn't all that its
-/// site did, with the first such site; 3 `NoRun`, with a site and a position, where some list of events is stuck: it gives that site its
-/// steps before the position and not all, each lesser site all of its own, each other its first ones, and no further event gives any
-/// site its next; 4 `Memory` (this project's own).
+/// One list of events that gives each site exactly its journal. The journals are those of the sites 0, 1, .. in order, and fresh: each
+/// began from a new replica and still has all its steps. In the world of operations each ask is answered as the journal says, and each
+/// frame that is made or taken is the one that the bytes there spell. After the last event each site knows what its replica stands for.
+/// No journals give no events. The list has one event for each step, in the audit's own order. No frame is decoded: a frame that was
+/// taken is found by its bytes among those that were made, so it isn't found where its bytes are of an older version.
+///
+/// Errors, in order: 1 `WrongSites`, exactly where the journals aren't those of the sites 0, 1, .. in order, or have two lists of queues;
+/// 2 `NotFresh`, exactly where a journal isn't fresh, with the first such site; 3 `NoRun`, with a site and a position, where a list of
+/// events is stuck: it gives that site its steps before the position and not all, each lesser site all of its own, each other site its
+/// first ones, and no further event gives any site its next; 4 `Memory` (this project's own).
 pub fn audit(alloc: Global, journals: &[Journaled]) -> Result<Vec<Event>, AuditFault>
     ensures run { IfOk result (λ events. IsRun journals.now events.items) }
     ensures none { journals.now ≡ [] → IsOkAnd result (λ events. events.items ≡ []) }
     ensures wrong_sites { (result ≡ Err AuditFault.WrongSites) ↔ (AreSites journals.now → ⊥) }
-    ensures not_whole { (site : ℕ) → (result ≡ Err (AuditFault.NotWhole site))
+    ensures not_fresh { (site : ℕ) → (result ≡ Err (AuditFault.NotFresh site))
         ↔ (AreSites journals.now × IsFirstStale journals.now site) }
     ensures no_run { (site position : ℕ) → result ≡ Err (AuditFault.NoRun site position)
         → (events : List Event) × IsStuck journals.now site position events }
@@ -114,7 +115,7 @@ pub fn audit(alloc: Global, journals: &[Journaled]) -> Result<Vec<Event>, AuditF
         return Err(AuditFault::WrongSites);
     }
     if let Some(site) = first_stale(journals) {
-        return Err(AuditFault::NotWhole(site as u16));
+        return Err(AuditFault::NotFresh(site as u16));
     }
     let mut replay = Replay::begin(alloc, journals.len())?;
     search(journals, &mut replay)?;

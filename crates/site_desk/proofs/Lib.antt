@@ -1,4 +1,5 @@
 pub mod DoneDeeds
+pub mod GuardedSteps
 pub mod NewPasses
-pub mod LegalDeeds
 pub mod PortRuns
+pub mod PossibleDeeds

@@ -6,7 +6,7 @@ use Rattle.std.proofs.lemmas.List.Elements.{All-nil, All-cons}
 use Rattle.site_journal.specs.Ports.{PortRun, PortStop, PortWork}
 use Rattle.site_journal.specs.declared.desk_fault.DeskFault.{DeskFault}
 use Rattle.site_journal.specs.declared.receipt.Receipt.{Receipt}
-use Rattle.site_desk.specs.Deeds.{IsLegalDeed}
+use Rattle.site_desk.specs.Deeds.{IsPossibleSomewhere}
 use Rattle.site_desk.specs.Passes.{HasDone, PassState, TellsTruly}
 use Rattle.site_desk.specs.Ports.{Ascend, HasDoneAll, MakesByPass, RefusesByPass, WorksByPass}
 use Rattle.site_desk.specs.declared.desk_port.DeskPort.{DeskPort}
@@ -16,22 +16,22 @@ done_none : (site : ℕ) (names : List (List ℕ)) (pass : PassState) → HasDon
 done_none site names pass = record {
   ordinal = refl;
   passes = All-nil (λ (receipt : Receipt). receipt.pass ≡ pass.ordinal);
-  legal = All-nil (λ (receipt : Receipt). IsLegalDeed site names receipt.deed);
+  possible = All-nil (λ (receipt : Receipt). IsPossibleSomewhere site names receipt.deed);
   share = omega arith;
   seen = refl;
 }
 
 -- a step, and then others
-done_more : (site : ℕ) (names : List (List ℕ)) (old next new : PassState) (receipt : Receipt) (receipts : List Receipt) → HasDone old receipt next → IsLegalDeed site names receipt.deed
+done_more : (site : ℕ) (names : List (List ℕ)) (old next new : PassState) (receipt : Receipt) (receipts : List Receipt) → HasDone old receipt next → IsPossibleSomewhere site names receipt.deed
     → HasDoneAll site names next receipts new → HasDoneAll site names old (receipt ∷ receipts) new
-done_more site names old next new receipt receipts done legal all =
+done_more site names old next new receipt receipts done possible all =
     let ordinal : next.ordinal ≡ old.ordinal = ap (λ (p : PassState). p.ordinal) done.counted in
     let share : next.share ≡ old.share + 1 = ap (λ (p : PassState). p.share) done.counted in
     let seen : next.seen ≡ receipt.position + 1 = ap (λ (p : PassState). p.seen) done.counted in
     record {
       ordinal = all.ordinal ∙ ordinal;
       passes = All-cons (λ (r : Receipt). r.pass ≡ old.ordinal) receipt receipts done.pass (subst (λ n. All (λ (r : Receipt). r.pass ≡ n) receipts) ordinal all.passes);
-      legal = All-cons (λ (r : Receipt). IsLegalDeed site names r.deed) receipt receipts legal all.legal;
+      possible = All-cons (λ (r : Receipt). IsPossibleSomewhere site names r.deed) receipt receipts possible all.possible;
       share = omega (arith, all.share, share);
       seen = (done.position, subst (λ n. Ascend n receipts new.seen) seen all.seen);
     }
@@ -41,7 +41,7 @@ pub port_run : {L : Type 0} (site : ℕ) (names : List (List ℕ)) (p q : DeskPo
     → PortRun (λ (old : DeskPort L) receipt (new : DeskPort L). MakesByPass site names old.pass receipt new.pass) p receipts q → WorksByPass site names p.pass receipts q.pass
 port_run {L = L} site names p q [] run = subst (λ (x : DeskPort L). WorksByPass site names p.pass [] x.pass) run (record { done = done_none site names p.pass.now; same = refl })
 port_run site names p q (receipt ∷ receipts) run = let rest = port_run site names run.0 q receipts run.2 in record {
-  done = done_more site names p.pass.now run.0.pass.now q.pass.now receipt receipts run.1.done run.1.legal rest.done;
+  done = done_more site names p.pass.now run.0.pass.now q.pass.now receipt receipts run.1.done run.1.possible rest.done;
   same = rest.same ∙ run.1.same;
 }
 

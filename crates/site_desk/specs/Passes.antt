@@ -1,10 +1,11 @@
 -- What contracts see of passes, and of what is done by them (this project's own).
 use Rattle.std.specs.List.{Any}
-use Rattle.std.specs.Prelude.{ℕ, ◌≡◌, ◌<◌, ◌≤◌, ◌+◌, ⊤, List, length, sum_by, slice_index_or}
+use Rattle.std.specs.Prelude.{ℕ, ◌≡◌, ◌<◌, ◌≤◌, ◌+◌, ◌-◌, ⊤, List, length, sum_by, slice_index_or}
 use Rattle.site_journal.specs.declared.desk_fault.DeskFault.{DeskFault}
 use Rattle.site_journal.specs.declared.desk_fault.DeskFault.TheVariants.{Rewound}
 use Rattle.site_journal.specs.declared.receipt.Receipt.{Receipt}
 use Rattle.site_journal.specs.declared.step.Step.{Step}
+use Rattle.site_journal.specs.declared.step.StepDeed.{StepDeed}
 use Rattle.site_journal.specs.declared.step.StepDeed.TheVariants.{Asked}
 use Rattle.status_report.specs.declared.asks.Answer.{Answer}
 use Rattle.status_report.specs.declared.asks.Ask.{Ask}
@@ -34,6 +35,10 @@ pub record HasDone (old : PassState) (receipt : Receipt) (new : PassState) : Typ
   pub pass : receipt.pass ≡ old.ordinal
   pub position : old.seen ≤ receipt.position
   pub counted : new ≡ one_more old receipt.position
+
+-- the receipt of the last step that `pass` has done, whose deed is `deed`
+abbrev pub last_receipt : PassState → StepDeed → Receipt
+last_receipt pass deed = record { pass = pass.ordinal; position = pass.seen - 1; deed = deed }
 
 -- the step of which `receipt` is the receipt
 abbrev pub step_of : Receipt → Step

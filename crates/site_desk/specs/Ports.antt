@@ -4,7 +4,7 @@ use Rattle.std.specs.List.{All}
 use Rattle.std.specs.Prelude.{ℕ, ◌≡◌, ◌≤◌, ◌+◌, List, [], ◌∷◌, length, Option}
 use Rattle.site_journal.specs.declared.desk_fault.DeskFault.{DeskFault}
 use Rattle.site_journal.specs.declared.receipt.Receipt.{Receipt}
-use Rattle.site_desk.specs.Deeds.{IsLegalDeed}
+use Rattle.site_desk.specs.Deeds.{IsPossibleSomewhere}
 use Rattle.site_desk.specs.Passes.{HasDone, PassState, TellsTruly}
 use Rattle.site_desk.specs.declared.desk_port.DeskPort.{DeskPort}
 
@@ -16,11 +16,11 @@ lent_pass port = port.pass
 abbrev pub last_fault : {L : Type 0} → DeskPort L → Option DeskFault
 last_fault port = port.fault
 
--- the pass of a port has done the step of `receipt`, and is the same borrow; the deed is what was
--- done at some state of the site of the number `site`, with the queues `names`
+-- the pass of a port has done the step of `receipt`, and is the same borrow; some state of the site of
+-- the number `site` with the queues `names`, reachable or not, does the deed
 pub record MakesByPass (site : ℕ) (names : List (List ℕ)) (old : MutBor PassState) (receipt : Receipt) (new : MutBor PassState) : Type 0 where
   pub done : HasDone old.now receipt new.now
-  pub legal : IsLegalDeed site names receipt.deed
+  pub possible : IsPossibleSomewhere site names receipt.deed
   pub same : new.ghost_name ≡ old.ghost_name
 
 -- the pass of a port is as it was, and the same borrow; `fault` tells no length of the journal, or
@@ -37,11 +37,11 @@ Ascend seen [] new = new ≡ seen
 Ascend seen (receipt ∷ receipts) new = (seen ≤ receipt.position) × Ascend (receipt.position + 1) receipts new
 
 -- from `old` to `new` a pass has done the steps of `receipts`, one after another: all are of its number,
--- which stays, it has counted and seen them, and each deed is what was done at some state of this site
+-- which stays, it has counted and seen them, and some state of this site, reachable or not, does each deed
 pub record HasDoneAll (site : ℕ) (names : List (List ℕ)) (old : PassState) (receipts : List Receipt) (new : PassState) : Type 0 where
   pub ordinal : new.ordinal ≡ old.ordinal
   pub passes : All (λ (receipt : Receipt). receipt.pass ≡ old.ordinal) receipts
-  pub legal : All (λ (receipt : Receipt). IsLegalDeed site names receipt.deed) receipts
+  pub possible : All (λ (receipt : Receipt). IsPossibleSomewhere site names receipt.deed) receipts
   pub share : new.share ≡ old.share + length receipts
   pub seen : Ascend old.seen receipts new.seen
 

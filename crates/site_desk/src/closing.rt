@@ -4,7 +4,6 @@ ghost use Rattle.replica.specs.Site.{IsSameSite};
 ghost use Rattle.site_journal.specs.Journals.{IsOfSite};
 ghost use Rattle.site_desk.specs.Passes.{AreAll, shares_of};
 
-use crate::kept::Kept;
 use crate::{CloseFault, Pass, SiteDesk, SiteLedger};
 use site_journal::Journaled;
 use std::sync::ledger::{Book, Ledger};
@@ -72,7 +71,7 @@ pub fn close<L: SiteLedger>(
         return Err((CloseFault::WrongPasses, desk, passes));
     }
     let SiteDesk { lock, .. } = desk;
-    let Kept { journal, book } = lock.into_inner();
+    let (journal, book) = lock.into_inner().into_parts();
     join_shares(book, passes);
     Ok(journal)
 }

@@ -1,16 +1,20 @@
-ghost use Rattle.std.specs.Prelude.{◌≡◌, ◌≤◌, ◌⊎◌, IfErr, IfOk, OnErr};
+ghost use Rattle.std.specs.Prelude.{◌≡◌, ◌<◌, ◌≤◌, ◌⊎◌, IfErr, IfOk, OnErr};
 ghost use Rattle.delta_codec.specs.Decoding.{HasOpening};
 ghost use Rattle.site_journal.specs.Journals.{HasFaultAlone, IsOfSite, IsRefusedFor};
 ghost use Rattle.site_journal.specs.Journals.{RefusesTake};
 ghost use Rattle.site_journal.specs.Receipts.{IsOfCut, IsOfTake, IsOfWhole};
-ghost use Rattle.site_desk.specs.Deeds.{IsLegalAnswer, IsLegalDeed, IsLegalRefusal};
+ghost use Rattle.site_desk.specs.Deeds.{IsAnsweredSomewhere, IsLegalReceipt, IsPossibleSomewhere};
+ghost use Rattle.site_desk.specs.Deeds.{IsRefusedFrom, IsRefusedSomewhere};
 ghost use Rattle.site_desk.specs.Passes.{AreNewPasses, HasDone, IsOfAsk, IsRewound};
+ghost use Rattle.site_desk.specs.Passes.{last_receipt};
 
-use crate::kept::Kept;
+use crate::guarded_journal::GuardedJournal;
 use crate::{Pass, SiteLedger};
 use dots::Memory;
-use site_journal::{DecodeFault, DeskFault, Gate, Journaled, Receipt, TakeFault};
-use status_report::Ask;
+use site_journal::{
+    DecodeFault, DecodedFrame, DeskFault, Gate, Journaled, Receipt, StepDeed, TakeFault,
+};
+use status_report::{Answer, Ask};
 use std::alloc::Global;
 use std::marker::Model;
 use std::sync::ledger::Blank;
@@ -20,10 +24,11 @@ use std::sync::{Mutex, Wait};
 pub const MOST_PASSES: u32 = 256;
 
 /// A site that several threads call, one at a time, each by a pass of its own. Its journal lies under a lock, and is legal whenever the
-/// lock is free. Which ledger counts its steps is told by `L`, so that a pass of another desk can't be handed in (this project's own).
+/// lock is free; so each receipt is of a step that is legal at its position. `L` names the ledger that counts the steps, so that a pass
+/// of another desk can't be handed in (this project's own).
 #[derive(Drop)]
 pub struct SiteDesk<L: SiteLedger> {
-    pub(crate) lock: Mutex<Kept<L>>,
+    pub(crate) lock: Mutex<GuardedJournal<L>>,
     pub(crate) passes: u32,
 }
 
@@ -70,10 +75,54 @@ impl<L: SiteLedger> SiteDesk<L> {
             all.push_reserved(Pass::new(ordinal, share));
         }
         let desk = SiteDesk {
-            lock: Mutex::new(Kept { journal, book }),
+            lock: Mutex::new(GuardedJournal::open(journal, book)),
             passes,
         };
         Ok((desk, all))
+    }
+
+    /// The desk over a value that lay under the lock of a desk with as many passes.
+    pub fn over(guarded: GuardedJournal<L>, passes: u32) -> SiteDesk<L>
+        requires parts { passes ≡ L.parts }
+        requires some { 0 < passes }
+        ensures { result.passes ≡ passes }
+    {
+        SiteDesk {
+            lock: Mutex::new(guarded),
+            passes,
+        }
+    }
+
+    /// Gives up the desk for the value under its lock, and the number of its passes.
+    pub fn into_guarded(self) -> (GuardedJournal<L>, u32)
+        ensures passes { result.1 ≡ self.passes }
+        ensures parts { result.1 ≡ L.parts }
+        ensures some { 0 < result.1 }
+    {
+        let SiteDesk { lock, passes } = self;
+        (lock.into_inner(), passes)
+    }
+
+    /// Asks the site, and returns its answer. It waits until the lock is free. The ask is copied once, into the step. Faults, in order:
+    /// 1 `Rewound`, where the journal is shorter than the pass has seen; 2 `JournalFull`, where no step may be added; 3 `Memory`. A fault
+    /// leaves the pass as it was.
+    pub fn answer<R: Wait>(
+        &self,
+        rt: &R,
+        pass: &mut Pass<L>,
+        asked: &Ask,
+    ) -> Result<Answer, DeskFault>
+        ensures done { IfOk result (λ answer. HasDone pass.old
+            (last_receipt pass.new (StepDeed.Asked asked.now answer)) pass.new) }
+        ensures possible { IfOk result (λ answer.
+            IsAnsweredSomewhere L.site L.names asked.now (StepDeed.Asked asked.now answer)) }
+        ensures reached { IfOk result (λ answer. IsLegalReceipt L.base
+            (last_receipt pass.new (StepDeed.Asked asked.now answer))) }
+        ensures only { IfErr result (λ fault. IsRewound pass.old fault
+            ⊎ ((fault ≡ DeskFault.JournalFull) ⊎ (fault ≡ DeskFault.Memory))) }
+        ensures unchanged { OnErr result (pass.new ≡ pass.old) }
+    {
+        self.lock.lock(rt).answer(pass, asked)
     }
 
     /// Asks the site, and answers the receipt of the step. It waits until the lock is free. Faults, in order: 1 `Rewound`, where the
@@ -87,13 +136,15 @@ impl<L: SiteLedger> SiteDesk<L> {
     ) -> Result<Receipt, DeskFault>
         ensures done { IfOk result (λ receipt. HasDone pass.old receipt pass.new) }
         ensures ask { IfOk result (λ receipt. IsOfAsk asked.now receipt) }
-        ensures legal { IfOk result (λ receipt.
-            IsLegalAnswer L.site L.names asked.now receipt.deed) }
+        ensures possible { IfOk result (λ receipt.
+            IsAnsweredSomewhere L.site L.names asked.now receipt.deed) }
+        ensures reached { IfOk result (λ receipt. IsLegalReceipt L.base receipt) }
         ensures only { IfErr result (λ fault. IsRewound pass.old fault
             ⊎ ((fault ≡ DeskFault.JournalFull) ⊎ (fault ≡ DeskFault.Memory))) }
         ensures unchanged { OnErr result (pass.new ≡ pass.old) }
     {
-        self.lock.lock(rt).call(pass, asked)
+        let copy = asked.copy();
+        self.lock.lock(rt).call(pass, asked, copy)
     }
 
     /// Asks the site as `call` does, and calls the gate once, with this number, while it holds the lock. A gate that doesn't return stops
@@ -108,15 +159,17 @@ impl<L: SiteLedger> SiteDesk<L> {
     ) -> Result<Receipt, DeskFault>
         ensures done { IfOk result (λ receipt. HasDone pass.old receipt pass.new) }
         ensures ask { IfOk result (λ receipt. IsOfAsk asked.now receipt) }
-        ensures legal { IfOk result (λ receipt.
-            IsLegalAnswer L.site L.names asked.now receipt.deed) }
+        ensures possible { IfOk result (λ receipt.
+            IsAnsweredSomewhere L.site L.names asked.now receipt.deed) }
+        ensures reached { IfOk result (λ receipt. IsLegalReceipt L.base receipt) }
         ensures only { IfErr result (λ fault. IsRewound pass.old fault
             ⊎ ((fault ≡ DeskFault.JournalFull) ⊎ (fault ≡ DeskFault.Memory))) }
         ensures unchanged { OnErr result (pass.new ≡ pass.old) }
         ensures gate { G.called gate.old turn gate.new }
     {
-        let mut kept = self.lock.lock(rt);
-        let answered = kept.call(pass, asked);
+        let copy = asked.copy();
+        let mut guarded = self.lock.lock(rt);
+        let answered = guarded.call(pass, asked, copy);
         gate.inside(turn);
         answered
     }
@@ -126,7 +179,9 @@ impl<L: SiteLedger> SiteDesk<L> {
     pub fn cut<R: Wait>(&self, rt: &R, pass: &mut Pass<L>) -> Result<Receipt, DeskFault>
         ensures done { IfOk result (λ receipt. HasDone pass.old receipt pass.new) }
         ensures cut { IfOk result (λ receipt. IsOfCut receipt) }
-        ensures legal { IfOk result (λ receipt. IsLegalDeed L.site L.names receipt.deed) }
+        ensures possible { IfOk result (λ receipt.
+            IsPossibleSomewhere L.site L.names receipt.deed) }
+        ensures reached { IfOk result (λ receipt. IsLegalReceipt L.base receipt) }
         ensures only { IfErr result (λ fault. IsRewound pass.old fault
             ⊎ ((fault ≡ DeskFault.JournalFull)
             ⊎ ((fault ≡ DeskFault.Exhausted) ⊎ (fault ≡ DeskFault.Memory)))) }
@@ -139,7 +194,9 @@ impl<L: SiteLedger> SiteDesk<L> {
     pub fn whole<R: Wait>(&self, rt: &R, pass: &mut Pass<L>) -> Result<Receipt, DeskFault>
         ensures done { IfOk result (λ receipt. HasDone pass.old receipt pass.new) }
         ensures whole { IfOk result (λ receipt. IsOfWhole receipt) }
-        ensures legal { IfOk result (λ receipt. IsLegalDeed L.site L.names receipt.deed) }
+        ensures possible { IfOk result (λ receipt.
+            IsPossibleSomewhere L.site L.names receipt.deed) }
+        ensures reached { IfOk result (λ receipt. IsLegalReceipt L.base receipt) }
         ensures only { IfErr result (λ fault. IsRewound pass.old fault
             ⊎ ((fault ≡ DeskFault.JournalFull)
             ⊎ ((fault ≡ DeskFault.Exhausted) ⊎ (fault ≡ DeskFault.Memory)))) }
@@ -148,7 +205,8 @@ impl<L: SiteLedger> SiteDesk<L> {
         self.lock.lock(rt).whole(pass)
     }
 
-    /// Lets the site take the frame that bytes spell; they come back where it doesn't. It waits as a call does. Faults, in order: 1
+    /// Lets the site take the frame that bytes spell; they come back where it doesn't. The frame is decoded first, and then it waits as a
+    /// call does, so that others wait only while the site joins it. Faults, in order: 1
     /// `Rewound`, 2 `JournalFull`, as of a call; 3 `Decode`, with the fault of the bytes, or `BadRange` where more follows their frame; 4
     /// `Take`, with the fault for which the site refuses the frame; 5 `Memory`, but never in place of a `Decode` that comes up to the
     /// heading's end. A fault leaves the pass as it was.
@@ -160,28 +218,42 @@ impl<L: SiteLedger> SiteDesk<L> {
     ) -> Result<Receipt, (DeskFault, Vec<u8>)>
         ensures done { IfOk result (λ receipt. HasDone pass.old receipt pass.new) }
         ensures took { IfOk result (λ receipt. IsOfTake bytes.items receipt) }
-        ensures legal { IfOk result (λ receipt. IsLegalDeed L.site L.names receipt.deed) }
+        ensures possible { IfOk result (λ receipt.
+            IsPossibleSomewhere L.site L.names receipt.deed) }
+        ensures reached { IfOk result (λ receipt. IsLegalReceipt L.base receipt) }
         ensures decode { (fault : DecodeFault) → IsRefusedFor result (DeskFault.Decode fault)
             → HasFaultAlone bytes.items fault }
         ensures refused { (fault : TakeFault) → IsRefusedFor result (DeskFault.Take fault)
-            → IsLegalRefusal L.site L.names bytes.items fault }
+            → IsRefusedSomewhere L.site L.names bytes.items fault }
+        ensures reached_refused { (fault : TakeFault)
+            → IsRefusedFor result (DeskFault.Take fault)
+            → IsRefusedFrom L.base pass.old.seen bytes.items fault }
         ensures memory { IsRefusedFor result DeskFault.Memory → HasOpening bytes.items }
         ensures only { IfErr result (λ refused.
             IsRewound pass.old refused.0 ⊎ RefusesTake refused.0) }
         ensures back { IfErr result (λ refused. refused.1.items ≡ bytes.items) }
         ensures unchanged { OnErr result (pass.new ≡ pass.old) }
     {
-        self.lock.lock(rt).take(pass, bytes)
+        let alloc = *bytes.allocator();
+        let decoded = match DecodedFrame::decode(alloc, bytes) {
+            Ok(decoded) => decoded,
+            Err((fault, bytes)) => return Err((self.lock.lock(rt).first_fault(pass, fault), bytes)),
+        };
+        let taken = self.lock.lock(rt).take(pass, decoded);
+        match taken {
+            Ok(receipt) => Ok(receipt),
+            Err((fault, decoded)) => Err((fault, decoded.into_bytes())),
+        }
     }
 
-    /// Drops the steps of the journal: its base then says what the site says, and positions go on. It waits as a call does. The one fault
-    /// is want of memory.
+    /// Drops the steps of the journal: its base then says what the site says, and positions go on. It waits as a call does.
+    /// Fails only when out of memory.
     pub fn checkpoint<R: Wait>(&self, rt: &R) -> Result<(), Memory> {
         self.lock.lock(rt).checkpoint()
     }
 
-    /// Drops the steps of the journal where they keep more than `bytes` bytes beside themselves, and tells whether it did. The one fault
-    /// is want of memory.
+    /// Drops the steps of the journal where they keep more than `bytes` bytes beside themselves. Returns whether it did. Fails only when
+    /// out of memory.
     pub fn checkpoint_above<R: Wait>(&self, rt: &R, bytes: u64) -> Result<bool, Memory> {
         self.lock.lock(rt).checkpoint_above(bytes)
     }

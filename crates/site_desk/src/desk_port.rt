@@ -2,7 +2,7 @@ ghost use Rattle.std.specs.Prelude.{◌≡◌, ◌⊎◌, ◌+◌, IfErr, IfOk, 
 ghost use Rattle.delta_codec.specs.Decoding.{HasOpening};
 ghost use Rattle.site_journal.specs.Journals.{HasFaultAlone, IsRefusedFor, RefusesTake};
 ghost use Rattle.site_journal.specs.Receipts.{IsOfCut, IsOfTake, IsOfWhole};
-ghost use Rattle.site_desk.specs.Deeds.{IsLegalDeed, IsLegalRefusal};
+ghost use Rattle.site_desk.specs.Deeds.{IsPossibleSomewhere, IsRefusedSomewhere};
 ghost use Rattle.site_desk.specs.Passes.{IsRewound};
 ghost use Rattle.site_desk.specs.Ports.{MakesByPass, RefusesByPass, last_fault, lent_pass};
 
@@ -60,7 +60,8 @@ impl<'a, L: SiteLedger, R: Wait> Port<R> for DeskPort<'a, L> {
         ensures kept { IfErr result (λ cause.
             (lent_pass self.new).now.share ≡ (lent_pass self.old).now.share) }
         ensures told { IfErr result (λ cause. last_fault self.new ≡ Some cause) }
-        ensures legal { IfOk result (λ receipt. IsLegalDeed L.site L.names receipt.deed) }
+        ensures possible { IfOk result (λ receipt.
+            IsPossibleSomewhere L.site L.names receipt.deed) }
         ensures only { IfErr result (λ cause. IsRewound (lent_pass self.old).now cause
             ⊎ ((cause ≡ DeskFault.JournalFull)
             ⊎ ((cause ≡ DeskFault.Exhausted) ⊎ (cause ≡ DeskFault.Memory)))) }
@@ -94,7 +95,8 @@ impl<'a, L: SiteLedger, R: Wait> Port<R> for DeskPort<'a, L> {
         ensures kept { IfErr result (λ cause.
             (lent_pass self.new).now.share ≡ (lent_pass self.old).now.share) }
         ensures told { IfErr result (λ cause. last_fault self.new ≡ Some cause) }
-        ensures legal { IfOk result (λ receipt. IsLegalDeed L.site L.names receipt.deed) }
+        ensures possible { IfOk result (λ receipt.
+            IsPossibleSomewhere L.site L.names receipt.deed) }
         ensures only { IfErr result (λ cause. IsRewound (lent_pass self.old).now cause
             ⊎ ((cause ≡ DeskFault.JournalFull)
             ⊎ ((cause ≡ DeskFault.Exhausted) ⊎ (cause ≡ DeskFault.Memory)))) }
@@ -129,11 +131,12 @@ impl<'a, L: SiteLedger, R: Wait> Port<R> for DeskPort<'a, L> {
         ensures kept { IfErr result (λ refused.
             (lent_pass self.new).now.share ≡ (lent_pass self.old).now.share) }
         ensures told { IfErr result (λ refused. last_fault self.new ≡ Some refused.0) }
-        ensures legal { IfOk result (λ receipt. IsLegalDeed L.site L.names receipt.deed) }
+        ensures possible { IfOk result (λ receipt.
+            IsPossibleSomewhere L.site L.names receipt.deed) }
         ensures decode { (fault : DecodeFault) → IsRefusedFor result (DeskFault.Decode fault)
             → HasFaultAlone bytes.items fault }
         ensures cause { (fault : TakeFault) → IsRefusedFor result (DeskFault.Take fault)
-            → IsLegalRefusal L.site L.names bytes.items fault }
+            → IsRefusedSomewhere L.site L.names bytes.items fault }
         ensures memory { IsRefusedFor result DeskFault.Memory → HasOpening bytes.items }
         ensures only { IfErr result (λ refused.
             IsRewound (lent_pass self.old).now refused.0 ⊎ RefusesTake refused.0) }

@@ -126,6 +126,7 @@ RefusesTake (desk_fault.Decode fault) = fault ≢ decode_fault.Memory
 RefusesTake (desk_fault.Take fault) = fault ≢ take_fault.Memory
 RefusesTake desk_fault.Memory = ⊤
 RefusesTake desk_fault.Exhausted = ⊥
+RefusesTake desk_fault.Unsaved = ⊥
 RefusesTake (desk_fault.Rewound len) = ⊥
 
 -- a call was refused for the cause `fault`, and what was handed in came back

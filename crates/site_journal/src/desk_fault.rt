@@ -3,7 +3,8 @@ use dots::Memory;
 use replica::TakeFault;
 use thiserror::Error;
 
-/// Why a step wasn't done. No fault changes the steps, or what the site says (this project's own).
+/// Why a call of a desk answers no receipt. Only after `Unsaved`, and after `Memory` of a desk with a store, the step may have been
+/// done; every other fault leaves the steps, and what the site says, as they were (this project's own).
 #[derive(Clone, Copy, Debug, PartialEq, Eq, Error)]
 pub enum DeskFault {
     /// The journal is shorter than its caller has seen; this is how long it is. A desk alone answers so.
@@ -21,6 +22,9 @@ pub enum DeskFault {
     /// The site has made 2^40 frames.
     #[error("numbers used up")]
     Exhausted,
+    /// A commit of the site's store has failed, so the step isn't durable. A desk with a store alone answers so.
+    #[error("not saved")]
+    Unsaved,
     /// An allocation was refused.
     #[error("out of memory")]
     Memory,

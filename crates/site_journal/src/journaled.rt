@@ -4,7 +4,7 @@ ghost use Rattle.dots.specs.declared.limits.TheConstants.{MOST_COUNT};
 ghost use Rattle.delta.specs.DeltaStates.{IsEmpty};
 ghost use Rattle.delta.specs.Frames.{IsInRanges, frame_of};
 ghost use Rattle.delta_codec.specs.Decoding.{HasOpening};
-ghost use Rattle.delta_codec.specs.Frames.{Spells, SpellsIn};
+ghost use Rattle.delta_codec.specs.Frames.{SpellsIn};
 ghost use Rattle.delta_codec.specs.declared.limits.TheConstants.{VERSION};
 ghost use Rattle.replica.specs.Site as sites;
 ghost use Rattle.site_journal.specs.Keeping.{kept_by_steps};
@@ -13,12 +13,12 @@ ghost use Rattle.site_journal.specs.Journals.{IsNewJournal, IsStepOfCut, IsFull,
 ghost use Rattle.site_journal.specs.Journals.{RefusesTake, IsRefusedFrame, IsUnchanged, IsStepOfWhole};
 ghost use Rattle.site_journal.specs.Legal.{IsAsked, Leads};
 
-use crate::keeping::kept_by_steps;
-use crate::{DeskFault, Step, StepDeed};
+use crate::step_list::StepList;
+use crate::{DecodedFrame, DeskFault, Step, StepDeed};
 use delta::Delta;
-use delta_codec::{DecodeFault, decode, encode_parts};
+use delta_codec::{DecodeFault, encode_parts};
 use dots::{Bytes, MOST_COUNT, Memory, SiteId};
-use replica::{Frame, Refusal, Replica, TakeFault};
+use replica::{Refusal, Replica, TakeFault};
 use status_report::{Answer, Ask, ask};
 use std::alloc::Global;
 use std::marker::Model;
@@ -27,23 +27,13 @@ use std::mem;
 /// How many steps may stand in a journal at most.
 pub const MOST_STEPS: u32 = 1_000_000;
 
-// Two copies of an ask.
-fn copied_twice(asked: &Ask) -> Result<(Ask, Ask), Memory>
-    ensures { IfOk result (λ both. (both.0 ≡ asked.now) × (both.1 ≡ asked.now)) }
-{
-    let one = asked.copy()?;
-    let other = asked.copy()?;
-    Ok((one, other))
-}
-
-// Asks a site, and gives its answer twice. The one fault is want of memory, also where the site answers so.
+// Asks a site, and returns its answer twice. Fails only when out of memory, also where the site answers so.
 fn ask_twice(alloc: Global, replica: &mut Replica, asked: &Ask) -> Result<(Answer, Answer), Memory>
     ensures same { IfOk result (λ both. both.1 ≡ both.0) }
     ensures asked { IfOk result (λ both. IsAsked replica.old asked.now both.0 replica.new) }
     ensures err { OnErr result (sites.IsUnchanged replica.old replica.new) }
 {
-    let copy = asked.copy()?;
-    let answer = ask(alloc, replica, copy);
+    let answer = ask(alloc, replica, asked);
     if let Answer::Refused(Refusal::Memory) = answer {
         return Err(Memory);
     }
@@ -89,7 +79,8 @@ fn cut_twice(alloc: Global, replica: &mut Replica) -> Result<(Option<Bytes>, Opt
     }
 }
 
-// Makes a frame of all that a site knows which has a number left, and answers its bytes twice, which are made before anything changes.
+// Makes a frame of all that a site knows, which has a number left, and returns its bytes twice. They are written from the state itself,
+// before the number is used up.
 fn whole_twice(alloc: Global, replica: &mut Replica) -> Result<(Bytes, Bytes), Memory>
     requires { replica.old.frames < MOST_COUNT }
     ensures same { IfOk result (λ both. both.1 ≡ both.0) }
@@ -98,46 +89,9 @@ fn whole_twice(alloc: Global, replica: &mut Replica) -> Result<(Bytes, Bytes), M
 {
     let number = replica.last().2 + 1;
     let (kept, given) = spelled(alloc, replica.site(), number, replica.state())?;
-    match replica.whole() {
-        Ok(frame) => {
-            drop(frame);
-            Ok((kept, given))
-        }
-        Err(_) => {
-            drop(kept);
-            drop(given);
-            Err(Memory)
-        }
-    }
-}
-
-// The frame that bytes are, with nothing behind it.
-fn frame_in(alloc: Global, bytes: &[u8]) -> Result<Frame, DecodeFault>
-    ensures value { IfOk result (λ frame. Spells frame bytes.now) }
-    ensures fault { IfErr result (λ fault. (fault ≡ DecodeFault.Memory)
-        ⊎ HasFaultAlone bytes.now fault) }
-    ensures memory { result ≡ Err DecodeFault.Memory → HasOpening bytes.now }
-{
-    let (frame, len) = decode(alloc, bytes)?;
-    if len < bytes.len() {
-        drop(frame);
-        return Err(DecodeFault::BadRange);
-    }
-    Ok(frame)
-}
-
-// Why bytes are no frame, as the fault of a step.
-fn decode_fault(fault: DecodeFault) -> DeskFault
-    ensures decode { (told : DecodeFault) → result ≡ DeskFault.Decode told
-        → (fault ≡ told) × (fault ≢ DecodeFault.Memory) }
-    ensures memory { result ≡ DeskFault.Memory → fault ≡ DecodeFault.Memory }
-    ensures no_take { (told : TakeFault) → result ≢ DeskFault.Take told }
-    ensures only { RefusesTake result }
-    ensures no_full { result ≢ DeskFault.JournalFull }
-{
-    match fault {
-        DecodeFault::Memory => DeskFault::Memory,
-        fault => DeskFault::Decode(fault),
+    match replica.use_frame_number() {
+        Ok(_) => Ok((kept, given)),
+        Err(_) => unreachable!(),
     }
 }
 
@@ -160,13 +114,13 @@ fn take_fault(fault: TakeFault) -> DeskFault
 #[derive(Drop)]
 pub struct Journaled {
     base: Replica,
-    steps: Vec<Step>,
+    steps: StepList,
     // How many steps were before the base.
     start: u64,
     count: u64,
     limit: u32,
     replica: Replica,
-    alloc: Global,
+    pub(crate) alloc: Global,
 }
 
 impl Model for Journaled {
@@ -178,7 +132,7 @@ impl Model for Journaled {
 
     ghost view = { λ j. record {
       base = j.base;
-      steps = j.steps.items;
+      steps = j.steps.steps.items;
       start = j.start;
       count = j.count;
       limit = j.limit;
@@ -187,7 +141,7 @@ impl Model for Journaled {
 
     ghost invariant = { λ j. IsJournal (record {
       base = j.base;
-      steps = j.steps.items;
+      steps = j.steps.steps.items;
       start = j.start;
       count = j.count;
       limit = j.limit;
@@ -207,7 +161,7 @@ impl Journaled {
         match replica.copy() {
             Ok(base) => Ok(Journaled {
                 base,
-                steps: Vec::new(alloc),
+                steps: StepList::new(alloc),
                 start: 0,
                 count: 0,
                 limit,
@@ -218,11 +172,20 @@ impl Journaled {
         }
     }
 
-    /// How many steps there were in all: those before the base and those that stand here, at most 2^40. The next one has this
-    /// position. It takes no memory, like all that only reads.
+    /// The position of the next step: how many steps were before the base and how many stand here, at most 2^40. It takes no memory,
+    /// like all that only reads.
     pub fn len(&self) -> u64
         ensures value { result ≡ self.now.start + length self.now.steps }
         ensures count { result ≡ self.now.count }
+        ensures limit { result ≤ MOST_COUNT }
+        ensures journal { IsJournal self.now }
+    {
+        self.count
+    }
+
+    /// How many steps were done in all, at most 2^40. A checkpoint drops steps and keeps this number.
+    pub fn count(&self) -> u64
+        ensures value { result ≡ self.now.count }
         ensures limit { result ≤ MOST_COUNT }
     {
         self.count
@@ -240,7 +203,7 @@ impl Journaled {
     pub fn steps(&self) -> &[Step]
         ensures { result.now ≡ self.now.steps }
     {
-        self.steps.as_slice()
+        self.steps.steps.as_slice()
     }
 
     /// The replica that the steps began from.
@@ -259,23 +222,57 @@ impl Journaled {
     }
 
     /// How many bytes its steps keep beside themselves, 2^64 - 1 at most: the ActionID and the report of each status, and the frames. A
-    /// report of megabytes that is asked for a thousand times keeps gigabytes, until a checkpoint drops the steps.
-    pub fn kept(&self) -> u64
+    /// report of megabytes that is asked for a thousand times keeps gigabytes, until a checkpoint drops the steps. The number is counted as
+    /// steps come and go, so no call walks over them.
+    pub fn payload_bytes(&self) -> u64
         ensures { result ≡ min (kept_by_steps self.now.steps) (2 ^ 64 - 1) }
     {
-        kept_by_steps(self.steps.as_slice())
+        self.steps.payload_bytes
     }
 
-    // Whether no step may be added: as many stand here as may, or 2^40 were done in all.
-    fn is_full(&self) -> bool
+    /// Whether no step may be added: as many stand here as may, or 2^40 were done in all.
+    pub fn is_full(&self) -> bool
         ensures { IsTrue result ↔ IsFull self.now }
     {
-        self.steps.len() >= self.limit as usize || self.count == MOST_COUNT
+        self.steps.steps.len() >= self.limit as usize || self.count == MOST_COUNT
     }
 
-    /// Asks the site, by the pass of this number, and answers a copy of the step. Faults, in order: 1 `JournalFull`, exactly where as
-    /// many steps stand here as may, or 2^40 were done in all; 2 `Memory`, also where the site answers so. A command that is refused
-    /// for another cause is a step.
+    /// Asks the site, by the pass of this number, and returns a copy of its answer. The ask is copied once, into the step. Faults, in
+    /// order: 1 `JournalFull`, exactly where as many steps stand here as may, or 2^40 were done in all; 2 `Memory`, also where the site
+    /// answers so. A command that is refused for another cause is a step.
+    pub fn answer(&mut self, pass: u32, asked: &Ask) -> Result<Answer, DeskFault>
+        ensures added { IfOk result (λ answer. HasAdded self.old
+            (record { pass = pass; deed = StepDeed.Asked asked.now answer }) self.new) }
+        ensures done { IfOk result (λ answer.
+            IsAsked self.old.replica asked.now answer self.new.replica) }
+        ensures full { (result ≡ Err DeskFault.JournalFull) ↔ IsFull self.old }
+        ensures only { IfErr result (λ fault.
+            (fault ≡ DeskFault.JournalFull) ⊎ (fault ≡ DeskFault.Memory)) }
+        ensures unchanged { OnErr result (IsUnchanged self.old self.new) }
+    {
+        if self.is_full() {
+            return Err(DeskFault::JournalFull);
+        }
+        if self.steps.reserve_one().is_err() {
+            return Err(DeskFault::Memory);
+        }
+        let Ok(copy) = asked.copy() else {
+            return Err(DeskFault::Memory);
+        };
+        let Ok((kept, given)) = ask_twice(self.alloc, &mut self.replica, asked) else {
+            drop(copy);
+            return Err(DeskFault::Memory);
+        };
+        self.steps.push_reserved(Step {
+            pass,
+            deed: StepDeed::Asked(copy, kept),
+        });
+        self.count += 1;
+        Ok(given)
+    }
+
+    /// Asks the site, by the pass of this number, and returns a copy of the step, for which the ask is copied once more. Faults as of
+    /// `answer`.
     pub fn call(&mut self, pass: u32, asked: &Ask) -> Result<Step, DeskFault>
         ensures added { IfOk result (λ step. HasAdded self.old step self.new) }
         ensures pass { IfOk result (λ step. step.pass ≡ pass) }
@@ -289,26 +286,19 @@ impl Journaled {
         if self.is_full() {
             return Err(DeskFault::JournalFull);
         }
-        if self.steps.reserve(1).is_err() {
+        let Ok(copy) = asked.copy() else {
             return Err(DeskFault::Memory);
+        };
+        match self.answer(pass, asked) {
+            Ok(answer) => Ok(Step {
+                pass,
+                deed: StepDeed::Asked(copy, answer),
+            }),
+            Err(fault) => {
+                drop(copy);
+                Err(fault)
+            }
         }
-        let Ok((kept, given)) = copied_twice(asked) else {
-            return Err(DeskFault::Memory);
-        };
-        let Ok((answer, told)) = ask_twice(self.alloc, &mut self.replica, asked) else {
-            drop(kept);
-            drop(given);
-            return Err(DeskFault::Memory);
-        };
-        self.steps.push_reserved(Step {
-            pass,
-            deed: StepDeed::Asked(kept, answer),
-        });
-        self.count += 1;
-        Ok(Step {
-            pass,
-            deed: StepDeed::Asked(given, told),
-        })
     }
 
     /// Puts the site's buffer into its next frame, if there is something in it, by the pass of this number, and answers a copy of the
@@ -332,7 +322,7 @@ impl Journaled {
         if !self.replica.pending().is_empty() && self.replica.last().2 == MOST_COUNT {
             return Err(DeskFault::Exhausted);
         }
-        if self.steps.reserve(1).is_err() {
+        if self.steps.reserve_one().is_err() {
             return Err(DeskFault::Memory);
         }
         let Ok((kept, given)) = cut_twice(self.alloc, &mut self.replica) else {
@@ -369,7 +359,7 @@ impl Journaled {
         if self.replica.last().2 == MOST_COUNT {
             return Err(DeskFault::Exhausted);
         }
-        if self.steps.reserve(1).is_err() {
+        if self.steps.reserve_one().is_err() {
             return Err(DeskFault::Memory);
         }
         let Ok((kept, given)) = whole_twice(self.alloc, &mut self.replica) else {
@@ -408,32 +398,54 @@ impl Journaled {
         if self.is_full() {
             return Err((DeskFault::JournalFull, bytes));
         }
-        let frame = match frame_in(self.alloc, bytes.as_slice()) {
-            Ok(frame) => frame,
-            Err(fault) => return Err((decode_fault(fault), bytes)),
+        let decoded = match DecodedFrame::decode(self.alloc, bytes) {
+            Ok(decoded) => decoded,
+            Err(refused) => return Err(refused),
         };
-        if self.steps.reserve(1).is_err() {
-            drop(frame);
-            return Err((DeskFault::Memory, bytes));
+        match self.take_decoded(pass, decoded) {
+            Ok(step) => Ok(step),
+            Err((fault, decoded)) => Err((fault, decoded.into_bytes())),
         }
-        let kept = Bytes::new(bytes);
-        let Ok(given) = kept.copy() else {
-            drop(frame);
-            return Err((DeskFault::Memory, kept.into_vec()));
-        };
-        if let Err((fault, refused)) = self.replica.take(frame) {
-            drop(refused);
-            drop(given);
-            return Err((take_fault(fault), kept.into_vec()));
+    }
+
+    /// Lets the site take a decoded frame, by the pass of this number, and returns a copy of the step. The frame comes back where it
+    /// doesn't. Faults, in order: 1 `JournalFull`, exactly where as many steps stand here as may, or 2^40 were done in all; 2 `Take`, with
+    /// the fault for which the site refuses the frame; 3 `Memory`, which may also stand in place of `Take`.
+    pub fn take_decoded(
+        &mut self,
+        pass: u32,
+        decoded: DecodedFrame,
+    ) -> Result<Step, (DeskFault, DecodedFrame)>
+        ensures added { IfOk result (λ step. HasAdded self.old step self.new) }
+        ensures pass { IfOk result (λ step. step.pass ≡ pass) }
+        ensures done { IfOk result (λ step. step.deed ≡ StepDeed.Took decoded) }
+        ensures full { IsRefusedFor result DeskFault.JournalFull ↔ IsFull self.old }
+        ensures refused { (fault : TakeFault) → IsRefusedFor result (DeskFault.Take fault)
+            → IsRefusedFrame self.old.replica decoded fault }
+        ensures no_decode { (fault : DecodeFault)
+            → IsRefusedFor result (DeskFault.Decode fault) → ⊥ }
+        ensures only { IfErr result (λ refused. RefusesTake refused.0) }
+        ensures back { IfErr result (λ refused. refused.1 ≡ decoded) }
+        ensures unchanged { OnErr result (IsUnchanged self.old self.new) }
+    {
+        if self.is_full() {
+            return Err((DeskFault::JournalFull, decoded));
+        }
+        if self.steps.reserve_one().is_err() {
+            return Err((DeskFault::Memory, decoded));
+        }
+        let DecodedFrame { frame, bytes, copy } = decoded;
+        if let Err((fault, frame)) = self.replica.take(frame) {
+            return Err((take_fault(fault), DecodedFrame { frame, bytes, copy }));
         }
         self.steps.push_reserved(Step {
             pass,
-            deed: StepDeed::Took(kept),
+            deed: StepDeed::Took(bytes),
         });
         self.count += 1;
         Ok(Step {
             pass,
-            deed: StepDeed::Took(given),
+            deed: StepDeed::Took(copy),
         })
     }
 
@@ -444,7 +456,7 @@ impl Journaled {
         ensures unchanged { OnErr result (self.new ≡ self.old) }
     {
         let base = self.replica.copy()?;
-        self.start += self.steps.len() as u64;
+        self.start += self.steps.steps.len() as u64;
         self.steps.clear();
         drop(mem::replace(&mut self.base, base));
         Ok(())

@@ -1,8 +1,8 @@
-//! How many bytes steps keep beside themselves.
+//! How many bytes a deed keeps beside itself.
 ghost use Rattle.std.specs.Prelude.{◌≡◌, ◌-◌, ◌^◌, min};
-ghost use Rattle.site_journal.specs.Keeping.{kept_by, kept_by_answer, kept_by_ask, kept_by_steps};
+ghost use Rattle.site_journal.specs.Keeping.{kept_by, kept_by_answer, kept_by_ask};
 
-use crate::{Step, StepDeed};
+use crate::StepDeed;
 use status_report::{Answer, Ask};
 
 // How many bytes an ask keeps beside itself: those of a status's ActionID.
@@ -26,7 +26,7 @@ fn kept_by_answer(answer: &Answer) -> usize
 }
 
 // How many bytes a deed keeps beside itself, 2^64 - 1 at most.
-fn kept_by_deed(deed: &StepDeed) -> u64
+pub(crate) fn kept_by_deed(deed: &StepDeed) -> u64
     ensures { result ≡ min (kept_by deed.now) (2 ^ 64 - 1) }
 {
     match deed {
@@ -39,15 +39,4 @@ fn kept_by_deed(deed: &StepDeed) -> u64
         StepDeed::Cut(Some(bytes)) => bytes.as_slice().len() as u64,
         StepDeed::Whole(bytes) => bytes.as_slice().len() as u64,
     }
-}
-
-// How many bytes steps keep beside themselves, 2^64 - 1 at most.
-pub(crate) fn kept_by_steps(steps: &[Step]) -> u64
-    ensures { result ≡ min (kept_by_steps steps.now) (2 ^ 64 - 1) }
-{
-    let mut kept: u64 = 0;
-    for step in steps {
-        kept = kept.saturating_add(kept_by_deed(&step.deed));
-    }
-    kept
 }

@@ -5,21 +5,27 @@
 //! the other at all times, whatever was refused.
 #![tactic(auto)]
 
+mod decoded_frame;
 mod desk_fault;
 mod journaled;
 mod keeping;
 mod ports;
 mod receipt;
+mod replay_fault;
+mod replayed;
 mod settle_fault;
 mod settling;
 mod step;
+mod step_list;
 
+pub use decoded_frame::DecodedFrame;
 pub use delta_codec::DecodeFault;
 pub use desk_fault::DeskFault;
 pub use dots::Memory;
 pub use journaled::{Journaled, MOST_STEPS};
 pub use ports::{Bell, Gate, Port};
 pub use receipt::Receipt;
+pub use replay_fault::ReplayFault;
 pub use replica::TakeFault;
 pub use settle_fault::SettleFault;
 pub use settling::settle;

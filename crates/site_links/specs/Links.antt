@@ -9,7 +9,7 @@ use Rattle.crossbeam_channel.specs.declared.flavors.array.Rows.{Rows}
 use Rattle.site_links.specs.declared.log.Log.{Log}
 
 -- which link it is, by its tables and its key, and how many items it holds at most
-pub record Link : Type 0 where
+pub record LinkIdentity : Type 0 where
   pub table : TableId
   pub key : Badge (Key (List ℕ))
   pub messages : TableId
@@ -17,18 +17,18 @@ pub record Link : Type 0 where
 
 -- the end of a link that sends: all that was sent, and whether a send handed its bytes back
 pub record Sending : Type 0 where
-  pub link : Link
+  pub link : LinkIdentity
   pub sent : List (List ℕ)
   pub down : Bool
 
 -- the end of a link that receives: all that was received, and whether a receive found the link's end
 pub record Receiving : Type 0 where
-  pub link : Link
+  pub link : LinkIdentity
   pub received : List (List ℕ)
   pub ended : Bool
 
 -- the link that the channel `c` is
-abbrev pub link_of : {D Q M L A : Type 0} → Rows (Badge (Key (List ℕ))) D Q M (Key (List ℕ)) L A → Link
+abbrev pub link_of : {D Q M L A : Type 0} → Rows (Badge (Key (List ℕ))) D Q M (Key (List ℕ)) L A → LinkIdentity
 link_of c = record { table = c.stamps.shared.table_id; key = c.stamps.shared.key; messages = c.messages.shared.table_id; capacity = ruled_capacity c }
 
 -- what a pass of a channel knows: its log

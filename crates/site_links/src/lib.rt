@@ -6,16 +6,16 @@
 
 mod comparing;
 mod limits;
+mod link;
 mod linking;
 mod log;
-mod pairing;
 mod receiver;
 mod sender;
 
 pub use comparing::compare;
 pub use dots::Memory;
 pub use limits::{LINK_CAPACITY, MOST_CAPACITY, MOST_ITEMS};
+pub use link::Link;
 pub use linking::{LinkEnds, SiteLinks, link_all};
-pub use pairing::pair;
 pub use receiver::LinkReceiver;
 pub use sender::LinkSender;

@@ -4,7 +4,7 @@ ghost use Rattle.std.specs.Prelude.{map, vec_len};
 ghost use Rattle.site_links.specs.Linking.{AreLinksOf, IsLinkedFrom, IsNewLink};
 ghost use Rattle.site_links.specs.Links.{Receiving, Sending};
 
-use crate::{LINK_CAPACITY, LinkReceiver, LinkSender, pair};
+use crate::{LINK_CAPACITY, Link, LinkReceiver, LinkSender};
 use dots::Memory;
 use std::alloc::Global;
 
@@ -59,7 +59,7 @@ fn add_link(
         × (to.new.items ≡ to.old.items ++ sender ∷ [])
         × (from.new.items ≡ from.old.items ++ receiver ∷ [])) }
 {
-    let (sender, receiver) = pair(alloc, LINK_CAPACITY)?;
+    let (sender, receiver) = Link::pair(alloc, LINK_CAPACITY)?;
     to.push(sender)?;
     from.push(receiver)?;
     Ok(())

@@ -86,17 +86,17 @@ each_begun xs ys a b c s t = record {
 
 -- one link after another
 
-pub at_first : (R : Sending → Sending → Type 0) (links : List Sending) → SoFar R links links 0
+pub at_first : {O : Type 0} (R : O → O → Type 0) (links : List O) → SoFar R links links 0
 at_first R links = record { count = refl; done = λ k none low. absurd (omega arith); left = λ k none high. refl }
 
-pub at_last : (R : Sending → Sending → Type 0) (olds news : List Sending) (reached : ℕ) → length olds ≤ reached → SoFar R olds news reached → EachLink R olds news
+pub at_last : {O : Type 0} (R : O → O → Type 0) (olds news : List O) (reached : ℕ) → length olds ≤ reached → SoFar R olds news reached → EachLink R olds news
 at_last R olds news reached all s = record { count = s.count; each = λ k none low. s.done k none (omega arith) }
 
-pub one_more : (R : Sending → Sending → Type 0) (olds news : List Sending) (reached : ℕ) (new any : Sending)
+pub one_more : {O : Type 0} (R : O → O → Type 0) (olds news : List O) (reached : ℕ) (new any : O)
     → reached < length news → R (slice_index_or news reached any) new → SoFar R olds news reached → SoFar R olds (slice_set news reached new) (reached + 1)
-one_more R olds news reached new any low is s = record {
+one_more {O} R olds news reached new any low is s = record {
   count = length-set news reached new ∙ s.count;
-  done = λ k none low'. below_more (λ k. (none : Sending) → R (slice_index_or olds k none) (slice_index_or (slice_set news reached new) k none)) reached
+  done = λ k none low'. below_more (λ k. (none : O) → R (slice_index_or olds k none) (slice_index_or (slice_set news reached new) k none)) reached
       (λ k below none. subst (λ x. R (slice_index_or olds k none) x) (sym (get_or-set_other news reached k new none (omega arith))) (s.done k none below))
       (λ none. let was : slice_index_or news reached any ≡ slice_index_or olds reached none = get_or_default news reached any none low ∙ s.left reached none (omega arith) in
       subst (λ x. R (slice_index_or olds reached none) x) (sym (get_or-set_same news reached new none low)) (subst (λ x. R x new) was is)) k low' none;

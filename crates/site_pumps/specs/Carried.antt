@@ -10,13 +10,13 @@ BeginsToCarry items old new = (new.link ≡ old.link) × (old.down ≡ true → 
 abbrev pub Carries : List (List ℕ) → Sending → Sending → Type 0
 Carries items old new = (new.link ≡ old.link) × (old.down ≡ true → new ≡ old) × (front : List (List ℕ)) × (rest : List (List ℕ)) × (items ≡ front ++ rest) × (new.sent ≡ old.sent ++ front) × (new.down ≡ false → rest ≡ [])
 
--- each link is as R says
-pub record EachLink (R : Sending → Sending → Type 0) (olds news : List Sending) : Type 0 where
+-- each link, or other outlet, is as `R` says
+pub record EachLink {O : Type 0} (R : O → O → Type 0) (olds news : List O) : Type 0 where
   pub count : length news ≡ length olds
-  pub each : (k : ℕ) (none : Sending) → k < length olds → R (slice_index_or olds k none) (slice_index_or news k none)
+  pub each : (k : ℕ) (none : O) → k < length olds → R (slice_index_or olds k none) (slice_index_or news k none)
 
--- the links before this one are as R says, and the others as they were
-pub record SoFar (R : Sending → Sending → Type 0) (olds news : List Sending) (reached : ℕ) : Type 0 where
+-- the links before this one are as `R` says, and the others as they were
+pub record SoFar {O : Type 0} (R : O → O → Type 0) (olds news : List O) (reached : ℕ) : Type 0 where
   pub count : length news ≡ length olds
-  pub done : (k : ℕ) (none : Sending) → k < reached → R (slice_index_or olds k none) (slice_index_or news k none)
-  pub left : (k : ℕ) (none : Sending) → reached ≤ k → slice_index_or news k none ≡ slice_index_or olds k none
+  pub done : (k : ℕ) (none : O) → k < reached → R (slice_index_or olds k none) (slice_index_or news k none)
+  pub left : (k : ℕ) (none : O) → reached ≤ k → slice_index_or news k none ≡ slice_index_or olds k none

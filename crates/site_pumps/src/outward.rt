@@ -6,8 +6,8 @@ ghost use Rattle.site_pumps.specs.Deeds.{AreCutsAndWhole, AreCutsFor, cut_frames
 ghost use Rattle.site_pumps.specs.Outgoing.{IsFrontOf, IsStopped};
 ghost use Rattle.site_pumps.specs.Plans.{planned};
 
-use crate::Deed;
 use crate::outgoing::Outgoing;
+use crate::{Deed, LinkPlan};
 use site_journal::{Bell, DeskFault, Port, Receipt};
 use site_links::LinkSender;
 use std::alloc::Global;
@@ -77,7 +77,7 @@ pub fn pump_out<R: Wait, P: Port<R>, B: Bell<R>>(
     port: &mut P,
     links: &mut [LinkSender],
     bell: &mut B,
-    plan: &[Deed],
+    plan: &LinkPlan,
 ) -> Pumped
     ensures sent { result.fault ≡ None → EachLink (Carries (planned plan.now
         (cut_frames result.receipts.items) (whole_frames result.receipts.items)))
@@ -102,7 +102,7 @@ pub fn pump_out<R: Wait, P: Port<R>, B: Bell<R>>(
     ensures share { P.share port.new ≡ P.share port.old + vec_len result.receipts }
 {
     let mut outgoing = Outgoing::new(alloc);
-    match drive(rt, alloc, &mut outgoing, port, links, bell, plan) {
+    match drive(rt, alloc, &mut outgoing, port, links, bell, plan.deeds()) {
         Ok(()) => outgoing.done(),
         Err(fault) => outgoing.stopped(fault),
     }

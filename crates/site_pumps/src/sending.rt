@@ -7,7 +7,7 @@ use site_links::LinkSender;
 use std::sync::Wait;
 
 // Sends a copy of an item on a link, unless it is down.
-fn send_on<R: Wait>(rt: &R, link: &mut LinkSender, item: &Bytes) -> Result<(), Memory>
+pub(crate) fn send_on<R: Wait>(rt: &R, link: &mut LinkSender, item: &Bytes) -> Result<(), Memory>
     ensures ok { OnOk result (Carries (item.now ∷ []) link.old link.new) }
     ensures err { OnErr result (link.new ≡ link.old) }
 {

@@ -1,4 +1,4 @@
 pub mod Gatings
-pub mod NewSites
 pub mod Workings
-pub mod Sites
+pub mod PlaceLemmas
+pub mod Ended

@@ -2,4 +2,4 @@ pub mod Bells
 pub mod Gates
 pub mod Working
 pub mod Runs
-pub mod Promises
+pub mod WorkTasks

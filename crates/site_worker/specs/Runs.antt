@@ -1,8 +1,8 @@
 -- What becomes of a site whose threads are run (this project's own).
-use Rattle.std.specs.Prelude.{ℕ, ◌≡◌, ◌≤◌, ◌+◌, [], List, Option, None, Some, length, map, slice_get, slice_index_or, vec_len}
+use Rattle.std.specs.Prelude.{ℕ, ◌≡◌, ◌≤◌, ◌+◌, [], ◌∷◌, List, Option, None, Some, length, map, slice_get, slice_index_or, vec_len}
+use Rattle.std.specs.Option.{option_or}
 use Rattle.std.specs.Global.{Vec}
 use Rattle.replica.specs.Deeds.{IsNew}
-use Rattle.site_desk.specs.Passes.{PassState}
 use Rattle.site_journal.specs.declared.desk_fault.DeskFault.{DeskFault}
 use Rattle.site_journal.specs.declared.journaled.TheConstants.{MOST_STEPS}
 use Rattle.site_journal.specs.declared.receipt.Receipt.{Receipt}
@@ -11,7 +11,7 @@ use Rattle.site_journal.specs.Settling.{list_of}
 use Rattle.site_worker.specs.declared.work.SiteEnd.{SiteEnd}
 use Rattle.site_worker.specs.declared.work.SiteWork.{SiteWork}
 use Rattle.site_worker.specs.Gates.{IsGatedBy}
-use Rattle.site_worker.specs.Working.{AnswerFront, AreInOrder, AreLegal, AreOfPasses, HaveSent, HaveTaken, HaveWorked, receipts_in}
+use Rattle.site_worker.specs.Working.{AnswerFront, AreInOrder, AreOfPasses, ArePossibleSomewhere, HaveSent, HaveTaken, receipts_in}
 use Rattle.status_report.specs.declared.asks.Ask.{Ask}
 
 -- as many steps may stand in a journal as in any; where none was dropped, it began from a site that knew nothing
@@ -29,12 +29,24 @@ pub record HavePumped (lists : List (List Receipt)) (fault : Option DeskFault) :
   pub sent : HaveSent (list_of lists 1) fault
   pub took : (pass : ℕ) → 2 ≤ pass → HaveTaken (list_of lists pass)
 
--- `number` threads of a site have given back these passes, lists of receipts and fault
-pub record AreGathered (site : ℕ) (names : List (List ℕ)) (number : ℕ) (asks : List Ask) (passes : List PassState) (lists : List (List Receipt)) (fault : Option DeskFault) : Type 0 where
-  pub count : length passes ≡ number
-  pub worked : HaveWorked site names 0 passes lists
-  pub answered : HasAnsweredAsks site names asks lists fault
-  pub pumped : HavePumped lists fault
+-- the first fault of passes, each of which has a fault or none
+abbrev pub first_fault : List (Option DeskFault) → Option DeskFault
+first_fault [] = None
+first_fault (own ∷ later) = option_or own (first_fault later)
+
+-- the fault of the pass of this number, if it has one
+abbrev pub fault_of : List (Option DeskFault) → ℕ → Option DeskFault
+fault_of faults pass = slice_index_or faults pass None
+
+-- `fault` is that of the first pass that ended with a fault: each pass ended with its own of `faults`,
+-- or with none. The first pass answered all asks unless it has a fault, and the receipts of the second
+-- are those of one that sends, with its own fault
+pub record HasFirstFault (asks : List Ask) (lists : List (List Receipt)) (fault : Option DeskFault) : Type 0 where
+  pub faults : List (Option DeskFault)
+  pub number : length faults ≡ length lists
+  pub first : fault ≡ first_fault faults
+  pub asked : fault_of faults 0 ≡ None → length (list_of lists 0) ≡ length asks
+  pub sent : HaveSent (list_of lists 1) (fault_of faults 1)
 
 -- a site has run with `number` passes: it ends with a list of receipts for each, which are as many as its journal has steps
 pub record HasRun (site : ℕ) (names : List (List ℕ)) (number : ℕ) (asks : List Ask) (journal : JournalState) (lists : List (List Receipt)) (fault : Option DeskFault) : Type 0 where
@@ -44,9 +56,10 @@ pub record HasRun (site : ℕ) (names : List (List ℕ)) (number : ℕ) (asks : 
   pub count : journal.count ≡ receipts_in lists
   pub own : AreOfPasses 0 lists
   pub order : AreInOrder lists
-  pub legal : AreLegal site names lists
+  pub possible : ArePossibleSomewhere site names lists
   pub answered : HasAnsweredAsks site names asks lists fault
   pub pumped : HavePumped lists fault
+  pub faults : HasFirstFault asks lists fault
 
 -- sites have run, one for each of these works and all of these queues: each has come to its end with its work's asks, and its work's gate was
 -- called for its receipts

@@ -1,22 +1,20 @@
 //! Sites as threads: each asks, sends its frames and takes those of the others, all at once.
 //!
-//! A site has a thread that asks, one that cuts and sends, and one for each other site that takes what comes of it. They call its desk,
-//! each by a pass of its own. What comes back is the site's journal, and what each thread was told.
+//! A site has a thread that asks, a thread that cuts and sends, and for each other site a thread that
+//! takes what that site sends. They call the site's desk, each by a pass of its own. [`run_sites`]
+//! returns each site's journal, and the receipts of each of its threads.
 #![tactic(auto)]
 
 mod asking;
-mod gathering;
-mod link_plan;
+mod ends;
 mod pumping;
 mod rope;
 mod run_fault;
 mod running;
-mod site;
-mod starting;
+mod tasks;
 mod work;
 
 pub use dots::Memory;
-pub use link_plan::LinkPlan;
 pub use rope::{Rope, RopeBell};
 pub use run_fault::RunFault;
 pub use running::{MOST_RUN_SITES, run_sites};
@@ -25,6 +23,8 @@ pub use site_desk::{CloseFault, DeskPort, Pass, SiteDesk, SiteLedger, close};
 pub use site_journal::{
     Bell, DeskFault, Gate, Journaled, Port, Receipt, SettleFault, Step, StepDeed, settle,
 };
-pub use site_links::{LinkReceiver, LinkSender, compare, pair};
-pub use site_pumps::{Deed, Pumped, PumpedIn, pump_in, pump_out};
+pub use site_links::{Link, LinkReceiver, LinkSender, compare};
+pub use site_pumps::{
+    Deed, Inlet, LinkPlan, NoReceipts, Pumped, PumpedIn, ReceiptSink, pump_in, pump_out,
+};
 pub use work::{SiteEnd, SiteWork};

@@ -1,49 +1,66 @@
-use Rattle.std.proofs.Common.{rules, ap, refl, sym, ◌∙◌, ◌++◌, ◌∷◌, [], append_assoc, append-nil}
-use Rattle.site_links.specs.Links.{Receiving}
-use Rattle.site_pumps.proofs.PortRuns.{run_more, run_same, work_refused, work_stopped}
+use Rattle.std.proofs.Common.{rules, refl, sym, subst, ◌≡◌, ◌+◌, ◌++◌, ◌∷◌, [], append_assoc, append-nil, arith, length-append}
+use Rattle.site_pumps.specs.Inlets.{InletRun}
+use Rattle.site_pumps.proofs.InletRuns.{inlet_more}
+use Rattle.site_pumps.proofs.PortRuns.{run_more, work_refused, work_stopped}
 use Rattle.site_pumps.proofs.Receipts.{takes_more}
 use Rattle.site_pumps.proofs.inward.pump_in.Goals as goal
 
+-- nothing yet
+pub loop-init : goal.loop-init
+loop-init g c = ([], [], refl, refl, refl, refl, omega arith, λ before holds. subst (g.K.ReceiptSink.holds c.args.sink.now) (sym (append-nil before)) holds)
+
+-- one take more
 pub loop-preserved : goal.loop-preserved
-loop-preserved g c = let was = c.loop.invariant in let bytes = c.in-Some-recv.bytes.items in (
-  was.0 ++ bytes ∷ [],
-  takes_more was.0 bytes _ _ c.in-Ok.receipt (c.push_reserved.ensures.items ∙ ap (λ l. l ++ c.in-Ok.receipt ∷ []) c.reserve.ensures.items) c.in-Ok.ensures.deed was.1,
-  ap (λ (r : Receiving). r.received) c.in-Some-recv.ensures.received ∙ ap (λ l. l ++ bytes ∷ []) was.2 ∙ append_assoc c.args.link.now.received was.0 (bytes ∷ []),
-  search rules,
-  run_more g.P.Port.makes _ _ _ _ _ _ c.in-Ok.receipt c.push_reserved.ensures.items c.reserve.ensures.items was.4 c.in-Ok.ensures.made,
-  search rules,
-  search rules,
-)
+loop-preserved g c =
+    let was = c.loop.invariant in
+    let bytes = c.in-Some-next.bytes.items in
+    let receipt = c.in-Ok.receipt in
+    let counted = c.in-Ok.ensures.counted in (
+      was.0 ++ receipt ∷ [],
+      was.1 ++ bytes ∷ [],
+      takes_more was.1 bytes was.0 _ receipt refl c.in-Ok.ensures.deed was.2,
+      inlet_more g.I.Inlet.gives was.1 bytes _ _ _ was.3 c.in-Some-next.ensures.given,
+      run_more g.P.Port.makes _ _ _ was.0 was.0 _ receipt refl refl was.4 c.in-Ok.ensures.made,
+      search rules,
+      omega (arith, counted, was.6, length-append was.0 (receipt ∷ [])),
+      λ before holds. subst (g.K.ReceiptSink.holds c.put.new.self) (append_assoc before was.0 (receipt ∷ [])) (c.put.ensures (before ++ was.0) (c.prepare.ensures.same (before ++ was.0) (was.7 before holds))),
+    )
 
-pub returns-in-Err-clause-takes : goal.returns-in-Err-clause-takes
-returns-in-Err-clause-takes g c = let was = c.loop.invariant in let link = c.args.link.now.received in let bytes = c.in-Some-recv.bytes.items in (
-  was.0,
-  rw (c.pumped-in-Err.ensures.0, c.reserve.ensures.items) was.1,
-  rw c.pumped-in-Err.ensures.2 (ap (λ (r : Receiving). r.received) c.in-Some-recv.ensures.received ∙ ap (λ l. l ++ bytes ∷ []) was.2 ∙ append_assoc link was.0 (bytes ∷ []) ∙ ap (λ x. link ++ (was.0 ++ x ∷ [])) (sym c.in-Err.ensures.back)),
-)
+-- the port has refused a take
+pub returns-in-Err-clause-pumped : goal.returns-in-Err-clause-pumped
+returns-in-Err-clause-pumped g c =
+    let was = c.loop.invariant in
+    let bytes = c.in-Some-next.bytes.items in
+    let kept = c.in-Err.ensures.kept in record {
+      receipts = was.0;
+      items = was.1;
+      takes = was.2;
+      came = subst (λ x. InletRun g.I.Inlet.gives c.args.inlet.now (was.1 ++ x ∷ []) c.next-in-loop.new.self) (sym c.in-Err.ensures.back) (inlet_more g.I.Inlet.gives was.1 bytes _ _ _ was.3 c.in-Some-next.ensures.given);
+      work = work_refused g.P.Port.makes g.P.Port.refuses _ _ _ _ _ was.4 c.in-Err.ensures.refused;
+      counted = omega (arith, kept, was.6);
+      held = λ before holds. c.prepare.ensures.same (before ++ was.0) (was.7 before holds);
+    }
 
-pub returns-in_default-clause-takes : goal.returns-in_default-clause-takes
-returns-in_default-clause-takes g c = let was = c.loop.invariant in let link = c.args.link.now.received in (
-  was.0,
-  rw (c.pumped-in_default.ensures.0, c.reserve.ensures.items) was.1,
-  rw c.pumped-in_default.ensures.2 (ap (λ (r : Receiving). r.received) c.in_default.ensures.ended ∙ was.2 ∙ ap (λ l. link ++ l) (sym (append-nil was.0))),
-)
+-- the inlet has ended
+pub returns-in_default-clause-pumped : goal.returns-in_default-clause-pumped
+returns-in_default-clause-pumped g c = let was = c.loop.invariant in record {
+  receipts = was.0;
+  items = was.1;
+  takes = was.2;
+  came = rw (append-nil was.1) (c.loop.inlet, was.3, c.in_default.ensures.ended);
+  work = was.4;
+  counted = was.6;
+  held = λ before holds. c.prepare.ensures.same (before ++ was.0) (was.7 before holds);
+}
 
-pub returns-then-is_err-clause-takes : goal.returns-then-is_err-clause-takes
-returns-then-is_err-clause-takes g c = let was = c.loop.invariant in let link = c.args.link.now.received in (
-  was.0,
-  rw (c.pumped.ensures.0, c.reserve.ensures.items) was.1,
-  rw c.pumped.ensures.2 (was.2 ∙ ap (λ l. link ++ l) (sym (append-nil was.0))),
-)
-
-pub returns-then-is_err-clause-work : goal.returns-then-is_err-clause-work
-returns-then-is_err-clause-work g c =
-    rw (c.pumped.ensures.0, c.pumped.ensures.1) (work_stopped g.P.Port.makes g.P.Port.refuses _ _ _ _ refl (run_same g.P.Port.makes _ _ _ _ c.reserve.ensures.items c.loop.invariant.4))
-
-pub returns-in_default-clause-work : goal.returns-in_default-clause-work
-returns-in_default-clause-work g c =
-    rw (c.pumped-in_default.ensures.0, c.pumped-in_default.ensures.1) (run_same g.P.Port.makes _ _ _ _ c.reserve.ensures.items c.loop.invariant.4)
-
-pub returns-in-Err-clause-work : goal.returns-in-Err-clause-work
-returns-in-Err-clause-work g c =
-    rw (c.pumped-in-Err.ensures.0, c.pumped-in-Err.ensures.1) (work_refused g.P.Port.makes g.P.Port.refuses _ _ _ _ _ (run_same g.P.Port.makes _ _ _ _ c.reserve.ensures.items c.loop.invariant.4) c.in-Err.ensures.refused)
+-- the sink has no room
+pub returns-then-is_err-clause-pumped : goal.returns-then-is_err-clause-pumped
+returns-then-is_err-clause-pumped g c = let was = c.loop.invariant in record {
+  receipts = was.0;
+  items = was.1;
+  takes = was.2;
+  came = rw (append-nil was.1) was.3;
+  work = work_stopped g.P.Port.makes g.P.Port.refuses _ _ _ _ refl was.4;
+  counted = was.6;
+  held = λ before holds. c.prepare.ensures.same (before ++ was.0) (was.7 before holds);
+}

@@ -1,5 +1,4 @@
 use Rattle.std.proofs.Common.{rules, ◌∙◌}
-use Rattle.replica.proofs.SameSites.{equal_site}
 use Rattle.site_desk.proofs.NewPasses.{new_more, new_none}
 use Rattle.site_desk.proofs.desk.SiteDesk.new.Goals as goal
 
@@ -9,7 +8,3 @@ loop-ordinal-init g c = (search rules, search rules, search rules, search rules,
 pub loop-ordinal-preserved : goal.loop-ordinal-preserved
 loop-ordinal-preserved g c =
     (search rules, search rules, search rules, search rules, search rules, new_more c.loop-ordinal.ordinal _ _ c.new.result c.push_reserved.ensures.items c.new.ensures c.loop-ordinal.invariant.5)
-
--- the journal begins from what the ledger says
-pub invariant_of-new-clause-begun : goal.invariant_of-new-clause-begun
-invariant_of-new-clause-begun g c = λ _. equal_site g.L.SiteLedger.base c.args.journal.base c.requires.base

@@ -1,6 +1,0 @@
-use Rattle.std.proofs.Common.{◌∙◌}
-use Rattle.site_desk.proofs.DoneDeeds.{whole_of}
-use Rattle.site_desk.proofs.kept.Kept.whole.Goals as goal
-
-pub returns-clause-whole : goal.returns-clause-whole
-returns-clause-whole g c = let told = whole_of c.in_ok-step.step.deed c.in_ok-step.ensures.done in (told.0, c.receipt_of.ensures.deed ∙ told.1)

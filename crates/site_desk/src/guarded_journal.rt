@@ -1,0 +1,333 @@
+ghost use Rattle.std.specs.Prelude.{ℕ, ◌≡◌, ◌≤◌, ◌<◌, ◌↔◌, ◌⊎◌, ◌+◌, ◌-◌, ◌^◌, Err, IfErr, IfOk};
+ghost use Rattle.std.specs.Prelude.{IsTrue, MatchBool, OnErr, OnOk, min};
+ghost use Rattle.dots.specs.declared.limits.TheConstants.{MOST_COUNT};
+ghost use Rattle.delta.specs.DeltaStates.{IsEmpty};
+ghost use Rattle.replica.specs.Site.{IsSameSite};
+ghost use Rattle.site_journal.specs.Keeping.{kept_by_steps};
+ghost use Rattle.site_journal.specs.Journals.{HasAdded, HasDropped, IsAnswerTo};
+ghost use Rattle.site_journal.specs.Journals.{IsFull, IsJournal, IsOfSite, IsRefusedFor};
+ghost use Rattle.site_journal.specs.Journals.{IsRefusedFrame, IsUnchanged, RefusesTake};
+ghost use Rattle.site_journal.specs.Legal.{IsAsked};
+ghost use Rattle.site_journal.specs.Receipts.{IsOfCut, IsOfTake, IsOfWhole};
+ghost use Rattle.site_desk.specs.Deeds.{IsReached};
+ghost use Rattle.site_desk.specs.Passes.{HasDone, IsOfAsk, IsRewound, last_receipt, one_more};
+ghost use Rattle.site_desk.specs.Passes.{step_of};
+
+use crate::{Pass, SiteLedger};
+use dots::Memory;
+use site_journal::{
+    DecodeFault, DecodedFrame, DeskFault, Journaled, Receipt, Step, StepDeed, TakeFault,
+};
+use status_report::{Answer, Ask};
+use std::marker::Model;
+use std::sync::ledger::{Book, Ledger};
+
+/// What lies under the lock of a desk: the site's journal, and the book in which its steps are counted. Contracts see it as the journal
+/// (this project's own).
+#[derive(Drop)]
+pub struct GuardedJournal<L: SiteLedger> {
+    journal: Journaled,
+    book: Book<L>,
+}
+
+impl<L: SiteLedger> Model for GuardedJournal<L> {
+    ghost use Rattle.site_journal.specs.Journals.{JournalState, journal_code};
+    ghost use Rattle.site_desk.specs.Guarded.{IsGuarded};
+
+    ghost Value = { JournalState };
+
+    ghost coded = { journal_code };
+
+    ghost view = { λ g. g.journal };
+
+    ghost invariant = { λ g. IsGuarded L.site L.names L.limit L.base g.book.total g.journal };
+}
+
+// The receipt of a step that a pass has done at this position, which is counted.
+fn receipt_of<L: Ledger>(
+    book: &mut Book<L>,
+    pass: &mut Pass<L>,
+    position: u64,
+    step: Step,
+) -> Receipt
+    requires few { position ≤ MOST_COUNT }
+    ensures pass { result.pass ≡ step.pass }
+    ensures position { result.position ≡ position }
+    ensures deed { result.deed ≡ step.deed }
+    ensures counted { pass.new ≡ one_more pass.old position }
+    ensures total { book.new.total ≡ book.old.total + 1 }
+{
+    pass.count(book, position);
+    Receipt {
+        pass: step.pass,
+        position,
+        deed: step.deed,
+    }
+}
+
+impl<L: SiteLedger> GuardedJournal<L> {
+    /// Puts a journal of the ledger's site, without a step, beside a book that has counted none.
+    pub fn open(journal: Journaled, book: Book<L>) -> GuardedJournal<L>
+        requires begun { journal.count ≡ 0 }
+        requires site { IsOfSite L.site L.names journal }
+        requires limit { journal.limit ≡ L.limit }
+        requires base { journal.base ≡ L.base }
+        requires total { book.total ≡ 0 }
+        ensures { result ≡ journal }
+    {
+        GuardedJournal { journal, book }
+    }
+
+    /// The journal.
+    pub fn journal(&self) -> &Journaled
+        ensures journal { result.now ≡ self.now }
+        ensures begun { self.now.start ≡ 0 → IsSameSite L.base self.now.base }
+    {
+        &self.journal
+    }
+
+    /// The journal, and the book, which has counted its steps.
+    pub fn into_parts(self) -> (Journaled, Book<L>)
+        ensures journal { result.0 ≡ self }
+        ensures counted { result.1.total ≡ self.count }
+        ensures site { IsOfSite L.site L.names self }
+        ensures limit { self.limit ≡ L.limit }
+        ensures begun { self.start ≡ 0 → IsSameSite L.base self.base }
+    {
+        let GuardedJournal { journal, book } = self;
+        (journal, book)
+    }
+
+    // How long the journal is, unless the pass has seen a longer one.
+    fn len_for(&self, pass: &Pass<L>) -> Result<u64, DeskFault>
+        ensures journal { IsJournal self.now }
+        ensures site { IsOfSite L.site L.names self.now }
+        ensures reached { IsReached L.base self.now.count self.now.replica }
+        ensures len { IfOk result (λ len. len ≡ self.now.count) }
+        ensures seen { OnOk result (pass.now.seen ≤ self.now.count) }
+        ensures limit { IfOk result (λ len. len ≤ MOST_COUNT) }
+        ensures shorter { OnErr result (self.now.count < pass.now.seen) }
+        ensures fault { IfErr result (λ fault.
+            fault ≡ DeskFault.Rewound self.now.count) }
+    {
+        let len = self.journal.len();
+        if len < pass.seen() {
+            return Err(DeskFault::Rewound(len));
+        }
+        Ok(len)
+    }
+
+    /// The fault of a call that fails with `fault` wherever the journal lets it begin: 1 `Rewound`, exactly where the pass has seen a longer
+    /// journal; 2 `JournalFull`, where no step may be added; 3 this one.
+    pub fn first_fault(&self, pass: &Pass<L>, fault: DeskFault) -> DeskFault
+        ensures site { IsOfSite L.site L.names self.now }
+        ensures reached { IsReached L.base self.now.count self.now.replica }
+        ensures rewound { self.now.count < pass.now.seen
+            → result ≡ DeskFault.Rewound self.now.count }
+        ensures full { pass.now.seen ≤ self.now.count → IsFull self.now
+            → result ≡ DeskFault.JournalFull }
+        ensures other { pass.now.seen ≤ self.now.count → (IsFull self.now → ⊥)
+            → result ≡ fault }
+        ensures only { IsRewound pass.now result
+            ⊎ ((result ≡ DeskFault.JournalFull) ⊎ (result ≡ fault)) }
+    {
+        match self.len_for(pass) {
+            Err(rewound) => rewound,
+            Ok(_) if self.journal.is_full() => DeskFault::JournalFull,
+            Ok(_) => fault,
+        }
+    }
+
+    /// An answer for a pass. Faults, in order: 1 `Rewound`, exactly where the pass has seen a longer journal; then those of the journal.
+    pub fn answer(&mut self, pass: &mut Pass<L>, asked: &Ask) -> Result<Answer, DeskFault>
+        ensures site { IsOfSite L.site L.names self.old }
+        ensures reached { IsReached L.base self.old.count self.old.replica }
+        ensures done { IfOk result (λ answer. HasDone pass.old
+            (last_receipt pass.new (StepDeed.Asked asked.now answer)) pass.new) }
+        ensures position { OnOk result (pass.new.seen ≡ self.old.count + 1) }
+        ensures added { IfOk result (λ answer. HasAdded self.old
+            (record { pass = pass.old.ordinal; deed = StepDeed.Asked asked.now answer })
+            self.new) }
+        ensures answer { IfOk result (λ answer.
+            IsAsked self.old.replica asked.now answer self.new.replica) }
+        ensures rewound { (len : ℕ) → (result ≡ Err (DeskFault.Rewound len))
+            ↔ ((len ≡ self.old.count) × (len < pass.old.seen)) }
+        ensures full { (result ≡ Err DeskFault.JournalFull)
+            ↔ ((pass.old.seen ≤ self.old.count) × IsFull self.old) }
+        ensures only { IfErr result (λ fault. IsRewound pass.old fault
+            ⊎ ((fault ≡ DeskFault.JournalFull) ⊎ (fault ≡ DeskFault.Memory))) }
+        ensures unchanged { OnErr result (IsUnchanged self.old self.new) }
+        ensures pass { OnErr result (pass.new ≡ pass.old) }
+    {
+        let len = self.len_for(pass)?;
+        let GuardedJournal { journal, book } = self;
+        let answer = journal.answer(pass.ordinal(), asked)?;
+        pass.count(book, len);
+        Ok(answer)
+    }
+
+    /// An ask for a pass, of which `copy` is a copy for the receipt, if there was memory for it. Faults as of an answer.
+    pub fn call(
+        &mut self,
+        pass: &mut Pass<L>,
+        asked: &Ask,
+        copy: Result<Ask, Memory>,
+    ) -> Result<Receipt, DeskFault>
+        requires { IfOk copy (λ copied. copied ≡ asked.now) }
+        ensures site { IsOfSite L.site L.names self.old }
+        ensures reached { IsReached L.base self.old.count self.old.replica }
+        ensures done { IfOk result (λ receipt. HasDone pass.old receipt pass.new) }
+        ensures position { IfOk result (λ receipt. receipt.position ≡ self.old.count) }
+        ensures added { IfOk result (λ receipt.
+            HasAdded self.old (step_of receipt) self.new) }
+        ensures ask { IfOk result (λ receipt. IsOfAsk asked.now receipt) }
+        ensures answer { IfOk result (λ receipt. IsAnswerTo self.old.replica asked.now
+            self.new.replica receipt.deed) }
+        ensures rewound { (len : ℕ) → (result ≡ Err (DeskFault.Rewound len))
+            ↔ ((len ≡ self.old.count) × (len < pass.old.seen)) }
+        ensures full { (result ≡ Err DeskFault.JournalFull)
+            ↔ ((pass.old.seen ≤ self.old.count) × IsFull self.old) }
+        ensures only { IfErr result (λ fault. IsRewound pass.old fault
+            ⊎ ((fault ≡ DeskFault.JournalFull) ⊎ (fault ≡ DeskFault.Memory))) }
+        ensures unchanged { OnErr result (IsUnchanged self.old self.new) }
+        ensures pass { OnErr result (pass.new ≡ pass.old) }
+    {
+        let Ok(copy) = copy else {
+            return Err(self.first_fault(pass, DeskFault::Memory));
+        };
+        match self.answer(pass, asked) {
+            Ok(answer) => Ok(Receipt {
+                pass: pass.ordinal(),
+                position: pass.seen() - 1,
+                deed: StepDeed::Asked(copy, answer),
+            }),
+            Err(fault) => {
+                drop(copy);
+                Err(fault)
+            }
+        }
+    }
+
+    /// A cut for a pass. Faults, in order: 1 `Rewound`, as of a call; then those of the journal.
+    pub fn cut(&mut self, pass: &mut Pass<L>) -> Result<Receipt, DeskFault>
+        ensures site { IsOfSite L.site L.names self.old }
+        ensures reached { IsReached L.base self.old.count self.old.replica }
+        ensures done { IfOk result (λ receipt. HasDone pass.old receipt pass.new) }
+        ensures position { IfOk result (λ receipt. receipt.position ≡ self.old.count) }
+        ensures added { IfOk result (λ receipt.
+            HasAdded self.old (step_of receipt) self.new) }
+        ensures cut { IfOk result (λ receipt. IsOfCut receipt) }
+        ensures rewound { (len : ℕ) → (result ≡ Err (DeskFault.Rewound len))
+            ↔ ((len ≡ self.old.count) × (len < pass.old.seen)) }
+        ensures full { (result ≡ Err DeskFault.JournalFull)
+            ↔ ((pass.old.seen ≤ self.old.count) × IsFull self.old) }
+        ensures exhausted { (result ≡ Err DeskFault.Exhausted)
+            ↔ ((pass.old.seen ≤ self.old.count) × ((IsFull self.old → ⊥)
+            × ((IsEmpty self.old.replica.pending → ⊥)
+            × (self.old.replica.frames ≡ MOST_COUNT)))) }
+        ensures only { IfErr result (λ fault. IsRewound pass.old fault
+            ⊎ ((fault ≡ DeskFault.JournalFull)
+            ⊎ ((fault ≡ DeskFault.Exhausted) ⊎ (fault ≡ DeskFault.Memory)))) }
+        ensures unchanged { OnErr result (self.new ≡ self.old) }
+        ensures pass { OnErr result (pass.new ≡ pass.old) }
+    {
+        let position = self.len_for(pass)?;
+        let GuardedJournal { journal, book } = self;
+        let step = journal.cut(pass.ordinal())?;
+        Ok(receipt_of(book, pass, position, step))
+    }
+
+    /// A frame of all for a pass. Faults, in order: 1 `Rewound`, as of a call; then those of the journal.
+    pub fn whole(&mut self, pass: &mut Pass<L>) -> Result<Receipt, DeskFault>
+        ensures site { IsOfSite L.site L.names self.old }
+        ensures reached { IsReached L.base self.old.count self.old.replica }
+        ensures done { IfOk result (λ receipt. HasDone pass.old receipt pass.new) }
+        ensures position { IfOk result (λ receipt. receipt.position ≡ self.old.count) }
+        ensures added { IfOk result (λ receipt.
+            HasAdded self.old (step_of receipt) self.new) }
+        ensures whole { IfOk result (λ receipt. IsOfWhole receipt) }
+        ensures rewound { (len : ℕ) → (result ≡ Err (DeskFault.Rewound len))
+            ↔ ((len ≡ self.old.count) × (len < pass.old.seen)) }
+        ensures full { (result ≡ Err DeskFault.JournalFull)
+            ↔ ((pass.old.seen ≤ self.old.count) × IsFull self.old) }
+        ensures exhausted { (result ≡ Err DeskFault.Exhausted)
+            ↔ ((pass.old.seen ≤ self.old.count) × ((IsFull self.old → ⊥)
+            × (self.old.replica.frames ≡ MOST_COUNT))) }
+        ensures only { IfErr result (λ fault. IsRewound pass.old fault
+            ⊎ ((fault ≡ DeskFault.JournalFull)
+            ⊎ ((fault ≡ DeskFault.Exhausted) ⊎ (fault ≡ DeskFault.Memory)))) }
+        ensures unchanged { OnErr result (self.new ≡ self.old) }
+        ensures pass { OnErr result (pass.new ≡ pass.old) }
+    {
+        let position = self.len_for(pass)?;
+        let GuardedJournal { journal, book } = self;
+        let step = journal.whole(pass.ordinal())?;
+        Ok(receipt_of(book, pass, position, step))
+    }
+
+    /// A take of a decoded frame for a pass. Faults, in order: 1 `Rewound`, as of an answer; then those of the journal. The frame comes back.
+    pub fn take(
+        &mut self,
+        pass: &mut Pass<L>,
+        decoded: DecodedFrame,
+    ) -> Result<Receipt, (DeskFault, DecodedFrame)>
+        ensures site { IsOfSite L.site L.names self.old }
+        ensures reached { IsReached L.base self.old.count self.old.replica }
+        ensures done { IfOk result (λ receipt. HasDone pass.old receipt pass.new) }
+        ensures position { IfOk result (λ receipt. receipt.position ≡ self.old.count) }
+        ensures added { IfOk result (λ receipt.
+            HasAdded self.old (step_of receipt) self.new) }
+        ensures took { IfOk result (λ receipt. IsOfTake decoded receipt) }
+        ensures rewound { (len : ℕ) → IsRefusedFor result (DeskFault.Rewound len)
+            ↔ ((len ≡ self.old.count) × (len < pass.old.seen)) }
+        ensures full { IsRefusedFor result DeskFault.JournalFull
+            ↔ ((pass.old.seen ≤ self.old.count) × IsFull self.old) }
+        ensures refused { (fault : TakeFault) → IsRefusedFor result (DeskFault.Take fault)
+            → IsRefusedFrame self.old.replica decoded fault }
+        ensures seen { (fault : TakeFault) → IsRefusedFor result (DeskFault.Take fault)
+            → pass.old.seen ≤ self.old.count }
+        ensures no_decode { (fault : DecodeFault)
+            → IsRefusedFor result (DeskFault.Decode fault) → ⊥ }
+        ensures only { IfErr result (λ refused.
+            IsRewound pass.old refused.0 ⊎ RefusesTake refused.0) }
+        ensures back { IfErr result (λ refused. refused.1 ≡ decoded) }
+        ensures unchanged { OnErr result (IsUnchanged self.old self.new) }
+        ensures pass { OnErr result (pass.new ≡ pass.old) }
+    {
+        let position = match self.len_for(pass) {
+            Ok(len) => len,
+            Err(fault) => return Err((fault, decoded)),
+        };
+        let GuardedJournal { journal, book } = self;
+        let step = match journal.take_decoded(pass.ordinal(), decoded) {
+            Ok(step) => step,
+            Err(refused) => return Err(refused),
+        };
+        Ok(receipt_of(book, pass, position, step))
+    }
+
+    /// Drops the journal's steps, and no count. Fails only when out of memory.
+    pub fn checkpoint(&mut self) -> Result<(), Memory>
+        ensures dropped { OnOk result (HasDropped self.old self.new) }
+        ensures unchanged { OnErr result (self.new ≡ self.old) }
+    {
+        let GuardedJournal { journal, .. } = self;
+        journal.checkpoint()
+    }
+
+    /// Drops the journal's steps where they keep more than `bytes` bytes. Returns whether it did. Fails only when out of memory.
+    pub fn checkpoint_above(&mut self, bytes: u64) -> Result<bool, Memory>
+        ensures above { IfOk result (λ dropped. IsTrue dropped
+            ↔ (bytes < min (kept_by_steps self.old.steps) (2 ^ 64 - 1))) }
+        ensures done { IfOk result (λ dropped. MatchBool dropped
+            (HasDropped self.old self.new)
+            (self.new ≡ self.old)) }
+        ensures unchanged { OnErr result (self.new ≡ self.old) }
+    {
+        if self.journal.payload_bytes() <= bytes {
+            return Ok(false);
+        }
+        self.checkpoint()?;
+        Ok(true)
+    }
+}

@@ -1,0 +1,102 @@
+//! Frames that are decoded before a site takes them.
+ghost use Rattle.std.specs.Prelude.{◌≡◌, ◌≢◌, ◌⊎◌, Err, IfErr, IfOk};
+ghost use Rattle.delta_codec.specs.Decoding.{HasOpening};
+ghost use Rattle.delta_codec.specs.Frames.{Spells};
+ghost use Rattle.site_journal.specs.Journals.{HasFaultAlone, IsRefusedFor, RefusesTake};
+
+use crate::DeskFault;
+use delta_codec::{DecodeFault, decode};
+use dots::Bytes;
+use replica::{Frame, TakeFault};
+use std::alloc::Global;
+use std::marker::Model;
+
+/// The bytes of one frame, with the frame that they spell. Whoever shares a site decodes a frame into it first, and holds up the others
+/// only while the site takes it. Contracts see its bytes (this project's own).
+#[derive(Drop)]
+pub struct DecodedFrame {
+    pub(crate) frame: Frame,
+    pub(crate) bytes: Bytes,
+    // The same bytes once more, for the copy of the step.
+    pub(crate) copy: Bytes,
+}
+
+impl Model for DecodedFrame {
+    ghost use Rattle.std.specs.Prelude.{ℕ, List, ◌≡◌};
+    ghost use Rattle.delta_codec.specs.Frames.{Spells};
+
+    ghost Value = { List ℕ };
+
+    ghost view = { λ d. d.bytes };
+
+    ghost invariant = { λ d. Spells d.frame d.bytes × (d.copy ≡ d.bytes) };
+}
+
+// The frame that bytes are, with nothing behind it.
+fn frame_in(alloc: Global, bytes: &[u8]) -> Result<Frame, DecodeFault>
+    ensures value { IfOk result (λ frame. Spells frame bytes.now) }
+    ensures fault { IfErr result (λ fault. (fault ≡ DecodeFault.Memory)
+        ⊎ HasFaultAlone bytes.now fault) }
+    ensures memory { result ≡ Err DecodeFault.Memory → HasOpening bytes.now }
+{
+    let (frame, len) = decode(alloc, bytes)?;
+    if len < bytes.len() {
+        drop(frame);
+        return Err(DecodeFault::BadRange);
+    }
+    Ok(frame)
+}
+
+// Why bytes are no frame, as the fault of a step.
+fn decode_fault(fault: DecodeFault) -> DeskFault
+    ensures decode { (told : DecodeFault) → result ≡ DeskFault.Decode told
+        → (fault ≡ told) × (fault ≢ DecodeFault.Memory) }
+    ensures memory { result ≡ DeskFault.Memory → fault ≡ DecodeFault.Memory }
+    ensures no_take { (told : TakeFault) → result ≢ DeskFault.Take told }
+    ensures only { RefusesTake result }
+    ensures no_full { result ≢ DeskFault.JournalFull }
+{
+    match fault {
+        DecodeFault::Memory => DeskFault::Memory,
+        fault => DeskFault::Decode(fault),
+    }
+}
+
+impl DecodedFrame {
+    /// Decodes the bytes of one frame, in either version, and copies them, for the copy of the step that takes it. The bytes come back
+    /// where it fails. Errors, in order: 1 `Decode`, with the fault of the bytes, or `BadRange` where more follows their frame;
+    /// 2 `Memory`, which may also stand in place of a `Decode` whose fault stands behind a whole heading, but never of one that comes up
+    /// to there.
+    pub fn decode(alloc: Global, bytes: Vec<u8>) -> Result<DecodedFrame, (DeskFault, Vec<u8>)>
+        ensures value { IfOk result (λ decoded. decoded ≡ bytes.items) }
+        ensures decode { (fault : DecodeFault) → IsRefusedFor result (DeskFault.Decode fault)
+            → HasFaultAlone bytes.items fault }
+        ensures memory { IsRefusedFor result DeskFault.Memory → HasOpening bytes.items }
+        ensures no_take { (fault : TakeFault) → IsRefusedFor result (DeskFault.Take fault) → ⊥ }
+        ensures no_full { IsRefusedFor result DeskFault.JournalFull → ⊥ }
+        ensures only { IfErr result (λ refused. RefusesTake refused.0) }
+        ensures back { IfErr result (λ refused. refused.1.items ≡ bytes.items) }
+    {
+        let frame = match frame_in(alloc, bytes.as_slice()) {
+            Ok(frame) => frame,
+            Err(fault) => return Err((decode_fault(fault), bytes)),
+        };
+        let bytes = Bytes::new(bytes);
+        let Ok(copy) = bytes.copy() else {
+            drop(frame);
+            return Err((DeskFault::Memory, bytes.into_vec()));
+        };
+        Ok(DecodedFrame { frame, bytes, copy })
+    }
+
+    /// Gives the bytes back, which begin as those of a frame. It takes no memory.
+    pub fn into_bytes(self) -> Vec<u8>
+        ensures value { result.items ≡ self }
+        ensures opening { HasOpening self }
+    {
+        let DecodedFrame { frame, bytes, copy } = self;
+        drop(frame);
+        drop(copy);
+        bytes.into_vec()
+    }
+}

@@ -1,0 +1,55 @@
+//! The steps of a journal, with the number of bytes that they keep beside themselves.
+ghost use Rattle.std.specs.Prelude.{◌≡◌, ◌<◌, ◌≤◌, ◌+◌, ◌-◌, ◌^◌, ◌++◌, ◌∷◌, [], OnOk, min};
+ghost use Rattle.std.specs.Prelude.{vec_capacity, vec_len};
+ghost use Rattle.site_journal.specs.Keeping.{kept_by_steps};
+
+use crate::Step;
+use crate::keeping::kept_by_deed;
+use dots::Memory;
+use std::alloc::Global;
+
+// Steps in their order. Their payload is counted as they come and go, so that nobody walks over them to know it.
+#[derive(Drop)]
+pub(crate) struct StepList {
+    pub steps: Vec<Step>,
+    // How many bytes they keep beside themselves, 2^64 - 1 at most.
+    pub payload_bytes: u64,
+    pub ghost counted: { payload_bytes ≡ min (kept_by_steps steps.items) (2 ^ 64 - 1) },
+}
+
+impl StepList {
+    // A list of no step. It takes no memory.
+    pub fn new(alloc: Global) -> StepList
+        ensures { result.steps.items ≡ [] }
+    {
+        StepList {
+            steps: Vec::new(alloc),
+            payload_bytes: 0,
+        }
+    }
+
+    // Reserves room for one step more. Fails only when out of memory.
+    pub fn reserve_one(&mut self) -> Result<(), Memory>
+        ensures items { self.new.steps.items ≡ self.old.steps.items }
+        ensures room { OnOk result (vec_len self.new.steps < vec_capacity self.new.steps) }
+    {
+        self.steps.reserve(1)
+    }
+
+    // Adds a step at the end, for which room was reserved.
+    pub fn push_reserved(&mut self, step: Step)
+        requires { vec_len self.old.steps < vec_capacity self.old.steps }
+        ensures items { self.new.steps.items ≡ self.old.steps.items ++ step ∷ [] }
+    {
+        self.payload_bytes = self.payload_bytes.saturating_add(kept_by_deed(&step.deed));
+        self.steps.push_reserved(step);
+    }
+
+    // Drops all steps.
+    pub fn clear(&mut self)
+        ensures { self.new.steps.items ≡ [] }
+    {
+        self.payload_bytes = 0;
+        self.steps.clear();
+    }
+}

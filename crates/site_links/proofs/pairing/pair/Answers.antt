@@ -1,9 +1,0 @@
-use Rattle.std.proofs.Common.{rules}
-use Rattle.site_links.proofs.Relayed.{begins, forks}
-use Rattle.site_links.proofs.pairing.pair.Goals as goal
-
-pub bounded_with-requires-clause-rule : goal.bounded_with-requires-clause-rule
-bounded_with-requires-clause-rule c = begins
-
-pub another-reader-requires-clause-rule : goal.another-reader-requires-clause-rule
-another-reader-requires-clause-rule c = forks _ _ (search rules) (search rules)

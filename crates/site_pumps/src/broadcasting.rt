@@ -1,0 +1,140 @@
+//! A pump that sends each frame on every outlet, in order.
+ghost use Rattle.std.specs.Prelude.{◌≡◌, ◌⊎◌, ◌+◌, ◌∷◌, [], ℕ, IfErr, List, OnErr, OnOk};
+ghost use Rattle.std.specs.Prelude.{Some, true};
+ghost use Rattle.std.specs.Result.{result_err};
+ghost use Rattle.site_journal.specs.Receipts.{IsOfCut, IsOfWhole};
+ghost use Rattle.site_pumps.specs.Broadcasts.{HasBroadcast, frame_in};
+ghost use Rattle.site_pumps.specs.Carried.{EachLink};
+ghost use Rattle.site_pumps.specs.Deeds.{AreCutsAndWhole, AreCutsFor};
+ghost use Rattle.site_pumps.specs.Outgoing.{AddsReceipt};
+ghost use Rattle.site_pumps.specs.Outlets.{OutletBegins, OutletRun};
+
+use crate::{Outlet, ReceiptSink};
+use dots::{Bytes, Memory};
+use site_journal::{Bell, DeskFault, Port, Receipt, StepDeed};
+use std::sync::Wait;
+
+// Sends an item on each outlet.
+fn send_item<R, O: Outlet<R>>(rt: &R, outlets: &mut [O], item: &Bytes) -> Result<(), Memory>
+    ensures ok { OnOk result
+        (EachLink (OutletRun O.given (item.now ∷ [])) outlets.old outlets.new) }
+    ensures err { OnErr result
+        (EachLink (OutletBegins O.given (item.now ∷ [])) outlets.old outlets.new) }
+{
+    for i in 0..outlets.len() {
+        outlets[i].send(rt, item)?;
+    }
+    Ok(())
+}
+
+// Sends the frame of a cut or a whole on each outlet, if it made one.
+fn send_frame<R, O: Outlet<R>>(rt: &R, outlets: &mut [O], receipt: &Receipt) -> Result<(), Memory>
+    ensures ok { OnOk result
+        (EachLink (OutletRun O.given (frame_in receipt.now.deed)) outlets.old outlets.new) }
+    ensures err { OnErr result
+        (EachLink (OutletBegins O.given (frame_in receipt.now.deed)) outlets.old outlets.new) }
+{
+    match &receipt.deed {
+        StepDeed::Cut(Some(frame)) => send_item(rt, outlets, frame),
+        StepDeed::Whole(frame) => send_item(rt, outlets, frame),
+        _ => Ok(()),
+    }
+}
+
+// Cuts, sends the frame on each outlet, and hands the receipt to the sink.
+fn cut_once<R: Wait, P: Port<R>, O: Outlet<R>, K: ReceiptSink>(
+    rt: &R,
+    port: &mut P,
+    outlets: &mut [O],
+    sink: &mut K,
+) -> Result<(), DeskFault>
+    ensures step { (receipts : List _)
+        × AddsReceipt IsOfCut (P.fault port.new) [] receipts result
+        × HasBroadcast P.makes P.refuses P.share O.given K.holds port.old port.new outlets.old
+        outlets.new sink.old sink.new receipts (result_err result) }
+    ensures fault { IfErr result (λ cause.
+        (P.fault port.new ≡ Some cause) ⊎ (cause ≡ DeskFault.Memory)) }
+    ensures ordinal { P.ordinal port.new ≡ P.ordinal port.old }
+{
+    if sink.prepare().is_err() {
+        return Err(DeskFault::Memory);
+    }
+    let receipt = match port.cut(rt) {
+        Ok(receipt) => receipt,
+        Err(fault) => return Err(fault),
+    };
+    let sent = send_frame(rt, outlets, &receipt);
+    sink.put(receipt);
+    match sent {
+        Ok(()) => Ok(()),
+        Err(_) => Err(DeskFault::Memory),
+    }
+}
+
+// Makes a frame of all that the site knows, sends it on each outlet, and hands the receipt to the sink.
+fn whole_once<R: Wait, P: Port<R>, O: Outlet<R>, K: ReceiptSink>(
+    rt: &R,
+    port: &mut P,
+    outlets: &mut [O],
+    sink: &mut K,
+) -> Result<(), DeskFault>
+    ensures step { (receipts : List _)
+        × AddsReceipt IsOfWhole (P.fault port.new) [] receipts result
+        × HasBroadcast P.makes P.refuses P.share O.given K.holds port.old port.new outlets.old
+        outlets.new sink.old sink.new receipts (result_err result) }
+    ensures fault { IfErr result (λ cause.
+        (P.fault port.new ≡ Some cause) ⊎ (cause ≡ DeskFault.Memory)) }
+    ensures ordinal { P.ordinal port.new ≡ P.ordinal port.old }
+{
+    if sink.prepare().is_err() {
+        return Err(DeskFault::Memory);
+    }
+    let receipt = match port.whole(rt) {
+        Ok(receipt) => receipt,
+        Err(fault) => return Err(fault),
+    };
+    let sent = send_frame(rt, outlets, &receipt);
+    sink.put(receipt);
+    match sent {
+        Ok(()) => Ok(()),
+        Err(_) => Err(DeskFault::Memory),
+    }
+}
+
+/// Cuts at each ring of the bell, and sends the frame on every outlet, in order. Once the bell has ended it cuts once more, and then sends
+/// a frame of all that the site knows. Each receipt is handed to the sink. An outlet that is down drops its frames, and the others go on.
+/// It waits where the bell, the port or an outlet does.
+///
+/// Errors, in order: the port's own; `Memory`, where the sink has no room for a receipt or a frame can't be sent on every outlet (this
+/// project's own).
+pub fn broadcast<R: Wait, P: Port<R>, O: Outlet<R>, B: Bell<R>, K: ReceiptSink>(
+    rt: &R,
+    port: &mut P,
+    outlets: &mut [O],
+    bell: &mut B,
+    sink: &mut K,
+) -> Result<(), DeskFault>
+    ensures broadcast { (rung : ℕ) × (receipts : List _)
+        × (B.rings bell.new ≡ B.rings bell.old + rung)
+        × AreCutsFor rung receipts
+        × OnOk result (AreCutsAndWhole (rung + 1) receipts)
+        × HasBroadcast P.makes P.refuses P.share O.given K.holds port.old port.new outlets.old
+        outlets.new sink.old sink.new receipts (result_err result) }
+    ensures ended { OnOk result (B.ended bell.new ≡ true) }
+    ensures fault { IfErr result (λ cause.
+        (P.fault port.new ≡ Some cause) ⊎ (cause ≡ DeskFault.Memory)) }
+    ensures ordinal { P.ordinal port.new ≡ P.ordinal port.old }
+{
+    for _ in rt.forever() {
+        if !bell.wait(rt) {
+            break;
+        }
+        if let Err(fault) = cut_once(rt, port, outlets, sink) {
+            return Err(fault);
+        }
+    }
+    if let Err(fault) = cut_once(rt, port, outlets, sink) {
+        return Err(fault);
+    }
+    whole_once(rt, port, outlets, sink)
+}

@@ -1,0 +1,21 @@
+//! Runs sites: each in a thread of its own, with one further thread for each of its tasks.
+//!
+//! [`run_sites`] first starts all threads of all sites. If all start, each does its task, and the
+//! caller gets each site's journal and what its tasks gave. If a thread can't start, no task begins.
+#![tactic(auto)]
+
+mod launch_fault;
+mod site;
+mod site_fault;
+mod site_tasks;
+mod sites;
+mod start;
+mod task;
+mod tasks;
+
+pub use launch_fault::LaunchFault;
+pub use site_desk::{MOST_PASSES, Pass, SiteDesk, SiteLedger};
+pub use site_journal::Journaled;
+pub use site_tasks::{SiteOutput, SiteTasks};
+pub use sites::run_sites;
+pub use task::{Task, TaskEnd, TaskOutput};

@@ -1,0 +1,283 @@
+//! One site: its desk, and its threads in a scope of their own.
+ghost use Rattle.std.specs.Prelude.{◌≡◌, ◌≤◌, ℕ, IfOk, List, Some, slice_get, vec_capacity, vec_len};
+ghost use Rattle.replica.specs.Site.{SiteState};
+ghost use Rattle.site_desk.specs.Passes.{AreNewPasses};
+ghost use Rattle.site_desk.specs.declared.desk.TheConstants.{MOST_PASSES};
+ghost use Rattle.site_journal.specs.Journals.{IsOfSite};
+ghost use Rattle.site_journal.specs.declared.journaled.TheConstants.{MOST_STEPS};
+ghost use Rattle.site_threads.specs.Ends.{HasEnded};
+ghost use Rattle.site_threads.specs.Ledgers.{IsLedgerOf};
+ghost use Rattle.site_threads.specs.Tasks.{AreDone};
+
+use crate::site_fault::SiteFault;
+use crate::start::Start;
+use crate::tasks::{TaskResults, Workers, end_tasks, join_tasks, start_tasks};
+use crate::{SiteOutput, SiteTasks, Task, TaskOutput};
+use dots::Memory;
+use site_desk::{MOST_PASSES, Pass, SiteDesk, SiteLedger, close};
+use site_journal::{Journaled, MOST_STEPS};
+use std::alloc::Global;
+use std::marker::Brand;
+use std::sync::Wait;
+use std::sync::ledger::Blank;
+use std::thread;
+use std::thread::{Scope, Threads};
+
+// Room for `number` threads, and for what they give.
+fn room_for<L: SiteLedger, T: TaskOutput>(
+    alloc: Global,
+    number: usize,
+) -> Result<(Workers<L, T>, TaskResults<L, T::Output>), Memory>
+    ensures none { IfOk result (λ room. vec_len room.0 ≡ 0) }
+    ensures workers { IfOk result (λ room. number ≤ vec_capacity room.0) }
+    ensures no_passes { IfOk result (λ room. vec_len room.1.passes ≡ 0) }
+    ensures passes { IfOk result (λ room. number ≤ vec_capacity room.1.passes) }
+    ensures no_outputs { IfOk result (λ room. vec_len room.1.outputs ≡ 0) }
+    ensures outputs { IfOk result (λ room. number ≤ vec_capacity room.1.outputs) }
+{
+    let workers = Vec::with_capacity(alloc, number)?;
+    let passes = match Vec::with_capacity(alloc, number) {
+        Ok(passes) => passes,
+        Err(_) => {
+            drop(workers);
+            return Err(Memory);
+        }
+    };
+    match Vec::with_capacity(alloc, number) {
+        Ok(outputs) => Ok((workers, TaskResults { passes, outputs })),
+        Err(_) => {
+            drop(workers);
+            drop(passes);
+            Err(Memory)
+        }
+    }
+}
+
+// Starts all threads of a site, and joins them. If a thread can't be started no site begins, and the
+// site's other threads end first.
+fn run_tasks<
+    's,
+    'e: 's,
+    L: SiteLedger + Send + Sync,
+    R: Threads + Wait + Sync,
+    S: Sync,
+    T: Task<S, R> + Send + Drop + 's,
+>(
+    scope: &'s Scope<'s, &'e ()>,
+    rt: &'s R,
+    alloc: Global,
+    start: &'s Start,
+    shared: &'s S,
+    desk: &'s SiteDesk<L>,
+    passes: Vec<Pass<L>>,
+    tasks: Vec<T>,
+) -> Result<TaskResults<L, T::Output>, SiteFault>
+    requires { AreNewPasses (vec_len tasks) passes.items }
+    ensures { IfOk result (λ all.
+        AreDone T.gives L.site L.names tasks.items all.passes.items all.outputs.items) }
+{
+    let (mut workers, room) = match room_for(alloc, tasks.len()) {
+        Ok(room) => room,
+        Err(_) => {
+            drop(passes);
+            drop(tasks);
+            return Err(SiteFault::Memory);
+        }
+    };
+    let started = start_tasks(
+        scope,
+        rt,
+        alloc,
+        start,
+        shared,
+        desk,
+        passes,
+        tasks,
+        &mut workers,
+    );
+    if let Err(fault) = started {
+        start.fail(rt);
+        end_tasks(rt, workers);
+        drop(room);
+        return Err(fault);
+    }
+    start.one_ready(rt);
+    join_tasks(rt, workers, room)
+}
+
+// Runs the threads of a site in a scope of their own.
+fn run_scoped<
+    L: SiteLedger + Send + Sync,
+    R: Threads + Wait + Sync,
+    S: Sync,
+    T: Task<S, R> + Send + Drop,
+>(
+    rt: &R,
+    alloc: Global,
+    start: &Start,
+    shared: &S,
+    desk: &SiteDesk<L>,
+    passes: Vec<Pass<L>>,
+    tasks: Vec<T>,
+) -> Result<TaskResults<L, T::Output>, SiteFault>
+    requires { AreNewPasses (vec_len tasks) passes.items }
+    ensures { IfOk result (λ all.
+        AreDone T.gives L.site L.names tasks.items all.passes.items all.outputs.items) }
+{
+    thread::scope(
+        thread::scope_env(),
+        rt,
+        move |scope| -> Result<TaskResults<L, T::Output>, SiteFault>
+            requires { AreNewPasses (vec_len tasks) passes.items }
+            ensures { IfOk result (λ all.
+                AreDone T.gives L.site L.names tasks.items all.passes.items all.outputs.items) }
+        { run_tasks(scope, rt, alloc, start, shared, desk, passes, tasks) },
+    )
+}
+
+// Closes the desk of a site whose tasks are all done.
+fn ended<L: SiteLedger, T: TaskOutput>(
+    desk: SiteDesk<L>,
+    all: TaskResults<L, T::Output>,
+) -> SiteOutput<T::Output>
+    requires all { vec_len all.passes ≡ desk.passes }
+    requires order { (place : ℕ) (pass : _) → slice_get all.passes.items place ≡ Some pass
+        → pass.ordinal ≡ place }
+    ensures { (tasks : List T) (replica : SiteState) → IsLedgerOf L.site L.names L.base replica
+        → AreDone T.gives L.site L.names tasks all.passes.items all.outputs.items
+        → HasEnded T.gives replica L.limit tasks result.journal result.outputs.items }
+{
+    let TaskResults { passes, outputs } = all;
+    match close(desk, passes) {
+        Ok(journal) => SiteOutput { journal, outputs },
+        Err(_) => unreachable!(),
+    }
+}
+
+// Runs the threads of a site at its desk, and closes the desk.
+fn run_desk<
+    L: SiteLedger + Send + Sync,
+    R: Threads + Wait + Sync,
+    S: Sync + Drop,
+    T: Task<S, R> + Send + Drop,
+>(
+    rt: &R,
+    alloc: Global,
+    start: &Start,
+    desk: SiteDesk<L>,
+    passes: Vec<Pass<L>>,
+    shared: S,
+    tasks: Vec<T>,
+) -> Result<SiteOutput<T::Output>, SiteFault>
+    requires passes { AreNewPasses (vec_len tasks) passes.items }
+    requires all { desk.passes ≡ vec_len tasks }
+    ensures { IfOk result (λ end. (replica : SiteState)
+        → IsLedgerOf L.site L.names L.base replica
+        → HasEnded T.gives replica L.limit tasks.items end.journal end.outputs.items) }
+{
+    let run = run_scoped(rt, alloc, start, &shared, &desk, passes, tasks);
+    drop(shared);
+    match run {
+        Ok(all) => Ok(ended::<L, T>(desk, all)),
+        Err(fault) => {
+            drop(desk);
+            Err(fault)
+        }
+    }
+}
+
+// Makes the desk of a site under a ledger, runs its threads, and closes the desk.
+fn run_site<
+    L: SiteLedger + Send + Sync,
+    R: Threads + Wait + Sync,
+    S: Sync + Drop,
+    T: Task<S, R> + Send + Drop,
+>(
+    rt: &R,
+    alloc: Global,
+    start: &Start,
+    blank: Blank,
+    journal: Journaled,
+    shared: S,
+    tasks: Vec<T>,
+) -> Result<SiteOutput<T::Output>, SiteFault>
+    requires name { blank.name ≡ L.name }
+    requires ledger { blank.parts ≡ L.parts }
+    requires parts { blank.parts ≡ vec_len tasks }
+    requires some { 1 ≤ vec_len tasks }
+    requires few { vec_len tasks ≤ MOST_PASSES }
+    requires begun { journal.count ≡ 0 }
+    requires site { IsOfSite L.site L.names journal }
+    requires limit { journal.limit ≡ L.limit }
+    requires base { journal.base ≡ L.base }
+    ensures { IfOk result (λ end. (replica : SiteState)
+        → IsLedgerOf L.site L.names L.base replica
+        → HasEnded T.gives replica L.limit tasks.items end.journal end.outputs.items) }
+{
+    let number = tasks.len() as u32;
+    match SiteDesk::<L>::new(alloc, blank, journal, number) {
+        Ok((desk, passes)) => run_desk(rt, alloc, start, desk, passes, shared, tasks),
+        Err((_, journal)) => {
+            drop(journal);
+            drop(shared);
+            drop(tasks);
+            Err(SiteFault::Memory)
+        }
+    }
+}
+
+// Runs a site from its replica on, under a ledger that this call names.
+fn run_replica<R: Threads + Wait + Sync, S: Sync + Drop, T: Task<S, R> + Send + Drop>(
+    rt: &R,
+    alloc: Global,
+    start: &Start,
+    limit: u32,
+    site: SiteTasks<S, T>,
+) -> Result<SiteOutput<T::Output>, SiteFault>
+    requires least { 1 ≤ limit }
+    requires most { limit ≤ MOST_STEPS }
+    requires some { 1 ≤ vec_len site.tasks }
+    requires few { vec_len site.tasks ≤ MOST_PASSES }
+    ensures { IfOk result (λ end. HasEnded T.gives site.replica limit site.tasks.items
+        end.journal end.outputs.items) }
+{
+    let SiteTasks {
+        replica,
+        shared,
+        tasks,
+    } = site;
+    match Journaled::new(alloc, replica, limit) {
+        Ok(journal) => {
+            let blank = Blank::new(tasks.len() as u64);
+            run_site::<Brand, R, S, T>(rt, alloc, start, blank, journal, shared, tasks)
+        }
+        Err((_, replica)) => {
+            drop(replica);
+            drop(shared);
+            drop(tasks);
+            Err(SiteFault::Memory)
+        }
+    }
+}
+
+// Runs a site. If it can't begin, no site begins.
+pub(crate) fn run_or_fail<R: Threads + Wait + Sync, S: Sync + Drop, T: Task<S, R> + Send + Drop>(
+    rt: &R,
+    alloc: Global,
+    start: &Start,
+    limit: u32,
+    site: SiteTasks<S, T>,
+) -> Result<SiteOutput<T::Output>, SiteFault>
+    requires least { 1 ≤ limit }
+    requires most { limit ≤ MOST_STEPS }
+    requires some { 1 ≤ vec_len site.tasks }
+    requires few { vec_len site.tasks ≤ MOST_PASSES }
+    ensures { IfOk result (λ end. HasEnded T.gives site.replica limit site.tasks.items
+        end.journal end.outputs.items) }
+{
+    let run = run_replica(rt, alloc, start, limit, site);
+    if run.is_err() {
+        start.fail(rt);
+    }
+    run
+}

@@ -1,0 +1,279 @@
+//! All sites, each in a thread of its own.
+ghost use Rattle.std.specs.List.{All};
+ghost use Rattle.std.specs.Prelude.{◌≡◌, ◌≤◌, ℕ, IfOk, List, OnOk, length, vec_capacity, vec_len};
+ghost use Rattle.dots.specs.declared.limits.TheConstants.{SITES};
+ghost use Rattle.site_desk.specs.declared.desk.TheConstants.{MOST_PASSES};
+ghost use Rattle.site_journal.specs.declared.journaled.TheConstants.{MOST_STEPS};
+ghost use Rattle.site_threads.specs.Ends.{HasEnded, HaveEnded};
+ghost use Rattle.site_threads.specs.Places.{AtEach};
+ghost use Rattle.site_threads.specs.Promises.{IsEndPromisedAt};
+
+use crate::site::run_or_fail;
+use crate::site_fault::SiteFault;
+use crate::start::Start;
+use crate::{LaunchFault, SiteOutput, SiteTasks, Task, TaskOutput};
+use dots::{Memory, SITES};
+use replica::Replica;
+use site_desk::MOST_PASSES;
+use site_journal::MOST_STEPS;
+use std::alloc::Global;
+use std::snapshot::Snapshot;
+use std::sync::Wait;
+use std::thread;
+use std::thread::{Promise, PromisedHandle, Scope, Threads};
+
+// A site that begins as this replica ends as its tasks say, with this limit of its journal; or it has
+// a fault.
+#[derive(Drop)]
+pub(crate) struct EndPromise<T> {
+    limit: u32,
+    replica: Snapshot<Replica>,
+    tasks: Snapshot<Vec<T>>,
+}
+
+impl<T: TaskOutput + Drop> Promise<Result<SiteOutput<T::Output>, SiteFault>> for EndPromise<T> {
+    ghost use Rattle.std.specs.Prelude.{IfOk};
+    ghost use Rattle.site_threads.specs.Ends.{HasEnded};
+
+    ghost kept_by = { λ promise ended.
+        IfOk ended (λ end. HasEnded T.gives promise.replica.value promise.limit
+        promise.tasks.value.items end.journal end.outputs.items) };
+}
+
+// The thread of a site.
+type Site<T> = PromisedHandle<
+    Result<SiteOutput<<T as TaskOutput>::Output>, SiteFault>,
+    EndPromise<T>,
+>;
+
+// The threads of sites, the last of which is that of the first site.
+type Sites<T> = Vec<Site<T>>;
+
+// Starts the thread of a site.
+fn start_site<
+    's,
+    'e: 's,
+    R: Threads + Wait + Sync,
+    S: Send + Sync + Drop + 's,
+    T: Task<S, R> + Send + Drop + 's,
+>(
+    scope: &'s Scope<'s, &'e ()>,
+    rt: &'s R,
+    alloc: Global,
+    start: &'s Start,
+    limit: u32,
+    site: SiteTasks<S, T>,
+) -> Result<Site<T>, SiteFault>
+    requires least { 1 ≤ limit }
+    requires most { limit ≤ MOST_STEPS }
+    requires some { 1 ≤ vec_len site.tasks }
+    requires few { vec_len site.tasks ≤ MOST_PASSES }
+    ensures limit { IfOk result (λ handle. handle.promise.limit ≡ limit) }
+    ensures replica { IfOk result (λ handle. handle.promise.replica.value ≡ site.replica) }
+    ensures tasks { IfOk result (λ handle. handle.promise.tasks.value.items ≡ site.tasks.items) }
+{
+    let promise = EndPromise {
+        limit,
+        replica: Snapshot::of(&site.replica),
+        tasks: Snapshot::of(&site.tasks),
+    };
+    let run = move || -> Result<SiteOutput<T::Output>, SiteFault>
+        requires least { 1 ≤ limit }
+        requires most { limit ≤ MOST_STEPS }
+        requires some { 1 ≤ vec_len site.tasks }
+        requires few { vec_len site.tasks ≤ MOST_PASSES }
+        ensures { IfOk result (λ end. HasEnded T.gives site.replica limit site.tasks.items
+            end.journal end.outputs.items) }
+    { run_or_fail(rt, alloc, start, limit, site) };
+    match scope.spawn_with(promise, run) {
+        Ok(handle) => Ok(handle),
+        Err(refused) => {
+            drop(refused);
+            Err(SiteFault::NoThread)
+        }
+    }
+}
+
+// Starts a thread for each site, from the last down, until one can't be started.
+fn start_sites<
+    's,
+    'e: 's,
+    R: Threads + Wait + Sync,
+    S: Send + Sync + Drop + 's,
+    T: Task<S, R> + Send + Drop + 's,
+>(
+    scope: &'s Scope<'s, &'e ()>,
+    rt: &'s R,
+    alloc: Global,
+    start: &'s Start,
+    limit: u32,
+    all: Vec<SiteTasks<S, T>>,
+    sites: &mut Sites<T>,
+) -> Result<(), SiteFault>
+    requires least { 1 ≤ limit }
+    requires most { limit ≤ MOST_STEPS }
+    requires some { All (λ site. 1 ≤ vec_len site.tasks) all.items }
+    requires few { All (λ site. vec_len site.tasks ≤ MOST_PASSES) all.items }
+    requires none { vec_len sites.old ≡ 0 }
+    requires room { vec_len all ≤ vec_capacity sites.old }
+    ensures number { OnOk result (vec_len sites.new ≡ vec_len all) }
+    ensures promised { OnOk result (AtEach (λ k site.
+        IsEndPromisedAt limit all.items k site.promise) sites.new.items) }
+{
+    let mut all = all;
+    while let Some(site) = all.pop() {
+        match start_site(scope, rt, alloc, start, limit, site) {
+            Ok(handle) => sites.push_reserved(handle),
+            Err(fault) => {
+                drop(all);
+                return Err(fault);
+            }
+        }
+    }
+    drop(all);
+    Ok(())
+}
+
+// Joins sites that can't begin. Gives the first in order of this fault and theirs.
+fn end_sites<R: Threads, T: TaskOutput + Drop>(
+    rt: &R,
+    sites: Sites<T>,
+    fault: SiteFault,
+) -> LaunchFault {
+    let mut first = fault;
+    for site in sites {
+        match site.join(rt) {
+            Ok(end) => drop(end),
+            Err(fault) => first = first.first(fault),
+        }
+    }
+    first.of_all()
+}
+
+// Joins sites in their order, and adds their ends to `ends`.
+fn join_sites<R: Threads, S: Drop, T: TaskOutput + Drop>(
+    rt: &R,
+    sites: Sites<T>,
+    ends: Vec<SiteOutput<T::Output>>,
+) -> Result<Vec<SiteOutput<T::Output>>, LaunchFault>
+    requires none { vec_len ends ≡ 0 }
+    requires room { vec_len sites ≤ vec_capacity ends }
+    ensures number { IfOk result (λ ends. vec_len ends ≡ vec_len sites) }
+    ensures ends { IfOk result (λ ends. (limit : ℕ) (all : List (SiteTasks S T))
+        → length all ≡ vec_len sites
+        → AtEach (λ k site. IsEndPromisedAt limit all k site.promise) sites.items
+        → HaveEnded T.gives limit all ends.items) }
+{
+    let mut sites = sites;
+    let mut ends = ends;
+    while let Some(site) = sites.pop() {
+        match site.join(rt) {
+            Ok(end) => ends.push_reserved(end),
+            Err(fault) => {
+                drop(ends);
+                return Err(end_sites(rt, sites, fault));
+            }
+        }
+    }
+    drop(sites);
+    Ok(ends)
+}
+
+// Room for the threads of `number` sites, and for their ends.
+fn room_for<T: TaskOutput + Drop>(
+    alloc: Global,
+    number: usize,
+) -> Result<(Vec<SiteOutput<T::Output>>, Sites<T>), Memory>
+    ensures no_ends { IfOk result (λ room. vec_len room.0 ≡ 0) }
+    ensures ends { IfOk result (λ room. number ≤ vec_capacity room.0) }
+    ensures none { IfOk result (λ room. vec_len room.1 ≡ 0) }
+    ensures sites { IfOk result (λ room. number ≤ vec_capacity room.1) }
+{
+    let ends = Vec::with_capacity(alloc, number)?;
+    match Vec::with_capacity(alloc, number) {
+        Ok(sites) => Ok((ends, sites)),
+        Err(_) => {
+            drop(ends);
+            Err(Memory)
+        }
+    }
+}
+
+// Starts all sites, and joins them. If a site can't be started no site begins, and the others end
+// first.
+fn run_all<
+    's,
+    'e: 's,
+    R: Threads + Wait + Sync,
+    S: Send + Sync + Drop + 's,
+    T: Task<S, R> + Send + Drop + 's,
+>(
+    scope: &'s Scope<'s, &'e ()>,
+    rt: &'s R,
+    alloc: Global,
+    start: &'s Start,
+    limit: u32,
+    all: Vec<SiteTasks<S, T>>,
+) -> Result<Vec<SiteOutput<T::Output>>, LaunchFault>
+    requires least { 1 ≤ limit }
+    requires most { limit ≤ MOST_STEPS }
+    requires some { All (λ site. 1 ≤ vec_len site.tasks) all.items }
+    requires few { All (λ site. vec_len site.tasks ≤ MOST_PASSES) all.items }
+    ensures number { IfOk result (λ ends. vec_len ends ≡ vec_len all) }
+    ensures ends { IfOk result (λ ends. HaveEnded T.gives limit all.items ends.items) }
+{
+    let (ends, mut sites) = match room_for(alloc, all.len()) {
+        Ok(room) => room,
+        Err(_) => {
+            drop(all);
+            return Err(LaunchFault::Memory);
+        }
+    };
+    if let Err(fault) = start_sites(scope, rt, alloc, start, limit, all, &mut sites) {
+        start.fail(rt);
+        drop(ends);
+        return Err(end_sites(rt, sites, fault));
+    }
+    join_sites::<R, S, T>(rt, sites, ends)
+}
+
+/// Runs at most 64 sites at once, and returns when all their tasks have ended: each site's journal and what its
+/// tasks gave, in order. A site begins as its replica, and has the replica's number and queues. A new
+/// replica makes a new site; a replica that a store has kept goes on. The journal of a site has room
+/// for `limit` steps, 1 to 1,000,000. Each of its tasks, 1 to 256, runs in a thread of its own, by the
+/// pass of the task's place.
+///
+/// No task begins before all threads of all sites run. If a thread can't start, or memory is lacking,
+/// no task begins, and all are dropped.
+///
+/// Errors, in order: 1 `NoThread`, if the system could not start a thread; 2 `Memory` (this
+/// project's own).
+pub fn run_sites<R: Threads + Wait + Sync, S: Send + Sync + Drop, T: Task<S, R> + Send + Drop>(
+    rt: &R,
+    alloc: Global,
+    limit: u32,
+    all: Vec<SiteTasks<S, T>>,
+) -> Result<Vec<SiteOutput<T::Output>>, LaunchFault>
+    requires sites { vec_len all ≤ SITES }
+    requires least { 1 ≤ limit }
+    requires most { limit ≤ MOST_STEPS }
+    requires some { All (λ site. 1 ≤ vec_len site.tasks) all.items }
+    requires few { All (λ site. vec_len site.tasks ≤ MOST_PASSES) all.items }
+    ensures number { IfOk result (λ ends. vec_len ends ≡ vec_len all) }
+    ensures ends { IfOk result (λ ends. HaveEnded T.gives limit all.items ends.items) }
+{
+    let start = Start::new(all.len() as u32);
+    let start = &start;
+    thread::scope(
+        thread::scope_env(),
+        rt,
+        move |scope| -> Result<Vec<SiteOutput<T::Output>>, LaunchFault>
+            requires least { 1 ≤ limit }
+            requires most { limit ≤ MOST_STEPS }
+            requires some { All (λ site. 1 ≤ vec_len site.tasks) all.items }
+            requires few { All (λ site. vec_len site.tasks ≤ MOST_PASSES) all.items }
+            ensures number { IfOk result (λ ends. vec_len ends ≡ vec_len all) }
+            ensures ends { IfOk result (λ ends. HaveEnded T.gives limit all.items ends.items) }
+        { run_all(scope, rt, alloc, start, limit, all) },
+    )
+}
