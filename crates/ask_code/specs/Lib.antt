@@ -1,0 +1,4 @@
+pub mod Codes
+pub mod Values
+pub mod Asks
+pub mod Steps

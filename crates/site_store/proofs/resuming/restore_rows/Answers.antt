@@ -1,0 +1,10 @@
+use Rattle.std.proofs.Common.{ℕ, ◌+◌, List, length, sym, ap, ap₂, subst, ◌∙◌}
+use Rattle.stored_steps.specs.Restoring.{IsRestoredSite}
+use Rattle.stored_steps.specs.Stored.{Stored}
+use Rattle.site_store.proofs.resuming.restore_rows.Goals as goal
+
+pub returns-in-Ok-clause-restored : goal.returns-in-Ok-clause-restored
+returns-in-Ok-clause-restored g c clean first rows holds some =
+    let same = c.in_ok-listed.ensures.listed clean first rows holds some in
+    let is = rw c.in-Ok.is at c.restore-restored.ensures.restored in
+    (subst (λ (l : List Stored). IsRestoredSite l c.in-Ok.site) (c.as_slice.ensures.value ∙ same.1) is, ap₂ (λ (m n : ℕ). m + n) same.0 (c.len.ensures ∙ sym c.as_slice.ensures.len ∙ ap length c.as_slice.ensures.value ∙ ap length same.1))

@@ -1,0 +1,48 @@
+use Rattle.std.proofs.Common.{ℕ, ◌+◌, inl, inr, ap, ◌∙◌}
+use Rattle.site_store.proofs.resuming.resume.Goals as goal
+
+-- the rows were read, and no more was done
+pub returns-in_err-site-clause-crash : goal.returns-in_err-site-clause-crash
+returns-in_err-site-clause-crash g c clean first rows holds some db may = inl (c.restore_rows.ensures.crash clean first rows holds db may)
+
+-- the row of the start is there
+pub returns-in-Ok-clause-resumed : goal.returns-in-Ok-clause-resumed
+returns-in-Ok-clause-resumed g c clean first rows holds some =
+    let read = c.add_start.ensures.clean clean in
+    let was = c.in_ok-site.ensures.restored read first rows holds some in
+    let there = c.in_ok-site.ensures.holds read first rows holds in
+    (was.0, ap (λ (n : ℕ). n + 1) was.1, c.in-Ok.ensures.added clean first rows there was.1)
+
+pub returns-in-Ok-clause-durable : goal.returns-in-Ok-clause-durable
+returns-in-Ok-clause-durable g c clean first rows holds some outside =
+    let read = c.add_start.ensures.clean clean in
+    let was = c.in_ok-site.ensures.restored read first rows holds some in
+    let there = c.in_ok-site.ensures.holds read first rows holds in
+    c.in-Ok.ensures.durable clean first rows there was.1 (c.in_ok-site.ensures.mode read first rows holds ∙ outside)
+
+pub returns-in-Ok-clause-crash : goal.returns-in-Ok-clause-crash
+returns-in-Ok-clause-crash g c clean first rows holds some db may =
+    let read = c.add_start.ensures.clean clean in
+    let was = c.in_ok-site.ensures.restored read first rows holds some in
+    let there = c.in_ok-site.ensures.holds read first rows holds in
+    elim (c.add_start.ensures.crash clean first rows there was.1 db may) [
+      | inl p ↦ inl (c.restore_rows.ensures.crash read first rows holds db p)
+      | inr lists ↦ inr lists
+    ]
+
+pub returns-in-Ok-clause-clean : goal.returns-in-Ok-clause-clean
+returns-in-Ok-clause-clean g c clean = c.restore_rows.ensures.clean (c.add_start.ensures.clean clean)
+
+-- or it may be there
+pub returns-in-Err-clause-crash : goal.returns-in-Err-clause-crash
+returns-in-Err-clause-crash g c clean first rows holds some db may =
+    let read = c.add_start.ensures.clean clean in
+    let was = c.in_ok-site.ensures.restored read first rows holds some in
+    let there = c.in_ok-site.ensures.holds read first rows holds in
+    elim (c.add_start.ensures.crash clean first rows there was.1 db may) [
+      | inl p ↦ inl (c.restore_rows.ensures.crash read first rows holds db p)
+      | inr lists ↦ inr lists
+    ]
+
+pub returns-in-Err-clause-clean : goal.returns-in-Err-clause-clean
+returns-in-Err-clause-clean g c clean = c.restore_rows.ensures.clean (c.add_start.ensures.clean clean)

@@ -1,0 +1,83 @@
+-- The table of steps, and what a connection holds.
+use Rattle.std.specs.Prelude.{◌≡◌, ℕ, ◌+◌, List, [], ◌∷◌, ◌++◌, map, codes, Bool, true, false, pos, Some, IsTrue}
+use Rattle.std.specs.List.Sorted.{IsPermutation}
+use Rattle.sqlite.specs.Collation.TheVariants.{Binary}
+use Rattle.sqlite.specs.declared.types.Value.TheVariants.{Null, Int, Blob as Bytes}
+use Rattle.sqlite.specs.Order.{Row, column}
+use Rattle.sqlite.specs.Table.{Table}
+use Rattle.sqlite.specs.Schema.{Schema}
+use Rattle.sqlite_schema.specs.declared.schema.Column.{Column}
+use Rattle.sqlite.specs.Kind.{Kind}
+use Rattle.sqlite.specs.Kind.TheVariants.{Integer, Blob, Text}
+use Rattle.sqlite.specs.Tree.{Trees}
+use Rattle.sqlite.specs.State.{State}
+use Rattle.stored_steps.specs.Stored.{Stored}
+
+-- a column of the table: its name, its kind, and whether it is NOT NULL
+abbrev pub step_column : List ℕ → Kind → Bool → Column
+step_column name kind not_null = record { name = name; kind = kind; is_strict = true; not_null = not_null; default = Null; collation = Binary }
+
+-- CREATE TABLE step (position INTEGER PRIMARY KEY, pass INTEGER NOT NULL, kind INTEGER NOT NULL, body BLOB NOT NULL, words TEXT NOT NULL) STRICT
+abbrev pub step_table : Table
+step_table = record {
+  name = codes "step";
+  tree = 0;
+  columns = step_column (codes "position") Integer false
+      ∷ step_column (codes "pass") Integer true
+      ∷ step_column (codes "kind") Integer true
+      ∷ step_column (codes "body") Blob true
+      ∷ step_column (codes "words") Text true ∷ [];
+  key = Some 0;
+  primary = 0 ∷ [];
+  uniques = [];
+  orders = [];
+  checks = [];
+  references = [];
+  computed = [];
+  stamps = record { places = []; terms = []; formats = [] };
+  is_counted = false;
+}
+
+abbrev pub step_schema : Schema
+step_schema = record { tables = step_table ∷ []; indexes = []; views = [] }
+
+abbrev pub no_schema : Schema
+no_schema = record { tables = []; indexes = []; views = [] }
+
+-- what is read of a row: its position, pass, kind and body
+abbrev pub shown : Row → Row
+shown r = column r 0 ∷ column r 2 ∷ column r 3 ∷ column r 4 ∷ []
+
+-- the row that stands for a step at a position, as it is shown
+abbrev pub step_row : ℕ → Stored → Row
+step_row at s = Int (pos at) ∷ Int (pos s.pass) ∷ Int (pos s.kind) ∷ Bytes s.bytes ∷ []
+
+-- the rows of steps at positions from `at` on
+abbrev pub rows_from : ℕ → List Stored → List Row
+rows_from at [] = []
+rows_from at (s ∷ more) = step_row at s ∷ rows_from (at + 1) more
+
+-- rows are those of these steps, the first of which has this position
+abbrev pub Lists : List Row → ℕ → List Stored → Type 0
+Lists rows at list = IsPermutation (map shown rows) (rows_from at list)
+
+-- a database holds these steps in its one table
+pub record Holds (s : State) (at : ℕ) (list : List Stored) : Type 0 where
+  pub schema : s.now.schema ≡ step_schema
+  pub rows : Lists (s.now.trees 0) at list
+
+-- each outcome of a crash has these steps
+abbrev pub LeavesOnly : State → ℕ → List Stored → Type 0
+LeavesOnly s at list = (db : Trees) → s.may_leave db → Lists (db 0) at list
+
+-- a statement was done within a transaction, which is still open
+pub record IsInside (old new : State) : Type 0 where
+  pub mode : IsTrue new.in_transaction
+  pub is_open : IsTrue new.is_open
+  pub committed : new.committed ≡ old.committed
+
+-- a connection is open, outside a transaction, and what it sees is committed
+pub record IsIdle (s : State) : Type 0 where
+  pub is_open : IsTrue s.is_open
+  pub outside : s.in_transaction ≡ false
+  pub committed : s.committed ≡ s.now

@@ -1,0 +1,113 @@
+ghost use Rattle.std.specs.Prelude.{◌≡◌, IfOk, IfSome, OnOk, map};
+ghost use Rattle.std.specs.List.Sorted.{IsPermutation};
+ghost use Rattle.sqlite.specs.Held.{state};
+ghost use Rattle.sqlite.specs.State.{HasCleanDisk, IsUnchanged};
+ghost use Rattle.sqlite.specs.Tree.{Trees};
+ghost use Rattle.site_store.specs.Steps.{Lists, rows_from, shown, step_row, step_schema};
+
+use dots::Bytes;
+use sqlite::{Alter, Connection, Error, Row};
+use std::alloc::Global;
+use stored_steps::StoredRow;
+
+/// The rows of a store, and the position of the first.
+#[derive(Drop)]
+pub struct Listed {
+    /// The position of the first row, 0 where there is none.
+    pub first: u64,
+    /// The rows in their order, without their words.
+    pub steps: Vec<StoredRow>,
+}
+
+// The row of a store that a row of an answer shows, if it is one at this position.
+fn kept_at(alloc: Global, row: &Row, at: u64) -> Result<Option<StoredRow>, Error>
+    ensures { IfOk result (λ found. IfSome found (λ kept. row.now ≡ step_row at kept)) }
+{
+    if row.column_count() != 4 {
+        return Ok(None);
+    }
+    let position: u64 = row.get(0)?;
+    let pass: u32 = row.get(1)?;
+    let kind: u32 = row.get(2)?;
+    let body: Vec<u8> = row.get(3)?;
+    if position != at {
+        return Ok(None);
+    }
+    let words = String::new(alloc);
+    Ok(Some(StoredRow::new(pass, kind, Bytes::new(body), words)))
+}
+
+// The rows of a store that rows of an answer show, if they stand at positions from `first` on.
+fn kept_from(alloc: Global, rows: &[Row], first: u64) -> Result<Option<Vec<StoredRow>>, Error>
+    ensures { IfOk result (λ found. IfSome found
+        (λ steps. rows.now ≡ rows_from first steps.items)) }
+{
+    let mut steps = Vec::new(alloc);
+    let mut at = first;
+    for row in rows {
+        if at == u64::MAX {
+            return Ok(None);
+        }
+        let Some(kept) = kept_at(alloc, row, at)? else {
+            return Ok(None);
+        };
+        steps.push(kept)?;
+        at += 1;
+    }
+    Ok(Some(steps))
+}
+
+// The position that the first of rows shows.
+fn first_of(rows: &[Row]) -> Result<u64, Error> {
+    match rows.first() {
+        Some(row) => row.get(0),
+        None => Ok(0),
+    }
+}
+
+// All rows of the table of steps, as they are shown.
+fn query_rows<S: Alter>(conn: &mut Connection<S>) -> Result<Vec<Row>, Error>
+    ensures listed { HasCleanDisk (state S.Store conn.new)
+        → (state S.Store conn.old).now.schema ≡ step_schema
+        → IfOk result (λ rows.
+        IsPermutation (map shown ((state S.Store conn.old).now.trees 0)) rows.items) }
+    ensures same { HasCleanDisk (state S.Store conn.new)
+        → (state S.Store conn.old).now.schema ≡ step_schema
+        → OnOk result (IsUnchanged (state S.Store conn.old) (state S.Store conn.new)) }
+    ensures crash { HasCleanDisk (state S.Store conn.new)
+        → (state S.Store conn.old).now.schema ≡ step_schema
+        → (db : Trees) → (state S.Store conn.new).may_leave db
+        → (state S.Store conn.old).may_leave db }
+    ensures clean { HasCleanDisk (state S.Store conn.new) → HasCleanDisk (state S.Store conn.old) }
+{
+    let rows = conn.query_all(
+        "SELECT position, pass, kind, body FROM step ORDER BY position",
+        &[],
+    )?;
+    Ok(rows)
+}
+
+/// All rows that a database with the table of steps holds, in the order of their positions. `None` where a position is missing between two
+/// rows. Fails with the database's error.
+pub fn read_all<S: Alter>(alloc: Global, conn: &mut Connection<S>) -> Result<Option<Listed>, Error>
+    ensures listed { HasCleanDisk (state S.Store conn.new)
+        → (state S.Store conn.old).now.schema ≡ step_schema
+        → IfOk result (λ found. IfSome found
+        (λ it. Lists ((state S.Store conn.old).now.trees 0) it.first it.steps.items)) }
+    ensures same { HasCleanDisk (state S.Store conn.new)
+        → (state S.Store conn.old).now.schema ≡ step_schema
+        → OnOk result (IsUnchanged (state S.Store conn.old) (state S.Store conn.new)) }
+    // A read commits nothing.
+    ensures crash { HasCleanDisk (state S.Store conn.new)
+        → (state S.Store conn.old).now.schema ≡ step_schema
+        → (db : Trees) → (state S.Store conn.new).may_leave db
+        → (state S.Store conn.old).may_leave db }
+    ensures clean { HasCleanDisk (state S.Store conn.new) → HasCleanDisk (state S.Store conn.old) }
+{
+    let rows = query_rows(conn)?;
+    let first = first_of(rows.as_slice())?;
+    match kept_from(alloc, rows.as_slice(), first)? {
+        Some(steps) => Ok(Some(Listed { first, steps })),
+        None => Ok(None),
+    }
+}

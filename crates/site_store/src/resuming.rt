@@ -1,0 +1,185 @@
+//! A site that goes on over its store.
+ghost use Rattle.std.specs.Prelude.{◌≡◌, ◌≢◌, ◌⊎◌, ◌≤◌, ◌<◌, ◌^◌, ◌+◌, ◌++◌, ◌∷◌, [], ℕ, List, false, length, IfOk, IsTrue, OnOk};
+ghost use Rattle.sqlite.specs.Held.{state};
+ghost use Rattle.sqlite.specs.State.{HasCleanDisk};
+ghost use Rattle.sqlite.specs.Tree.{Trees};
+ghost use Rattle.site_journal.specs.declared.journaled.TheConstants.{MOST_STEPS};
+ghost use Rattle.stored_steps.specs.Restoring.{IsRestoredSite};
+ghost use Rattle.stored_steps.specs.StartRows.{start_row};
+ghost use Rattle.stored_steps.specs.Stored.{Stored};
+ghost use Rattle.site_store.specs.Steps.{Holds, LeavesOnly, Lists};
+
+use crate::OpenFault;
+use crate::open_fault::open_fault;
+use crate::reading::{Listed, read_all};
+use crate::writing::append;
+use dots::SiteId;
+use replica::QueueList;
+use site_journal::MOST_STEPS;
+use sqlite::{Alter, Connection};
+use std::alloc::Global;
+use stored_steps::{RestoredSite, StoreFault, StoredRow, restore};
+
+// The positions of a store are below this one.
+const MOST_POSITION: u64 = 1 << 63;
+
+// Why rows make no site, as the fault of an open.
+fn site_fault(fault: StoreFault) -> OpenFault {
+    match fault {
+        StoreFault::Memory => OpenFault::Memory,
+        fault => OpenFault::Site(fault),
+    }
+}
+
+// The rows of a store, if they are positions below `MOST_POSITION`.
+fn listed_rows<S: Alter>(alloc: Global, conn: &mut Connection<S>) -> Result<Listed, OpenFault>
+    ensures listed { HasCleanDisk (state S.Store conn.new) → (first : ℕ) (rows : List Stored)
+        → Holds (state S.Store conn.old) first rows → rows ≢ []
+        → IfOk result (λ it. (it.first ≡ first) × (it.steps.items ≡ rows)) }
+    ensures holds { HasCleanDisk (state S.Store conn.new) → (first : ℕ) (rows : List Stored)
+        → Holds (state S.Store conn.old) first rows
+        → OnOk result (Holds (state S.Store conn.new) first rows) }
+    ensures mode { HasCleanDisk (state S.Store conn.new) → (first : ℕ) (rows : List Stored)
+        → Holds (state S.Store conn.old) first rows
+        → OnOk result ((state S.Store conn.new).in_transaction
+        ≡ (state S.Store conn.old).in_transaction) }
+    ensures crash { HasCleanDisk (state S.Store conn.new) → (first : ℕ) (rows : List Stored)
+        → Holds (state S.Store conn.old) first rows
+        → (db : Trees) → (state S.Store conn.new).may_leave db
+        → (state S.Store conn.old).may_leave db }
+    ensures fits { IfOk result (λ it. it.first + length it.steps.items < MOST_POSITION) }
+    ensures clean { HasCleanDisk (state S.Store conn.new) → HasCleanDisk (state S.Store conn.old) }
+{
+    let found = match read_all(alloc, conn) {
+        Ok(found) => found,
+        Err(error) => return Err(open_fault(error)),
+    };
+    let Some(listed) = found else {
+        return Err(OpenFault::Gap);
+    };
+    let len = listed.steps.len() as u64;
+    if listed.first >= MOST_POSITION || len >= MOST_POSITION - listed.first {
+        drop(listed);
+        return Err(OpenFault::Gap);
+    }
+    Ok(listed)
+}
+
+// The site that the rows of a store make, and the position of the next row.
+fn restore_rows<S: Alter>(
+    alloc: Global,
+    conn: &mut Connection<S>,
+    site: SiteId,
+    list: &QueueList,
+    limit: u32,
+) -> Result<(RestoredSite, u64), OpenFault>
+    requires some { 1 ≤ limit }
+    requires most { limit ≤ MOST_STEPS }
+    ensures restored { HasCleanDisk (state S.Store conn.new) → (first : ℕ) (rows : List Stored)
+        → Holds (state S.Store conn.old) first rows → rows ≢ []
+        → IfOk result (λ it. IsRestoredSite rows it.0 × (it.1 ≡ first + length rows)) }
+    ensures holds { HasCleanDisk (state S.Store conn.new) → (first : ℕ) (rows : List Stored)
+        → Holds (state S.Store conn.old) first rows
+        → OnOk result (Holds (state S.Store conn.new) first rows) }
+    ensures mode { HasCleanDisk (state S.Store conn.new) → (first : ℕ) (rows : List Stored)
+        → Holds (state S.Store conn.old) first rows
+        → OnOk result ((state S.Store conn.new).in_transaction
+        ≡ (state S.Store conn.old).in_transaction) }
+    ensures crash { HasCleanDisk (state S.Store conn.new) → (first : ℕ) (rows : List Stored)
+        → Holds (state S.Store conn.old) first rows
+        → (db : Trees) → (state S.Store conn.new).may_leave db
+        → (state S.Store conn.old).may_leave db }
+    ensures fits { IfOk result (λ it. it.1 < MOST_POSITION) }
+    ensures clean { HasCleanDisk (state S.Store conn.new) → HasCleanDisk (state S.Store conn.old) }
+{
+    let listed = listed_rows(alloc, conn)?;
+    let next = listed.first + listed.steps.len() as u64;
+    let restored = restore(
+        alloc,
+        site,
+        list,
+        limit,
+        listed.first,
+        listed.steps.as_slice(),
+    );
+    drop(listed);
+    match restored {
+        Ok(site) => Ok((site, next)),
+        Err(fault) => Err(site_fault(fault)),
+    }
+}
+
+// Adds the row of a start at this position, in a commit of its own.
+fn add_start<S: Alter>(alloc: Global, conn: &mut Connection<S>, at: u64) -> Result<(), OpenFault>
+    requires fits { at < MOST_POSITION }
+    ensures added { HasCleanDisk (state S.Store conn.new) → (first : ℕ) (rows : List Stored)
+        → Holds (state S.Store conn.old) first rows → at ≡ first + length rows
+        → OnOk result (Holds (state S.Store conn.new) first (rows ++ start_row ∷ [])) }
+    ensures durable { HasCleanDisk (state S.Store conn.new) → (first : ℕ) (rows : List Stored)
+        → Holds (state S.Store conn.old) first rows → at ≡ first + length rows
+        → (state S.Store conn.old).in_transaction ≡ false
+        → OnOk result (LeavesOnly (state S.Store conn.new) first (rows ++ start_row ∷ [])) }
+    ensures crash { HasCleanDisk (state S.Store conn.new) → (first : ℕ) (rows : List Stored)
+        → Holds (state S.Store conn.old) first rows → at ≡ first + length rows
+        → (db : Trees) → (state S.Store conn.new).may_leave db
+        → (state S.Store conn.old).may_leave db ⊎ Lists (db 0) first (rows ++ start_row ∷ []) }
+    ensures clean { HasCleanDisk (state S.Store conn.new) → HasCleanDisk (state S.Store conn.old) }
+{
+    let Ok(row) = StoredRow::of_start(alloc) else {
+        return Err(OpenFault::Memory);
+    };
+    let added = append(conn, at, &row);
+    drop(row);
+    match added {
+        Ok(_) => Ok(()),
+        Err(error) => Err(open_fault(error)),
+    }
+}
+
+/// A site that goes on over its store.
+#[derive(Drop)]
+pub struct ResumedSite {
+    /// The site, its store's name, and how often it was started before.
+    pub site: RestoredSite,
+    /// The position of the next row.
+    pub next: u64,
+}
+
+/// Builds a site again of the rows of its store, and adds the row of this start in a commit of its own. Its journal may have `limit` steps,
+/// 1 to 1,000,000.
+///
+/// Errors, in order: those of the database; `Gap`, if a position is missing; `Site`, with the fault of `restore`; and those of the database
+/// again, where the row of the start is added.
+pub fn resume<S: Alter>(
+    alloc: Global,
+    conn: &mut Connection<S>,
+    site: SiteId,
+    list: &QueueList,
+    limit: u32,
+) -> Result<ResumedSite, OpenFault>
+    requires some { 1 ≤ limit }
+    requires most { limit ≤ MOST_STEPS }
+    ensures resumed { HasCleanDisk (state S.Store conn.new) → (first : ℕ) (rows : List Stored)
+        → Holds (state S.Store conn.old) first rows → rows ≢ []
+        → IfOk result (λ it. IsRestoredSite rows it.site × (it.next ≡ first + length rows + 1)
+        × Holds (state S.Store conn.new) first (rows ++ start_row ∷ [])) }
+    // Outside a transaction the start is committed.
+    ensures durable { HasCleanDisk (state S.Store conn.new) → (first : ℕ) (rows : List Stored)
+        → Holds (state S.Store conn.old) first rows → rows ≢ []
+        → (state S.Store conn.old).in_transaction ≡ false
+        → OnOk result (LeavesOnly (state S.Store conn.new) first (rows ++ start_row ∷ [])) }
+    ensures crash { HasCleanDisk (state S.Store conn.new) → (first : ℕ) (rows : List Stored)
+        → Holds (state S.Store conn.old) first rows → rows ≢ []
+        → (db : Trees) → (state S.Store conn.new).may_leave db
+        → (state S.Store conn.old).may_leave db ⊎ Lists (db 0) first (rows ++ start_row ∷ []) }
+    ensures clean { HasCleanDisk (state S.Store conn.new) → HasCleanDisk (state S.Store conn.old) }
+{
+    let (site, at) = restore_rows(alloc, conn, site, list, limit)?;
+    match add_start(alloc, conn, at) {
+        Ok(()) => Ok(ResumedSite { site, next: at + 1 }),
+        Err(fault) => {
+            drop(site);
+            Err(fault)
+        }
+    }
+}

@@ -1,0 +1,40 @@
+use Rattle.std.proofs.Common.{◌≡◌, ◌∙◌, List, false, true≢false, sym, ap, subst}
+use Rattle.replica.specs.Site.{IsSameSite, SiteState}
+use Rattle.site_journal.specs.Legal.{LeadAll}
+use Rattle.site_journal.specs.declared.step.Step.{Step}
+use Rattle.stored_desk.proofs.Recording.{lead_from}
+use Rattle.stored_desk.proofs.vault.Vault.put_base.Goals as goal
+
+pub invariant_of-self : goal.invariant_of-self
+invariant_of-self g c =
+    let list : c.self.inside.prefix ≡ c.args.self.now.list = ap (λ v. v.list) c.self.view_is in
+    let well : c.self.inside.is_broken ≡ false = ap (λ v. v.broken) c.self.view_is ∙ c.requires.well in
+    let i = c.self.invariant in
+    let lead = lead_from (g.S.StepStore.begun c.self.inside.store) g.L.SiteLedger.base c.args.site c.self.inside.prefix i.4 (subst (λ (l : List Step). LeadAll g.L.SiteLedger.base l c.args.site) (sym list) c.requires.lead) in
+    let both = c.in-Ok.ensures.replaced c.self.inside.prefix (i.3 well) i.2 lead in
+    (i.0, i.1, both.1, (λ _. both.0), subst (λ (s : SiteState). IsSameSite s g.L.SiteLedger.base) (sym c.in-Ok.ensures.begun) i.4)
+
+pub invariant_of-self-in-Err : goal.invariant_of-self-in-Err
+invariant_of-self-in-Err g c =
+    let list : c.self.inside.prefix ≡ c.args.self.now.list = ap (λ v. v.list) c.self.view_is in
+    let well : c.self.inside.is_broken ≡ false = ap (λ v. v.broken) c.self.view_is ∙ c.requires.well in
+    let i = c.self.invariant in
+    let lead = lead_from (g.S.StepStore.begun c.self.inside.store) g.L.SiteLedger.base c.args.site c.self.inside.prefix i.4 (subst (λ (l : List Step). LeadAll g.L.SiteLedger.base l c.args.site) (sym list) c.requires.lead) in
+    (i.0, i.1, c.in-Err.ensures.kept c.self.inside.prefix (i.3 well) i.2 lead, (λ e. absurd (true≢false e)), subst (λ (s : SiteState). IsSameSite s g.L.SiteLedger.base) (sym c.in-Err.ensures.begun) i.4)
+
+pub returns-in-Ok-clause-keeps : goal.returns-in-Ok-clause-keeps
+returns-in-Ok-clause-keeps g c =
+    let list : c.self.inside.prefix ≡ c.args.self.now.list = ap (λ v. v.list) c.self.view_is in
+    let well : c.self.inside.is_broken ≡ false = ap (λ v. v.broken) c.self.view_is ∙ c.requires.well in
+    let i = c.self.invariant in
+    let lead = lead_from (g.S.StepStore.begun c.self.inside.store) g.L.SiteLedger.base c.args.site c.self.inside.prefix i.4 (subst (λ (l : List Step). LeadAll g.L.SiteLedger.base l c.args.site) (sym list) c.requires.lead) in
+    let both = c.in-Ok.ensures.replaced c.self.inside.prefix (i.3 well) i.2 lead in
+    both.1
+
+pub returns-in-Err-clause-keeps : goal.returns-in-Err-clause-keeps
+returns-in-Err-clause-keeps g c =
+    let list : c.self.inside.prefix ≡ c.args.self.now.list = ap (λ v. v.list) c.self.view_is in
+    let well : c.self.inside.is_broken ≡ false = ap (λ v. v.broken) c.self.view_is ∙ c.requires.well in
+    let i = c.self.invariant in
+    let lead = lead_from (g.S.StepStore.begun c.self.inside.store) g.L.SiteLedger.base c.args.site c.self.inside.prefix i.4 (subst (λ (l : List Step). LeadAll g.L.SiteLedger.base l c.args.site) (sym list) c.requires.lead) in
+    c.in-Err.ensures.kept c.self.inside.prefix (i.3 well) i.2 lead

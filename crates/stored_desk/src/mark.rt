@@ -1,0 +1,243 @@
+//! How many steps of a site are saved: a number in a cell, which one keeper raises. Whoever has a claim knows that the number is at least
+//! that of the claim.
+ghost use Rattle.std.specs.Prelude.{◌≡◌, ◌≤◌, ◌∷◌, []};
+ghost use Rattle.crossbeam_utils.specs.Seq.{cell_view};
+ghost use Rattle.stored_desk.specs.Marks.{keeper_at};
+
+use crate::StoredLedger;
+use atomic_table::{Join, Split};
+use crossbeam_utils::atomic::seq_cell::{Pass, RuledSeqCell};
+use crossbeam_utils::rule::{Outcome, Protocol};
+use dots::Memory;
+use std::alloc::Global;
+use std::marker::{Model, PhantomData};
+use std::sync::Wait;
+
+// What a pass of the cell knows: whether it is the keeper's, the mark that the keeper knows, and the least that it claims. No value of it
+// is made.
+pub(crate) struct MarkView {
+    pub keeps: bool,
+    pub saved: u64,
+    pub least: u64,
+}
+
+// The rule of a mark.
+pub(crate) struct MarkRule;
+
+impl Protocol<[u64; 1], MarkView> for MarkRule {
+    ghost use Rattle.stored_desk.specs.Marks.{IsMarked, keeper_at};
+
+    ghost holds = { IsMarked };
+
+    ghost first = { keeper_at 0 };
+}
+
+// The keeper sets the mark.
+pub(crate) struct Raise;
+
+impl Outcome<[u64; 1], MarkView> for Raise {
+    ghost use Rattle.stored_desk.specs.Marks.{Raised};
+
+    ghost then = { Raised };
+}
+
+// The keeper compares a claim with the mark.
+pub(crate) struct Compare;
+
+impl Outcome<[u64; 1], MarkView> for Compare {
+    ghost use Rattle.stored_desk.specs.Marks.{Compared};
+
+    ghost then = { Compared };
+}
+
+// The keeper gives a claim of all that is saved.
+pub(crate) struct ClaimOfKeeper;
+
+impl Split<MarkView> for ClaimOfKeeper {
+    ghost use Rattle.stored_desk.specs.Marks.{claim_of};
+
+    ghost left = { λ v. v };
+
+    ghost right = { λ v. claim_of v.saved };
+}
+
+// A claim gives another of the same number.
+pub(crate) struct ClaimOfClaim;
+
+impl Split<MarkView> for ClaimOfClaim {
+    ghost use Rattle.stored_desk.specs.Marks.{claim_of};
+
+    ghost left = { λ v. v };
+
+    ghost right = { λ v. claim_of v.least };
+}
+
+// The keeper takes in a claim, to compare it.
+pub(crate) struct TakeIn;
+
+impl Join<MarkView> for TakeIn {
+    ghost use Rattle.stored_desk.specs.Marks.{beside, claim_of};
+
+    ghost both = { beside };
+
+    ghost spent = { claim_of 0 };
+}
+
+type MarkCell = RuledSeqCell<[u64; 1], MarkView, MarkRule, 1>;
+
+type MarkPass = Pass<[u64; 1], MarkView>;
+
+/// A mark at 0, which no ledger names yet. Contracts see which mark it is (this project's own).
+#[derive(Drop)]
+pub struct NewMark {
+    cell: MarkCell,
+    pass: MarkPass,
+}
+
+impl Model for NewMark {
+    ghost use Rattle.std.specs.Prelude.{◌≡◌};
+    ghost use Rattle.atomic_table.specs.Seated.{TableId};
+    ghost use Rattle.crossbeam_utils.specs.Seq.{cell_view};
+    ghost use Rattle.stored_desk.specs.Marks.{keeper_at};
+
+    ghost Value = { TableId };
+
+    ghost view = { λ m. m.cell.table.shared.table_id };
+
+    ghost invariant = { λ m. (m.pass.table_id ≡ m.cell.table.shared.table_id)
+        × (cell_view m.pass ≡ keeper_at 0) };
+}
+
+impl NewMark {
+    /// A new mark. Fails only when out of memory.
+    pub fn new(alloc: Global) -> Result<NewMark, Memory> {
+        match MarkCell::ruled(alloc, [0]) {
+            Ok((cell, pass)) => Ok(NewMark { cell, pass }),
+            Err(_) => Err(Memory),
+        }
+    }
+
+    // The mark and its keeper, under the ledger's name.
+    pub(crate) fn named<L: StoredLedger>(self) -> (Mark<L>, Keeper<L>)
+        requires { self ≡ L.mark }
+        ensures { result.1 ≡ 0 }
+    {
+        let NewMark { cell, pass } = self;
+        (
+            Mark {
+                cell,
+                of: PhantomData,
+            },
+            Keeper {
+                pass,
+                of: PhantomData,
+            },
+        )
+    }
+}
+
+// The right to raise the mark. It is seen as the number that the mark has.
+#[derive(Drop)]
+pub(crate) struct Keeper<L: StoredLedger> {
+    pass: MarkPass,
+    of: PhantomData<L>,
+}
+
+impl<L: StoredLedger> Model for Keeper<L> {
+    ghost use Rattle.std.specs.Prelude.{◌≡◌, ℕ};
+    ghost use Rattle.crossbeam_utils.specs.Seq.{cell_view};
+    ghost use Rattle.stored_desk.specs.Marks.{keeper_at};
+
+    ghost Value = { ℕ };
+
+    ghost view = { λ k. (cell_view k.pass).saved };
+
+    ghost invariant = { λ k. (k.pass.table_id ≡ L.mark)
+        × (cell_view k.pass ≡ keeper_at (cell_view k.pass).saved) };
+}
+
+// That at least a number of steps is saved, of which others get claims. It is seen as that number.
+#[derive(Drop)]
+pub(crate) struct SharedClaim<L: StoredLedger> {
+    pass: MarkPass,
+    of: PhantomData<L>,
+}
+
+impl<L: StoredLedger> Model for SharedClaim<L> {
+    ghost use Rattle.std.specs.Prelude.{◌≡◌, ℕ};
+    ghost use Rattle.crossbeam_utils.specs.Seq.{cell_view};
+
+    ghost Value = { ℕ };
+
+    ghost view = { λ c. (cell_view c.pass).least };
+
+    ghost invariant = { λ c. c.pass.table_id ≡ L.mark };
+}
+
+// That at least a number of steps is saved. It is seen as that number.
+#[derive(Drop)]
+pub(crate) struct Claim<L: StoredLedger> {
+    pass: MarkPass,
+    of: PhantomData<L>,
+}
+
+impl<L: StoredLedger> Model for Claim<L> {
+    ghost use Rattle.std.specs.Prelude.{◌≡◌, ℕ, []};
+    ghost use Rattle.crossbeam_utils.specs.Seq.{cell_view};
+
+    ghost Value = { ℕ };
+
+    ghost view = { λ c. (cell_view c.pass).least };
+
+    ghost invariant = { λ c. (c.pass.table_id ≡ L.mark) × (c.pass.me.1 ≡ []) };
+}
+
+// The cell of the mark.
+#[derive(Drop)]
+pub(crate) struct Mark<L: StoredLedger> {
+    cell: MarkCell,
+    of: PhantomData<L>,
+    ghost named: { cell.table.shared.table_id ≡ L.mark },
+}
+
+impl<L: StoredLedger> Mark<L> {
+    // Raises the mark.
+    pub fn raise<R: Wait>(&self, rt: &R, keeper: &mut Keeper<L>, saved: u64)
+        requires { keeper.old ≤ saved }
+        ensures { keeper.new ≡ saved }
+    {
+        self.cell.swap_as::<Raise, R>(rt, &mut keeper.pass, [saved]);
+    }
+
+    // A claim of all that is saved.
+    pub fn share(&self, keeper: &mut Keeper<L>) -> SharedClaim<L>
+        ensures claim { result ≡ keeper.old }
+        ensures same { keeper.new ≡ keeper.old }
+    {
+        SharedClaim {
+            pass: self.cell.split_pass::<ClaimOfKeeper>(&mut keeper.pass),
+            of: PhantomData,
+        }
+    }
+
+    // A claim of the same number.
+    pub fn claim(&self, shared: &mut SharedClaim<L>) -> Claim<L>
+        ensures claim { result ≡ shared.old }
+        ensures same { shared.new ≡ shared.old }
+    {
+        Claim {
+            pass: self.cell.split_pass::<ClaimOfClaim>(&mut shared.pass),
+            of: PhantomData,
+        }
+    }
+
+    // What is claimed is saved.
+    pub fn confirm<R: Wait>(&self, rt: &R, keeper: &mut Keeper<L>, claim: Claim<L>)
+        ensures same { keeper.new ≡ keeper.old }
+        ensures saved { claim ≤ keeper.old }
+    {
+        let Claim { pass, .. } = claim;
+        self.cell.join_pass::<TakeIn>(&mut keeper.pass, pass);
+        self.cell.load_as::<Compare, R>(rt, &mut keeper.pass);
+    }
+}

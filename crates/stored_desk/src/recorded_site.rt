@@ -1,0 +1,319 @@
+//! What lies under the lock of a site with a store.
+ghost use Rattle.std.specs.Prelude.{◌≡◌, ◌⊎◌, ◌++◌, ◌∷◌, [], IfErr, IfOk, OnErr, OnOk, false};
+ghost use Rattle.std.specs.Prelude.{true};
+ghost use Rattle.delta_codec.specs.Decoding.{HasOpening};
+ghost use Rattle.site_journal.specs.Journals.{HasAdded, HasDropped, IsRefusedFor};
+ghost use Rattle.site_journal.specs.Journals.{RefusesTake};
+ghost use Rattle.site_journal.specs.Legal.{LeadAll};
+ghost use Rattle.site_journal.specs.Receipts.{IsOfCut, IsOfTake, IsOfWhole};
+ghost use Rattle.site_desk.specs.Deeds.{IsLegalReceipt, IsRefusedFrom};
+ghost use Rattle.site_desk.specs.Passes.{HasDone, IsRewound, step_of};
+ghost use Rattle.stored_desk.specs.Failing.{Fails, IsAnsweredAt};
+ghost use Rattle.stored_desk.specs.Recorded.{IsGroupOfRest, IsLegalHistory, IsRecorded};
+
+use crate::done::{Done, record, record_take};
+use crate::history::{HistoryPrefix, HistoryWriter};
+use crate::{StepStore, StoredLedger};
+use dots::Memory;
+use replica::Replica;
+use site_desk::{GuardedJournal, Pass};
+use site_journal::{DecodeFault, DecodedFrame, DeskFault, TakeFault};
+use status_report::Ask;
+use std::marker::Model;
+
+// A site's journal, and the history of its steps. It is seen as both.
+#[derive(Drop)]
+pub(crate) struct RecordedSite<L: StoredLedger> {
+    journal: GuardedJournal<L>,
+    prefix: HistoryPrefix<L>,
+    writer: HistoryWriter<L>,
+    // Whether a step isn't in the history. Nothing is saved from then on.
+    is_lost: bool,
+}
+
+impl<L: StoredLedger> Model for RecordedSite<L> {
+    ghost use Rattle.std.specs.Prelude.{◌≡◌, false};
+    ghost use Rattle.stored_desk.specs.Recorded.{IsRecorded, RecordedState, recorded_code};
+
+    ghost Value = { RecordedState };
+
+    ghost coded = { recorded_code };
+
+    ghost view = { λ s. record { journal = s.journal; history = s.prefix; lost = s.is_lost } };
+
+    ghost invariant = { λ s. s.is_lost ≡ false → IsRecorded L.base s.prefix s.journal };
+}
+
+impl<L: StoredLedger> RecordedSite<L> {
+    // A site that has done no step, with its history.
+    pub fn new(
+        journal: GuardedJournal<L>,
+        writer: HistoryWriter<L>,
+        prefix: HistoryPrefix<L>,
+    ) -> RecordedSite<L>
+        requires recorded { IsRecorded L.base prefix journal }
+        ensures history { result.history ≡ prefix }
+        ensures journal { result.journal ≡ journal }
+    {
+        RecordedSite {
+            journal,
+            prefix,
+            writer,
+            is_lost: false,
+        }
+    }
+
+    // The journal.
+    pub fn into_journal(self) -> GuardedJournal<L>
+        ensures { result ≡ self.journal }
+    {
+        let RecordedSite { journal, .. } = self;
+        journal
+    }
+
+    // How many steps were done.
+    pub fn len(&self) -> u64
+        ensures { result ≡ self.now.journal.count }
+    {
+        self.journal.journal().len()
+    }
+
+    // How many bytes the journal's steps keep beside themselves.
+    pub fn payload_bytes(&self) -> u64 {
+        self.journal.journal().payload_bytes()
+    }
+
+    // The fault of a call that fails with `fault` wherever the journal lets it begin.
+    pub fn first_fault(&self, pass: &Pass<L>, fault: DeskFault) -> DeskFault
+        ensures { IsRewound pass.now result
+            ⊎ ((result ≡ DeskFault.JournalFull) ⊎ (result ≡ fault)) }
+    {
+        self.journal.first_fault(pass, fault)
+    }
+
+    // Asks the site. `copy` is a copy of the ask for the receipt, if there was memory for it. Faults, in order: those of the journal;
+    // `Unsaved`, where the step or one before it isn't in the history.
+    pub fn call(
+        &mut self,
+        pass: &mut Pass<L>,
+        asked: &Ask,
+        copy: Result<Ask, Memory>,
+    ) -> Result<Done<L>, DeskFault>
+        requires { IfOk copy (λ copied. copied ≡ asked.now) }
+        ensures done { IfOk result (λ done. HasDone pass.old done pass.new) }
+        ensures added { IfOk result (λ done.
+            HasAdded self.old.journal (step_of done) self.new.journal) }
+        ensures history { IfOk result (λ done.
+            self.new.history ≡ self.old.history ++ step_of done ∷ []) }
+        ensures answer { IfOk result (λ done. IsAnsweredAt L.base asked.now done) }
+        ensures legal { IfOk result (λ done. IsLegalReceipt L.base done) }
+        ensures fails { IfErr result (λ fault. Fails L.base pass.old fault pass.new) }
+        ensures only { IfErr result (λ fault. IsRewound pass.old fault
+            ⊎ ((fault ≡ DeskFault.JournalFull)
+            ⊎ ((fault ≡ DeskFault.Memory) ⊎ (fault ≡ DeskFault.Unsaved)))) }
+    {
+        if self.is_lost {
+            drop(copy);
+            return Err(DeskFault::Unsaved);
+        }
+        let RecordedSite {
+            journal,
+            prefix,
+            writer,
+            is_lost,
+        } = self;
+        let receipt = journal.call(pass, asked, copy)?;
+        record(prefix, writer, is_lost, receipt)
+    }
+
+    // Puts the site's buffer into its next frame, if there is something in it. Faults as of a call.
+    pub fn cut(&mut self, pass: &mut Pass<L>) -> Result<Done<L>, DeskFault>
+        ensures done { IfOk result (λ done. HasDone pass.old done pass.new) }
+        ensures added { IfOk result (λ done.
+            HasAdded self.old.journal (step_of done) self.new.journal) }
+        ensures history { IfOk result (λ done.
+            self.new.history ≡ self.old.history ++ step_of done ∷ []) }
+        ensures cut { IfOk result (λ done. IsOfCut done) }
+        ensures legal { IfOk result (λ done. IsLegalReceipt L.base done) }
+        ensures fails { IfErr result (λ fault. Fails L.base pass.old fault pass.new) }
+        ensures only { IfErr result (λ fault. IsRewound pass.old fault
+            ⊎ ((fault ≡ DeskFault.JournalFull) ⊎ ((fault ≡ DeskFault.Exhausted)
+            ⊎ ((fault ≡ DeskFault.Memory) ⊎ (fault ≡ DeskFault.Unsaved))))) }
+    {
+        if self.is_lost {
+            return Err(DeskFault::Unsaved);
+        }
+        let RecordedSite {
+            journal,
+            prefix,
+            writer,
+            is_lost,
+        } = self;
+        let receipt = journal.cut(pass)?;
+        record(prefix, writer, is_lost, receipt)
+    }
+
+    // Puts all that the site knows into its next frame. Faults as of a call.
+    pub fn whole(&mut self, pass: &mut Pass<L>) -> Result<Done<L>, DeskFault>
+        ensures done { IfOk result (λ done. HasDone pass.old done pass.new) }
+        ensures added { IfOk result (λ done.
+            HasAdded self.old.journal (step_of done) self.new.journal) }
+        ensures history { IfOk result (λ done.
+            self.new.history ≡ self.old.history ++ step_of done ∷ []) }
+        ensures whole { IfOk result (λ done. IsOfWhole done) }
+        ensures legal { IfOk result (λ done. IsLegalReceipt L.base done) }
+        ensures fails { IfErr result (λ fault. Fails L.base pass.old fault pass.new) }
+        ensures only { IfErr result (λ fault. IsRewound pass.old fault
+            ⊎ ((fault ≡ DeskFault.JournalFull) ⊎ ((fault ≡ DeskFault.Exhausted)
+            ⊎ ((fault ≡ DeskFault.Memory) ⊎ (fault ≡ DeskFault.Unsaved))))) }
+    {
+        if self.is_lost {
+            return Err(DeskFault::Unsaved);
+        }
+        let RecordedSite {
+            journal,
+            prefix,
+            writer,
+            is_lost,
+        } = self;
+        let receipt = journal.whole(pass)?;
+        record(prefix, writer, is_lost, receipt)
+    }
+
+    // Lets the site take a decoded frame. Its bytes come back where it doesn't. Faults as of a call.
+    pub fn take(
+        &mut self,
+        pass: &mut Pass<L>,
+        decoded: DecodedFrame,
+    ) -> Result<Done<L>, (DeskFault, Vec<u8>)>
+        ensures done { IfOk result (λ done. HasDone pass.old done pass.new) }
+        ensures added { IfOk result (λ done.
+            HasAdded self.old.journal (step_of done) self.new.journal) }
+        ensures history { IfOk result (λ done.
+            self.new.history ≡ self.old.history ++ step_of done ∷ []) }
+        ensures took { IfOk result (λ done. IsOfTake decoded done) }
+        ensures legal { IfOk result (λ done. IsLegalReceipt L.base done) }
+        ensures no_decode { (fault : DecodeFault)
+            → IsRefusedFor result (DeskFault.Decode fault) → ⊥ }
+        ensures refused { (fault : TakeFault) → IsRefusedFor result (DeskFault.Take fault)
+            → IsRefusedFrom L.base pass.old.seen decoded fault }
+        ensures memory { IsRefusedFor result DeskFault.Memory → HasOpening decoded }
+        ensures fails { IfErr result (λ refused. Fails L.base pass.old refused.0 pass.new) }
+        ensures only { IfErr result (λ refused. IsRewound pass.old refused.0
+            ⊎ (RefusesTake refused.0 ⊎ (refused.0 ≡ DeskFault.Unsaved))) }
+        ensures back { IfErr result (λ refused. refused.1.items ≡ decoded) }
+    {
+        if self.is_lost {
+            return Err((DeskFault::Unsaved, decoded.into_bytes()));
+        }
+        let RecordedSite {
+            journal,
+            prefix,
+            writer,
+            is_lost,
+        } = self;
+        let receipt = match journal.take(pass, decoded) {
+            Ok(receipt) => receipt,
+            Err((fault, decoded)) => return Err((fault, decoded.into_bytes())),
+        };
+        record_take(prefix, writer, is_lost, receipt)
+    }
+
+    // The steps behind the first `saved`, made ready for a commit, with the whole history. Faults, in order: 1 `Unsaved`, where a step isn't
+    // in the history, or the journal has dropped one of them; 2 `Memory`.
+    fn rest<S: StepStore>(
+        &self,
+        store: &S,
+        saved: u64,
+    ) -> Result<(S::Group, HistoryPrefix<L>), DeskFault>
+        ensures rest { IfOk result (λ rest. IsGroupOfRest S.groups rest.0 rest.1 saved) }
+        ensures legal { IfOk result (λ rest. IsLegalHistory L.base rest.1) }
+        ensures whole { IfOk result (λ rest. rest.1 ≡ self.now.history) }
+        ensures fault { IfErr result (λ fault.
+            (fault ≡ DeskFault.Unsaved) ⊎ (fault ≡ DeskFault.Memory)) }
+    {
+        let journal = self.journal.journal();
+        let start = journal.start();
+        let steps = journal.steps();
+        if self.is_lost || saved < start || saved - start > steps.len() as u64 {
+            return Err(DeskFault::Unsaved);
+        }
+        match store.group(&steps[(saved - start) as usize..]) {
+            Ok(group) => Ok((group, self.prefix.again())),
+            Err(_) => Err(DeskFault::Memory),
+        }
+    }
+
+    // As `rest`, and with `drops` it drops the steps of the journal. `Memory` may also be for that: then none is dropped.
+    pub fn take_rest<S: StepStore>(
+        &mut self,
+        store: &S,
+        saved: u64,
+        drops: bool,
+    ) -> Result<(S::Group, HistoryPrefix<L>), DeskFault>
+        ensures rest { IfOk result (λ rest. IsGroupOfRest S.groups rest.0 rest.1 saved) }
+        ensures legal { IfOk result (λ rest. IsLegalHistory L.base rest.1) }
+        ensures whole { IfOk result (λ rest. rest.1 ≡ self.old.history) }
+        ensures dropped { drops ≡ true
+            → OnOk result (HasDropped self.old.journal self.new.journal) }
+        ensures same { drops ≡ false → self.new ≡ self.old }
+        ensures unchanged { OnErr result (self.new ≡ self.old) }
+        ensures history { self.new.history ≡ self.old.history }
+        ensures fault { IfErr result (λ fault.
+            (fault ≡ DeskFault.Unsaved) ⊎ (fault ≡ DeskFault.Memory)) }
+    {
+        let rest = self.rest(store, saved)?;
+        if !drops {
+            return Ok(rest);
+        }
+        let RecordedSite { journal, .. } = self;
+        if journal.checkpoint().is_err() {
+            drop(rest);
+            return Err(DeskFault::Memory);
+        }
+        Ok(rest)
+    }
+
+    // A copy of the site, to which its history leads, and the history. Faults, in order: 1 `Unsaved`, where a step isn't in the history;
+    // 2 `Memory`.
+    pub fn copy(&self) -> Result<(Replica, HistoryPrefix<L>), DeskFault>
+        ensures lead { IfOk result (λ copy. LeadAll L.base copy.1 copy.0) }
+        ensures history { IfOk result (λ copy. copy.1 ≡ self.now.history) }
+        ensures fault { IfErr result (λ fault.
+            (fault ≡ DeskFault.Unsaved) ⊎ (fault ≡ DeskFault.Memory)) }
+    {
+        if self.is_lost {
+            return Err(DeskFault::Unsaved);
+        }
+        match self.journal.journal().replica().copy() {
+            Ok(replica) => Ok((replica, self.prefix.again())),
+            Err(_) => Err(DeskFault::Memory),
+        }
+    }
+
+    // As `take_rest` with a drop of the journal's steps, and with a copy of the site after the whole history.
+    pub fn take_base<S: StepStore>(
+        &mut self,
+        store: &S,
+        saved: u64,
+    ) -> Result<(S::Group, HistoryPrefix<L>, Replica), DeskFault>
+        ensures rest { IfOk result (λ base. IsGroupOfRest S.groups base.0 base.1 saved) }
+        ensures legal { IfOk result (λ base. IsLegalHistory L.base base.1) }
+        ensures lead { IfOk result (λ base. LeadAll L.base base.1 base.2) }
+        ensures dropped { OnOk result (HasDropped self.old.journal self.new.journal) }
+        ensures unchanged { OnErr result (self.new ≡ self.old) }
+        ensures history { self.new.history ≡ self.old.history }
+        ensures fault { IfErr result (λ fault.
+            (fault ≡ DeskFault.Unsaved) ⊎ (fault ≡ DeskFault.Memory)) }
+    {
+        let (copy, before) = self.copy()?;
+        drop(before);
+        match self.take_rest(store, saved, true) {
+            Ok((group, history)) => Ok((group, history, copy)),
+            Err(fault) => {
+                drop(copy);
+                Err(fault)
+            }
+        }
+    }
+}

@@ -1,0 +1,50 @@
+ghost use Rattle.std.specs.Prelude.{◌≡◌, Some, slice_get};
+ghost use Rattle.site_desk.specs.Passes.{step_of};
+ghost use Rattle.stored_desk.specs.Recorded.{IsLegalHistory};
+
+use crate::mark::Mark;
+use crate::vault::Vault;
+use crate::{Settled, StepStore, StoredLedger};
+use site_journal::Receipt;
+use std::marker::Model;
+use std::sync::Wait;
+
+/// What a closed desk has saved: its store, which keeps the first steps of the site's history. Contracts see it as the store and these
+/// steps (this project's own).
+#[derive(Drop)]
+pub struct SavedSteps<S: StepStore, L: StoredLedger> {
+    pub(crate) vault: Vault<S, L>,
+    pub(crate) mark: Mark<L>,
+}
+
+impl<S: StepStore, L: StoredLedger> Model for SavedSteps<S, L> {
+    ghost use Rattle.stored_desk.specs.Saved.{SavedState};
+
+    ghost Value = { SavedState S };
+
+    ghost view = { λ s. record { store = s.vault.store; list = s.vault.list } };
+}
+
+impl<S: StepStore, L: StoredLedger> SavedSteps<S, L> {
+    /// The receipt of a settled step: whichever thread the desk gave it to, the step stands at its position among those that the store
+    /// keeps.
+    pub fn find<R: Wait>(&mut self, rt: &R, settled: Settled<L>) -> Receipt
+        ensures receipt { result ≡ settled }
+        ensures found { slice_get self.new.list result.position ≡ Some (step_of result) }
+        ensures legal { IsLegalHistory L.base self.new.list }
+        ensures keeps { S.keeps self.new.store self.new.list }
+        ensures same { self.new ≡ self.old }
+    {
+        let SavedSteps { vault, mark } = self;
+        vault.find(rt, mark, settled)
+    }
+
+    /// Gives up the steps for the store, which keeps them.
+    pub fn into_store(self) -> S
+        ensures store { result ≡ self.store }
+        ensures keeps { S.keeps result self.list }
+    {
+        let SavedSteps { vault, .. } = self;
+        vault.into_store()
+    }
+}

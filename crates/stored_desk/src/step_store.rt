@@ -1,0 +1,69 @@
+ghost use Rattle.std.specs.Prelude.{◌≡◌, ◌++◌, IfOk, List, OnOk};
+ghost use Rattle.site_journal.specs.Legal.{LeadAll};
+ghost use Rattle.site_journal.specs.declared.step.Step.{Step};
+
+use dots::Memory;
+use replica::Replica;
+use site_journal::Step;
+use thiserror::Error;
+
+/// Why a commit of a store has failed. What is in the store beside the steps committed before isn't known (this project's own).
+#[derive(Clone, Copy, Debug, PartialEq, Eq, Error)]
+pub enum CommitFault {
+    /// The disk has no room for the steps.
+    #[error("disk full")]
+    Full,
+    /// The disk failed to read or write.
+    #[error("input or output failed")]
+    Device,
+    /// The store refuses the commit for another cause.
+    #[error("commit failed")]
+    Other,
+}
+
+/// Where the steps are stored that a site does after its desk was made, in their order (this project's own). An instance says by relations
+/// what it has, and what a crash leaves. It may keep a base in place of first steps: then the site to which they lead stands for them.
+pub trait StepStore: Drop {
+    ghost use Rattle.std.specs.Prelude.{List};
+    ghost use Rattle.replica.specs.Site.{SiteState};
+    ghost use Rattle.site_journal.specs.declared.step.Step.{Step};
+
+    /// Steps that are made ready for a commit, in the form in which they are stored.
+    type Group: Drop;
+
+    /// The group has just these steps.
+    ghost groups: { Self.Group → List Step → Type 0 };
+
+    /// The store has just these steps, and can take more.
+    ghost holds: { Self → List Step → Type 0 };
+
+    /// A crash leaves a store whose steps begin with these.
+    ghost keeps: { Self → List Step → Type 0 };
+
+    /// The state of the site before all its steps.
+    ghost begun: { Self → SiteState };
+
+    /// Makes steps ready for a commit. It is called under the site's lock. Fails only when out of memory.
+    fn group(&self, steps: &[Step]) -> Result<Self::Group, Memory>
+        ensures { IfOk result (λ group. groups group steps.now) };
+
+    /// Adds the steps of a group in one commit. After Ok they are durable. After an error it isn't known which of them the store has, and
+    /// no call follows.
+    fn commit(&mut self, group: Self::Group) -> Result<(), CommitFault>
+        ensures added { (list more : List Step) → holds self.old list → keeps self.old list
+            → groups group more
+            → OnOk result (holds self.new (list ++ more) × keeps self.new (list ++ more)) }
+        ensures kept { (list more : List Step) → holds self.old list → keeps self.old list
+            → groups group more → keeps self.new list }
+        ensures begun { begun self.new ≡ begun self.old };
+
+    /// Puts a base in place of all its steps, in one commit: the site after them. The store still stands for the same steps. After an
+    /// error no call follows.
+    fn replace_base(&mut self, site: Replica) -> Result<(), CommitFault>
+        ensures replaced { (list : List Step) → holds self.old list → keeps self.old list
+            → LeadAll (begun self.old) list site
+            → OnOk result (holds self.new list × keeps self.new list) }
+        ensures kept { (list : List Step) → holds self.old list → keeps self.old list
+            → LeadAll (begun self.old) list site → keeps self.new list }
+        ensures begun { begun self.new ≡ begun self.old };
+}

@@ -1,0 +1,233 @@
+//! The store, by whom it is held who commits.
+ghost use Rattle.std.specs.Prelude.{◌≡◌, ◌⊎◌, [], Err, IfErr, OnErr, OnOk, Some, false, length};
+ghost use Rattle.std.specs.Prelude.{slice_get, true};
+ghost use mathlib.Core.List.{IsPrefix};
+ghost use Rattle.replica.specs.Site.{IsSameSite};
+ghost use Rattle.site_journal.specs.Legal.{LeadAll};
+ghost use Rattle.site_desk.specs.Passes.{step_of};
+ghost use Rattle.stored_desk.specs.Recorded.{IsGroupOfRest, IsLegalHistory};
+
+use crate::history::HistoryPrefix;
+use crate::mark::{Keeper, Mark, SharedClaim};
+use crate::recorded_site::RecordedSite;
+use crate::{CommitFault, Settled, StepStore, StoredLedger};
+use replica::Replica;
+use site_journal::{DeskFault, Receipt};
+use std::marker::Model;
+use std::sync::{Mutex, Wait};
+
+// A store, with the steps that it has, which are a prefix of the site's history, and the keeper of their number. After a failed commit it is
+// broken.
+#[derive(Drop)]
+pub(crate) struct Vault<S: StepStore, L: StoredLedger> {
+    store: S,
+    is_broken: bool,
+    // Why its commit has failed, if one has.
+    fault: Option<CommitFault>,
+    prefix: HistoryPrefix<L>,
+    keeper: Keeper<L>,
+}
+
+impl<S: StepStore, L: StoredLedger> Model for Vault<S, L> {
+    ghost use Rattle.std.specs.Prelude.{◌≡◌, false, length};
+    ghost use Rattle.replica.specs.Site.{IsSameSite};
+    ghost use Rattle.stored_desk.specs.Recorded.{IsLegalHistory};
+    ghost use Rattle.stored_desk.specs.Saved.{VaultState};
+
+    ghost Value = { VaultState S };
+
+    ghost view = { λ v. record { store = v.store; list = v.prefix; broken = v.is_broken } };
+
+    ghost invariant = { λ v. (v.keeper ≡ length v.prefix) × IsLegalHistory L.base v.prefix
+        × S.keeps v.store v.prefix
+        × (v.is_broken ≡ false → S.holds v.store v.prefix)
+        × IsSameSite (S.begun v.store) L.base };
+}
+
+impl<S: StepStore, L: StoredLedger> Vault<S, L> {
+    // A vault over a store without a step.
+    pub fn new(store: S, prefix: HistoryPrefix<L>, keeper: Keeper<L>) -> Vault<S, L>
+        requires prefix { prefix ≡ [] }
+        requires keeper { keeper ≡ 0 }
+        requires legal { IsLegalHistory L.base [] }
+        requires holds { S.holds store [] }
+        requires keeps { S.keeps store [] }
+        requires begun { IsSameSite (S.begun store) L.base }
+        ensures list { result.list ≡ [] }
+        ensures broken { result.broken ≡ false }
+    {
+        Vault {
+            store,
+            is_broken: false,
+            fault: None,
+            prefix,
+            keeper,
+        }
+    }
+
+    // How many steps it has saved.
+    pub fn len(&self) -> u64
+        ensures { result ≡ length self.now.list }
+    {
+        self.prefix.len()
+    }
+
+    // Gives up the vault for its store, which keeps all that was saved.
+    pub fn into_store(self) -> S
+        ensures store { result ≡ self.store }
+        ensures keeps { S.keeps result self.list }
+    {
+        let Vault { store, .. } = self;
+        store
+    }
+
+    // Why a commit has failed, if one has.
+    pub fn fault(&self) -> Option<CommitFault> {
+        self.fault
+    }
+
+    // A claim of all that it has saved.
+    pub fn claim(&mut self, mark: &Mark<L>) -> SharedClaim<L>
+        ensures claim { result ≡ length self.old.list }
+        ensures same { self.new ≡ self.old }
+    {
+        mark.share(&mut self.keeper)
+    }
+
+    // Saves the steps of a group, behind which `history` has no more, in one commit. The fault is `Unsaved`, and the vault is then broken.
+    fn save<R: Wait>(
+        &mut self,
+        rt: &R,
+        mark: &Mark<L>,
+        group: S::Group,
+        history: HistoryPrefix<L>,
+    ) -> Result<(), DeskFault>
+        requires well { self.old.broken ≡ false }
+        requires rest { IsGroupOfRest S.groups group history (length self.old.list) }
+        requires legal { IsLegalHistory L.base history }
+        ensures keeps { S.keeps self.new.store self.new.list }
+        ensures list { OnOk result (self.new.list ≡ history) }
+        ensures grows { IsPrefix self.old.list self.new.list }
+        ensures well { OnOk result (self.new.broken ≡ false) }
+        ensures same { OnErr result (self.new.list ≡ self.old.list) }
+        ensures broken { OnErr result (self.new.broken ≡ true) }
+        ensures fault { IfErr result (λ fault. fault ≡ DeskFault.Unsaved) }
+    {
+        self.is_broken = true;
+        self.prefix.compare(&history);
+        match self.store.commit(group) {
+            Ok(()) => {}
+            Err(fault) => {
+                self.fault = Some(fault);
+                drop(history);
+                return Err(DeskFault::Unsaved);
+            }
+        }
+        mark.raise(rt, &mut self.keeper, history.len());
+        self.prefix = history;
+        self.is_broken = false;
+        Ok(())
+    }
+
+    // Saves all steps that the site has done, in one commit; with `drops` the site's journal drops its steps too. Faults, in order: 1
+    // `Unsaved`, where the vault is broken; 2 `Unsaved` and `Memory`, as of `RecordedSite::take_rest`; 3 `Unsaved`, where the commit fails, and
+    // the vault is then broken.
+    pub fn save_rest<R: Wait>(
+        &mut self,
+        rt: &R,
+        mark: &Mark<L>,
+        site: &Mutex<RecordedSite<L>>,
+        drops: bool,
+    ) -> Result<(), DeskFault>
+        ensures keeps { S.keeps self.new.store self.new.list }
+        ensures grows { IsPrefix self.old.list self.new.list }
+        ensures none { self.old.broken ≡ true → OnOk result ⊥ }
+        ensures same { OnErr result (self.new.list ≡ self.old.list) }
+        ensures well { OnOk result (self.new.broken ≡ false) }
+        ensures memory { result ≡ Err DeskFault.Memory → self.new ≡ self.old }
+        ensures fault { IfErr result (λ fault.
+            (fault ≡ DeskFault.Unsaved) ⊎ (fault ≡ DeskFault.Memory)) }
+    {
+        if self.is_broken {
+            return Err(DeskFault::Unsaved);
+        }
+        let saved = self.prefix.len();
+        let taken = site.lock(rt).take_rest(&self.store, saved, drops);
+        match taken {
+            Ok((group, history)) => self.save(rt, mark, group, history),
+            Err(fault) => Err(fault),
+        }
+    }
+
+    // Puts the site after all saved steps, `site`, in place of them. The fault is `Unsaved`, and the vault is then broken.
+    fn put_base(&mut self, site: Replica) -> Result<(), DeskFault>
+        requires well { self.old.broken ≡ false }
+        requires lead { LeadAll L.base self.old.list site }
+        ensures keeps { S.keeps self.new.store self.new.list }
+        ensures list { self.new.list ≡ self.old.list }
+        ensures broken { OnErr result (self.new.broken ≡ true) }
+        ensures fault { IfErr result (λ fault. fault ≡ DeskFault.Unsaved) }
+    {
+        self.is_broken = true;
+        match self.store.replace_base(site) {
+            Ok(()) => {
+                self.is_broken = false;
+                Ok(())
+            }
+            Err(fault) => {
+                self.fault = Some(fault);
+                Err(DeskFault::Unsaved)
+            }
+        }
+    }
+
+    // Saves all steps that the site has done, drops them of its journal, and puts the site after them in their place in the store.
+    // Faults as of `save_rest`, and `Unsaved`, where the second commit fails.
+    pub fn save_base<R: Wait>(
+        &mut self,
+        rt: &R,
+        mark: &Mark<L>,
+        site: &Mutex<RecordedSite<L>>,
+    ) -> Result<(), DeskFault>
+        ensures keeps { S.keeps self.new.store self.new.list }
+        ensures grows { IsPrefix self.old.list self.new.list }
+        ensures none { self.old.broken ≡ true → OnOk result ⊥ }
+        ensures fault { IfErr result (λ fault.
+            (fault ≡ DeskFault.Unsaved) ⊎ (fault ≡ DeskFault.Memory)) }
+    {
+        if self.is_broken {
+            return Err(DeskFault::Unsaved);
+        }
+        let saved = self.prefix.len();
+        let taken = site.lock(rt).take_base(&self.store, saved);
+        match taken {
+            Ok((group, history, copy)) => {
+                if let Err(fault) = self.save(rt, mark, group, history) {
+                    drop(copy);
+                    return Err(fault);
+                }
+                self.put_base(copy)
+            }
+            Err(fault) => Err(fault),
+        }
+    }
+
+    // The receipt of a settled step, which stands at its position among the steps that were saved.
+    pub fn find<R: Wait>(&mut self, rt: &R, mark: &Mark<L>, settled: Settled<L>) -> Receipt
+        ensures receipt { result ≡ settled }
+        ensures found { slice_get self.new.list result.position ≡ Some (step_of result) }
+        ensures legal { IsLegalHistory L.base self.new.list }
+        ensures keeps { S.keeps self.new.store self.new.list }
+        ensures same { self.new ≡ self.old }
+    {
+        let Settled {
+            receipt,
+            prefix,
+            claim,
+        } = settled;
+        mark.confirm(rt, &mut self.keeper, claim);
+        prefix.compare(&self.prefix);
+        drop(prefix);
+        receipt
+    }
+}

@@ -1,0 +1,10 @@
+use Rattle.std.proofs.Common.{◌≡◌, ◌+◌, take}
+use Rattle.stored_steps.specs.Restoring.{HasReplayed}
+use Rattle.stored_steps.proofs.restoring.replay_rows.Given as goal
+
+-- the rows up to this one were done again
+abbrev pub invariant-loop-row : goal.invariant-loop-row
+invariant-loop-row l = record {
+  position : l.position ≡ l.first + l.row-index;
+  replayed : HasReplayed l.initial.journal (take l.row-index l.rows) l.journal;
+}

@@ -1,0 +1,10 @@
+pub mod Stored
+pub mod Kinds
+pub mod StartRows
+pub mod StepRows
+pub mod RowReading
+pub mod RowsLead
+pub mod Bases
+pub mod Appending
+pub mod BaseReading
+pub mod Restoring

@@ -1,0 +1,24 @@
+-- Rows that lead from one state of a site to another.
+use Rattle.std.specs.Prelude.{◌≡◌, ◌⊎◌, List, [], ◌∷◌, Some}
+use Rattle.replica.specs.Site.{IsSameSite, SiteState}
+use Rattle.site_journal.specs.declared.step.Step.{Step}
+use Rattle.site_journal.specs.Legal.{Leads}
+use Rattle.stored_steps.specs.StartRows.{start_row}
+use Rattle.stored_steps.specs.StepRows.{IsWithinLimits, row_of}
+use Rattle.stored_steps.specs.Stored.{Stored}
+
+-- the step that a row stands for leads a site from state `from` to state `to`
+pub record StepRowLeads (from : SiteState) (row : Stored) (to : SiteState) : Type 0 where
+  pub step : Step
+  pub row_is : row_of step ≡ Some row
+  pub within : IsWithinLimits step
+  pub leads : Leads from step.deed to
+
+-- a row leads a site from state `from` to state `to`: its step does, or it is of a start, which changes nothing
+abbrev pub RowLeads : SiteState → Stored → SiteState → Type 0
+RowLeads from row to = StepRowLeads from row to ⊎ ((row ≡ start_row) × IsSameSite from to)
+
+-- rows, one after another, lead a site from state `from` to state `to`
+abbrev pub RowsLead : SiteState → List Stored → SiteState → Type 0
+RowsLead from [] to = IsSameSite from to
+RowsLead from (row ∷ rows) to = (mid : SiteState) × RowLeads from row mid × RowsLead mid rows to

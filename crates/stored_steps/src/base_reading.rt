@@ -1,0 +1,238 @@
+//! A row as a base.
+ghost use Rattle.std.specs.Prelude.{◌≡◌, ◌↔◌, ◌<◌, ◌^◌, ◌∷◌, ◌++◌, [], IfOk, IfSome, IsTrue, OnOk};
+ghost use Rattle.std.specs.Int.{w64, to_be_bytes};
+ghost use Rattle.stored_steps.specs.declared.base.StoredBase.{StoredBase};
+ghost use Rattle.delta.specs.Frames.{frame_of};
+ghost use Rattle.replica.specs.Queues.{AreQueues};
+ghost use Rattle.stored_steps.specs.declared.limits.TheConstants.{BASE_VERSION};
+ghost use Rattle.stored_steps.specs.Bases.{IsReadBase, IsRowOfBase, IsSameBase, list_bytes};
+ghost use Rattle.stored_steps.specs.BaseReading.{HasParts, IsDeltaAtFront, IsHead};
+
+use crate::base::StoredBase;
+use crate::base_writing::put_list;
+use crate::limits::{BASE_VERSION, NAME_BYTES};
+use crate::{BaseFault, RowKind, StoredRow};
+use delta::Delta;
+use delta_codec::{DecodeFault, Frame, decode};
+use dots::SiteId;
+use replica::{QueueList, Replica, RestoreFault};
+use std::alloc::Global;
+
+// What stands before the frames of a base, behind its list of queues, and the bytes of its frames.
+#[derive(Clone, Copy)]
+struct Head<'a> {
+    name: [u8; NAME_BYTES],
+    starts: u64,
+    last: (u64, u64, u64),
+    frames: &'a [u8],
+}
+
+// The bytes behind the version and the site.
+fn behind_site(site: SiteId, bytes: &[u8]) -> Result<&[u8], BaseFault>
+    ensures { IfOk result (λ rest. bytes.now ≡ BASE_VERSION ∷ site ∷ rest.now) }
+{
+    let [version, rest @ ..] = bytes else {
+        return Err(BaseFault::BadVersion);
+    };
+    if *version != BASE_VERSION {
+        return Err(BaseFault::BadVersion);
+    }
+    let [number, rest @ ..] = rest else {
+        return Err(BaseFault::Truncated);
+    };
+    if u16::from(*number) != site.number() {
+        return Err(BaseFault::WrongSite);
+    }
+    Ok(rest)
+}
+
+// The bytes behind the list of queues.
+fn behind_list<'a>(alloc: Global, list: &QueueList, bytes: &'a [u8]) -> Result<&'a [u8], BaseFault>
+    ensures found { IfOk result (λ rest. bytes.now ≡ list_bytes list.now ++ rest.now) }
+    ensures queues { OnOk result (AreQueues list.now) }
+{
+    let mut names = Vec::new(alloc);
+    put_list(&mut names, list)?;
+    if bytes.len() < names.len() {
+        drop(names);
+        return Err(BaseFault::WrongList);
+    }
+    let (front, rest) = bytes.split_at(names.len());
+    let is_same = front == names.as_slice();
+    drop(names);
+    if is_same {
+        Ok(rest)
+    } else {
+        Err(BaseFault::WrongList)
+    }
+}
+
+// A number of eight bytes at the front of bytes, and what follows it.
+fn number8(bytes: &[u8]) -> Option<(u64, &[u8])>
+    ensures spelled { IfSome result (λ x. bytes.now ≡ to_be_bytes w64 x.0 ++ x.1.now) }
+    ensures fits { IfSome result (λ x. x.0 < 2 ^ 64) }
+{
+    if bytes.len() < 8 {
+        return None;
+    }
+    let (front, rest) = bytes.split_at(8);
+    let number = u64::from_be_bytes([
+        front[0], front[1], front[2], front[3], front[4], front[5], front[6], front[7],
+    ]);
+    Some((number, rest))
+}
+
+// Three numbers at the front of bytes, and what follows them.
+fn three_numbers(bytes: &[u8]) -> Option<((u64, u64, u64), &[u8])>
+    ensures spelled { IfSome result (λ x. bytes.now ≡ to_be_bytes w64 x.0.0
+        ++ (to_be_bytes w64 x.0.1 ++ (to_be_bytes w64 x.0.2 ++ x.1.now))) }
+    ensures fits { IfSome result
+        (λ x. (x.0.0 < 2 ^ 64) × ((x.0.1 < 2 ^ 64) × (x.0.2 < 2 ^ 64))) }
+{
+    let (count, rest) = number8(bytes)?;
+    let (time, rest) = number8(rest)?;
+    let (frames, rest) = number8(rest)?;
+    Some(((count, time, frames), rest))
+}
+
+// The name and the numbers at the front of bytes, and what follows them.
+fn head_in(bytes: &[u8]) -> Option<Head<'_>>
+    ensures { IfSome result (λ head. IsHead head.name head.starts head.last head.frames.now bytes.now) }
+{
+    let (name, rest) = bytes.split_first_chunk::<NAME_BYTES>()?;
+    let (starts, rest) = number8(rest)?;
+    let (last, frames) = three_numbers(rest)?;
+    Some(Head {
+        name: *name,
+        starts,
+        last,
+        frames,
+    })
+}
+
+// Why bytes begin with no frame, as the fault of a base.
+fn decode_fault(fault: DecodeFault) -> BaseFault {
+    match fault {
+        DecodeFault::Memory => BaseFault::Memory,
+        fault => BaseFault::Decode(fault),
+    }
+}
+
+// The delta of a frame, if it is the site's of the number 1.
+fn own_delta(site: SiteId, frame: Frame) -> Result<Delta, BaseFault>
+    ensures { IfOk result (λ delta. frame ≡ frame_of site 1 delta) }
+{
+    if frame.maker != site || frame.number != 1 {
+        drop(frame);
+        return Err(BaseFault::WrongFrame);
+    }
+    Ok(frame.delta)
+}
+
+// The delta of a site's frame of the number 1 at the front of bytes, and what follows the frame.
+fn delta_in(alloc: Global, site: SiteId, bytes: &[u8]) -> Result<(Delta, &[u8]), BaseFault>
+    ensures { IfOk result (λ x. IsDeltaAtFront site x.0 bytes.now x.1.now) }
+{
+    let (frame, len) = match decode(alloc, bytes) {
+        Ok(decoded) => decoded,
+        Err(fault) => return Err(decode_fault(fault)),
+    };
+    let delta = own_delta(site, frame)?;
+    Ok((delta, &bytes[len..]))
+}
+
+// Whether there are no bytes.
+fn is_end(bytes: &[u8]) -> bool
+    ensures { IsTrue result ↔ (bytes.now ≡ []) }
+{
+    bytes.is_empty()
+}
+
+// The state and the buffer of a site that bytes spell.
+#[tactic(auto, using(crate::proofs::Reading::parts_read))]
+fn deltas_in(alloc: Global, site: SiteId, bytes: &[u8]) -> Result<(Delta, Delta), BaseFault>
+    ensures { IfOk result (λ x. HasParts site x.0 x.1 bytes.now) }
+{
+    let (state, rest) = delta_in(alloc, site, bytes)?;
+    let (pending, rest) = match delta_in(alloc, site, rest) {
+        Ok(read) => read,
+        Err(fault) => {
+            state.discard();
+            return Err(fault);
+        }
+    };
+    if !is_end(rest) {
+        state.discard();
+        pending.discard();
+        return Err(BaseFault::Trailing);
+    }
+    Ok((state, pending))
+}
+
+// Why parts make no replica, as the fault of a base.
+fn parts_fault(fault: RestoreFault) -> BaseFault {
+    match fault {
+        RestoreFault::Memory => BaseFault::Memory,
+        fault => BaseFault::Parts(fault),
+    }
+}
+
+// The base that a row says, of this site with this list of queues.
+fn read_base(
+    alloc: Global,
+    site: SiteId,
+    list: &QueueList,
+    row: &StoredRow,
+) -> Result<StoredBase, BaseFault>
+    ensures site { IfOk result (λ base. base.replica.site ≡ site) }
+    ensures names { IfOk result (λ base. base.replica.names ≡ list.now) }
+    ensures read { IfOk result (λ base. IsReadBase row.now base) }
+{
+    if row.kind() != RowKind::Base.number() {
+        return Err(BaseFault::NoBase);
+    }
+    let rest = behind_site(site, row.body())?;
+    let rest = behind_list(alloc, list, rest)?;
+    let Some(head) = head_in(rest) else {
+        return Err(BaseFault::Truncated);
+    };
+    let names = list.copy()?;
+    let (state, pending) = match deltas_in(alloc, site, head.frames) {
+        Ok(deltas) => deltas,
+        Err(fault) => {
+            drop(names);
+            return Err(fault);
+        }
+    };
+    match Replica::restored(alloc, site, names, state, pending, head.last) {
+        Ok(replica) => Ok(StoredBase {
+            replica,
+            name: head.name,
+            starts: head.starts,
+        }),
+        Err(fault) => Err(parts_fault(fault)),
+    }
+}
+
+/// The base that a row says, of this site with this list of queues. The buffer is joined into the state, as `Replica::restored` does: that
+/// changes nothing where a replica was stored.
+///
+/// Errors, in order: `NoBase`, if the kind is not that of a base; `BadVersion`, if the first byte is not `BASE_VERSION`; `WrongSite`, if
+/// the base is of another site; `WrongList`, if it is of another list of queues; `Truncated`, if the bytes end before the frames begin;
+/// `Decode`, if the state or the buffer is no frame, with the fault of `decode`; `WrongFrame`, if one is a frame of another site or
+/// number; `Trailing`, if bytes follow the buffer; `Parts`, if the parts are those of no replica, with the fault of `Replica::restored`;
+/// `Memory`, which may stand in place of each from `WrongList` on.
+pub fn base_of_row(
+    alloc: Global,
+    site: SiteId,
+    list: &QueueList,
+    row: &StoredRow,
+) -> Result<StoredBase, BaseFault>
+    ensures site { IfOk result (λ base. base.replica.site ≡ site) }
+    ensures names { IfOk result (λ base. base.replica.names ≡ list.now) }
+    ensures read { IfOk result (λ base. IsReadBase row.now base) }
+    ensures same { (base : StoredBase) → IsRowOfBase base row.now
+        → IfOk result (λ read. IsSameBase base read) }
+{
+    read_base(alloc, site, list, row)
+}

@@ -1,0 +1,172 @@
+//! Builds a site again of the rows of its store.
+ghost use Rattle.std.specs.Prelude.{◌≡◌, ◌<◌, ◌≤◌, ◌^◌, ◌+◌, ◌∷◌, [], IfOk, OnOk, count_by, length};
+ghost use Rattle.site_journal.specs.declared.journaled.TheConstants.{MOST_STEPS};
+ghost use Rattle.site_journal.specs.Journals.{IsNewJournal};
+ghost use Rattle.stored_steps.specs.Bases.{IsReadBase};
+ghost use Rattle.stored_steps.specs.Restoring.{HasReplayed, IsRestoredSite};
+ghost use Rattle.stored_steps.specs.StartRows.{is_start};
+ghost use Rattle.stored_steps.specs.Stored.{Stored};
+
+use crate::base_reading::base_of_row;
+use crate::restored_site::RestoredSite;
+use crate::step_rows::step_of_row;
+use crate::{BaseFault, RowFault, StoreFault, StoredBase, StoredRow};
+use dots::SiteId;
+use replica::{QueueList, Replica};
+use site_journal::{Journaled, MOST_STEPS, ReplayFault};
+use std::alloc::Global;
+
+// Why a row is no base, as the fault of a store.
+fn base_fault(fault: BaseFault) -> StoreFault {
+    match fault {
+        BaseFault::Memory => StoreFault::Memory,
+        fault => StoreFault::Base(fault),
+    }
+}
+
+// Why the row of this position is of no step, as the fault of a store.
+fn row_fault(position: u64, fault: RowFault) -> StoreFault {
+    match fault {
+        RowFault::Memory => StoreFault::Memory,
+        fault => StoreFault::Row(position, fault),
+    }
+}
+
+// Why the step of the row of this position was not done again, as the fault of a store.
+fn replay_fault(position: u64, fault: ReplayFault) -> StoreFault {
+    match fault {
+        ReplayFault::JournalFull => StoreFault::JournalFull,
+        ReplayFault::Damaged(_) => StoreFault::Damaged(position),
+        ReplayFault::Memory => StoreFault::Memory,
+    }
+}
+
+// Does again what the row of this position says.
+#[tactic(auto, using(crate::proofs::RestoringLaws::start_replayed, crate::proofs::RestoringLaws::step_replayed))]
+fn replay_row(
+    alloc: Global,
+    journal: &mut Journaled,
+    position: u64,
+    row: &StoredRow,
+) -> Result<(), StoreFault>
+    ensures { OnOk result (HasReplayed journal.old (row.now ∷ []) journal.new) }
+{
+    if row.is_start() {
+        return Ok(());
+    }
+    let step = match step_of_row(alloc, row) {
+        Ok(step) => step,
+        Err(fault) => return Err(row_fault(position, fault)),
+    };
+    match journal.replay(&step) {
+        Ok(()) => Ok(()),
+        Err(fault) => Err(replay_fault(position, fault)),
+    }
+}
+
+// Does again what rows say, the first of which has this position.
+#[tactic(auto, using(crate::proofs::RestoringLaws::none_replayed, crate::proofs::RestoringLaws::one_more_replayed, crate::proofs::RestoringLaws::all_replayed))]
+fn replay_rows(
+    alloc: Global,
+    journal: &mut Journaled,
+    first: u64,
+    rows: &[StoredRow],
+) -> Result<(), StoreFault>
+    requires { first + length rows.now < 2 ^ 64 }
+    ensures { OnOk result (HasReplayed journal.old rows.now journal.new) }
+{
+    let mut position = first;
+    for row in rows {
+        replay_row(alloc, journal, position, row)?;
+        position += 1;
+    }
+    Ok(())
+}
+
+// How many rows are of starts.
+fn starts_in(rows: &[StoredRow]) -> u64
+    ensures { result ≡ count_by is_start rows.now }
+{
+    rows.iter().filter(|row| row.is_start()).count() as u64
+}
+
+// A journal of a replica, without a step.
+fn begin(alloc: Global, replica: Replica, limit: u32) -> Result<Journaled, StoreFault>
+    requires some { 1 ≤ limit }
+    requires most { limit ≤ MOST_STEPS }
+    ensures { IfOk result (λ journal. IsNewJournal replica limit journal) }
+{
+    match Journaled::new(alloc, replica, limit) {
+        Ok(journal) => Ok(journal),
+        Err((_, replica)) => {
+            drop(replica);
+            Err(StoreFault::Memory)
+        }
+    }
+}
+
+// The site of a base and of further rows, the first of which has this position.
+fn restore_from(
+    alloc: Global,
+    base: StoredBase,
+    limit: u32,
+    first: u64,
+    rows: &[StoredRow],
+) -> Result<RestoredSite, StoreFault>
+    requires some { 1 ≤ limit }
+    requires most { limit ≤ MOST_STEPS }
+    requires fits { first + length rows.now < 2 ^ 64 }
+    ensures restored { (row : Stored) → IsReadBase row base
+        → IfOk result (λ it. IsRestoredSite (row ∷ rows.now) it) }
+    ensures site { IfOk result (λ it. it.journal.replica.site ≡ base.replica.site) }
+    ensures names { IfOk result (λ it. it.journal.replica.names ≡ base.replica.names) }
+{
+    let StoredBase {
+        replica,
+        name,
+        starts,
+    } = base;
+    let mut journal = begin(alloc, replica, limit)?;
+    match replay_rows(alloc, &mut journal, first, rows) {
+        Ok(()) => Ok(RestoredSite {
+            journal,
+            name,
+            starts: starts.saturating_add(starts_in(rows)),
+        }),
+        Err(fault) => {
+            drop(journal);
+            Err(fault)
+        }
+    }
+}
+
+/// Builds a site again of the rows of its store, the first of which has the position `first`. Its journal may have `limit` steps, 1 to
+/// 1,000,000. The first row is the base; the step of each further row is done again, and must be the very same.
+///
+/// Errors, of the first row that has one: `Base`, with the fault of `base_of_row`, also where there is no row; `Row`, with the position and
+/// the fault of `step_of_row`; `Damaged`, with the position, if the site refuses the step, or gives another answer or other bytes;
+/// `JournalFull`; `Memory`.
+pub fn restore(
+    alloc: Global,
+    site: SiteId,
+    list: &QueueList,
+    limit: u32,
+    first: u64,
+    rows: &[StoredRow],
+) -> Result<RestoredSite, StoreFault>
+    requires some { 1 ≤ limit }
+    requires most { limit ≤ MOST_STEPS }
+    requires fits { first + length rows.now < 2 ^ 64 }
+    ensures restored { IfOk result (λ it. IsRestoredSite rows.now it) }
+    ensures site { IfOk result (λ it. it.journal.replica.site ≡ site) }
+    ensures names { IfOk result (λ it. it.journal.replica.names ≡ list.now) }
+{
+    let Some((row, rest)) = rows.split_first() else {
+        return Err(StoreFault::Base(BaseFault::NoBase));
+    };
+    let base = match base_of_row(alloc, site, list, row) {
+        Ok(base) => base,
+        Err(fault) => return Err(base_fault(fault)),
+    };
+    restore_from(alloc, base, limit, first + 1, rest)
+}

@@ -1,0 +1,61 @@
+//! What desks are asked, and the journal of a site that knows nothing.
+ghost use Rattle.std.specs.Prelude.{◌≡◌};
+ghost use Rattle.replica.specs.Site.{IsSameSite};
+ghost use Rattle.site_journal.specs.Journals.{IsOfSite};
+
+use dots::{Bytes, Interface, Label, Penalty, QueueName, SiteId, Text80};
+use replica::{Command, QueueList, Replica};
+use site_journal::Journaled;
+use status_report::{Ask, StatusRequest};
+use std::alloc::Global;
+use std::process::Abort;
+
+fn sales(rt: &impl Abort) -> QueueName {
+    QueueName::new(b"sales").expect(rt, "a name")
+}
+
+// Adds a member to the queue `sales`.
+pub(crate) fn add(rt: &impl Abort, interface: &[u8]) -> Ask {
+    Ask::Command(Command::Add {
+        queue: sales(rt),
+        interface: Interface::new(interface).expect(rt, "an interface"),
+        penalty: Penalty::new(0).expect(rt, "a penalty"),
+        paused: false,
+        label: Label {
+            name: Text80::empty(),
+            state: Text80::empty(),
+        },
+    })
+}
+
+// The request of the status of all queues.
+pub(crate) fn status(alloc: Global) -> Ask {
+    Ask::Status(StatusRequest {
+        queue: None,
+        member: None,
+        action_id: Bytes::new(Vec::new(alloc)),
+    })
+}
+
+// The journal of site 0, of the queue `sales`, which knows nothing. Its limit is `limit` steps.
+pub(crate) fn journal_of(rt: &impl Abort, alloc: Global, limit: u32) -> Journaled
+    ensures begun { result.count ≡ 0 }
+    ensures site { IsOfSite result.base.site result.base.names result }
+{
+    let site = SiteId::new(0).expect(rt, "a site");
+    let list = QueueList::new(alloc, &[sales(rt)]).expect(rt, "a list");
+    match Journaled::new(alloc, Replica::new(alloc, site, list), limit.clamp(1, 100)) {
+        Ok(journal) => journal,
+        Err(_) => rt.panic("memory"),
+    }
+}
+
+// A copy of the site that a journal began from.
+pub(crate) fn base_of(rt: &impl Abort, journal: &Journaled) -> Replica
+    ensures { IsSameSite result journal.now.base }
+{
+    match journal.base().copy() {
+        Ok(base) => base,
+        Err(_) => rt.panic("memory"),
+    }
+}

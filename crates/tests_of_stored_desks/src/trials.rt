@@ -1,0 +1,109 @@
+//! Tests of desks with a store that have two passes.
+ghost use Rattle.std.specs.Prelude.{◌≡◌};
+ghost use Rattle.site_journal.specs.Journals.{IsOfSite};
+
+use crate::asks::{base_of, journal_of};
+use crate::desks::{assert_answers, assert_groups, assert_saves, assert_stops};
+use crate::memory_store::MemoryStore;
+use site_desk::SiteDesk;
+use site_journal::Journaled;
+use std::alloc::Global;
+use std::marker::Brand;
+use std::process::Abort;
+use std::sync::Wait;
+use std::sync::ledger::Blank;
+use std::test::*;
+use std::thread::Threads;
+use stored_desk::{NewHistory, NewMark, StoredDesk, StoredLedger};
+
+// What is asserted of a desk.
+#[derive(Clone, Copy)]
+enum Trial {
+    Stops,
+    Groups,
+    Saves,
+    Answers,
+}
+
+// Makes a desk of a journal, over a store that takes a number of commits, and asserts what is tried of it.
+fn assert_holds<L: StoredLedger + Send + Sync, R: Abort + Threads + Wait + Sync>(
+    rt: &R,
+    alloc: Global,
+    blank: Blank,
+    journal: Journaled,
+    history: NewHistory,
+    mark: NewMark,
+    trial: Trial,
+)
+    requires name { blank.name ≡ L.name }
+    requires ledger { blank.parts ≡ L.parts }
+    requires two { blank.parts ≡ 2 }
+    requires begun { journal.count ≡ 0 }
+    requires site { IsOfSite L.site L.names journal }
+    requires limit { journal.limit ≡ L.limit }
+    requires base { journal.base ≡ L.base }
+    requires history { history ≡ L.history }
+    requires mark { mark ≡ L.mark }
+{
+    let base = base_of(rt, &journal);
+    let made = SiteDesk::<L>::new(alloc, blank, journal, 2).ok();
+    let (desk, mut passes) = made.expect(rt, "memory");
+    let commits = match trial {
+        Trial::Stops => 1,
+        Trial::Groups | Trial::Answers => 2,
+        Trial::Saves => 6,
+    };
+    let store = MemoryStore::new(alloc, base, commits);
+    let desk = StoredDesk::new(desk, store, history, mark).ok();
+    let desk = desk.expect(rt, "a new desk");
+    let mut second = passes.pop().expect(rt, "a pass");
+    let mut first = passes.pop().expect(rt, "a pass");
+    drop(passes);
+    match trial {
+        Trial::Stops => assert_stops(rt, alloc, desk, &mut first),
+        Trial::Groups => assert_groups(rt, desk, &mut first, &mut second),
+        Trial::Saves => assert_saves(rt, desk, &mut first),
+        Trial::Answers => {
+            assert_answers(rt, desk, &mut first, second);
+            drop(first);
+            return;
+        }
+    }
+    drop(first);
+    drop(second);
+}
+
+// Asserts what is tried of the desk of site 0.
+fn assert_of<R: Abort + Threads + Wait + Sync>(rt: &R, alloc: Global, trial: Trial) {
+    let journal = journal_of(rt, alloc, 10);
+    let mark = NewMark::new(alloc).expect(rt, "memory");
+    assert_holds::<Brand, R>(
+        rt,
+        alloc,
+        Blank::new(2),
+        journal,
+        NewHistory::new(),
+        mark,
+        trial,
+    );
+}
+
+#[test]
+fn after_a_failed_commit_no_receipt_is_answered(rt: HostRuntime) {
+    assert_of(&rt, rt.alloc(), Trial::Stops);
+}
+
+#[test]
+fn receipts_of_two_threads_are_saved(rt: HostRuntime) {
+    assert_of(&rt, rt.alloc(), Trial::Groups);
+}
+
+#[test]
+fn a_take_and_a_base_are_saved(rt: HostRuntime) {
+    assert_of(&rt, rt.alloc(), Trial::Saves);
+}
+
+#[test]
+fn a_port_and_sessions_have_receipts_of_saved_steps(rt: HostRuntime) {
+    assert_of(&rt, rt.alloc(), Trial::Answers);
+}
