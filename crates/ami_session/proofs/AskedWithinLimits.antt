@@ -17,7 +17,7 @@ use Rattle.status_report.specs.declared.asks.Ask.TheVariants.{Command as asked_c
 use Rattle.ami_session.specs.declared.action.Action.{Action}
 use Rattle.ami_session.specs.declared.action.Action.TheVariants.{QueueAdd, QueueRemove, QueuePause, QueuePenalty, QueueMemberRingInUse, QueueStatus}
 use Rattle.ami_session.specs.Actions.{FieldRow, Name, Text, Number, absent_in, absent_of, action_named, is_unread, row_of, says_yes, text_at, unread_in}
-use Rattle.ami_session.specs.Checks.{Asks, Ends, Replies, SessionState, Waiting, accepts, error_reply, login_reaction, named_reaction, reaction, reaction_to, row_reaction}
+use Rattle.ami_session.specs.Checks.{Asks, Ends, Replies, SessionState, Waiting, accepts, error_reply, is_last_try, login_reaction, named_reaction, reaction, reaction_to, row_reaction}
 use Rattle.ami_session.specs.FieldValues.{Fields, as_penalty, id_of, is_word, name_of, penalty_of, text_of}
 use Rattle.ami_session.specs.Replies.{reply}
 
@@ -152,12 +152,14 @@ named_within None m ask w h = absurd (cc)
 named_within (Some action) m ask w h = row_within action m ask w h
 
 login_asks_nothing : (s : SessionState) (m : Fields) (ask : Ask) (w : Waiting) → login_reaction s m ≡ Asks ask w → ⊥
-login_asks_nothing s m ask w h = by (accepts s.login m) h
+login_asks_nothing s m ask w h = by (accepts s.login m) (is_last_try s.tries) h
   where
-    by : (b : Bool)
-        → (if b then Replies (reply (codes "Success") (id_of m) (codes "Authentication accepted")) else Replies (error_reply m (codes "Authentication failed"))) ≡ Asks ask w → ⊥
-    by true h = (cc)
-    by false h = (cc)
+    by : (b last : Bool)
+        → (if b then Replies (reply (codes "Success") (id_of m) (codes "Authentication accepted")) else if last then Ends (error_reply m (codes "Authentication failed"))
+        else Replies (error_reply m (codes "Authentication failed"))) ≡ Asks ask w → ⊥
+    by true last h = (cc)
+    by false true h = (cc)
+    by false false h = (cc)
 
 reaction_within : (s : SessionState) (m : Fields) (o : Option (List ℕ)) (ask : Ask) (w : Waiting) → reaction_to s m o ≡ Asks ask w → IsAskWithinLimits ask
 reaction_within s m None ask w h = absurd (cc)

@@ -1,5 +1,6 @@
 -- What a session does upon a message: the checks, in their order (the actions and their fields are Asterisk's, the texts this project's own).
-use Rattle.std.specs.Prelude.{ℕ, Bool, true, false, not, ◌&&◌, List, ◌++◌, codes, Option, Some, None, if◌then◌else◌}
+use Rattle.std.specs.Prelude.{ℕ, ◌-◌, Bool, true, false, not, ◌&&◌, List, ◌++◌, codes, nat_le, Option, Some, None, if◌then◌else◌}
+use Rattle.std.specs.Option.{option_map, option_map_or}
 use Rattle.std.specs.Str.{bytes_eq}
 use Rattle.ami_text.specs.MessageFields.{value_of}
 use Rattle.status_report.specs.declared.asks.Answer.{Answer}
@@ -15,11 +16,13 @@ pub record Login : Type 0 where
   pub user : List ℕ
   pub secret : List ℕ
 
--- a session: the line that greets its client, who may log in (anybody where there is none), and whether somebody has
+-- a session: the line that greets its client, who may log in (anybody where there is none), whether somebody has, and with how many
+-- refused Logins more it ends (with none where there is no number)
 pub record SessionState : Type 0 where
   pub greeting : List ℕ
   pub login : Option Login
   pub logged_in : Bool
+  pub tries : Option ℕ
 
 -- whether message `m` is accepted as a Login: its user and secret are those of the session's login,
 -- byte by byte, or the session has none
@@ -50,25 +53,34 @@ pub data Reaction : Type 0 where
   Asks : Ask → Waiting → Reaction
   Ends : List ℕ → Reaction
 
--- what is done upon message `m` of `action`, where its first absent field and its first unreadable
+-- what is done at message `m` of `action`, where its first absent field and its first unreadable
 -- one are given: an error for the former, else for the latter, else the site is asked
 abbrev pub row_reaction : Action → Fields → Option (List ℕ) → Option (List ℕ) → Reaction
 row_reaction action m (Some name) unread = Replies (error_reply m (codes "'" ++ name ++ codes "' not specified."))
 row_reaction action m None (Some name) = Replies (error_reply m (codes "Field not valid: " ++ name))
 row_reaction action m None None = Asks ((row_of action).ask m) (record { action = action; says_yes = says_yes (codes "Paused") m; id = id_of m })
 
--- what is done upon message `m` of an action that is in the table, by its row; of another an error
+-- what is done at message `m` of an action that is in the table, by its row; of another an error
 abbrev pub named_reaction : Option Action → Fields → Reaction
 named_reaction None m = Replies (error_reply m (codes "Invalid/unknown command"))
 named_reaction (Some action) m = row_reaction action m (absent_in (row_of action) m) (unread_in (row_of action) m)
 
--- what session `s` does upon message `m` as a Login: it says whether it is accepted
+-- whether a session with these tries ends with its next refused Login
+abbrev pub is_last_try : Option ℕ → Bool
+is_last_try tries = option_map_or (λ n. nat_le n 1) tries false
+
+-- the tries after a refused Login
+abbrev pub fewer_tries : Option ℕ → Option ℕ
+fewer_tries tries = option_map (λ n. n - 1) tries
+
+-- what session `s` does at message `m` as a Login: it says whether it is accepted, and ends with the last try
 abbrev pub login_reaction : SessionState → Fields → Reaction
 login_reaction s m =
     if accepts s.login m then Replies (reply (codes "Success") (id_of m) (codes "Authentication accepted"))
+    else if is_last_try s.tries then Ends (error_reply m (codes "Authentication failed"))
     else Replies (error_reply m (codes "Authentication failed"))
 
--- what session `s` does upon message `m` whose field `Action` has this value, if it has the field
+-- what session `s` does at message `m` whose field `Action` has this value, if it has the field
 abbrev pub reaction_to : SessionState → Fields → Option (List ℕ) → Reaction
 reaction_to s m None = Replies (error_reply m (codes "Missing action in request"))
 reaction_to s m (Some name) =
@@ -77,7 +89,7 @@ reaction_to s m (Some name) =
     else if not s.logged_in then Replies (error_reply m (codes "Permission denied"))
     else named_reaction (action_named name) m
 
--- what session `s` does upon message `m`
+-- what session `s` does at message `m`
 abbrev pub reaction : SessionState → Fields → Reaction
 reaction s m = reaction_to s m (value_of (codes "Action") m)
 
@@ -86,10 +98,18 @@ abbrev pub logs_in : SessionState → Fields → Option (List ℕ) → Bool
 logs_in s m None = false
 logs_in s m (Some name) = not (is_word name (codes "Logoff")) && (is_word name (codes "Login") && accepts s.login m)
 
+-- whether message `m`, whose field `Action` has this value, is a Login that session `s` refuses
+abbrev pub is_refused_login : SessionState → Fields → Option (List ℕ) → Bool
+is_refused_login s m None = false
+is_refused_login s m (Some name) = not (is_word name (codes "Logoff")) && (is_word name (codes "Login") && not (accepts s.login m))
+
 -- session `s` after message `m` whose field `Action` has the value `name`: a Login that is accepted
--- logs in, and nothing logs out
+-- logs in, one that is refused takes a try, and nothing logs out
 abbrev pub after_action : SessionState → Fields → Option (List ℕ) → SessionState
-after_action s m name = if logs_in s m name then record s { logged_in = true } else s
+after_action s m name =
+    if logs_in s m name then record s { logged_in = true }
+    else if is_refused_login s m name then record s { tries = fewer_tries s.tries }
+    else s
 
 -- session `s` after message `m`
 abbrev pub after : SessionState → Fields → SessionState

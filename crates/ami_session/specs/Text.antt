@@ -1,4 +1,4 @@
--- The text of a whole session: what it writes upon messages, one after another, and upon the answers to what it asks of the site. (A
+-- The text of a whole session: what it writes at messages, one after another, and at the answers to what it asks of the site. (A
 -- Manager session begins with a line that greets; its own words are this project's.)
 use Rattle.std.specs.Prelude.{ℕ, ◌≡◌, ◌⊎◌, ◌||◌, Bool, true, false, List, [], ◌∷◌, ◌++◌, codes}
 use Rattle.ami_text.specs.Stream.{Gives, IsRest}
@@ -40,7 +40,7 @@ asks_upon (Replies bytes) more = more
 asks_upon (Ends bytes) more = []
 asks_upon (Asks ask waiting) more = ask ∷ more
 
--- all that session `s` asks the site upon messages, in order
+-- all that session `s` asks the site at messages, in order
 abbrev pub asks : SessionState → List Fields → List Ask
 asks s [] = []
 asks s (m ∷ ms) = asks_upon (reaction s m) (asks (after s m) ms)

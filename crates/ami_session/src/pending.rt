@@ -42,7 +42,12 @@ impl Pending {
         ensures waits { IfErr result (λ refused. refused.1 ≡ self) }
     {
         let (response, text) = match answer {
-            Answer::Report(report) => return Ok(report.into_vec()),
+            Answer::Report(report) => {
+                return match report.into_vec(alloc) {
+                    Ok(bytes) => Ok(bytes),
+                    Err(memory) => Err((memory, self)),
+                };
+            }
             Answer::Done => (Response::Success, self.action.success(self.says_yes)),
             Answer::Refused(refusal) => (Response::Error, self.action.refusal(refusal)),
         };

@@ -1,10 +1,11 @@
 ghost use Rattle.std.specs.Prelude.{◌≡◌, Some, None, true, false, codes, IfOk, OnOk, OnErr};
-ghost use Rattle.std.specs.Prelude.{MatchResult};
+ghost use Rattle.std.specs.Prelude.{MatchResult, if◌then◌else◌};
 ghost use Rattle.ami_session.specs.Actions.{AsksBy, absent_in, row_of, says_yes, unread_in};
 ghost use Rattle.ami_session.specs.FieldValues.{id_of};
 ghost use Rattle.ami_session.specs.Replies.{reply};
 ghost use Rattle.ami_session.specs.Checks.{accepts, Replies, Ends, login_reaction, named_reaction};
 ghost use Rattle.ami_session.specs.Checks.{reaction, reaction_to, after, after_action};
+ghost use Rattle.ami_session.specs.Checks.{fewer_tries, is_last_try};
 ghost use Rattle.ami_session.specs.Text.{own_greeting};
 ghost use Rattle.ami_session.specs.Views.{reaction_of};
 
@@ -14,7 +15,7 @@ use crate::fields::{
     queue_remove, queue_status, says_yes, text_at,
 };
 use crate::reply::{Response, field_error, message_reply};
-use crate::values::is_word;
+use crate::values::{is_same_text, is_word};
 use crate::{Act, Pending};
 use ami_text::Message;
 use dots::{Bytes, Memory, Text80};
@@ -40,6 +41,8 @@ pub struct Session {
     // None where every Login is accepted.
     credentials: Option<Credentials>,
     logged_in: bool,
+    // With how many refused Logins more it ends. None: with none.
+    tries: Option<u32>,
 }
 
 impl Model for Session {
@@ -55,6 +58,7 @@ impl Model for Session {
       greeting = unwrap_or s.greeting own_greeting;
       login = login_of s.credentials;
       logged_in = s.logged_in;
+      tries = s.tries;
     } };
 }
 
@@ -121,23 +125,31 @@ impl Session {
           greeting = own_greeting;
           login = Some (record { user = user; secret = secret });
           logged_in = false;
+          tries = None;
         } }
     {
         Session {
             greeting: None,
             credentials: Some(Credentials { user, secret }),
             logged_in: false,
+            tries: None,
         }
     }
 
     /// A session that needs no Login, and accepts every one. It greets as above.
     pub fn trusted() -> Session
-        ensures { result ≡ record { greeting = own_greeting; login = None; logged_in = true } }
+        ensures { result ≡ record {
+          greeting = own_greeting;
+          login = None;
+          logged_in = true;
+          tries = None;
+        } }
     {
         Session {
             greeting: None,
             credentials: None,
             logged_in: true,
+            tries: None,
         }
     }
 
@@ -150,7 +162,34 @@ impl Session {
             greeting: Some(greeting),
             credentials: self.credentials,
             logged_in: self.logged_in,
+            tries: self.tries,
         }
+    }
+
+    /// The session that ends with the reply to its refused Login of this number, counted from 1. 0 is as 1.
+    pub fn with_tries(self, tries: u32) -> Session
+        ensures { result ≡ record self { tries = Some tries } }
+    {
+        Session {
+            greeting: self.greeting,
+            credentials: self.credentials,
+            logged_in: self.logged_in,
+            tries: Some(tries),
+        }
+    }
+
+    /// Whether its client has logged in.
+    pub fn is_logged_in(&self) -> bool
+        ensures { result ≡ self.now.logged_in }
+    {
+        self.logged_in
+    }
+
+    /// With how many refused Logins more it ends. `None`: with none.
+    pub fn tries(&self) -> Option<u32>
+        ensures { result ≡ self.now.tries }
+    {
+        self.tries
     }
 
     /// The line that greets its client, without the line's end.
@@ -163,20 +202,36 @@ impl Session {
         }
     }
 
-    // Whether user and secret are the session's, byte by byte; an absent one counts as empty.
+    // Whether user and secret are the session's, byte by byte; an absent one counts as empty. Both are compared to their ends, so that the
+    // time that it takes doesn't tell how much of them is right.
     fn accepts(&self, message: &Message) -> bool
         ensures { result ≡ accepts self.now.login message.now }
     {
         match &self.credentials {
             None => true,
             Some(Credentials { user, secret }) => {
-                text_at(message, "Username") == user.as_bytes()
-                    && text_at(message, "Secret") == secret.as_bytes()
+                is_same_text(text_at(message, "Username"), user.as_bytes())
+                    & is_same_text(text_at(message, "Secret"), secret.as_bytes())
             }
         }
     }
 
-    // A Login: accepted, or an error that leaves the session as it was.
+    // The reply to a refused Login, with which a try is gone. It ends the session where that was the last.
+    fn refuse(&mut self, reply: Vec<u8>) -> Act
+        ensures reaction { reaction_of result ≡ (if is_last_try self.old.tries then Ends reply.items
+            else Replies reply.items) }
+        ensures after { self.new ≡ record self.old { tries = fewer_tries self.old.tries } }
+    {
+        let is_last = matches!(self.tries, Some(0 | 1));
+        self.tries = self.tries.map(|tries| tries.saturating_sub(1));
+        if is_last {
+            Act::End(reply)
+        } else {
+            Act::Reply(reply)
+        }
+    }
+
+    // A Login: accepted, or an error, with which a try is gone.
     fn login(&mut self, alloc: Global, message: &Message, id: &Bytes) -> Result<Act, Memory>
         requires { id.now ≡ id_of message.now }
         ensures reaction { IfOk result
@@ -185,11 +240,13 @@ impl Session {
             (accepts self.old.login message.now ≡ true
             → self.new ≡ record self.old { logged_in = true }) }
         ensures refused { OnOk result
-            (accepts self.old.login message.now ≡ false → self.new ≡ self.old) }
+            (accepts self.old.login message.now ≡ false
+            → self.new ≡ record self.old { tries = fewer_tries self.old.tries }) }
         ensures err { OnErr result (self.new ≡ self.old) }
     {
         if !self.accepts(message) {
-            return error(alloc, id, "Authentication failed");
+            let bytes = message_reply(alloc, Response::Error, id, b"Authentication failed")?;
+            return Ok(self.refuse(bytes));
         }
         let bytes = message_reply(alloc, Response::Success, id, b"Authentication accepted")?;
         self.logged_in = true;
@@ -226,10 +283,10 @@ impl Session {
     }
 
     /// What the session does upon a message. In this order: a message with no `Action` is an error; `Logoff` ends the
-    /// session; `Login` is accepted where user and secret are the session's, and else is an error that leaves the
-    /// session as it was; before a Login all else is an error; so is an action that isn't known, then a required field
-    /// that is absent, then a field that can't be read; and then the site is asked. The one fault is want of memory,
-    /// and leaves the session as it was.
+    /// session; `Login` is accepted where user and secret are the session's, and else is an error, with which a try is gone
+    /// (`with_tries`), and the session ends with the last of them; before a Login all else is an error; so is an action that
+    /// isn't known, then a required field that is absent, then a field that can't be read; and then the site is asked. The
+    /// one error is `Memory`, and leaves the session as it was.
     pub fn handle(&mut self, alloc: Global, message: &Message) -> Result<Act, Memory>
         ensures reaction { IfOk result (λ act. reaction_of act ≡ reaction self.old message.now) }
         ensures after { OnOk result (self.new ≡ after self.old message.now) }

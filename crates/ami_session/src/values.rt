@@ -1,6 +1,7 @@
 //! How the values of fields are read.
 ghost use Rattle.std.specs.Prelude.{◌≡◌, ◌≢◌, ◌↔◌, [], unwrap_or, IsTrue};
 ghost use Rattle.std.specs.List.{list_any};
+ghost use Rattle.std.specs.Str.{bytes_eq};
 ghost use Rattle.ami_text.specs.MessageFields.{trim_of};
 ghost use Rattle.ami_session.specs.FieldValues.{is_word, is_yes, is_bad_in_id, clean_id, id_of};
 ghost use Rattle.ami_session.specs.FieldValues.{text_of, name_of, penalty_of};
@@ -60,6 +61,25 @@ pub fn is_login_word(word: &Text80) -> bool
     ensures { IsTrue result ↔ ((word.now ≢ []) × (trim_of word.now ≡ word.now)) }
 {
     !word.is_empty() && trimmed(word.as_bytes()) == word.as_bytes()
+}
+
+/// Whether two texts are the same. Every byte of the shorter one is looked at, so that the time that it takes tells at most how long the
+/// texts are, and not where they differ.
+pub fn is_same_text(one: &[u8], other: &[u8]) -> bool
+    ensures { result ≡ bytes_eq one.now other.now }
+{
+    let mut left = one;
+    let mut right = other;
+    let mut is_same = true;
+    while let (Some((byte, more)), Some((same, others))) = (
+        left.split_first(),
+        right.split_first(),
+    ) {
+        is_same = is_same & (*byte == *same);
+        left = more;
+        right = others;
+    }
+    is_same & left.is_empty() & right.is_empty()
 }
 
 /// The interface of a value, where it is one.

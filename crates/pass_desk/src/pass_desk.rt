@@ -3,7 +3,7 @@ ghost use Rattle.pass_desk.specs.PassDesks.{AnswersByPass};
 
 use serve::{Desk, DeskDown};
 use site_desk::{Pass, SiteDesk, SiteLedger};
-use site_journal::{DeskFault, Receipt, StepDeed};
+use site_journal::DeskFault;
 use status_report::{Answer, Ask};
 use std::marker::Model;
 use std::sync::Wait;
@@ -51,11 +51,8 @@ fn answer_by<L: SiteLedger, R: Wait>(
         AnswersByPass L.site L.names pass.old asked.now answer pass.new) }
     ensures refused { OnErr result (pass.new ≡ pass.old) }
 {
-    let Receipt { deed, .. } = desk.call(rt, pass, asked)?;
-    match deed {
-        StepDeed::Asked(_, answer) => Ok(answer),
-        _ => unreachable!(),
-    }
+    let answer = desk.answer(rt, pass, asked)?;
+    Ok(answer)
 }
 
 // What the site answers, by this pass. Where its journal is full, the journal's steps are dropped

@@ -43,7 +43,7 @@ given_by_event place w e = let h = happens place.names w e in record { after = h
 
 -- a session that needs no Login
 abbrev pub trusted_session : SessionState
-trusted_session = record { greeting = own_greeting; login = None; logged_in = true }
+trusted_session = record { greeting = own_greeting; login = None; logged_in = true; tries = None }
 
 -- the reply to a message that waits for what comes of its ask
 abbrev pub waited_reply : Waiting → Outcome → List ℕ

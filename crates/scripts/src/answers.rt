@@ -46,7 +46,7 @@ fn answer_text(alloc: Global, answer: Answer) -> Result<Vec<u8>, Memory>
     match answer {
         Answer::Done => Vec::from_slice(alloc, b"done\n"),
         Answer::Refused(refusal) => refused_text(alloc, refusal_name(refusal)),
-        Answer::Report(bytes) => Ok(bytes.into_vec()),
+        Answer::Report(bytes) => bytes.into_vec(alloc),
     }
 }
 

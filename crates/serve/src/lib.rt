@@ -15,6 +15,7 @@ pub mod laws;
 mod replica_desk;
 mod replying;
 mod serve_fault;
+mod session_watch;
 
 use crate::incoming::{Incoming, next_message};
 use crate::replying::{answer_message, greet};
@@ -24,14 +25,17 @@ use ami_text::{Sink, Source};
 pub use desk::{Desk, DeskDown};
 pub use replica_desk::ReplicaDesk;
 pub use serve_fault::ServeFault;
+pub use session_watch::{NoWatch, SessionWatch};
 use std::alloc::Global;
 
 /// Serves one client to the end of its session: writes the session's greeting, reads the client's
 /// bytes in pieces of at most 1,024, at most 1,000,000 times, and answers each message in turn, by
 /// itself or upon the desk's answer (the messages and replies are Asterisk's Manager Interface, the
-/// limits this project's own). All that is due is written before the next read. `Ok` after a Logoff
-/// is answered, or where the reader has ended; bytes behind a Logoff make no difference, and none
-/// are read but with its last piece. It returns if the desk's calls do.
+/// limits this project's own). All that is due is written before the next read. The watch sees the
+/// session after each message that is answered. `Ok` after a message that ends the session is
+/// answered (a Logoff, or a refused Login with the last try), or where the reader has ended; bytes
+/// behind such a message make no difference, and none are read but with its last piece. It returns
+/// if the desk's calls and the watch's do.
 ///
 /// Faults, as each comes: `Read` where the reader failed; `Write` where the writer failed, or took
 /// none of bytes that aren't empty; `LineTooLong` and `TooManyFields` where the client's stream has
@@ -39,13 +43,14 @@ use std::alloc::Global;
 /// them; `DeskDown` where the desk gave no answer; `Turns` where 1,000,000 reads gave no end;
 /// `Memory`, of the session itself. What was written is then a front of the session's text, and but
 /// for `Write` it ends behind its greeting or a whole reply.
-pub fn serve<R, S: Source, W: Sink, D: Desk<R>>(
+pub fn serve<R, S: Source, W: Sink, D: Desk<R>, V: SessionWatch<R>>(
     rt: &R,
     alloc: Global,
     reader: &mut S,
     writer: &mut W,
     session: Session,
     desk: &mut D,
+    watch: &mut V,
 ) -> Result<(), ServeFault>
     requires reader { S.failed reader.old ≡ false }
     requires writer { W.failed writer.old ≡ false }
@@ -86,7 +91,9 @@ pub fn serve<R, S: Source, W: Sink, D: Desk<R>>(
         let Some(message) = next_message(reader, &mut incoming)? else {
             return Ok(());
         };
-        if answer_message(rt, alloc, &mut session, writer, desk, &message)? {
+        let ends = answer_message(rt, alloc, &mut session, writer, desk, &message)?;
+        watch.after_message(rt, &session);
+        if ends {
             return Ok(());
         }
     }

@@ -31,6 +31,6 @@ impl<R> Desk<R> for ReplicaDesk {
 
     /// The replica's answer; there is always one.
     fn ask(&mut self, rt: &R, asked: Ask) -> Result<Answer, DeskDown> {
-        Ok(ask(self.alloc, &mut self.replica, asked))
+        Ok(ask(self.alloc, &mut self.replica, &asked))
     }
 }

@@ -1,5 +1,3 @@
 pub mod ListeningLemmas
 pub mod PlaceLemmas
-pub mod PortRuns
-pub mod Sites
-pub mod ServedClients
+pub mod ServedSites

@@ -2,13 +2,13 @@
 use Rattle.std.proofs.Common.{◌≡◌, ◌∙◌, ◌+◌, ◌<◌, ◌≤◌, ℕ, zero, suc, List, [], ◌++◌, Option, refl, sym, ap, subst, append_assoc, append-nil, ⊎_elim, arith}
 use Rattle.std.proofs.lemmas.Bool.{cases_lt}
 use Rattle.std.specs.Io.KnownBytes.{Appends}
-use Rattle.std.specs.declared.net.ipv4_addr.Ipv4Addr.{Ipv4Addr}
+use Rattle.std.specs.declared.net.ip_addr.IpAddr.{IpAddr}
 use Rattle.ami_text.proofs.Taking.{taken_grows}
 use Rattle.ami_text.specs.Devices.{HasTaken}
 use Rattle.server.specs.Listening.{listening_line, listening_lines}
 
 -- the lines of some sites stand in front of those of all
-lines_front : (address : Ipv4Addr) (port sites site : ℕ) → site ≤ sites
+lines_front : (address : IpAddr) (port sites site : ℕ) → site ≤ sites
     → (rest : List ℕ) × (listening_lines address port sites ≡ listening_lines address port site ++ rest)
 lines_front address port zero site low = let none : zero ≡ site = omega (arith, low) in
     ([], subst (λ n. [] ≡ listening_lines address port n ++ []) none refl)
@@ -20,7 +20,7 @@ lines_front address port (suc sites) site low = ⊎_elim
     (cases_lt sites site)
 
 -- those of some sites were told
-pub some_told : (address : Ipv4Addr) (port sites site : ℕ) (before after : Option (List ℕ)) → site ≤ sites
+pub some_told : (address : IpAddr) (port sites site : ℕ) (before after : Option (List ℕ)) → site ≤ sites
     → Appends before after (listening_lines address port site) → HasTaken before after (listening_lines address port sites)
 some_told address port sites site before after low told = let all = lines_front address port sites site low in record {
   front = listening_lines address port site;
@@ -30,7 +30,7 @@ some_told address port sites site before after low told = let all = lines_front 
 }
 
 -- and a front of the next one
-pub next_begun : (address : Ipv4Addr) (port sites site : ℕ) (before now after : Option (List ℕ)) (line : List ℕ) → site < sites
+pub next_begun : (address : IpAddr) (port sites site : ℕ) (before now after : Option (List ℕ)) (line : List ℕ) → site < sites
     → Appends before now (listening_lines address port site) → line ≡ listening_line address (port + site) → HasTaken now after line
     → HasTaken before after (listening_lines address port sites)
 next_begun address port sites site before now after line low told is begun =

@@ -1,9 +1,4 @@
-pub mod Places
-pub mod Workers
-pub mod Promises
 pub mod Listening
-pub mod CountedPorts
+pub mod LaunchFaults
 pub mod ServedJournals
-pub mod SiteFaults
-pub mod ServedClients
 pub mod Tasks

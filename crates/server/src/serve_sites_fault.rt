@@ -1,15 +1,16 @@
 ghost use Rattle.std.specs.Prelude.{◌≡◌};
 
-use crate::site_fault::SiteFault;
 use dots::Memory;
+use site_threads::LaunchFault;
+use std::io;
 use thiserror::Error;
 
 /// Why sites aren't served, in order (this project's own).
-#[derive(Clone, Copy, Debug, PartialEq, Eq, Error)]
+#[derive(Clone, Copy, Debug, Error)]
 pub enum ServeSitesFault {
-    /// A site's port isn't to be had; this is the port.
-    #[error("cannot listen on {0}")]
-    CannotListen(u16),
+    /// A site can't listen on its port; this is the port, and the system's reason.
+    #[error("cannot listen on {0}: {1}")]
+    CannotListen(u16, io::Error),
     /// The log failed, or took no bytes.
     #[error("write failed")]
     Write,
@@ -32,15 +33,15 @@ impl From<Memory> for ServeSitesFault {
     }
 }
 
-impl From<SiteFault> for ServeSitesFault {
-    ghost use Rattle.server.specs.SiteFaults.{served_fault};
+impl From<LaunchFault> for ServeSitesFault {
+    ghost use Rattle.server.specs.LaunchFaults.{served_fault};
 
     ghost from_gives = { λ fault same. same ≡ served_fault fault };
 
-    fn from(fault: SiteFault) -> Self {
+    fn from(fault: LaunchFault) -> Self {
         match fault {
-            SiteFault::NoThread => ServeSitesFault::NoThread,
-            SiteFault::Memory => ServeSitesFault::Memory,
+            LaunchFault::NoThread => ServeSitesFault::NoThread,
+            LaunchFault::Memory => ServeSitesFault::Memory,
         }
     }
 }

@@ -79,33 +79,33 @@ returns-in_err-message-clause-turns g c = λ turns.
     let told = c.in_err-message.ensures.has_read.turns (ap Err is) in
     (told.1, turns_over g.D.Desk.answers _ _ _ _ _ _ _ _ _ _ _ _ _ told.0 c.messages.invariant.going c.next_message.ensures.come)
 
-pub returns-then-branch-clause-served : goal.returns-then-branch-clause-served
-returns-then-branch-clause-served g c =
+pub returns-then-ends-clause-served : goal.returns-then-ends-clause-served
+returns-then-ends-clause-served g c =
     let laws = c.messages_so_far.ensures in
     let is = c.in_ok-message.was ∙ ap Ok c.in-Some.is in
     served_by_end g.D.Desk.answers _ _ _ _ _ _ _ _ _ _ _ _ _ c.in-Some.message _ _ _ c.stream_of_two_pieces.ensures.rest laws.more laws.later
-    c.messages.invariant.going (next_so _ _ _ _ _ _ _ _ is c.next_message.ensures.come) c.in_ok-answer_message.ensures.performed.said (as_told _ _ _ c.in_ok-answer_message.ensures.ends c.if-branch.true)
+    c.messages.invariant.going (next_so _ _ _ _ _ _ _ _ is c.next_message.ensures.come) c.in_ok-ends.ensures.performed.said (as_told _ _ _ c.in_ok-ends.ensures.ends c.if-ends.true)
 
-pub returns-then-branch-clause-bytes : goal.returns-then-branch-clause-bytes
-returns-then-branch-clause-bytes g c = given_few g.D.Desk.answers _ _ _ _ _ _ _ _ _ _ _ _ _ c.messages.invariant.going c.next_message.ensures.come
+pub returns-then-ends-clause-bytes : goal.returns-then-ends-clause-bytes
+returns-then-ends-clause-bytes g c = given_few g.D.Desk.answers _ _ _ _ _ _ _ _ _ _ _ _ _ c.messages.invariant.going c.next_message.ensures.come
 
-pub returns-then-branch-clause-desk : goal.returns-then-branch-clause-desk
-returns-then-branch-clause-desk g c = work_said g.D.Desk.answers g.D.Desk.refuses _ _ _ _ _ _ _ _ _ _ _ _ _ c.messages.invariant.going c.in_ok-answer_message.ensures.performed.said
+pub returns-then-ends-clause-desk : goal.returns-then-ends-clause-desk
+returns-then-ends-clause-desk g c = work_said g.D.Desk.answers g.D.Desk.refuses _ _ _ _ _ _ _ _ _ _ _ _ _ c.messages.invariant.going c.in_ok-ends.ensures.performed.said
 
-pub returns-in_err-answer_message-clause-left : goal.returns-in_err-answer_message-clause-left
-returns-in_err-answer_message-clause-left g c =
+pub returns-in_err-ends-clause-left : goal.returns-in_err-ends-clause-left
+returns-in_err-ends-clause-left g c =
     let laws = c.messages_so_far.ensures in
     let is = c.in_ok-message.was ∙ ap Ok c.in-Some.is in
-    rw (gives c.from_residual-in_err-answer_message.result c.in_err-answer_message.field-0.0 c.from_residual-in_err-answer_message.ensures.1)
-    (answering_breaks g.D.Desk.answers g.D.Desk.refuses c.in_err-answer_message.field-0.0 _ _ _ _ _ _ _ _ _ _ _ _ _ c.in-Some.message _ _ c.stream_of_two_pieces.ensures.rest laws.more laws.later
-    c.messages.invariant.going (next_so _ _ _ _ _ _ _ _ is c.next_message.ensures.come) c.in_err-answer_message.ensures.performed.fault)
+    rw (gives c.from_residual-in_err-ends.result c.in_err-ends.field-0.0 c.from_residual-in_err-ends.ensures.1)
+    (answering_breaks g.D.Desk.answers g.D.Desk.refuses c.in_err-ends.field-0.0 _ _ _ _ _ _ _ _ _ _ _ _ _ c.in-Some.message _ _ c.stream_of_two_pieces.ensures.rest laws.more laws.later
+    c.messages.invariant.going (next_so _ _ _ _ _ _ _ _ is c.next_message.ensures.come) c.in_err-ends.ensures.performed.fault)
 
-pub returns-in_err-answer_message-clause-bytes : goal.returns-in_err-answer_message-clause-bytes
-returns-in_err-answer_message-clause-bytes g c = given_few g.D.Desk.answers _ _ _ _ _ _ _ _ _ _ _ _ _ c.messages.invariant.going c.next_message.ensures.come
+pub returns-in_err-ends-clause-bytes : goal.returns-in_err-ends-clause-bytes
+returns-in_err-ends-clause-bytes g c = given_few g.D.Desk.answers _ _ _ _ _ _ _ _ _ _ _ _ _ c.messages.invariant.going c.next_message.ensures.come
 
-pub returns-in_err-answer_message-clause-desk : goal.returns-in_err-answer_message-clause-desk
-returns-in_err-answer_message-clause-desk g c =
-    work_broken g.D.Desk.answers g.D.Desk.refuses c.in_err-answer_message.field-0.0 _ _ _ _ _ _ _ _ _ _ _ _ _ c.messages.invariant.going c.in_err-answer_message.ensures.performed.fault
+pub returns-in_err-ends-clause-desk : goal.returns-in_err-ends-clause-desk
+returns-in_err-ends-clause-desk g c =
+    work_broken g.D.Desk.answers g.D.Desk.refuses c.in_err-ends.field-0.0 _ _ _ _ _ _ _ _ _ _ _ _ _ c.messages.invariant.going c.in_err-ends.ensures.performed.fault
 
 pub messages-preserved : goal.messages-preserved
 messages-preserved g c =
@@ -117,8 +117,8 @@ messages-preserved g c =
         feed = c.in_ok-message.ensures.has_read.feed;
         goes_on = rw c.in-Some.is at c.in_ok-message.ensures.goes_on;
       };
-      writer = c.in_ok-answer_message.ensures.performed.writer.works;
+      writer = c.in_ok-ends.ensures.performed.writer.works;
       counted = let now = rw c.in-Some.is at c.in_ok-message.ensures.counted in omega (arith, now, c.messages.invariant.counted);
       going = going_on g.D.Desk.answers _ _ _ _ _ _ _ _ _ _ _ _ _ _ c.in-Some.message _ _ c.stream_of_two_pieces.ensures.rest laws.more laws.later
-          c.messages.invariant.going (next_so _ _ _ _ _ _ _ _ is c.next_message.ensures.come) c.in_ok-answer_message.ensures.performed.said c.in_ok-answer_message.ensures.session (as_told _ _ _ c.in_ok-answer_message.ensures.ends c.if-branch.false);
+          c.messages.invariant.going (next_so _ _ _ _ _ _ _ _ is c.next_message.ensures.come) c.in_ok-ends.ensures.performed.said c.in_ok-ends.ensures.session (as_told _ _ _ c.in_ok-ends.ensures.ends c.if-ends.false);
     }

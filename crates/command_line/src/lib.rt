@@ -1,0 +1,14 @@
+//! The words of the program `queue_sites`, and its command `script`.
+//!
+//! [`read_command_line`] reads and checks the words. [`run_input`] runs a script from standard input. Cases of files test both, since what
+//! they read and print is outside of what contracts say.
+#![tactic(auto)]
+
+mod exit;
+mod reading;
+mod script_input;
+mod secret_file;
+
+pub use exit::Exit;
+pub use reading::{Request, read_command_line};
+pub use script_input::run_input;

@@ -1,0 +1,63 @@
+use dots::Text80;
+use std::io::Read;
+use std::rt::Files;
+use std::{fs, io};
+
+// How many bytes of a file are looked at: a secret of 80, CR and LF, and one more.
+const LOOK: usize = 83;
+
+// How often a read is tried.
+const READS: u32 = 1_000;
+
+// Why a file gives no secret.
+#[derive(Clone, Copy)]
+pub(crate) enum SecretFault {
+    // The file can't be read.
+    Unreadable(io::Error),
+    // Its first line is no text of at most 80 bytes.
+    NotText,
+}
+
+// Reads until the piece is full or the file has ended. How many bytes were read.
+fn read_front<F: Read>(file: &mut F, piece: &mut [u8]) -> Result<usize, io::Error> {
+    let mut count = 0usize;
+    for _ in 0..READS {
+        if count >= piece.len() {
+            break;
+        }
+        let read = file.read(&mut piece[count..])?;
+        if read == 0 {
+            break;
+        }
+        count = count.saturating_add(read);
+    }
+    Ok(count)
+}
+
+// The first line of these bytes, without its end.
+fn first_line(bytes: &[u8]) -> &[u8] {
+    let line = match bytes.iter().position(|byte| *byte == b'\n') {
+        Some(end) => &bytes[..end],
+        None => bytes,
+    };
+    line.strip_suffix(b"\r").unwrap_or(line)
+}
+
+// Reads the secret that is the first line of a file.
+pub(crate) fn read_secret<R: Files>(rt: &R, name: &str) -> Result<Text80, SecretFault> {
+    let mut file = match fs::open(rt, name) {
+        Ok(file) => file,
+        Err(error) => return Err(SecretFault::Unreadable(error)),
+    };
+    let mut piece = [0u8; LOOK];
+    let count = match read_front(&mut file, &mut piece) {
+        Ok(count) => count,
+        Err(error) => {
+            drop(file);
+            return Err(SecretFault::Unreadable(error));
+        }
+    };
+    drop(file);
+    let front = piece.get(..count).unwrap_or(&piece);
+    Text80::new(first_line(front)).map_err(|_| SecretFault::NotText)
+}

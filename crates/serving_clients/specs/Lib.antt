@@ -1,0 +1,2 @@
+pub mod ReadWaits
+pub mod ServedClients

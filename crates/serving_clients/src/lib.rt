@@ -1,0 +1,26 @@
+//! Manager sessions of clients over TCP, at any desk.
+//!
+//! [`accept`] waits for a client's connection, and [`answer_client`] serves it to the end of its session, within the times of its
+//! [`SessionSettings`]. A client that doesn't log in, sends nothing, or reads too little loses its place after these times.
+#![tactic(auto)]
+
+mod accepting;
+mod client;
+mod client_log;
+mod client_sink;
+mod client_source;
+mod deadlines;
+mod message_count;
+mod places;
+mod server_settings;
+mod tickets;
+mod timed_read;
+
+pub use accepting::accept;
+pub use client::answer_client;
+pub use client_log::ClientLog;
+pub use places::Places;
+pub use server_settings::{
+    IDLE_SECONDS, LOGIN_TRIES, PATIENCE_SECONDS, PLACES, ServerSettings, SessionSettings,
+};
+pub use tickets::Tickets;
