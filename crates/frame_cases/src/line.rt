@@ -1,17 +1,22 @@
 //! What the lines are.
-use crate::saying::{say_front, say_joined, say_stream};
+use crate::changing::{Change, say_changed, say_changed_by_itself};
+use crate::reading::{say_dots, say_raised, say_seen};
+use crate::saying::{say_front, say_stream};
 use delta::Delta;
 use hex::FromHexError;
 use std::alloc::Global;
 use std::io::{self, ErrorKind, Write};
 use std::mem;
 
-// What the bytes of a line are.
+// What is done with the bytes of a line.
 #[derive(Clone, Copy)]
 enum Kind {
     Frame,
     Stream,
-    Join,
+    Changed(Change),
+    Dots,
+    Seen,
+    Raised,
 }
 
 // Writes what a line gives. What was joined so far is held, and `new` lets nothing be held.
@@ -29,6 +34,22 @@ pub(crate) fn give_line<W: Write>(
         return Ok(());
     }
     let (kind, digits) = kind_of(line);
+    match kind {
+        Kind::Changed(change) if digits == "itself" => {
+            say_changed_by_itself(alloc, out, held, change)
+        }
+        kind => give_digits(alloc, out, held, kind, digits),
+    }
+}
+
+// Writes what the bytes of a kind give that these digits spell.
+fn give_digits<W: Write>(
+    alloc: Global,
+    out: &mut W,
+    held: &mut Delta,
+    kind: Kind,
+    digits: &str,
+) -> io::Result<()> {
     match hex::decode(alloc, digits) {
         Ok(bytes) => give_bytes(alloc, out, held, kind, &bytes),
         Err(FromHexError::OutOfMemory) => Err(io::Error::from(ErrorKind::OutOfMemory)),
@@ -47,17 +68,28 @@ fn give_bytes<W: Write>(
     match kind {
         Kind::Frame => say_front(alloc, out, bytes),
         Kind::Stream => say_stream(alloc, out, bytes),
-        Kind::Join => say_joined(alloc, out, held, bytes),
+        Kind::Changed(change) => say_changed(alloc, out, held, change, bytes),
+        Kind::Dots => say_dots(alloc, out, held, bytes),
+        Kind::Seen => say_seen(alloc, out, held, bytes),
+        Kind::Raised => say_raised(alloc, out, held, bytes),
     }
 }
 
-// What a line's bytes are, and their digits.
+// What is done with a line's bytes, and their digits.
 fn kind_of(line: &str) -> (Kind, &str) {
-    if let Some(digits) = line.strip_prefix("stream ") {
-        return (Kind::Stream, digits);
+    let Some((word, digits)) = line.split_once(' ') else {
+        return (Kind::Frame, line);
+    };
+    match word {
+        "stream" => (Kind::Stream, digits),
+        "join" => (Kind::Changed(Change::Join), digits),
+        "set" => (Kind::Changed(Change::Set), digits),
+        "prepare" => (Kind::Changed(Change::Prepare), digits),
+        "assert" => (Kind::Changed(Change::Assert), digits),
+        "kill" => (Kind::Changed(Change::Kill), digits),
+        "dots" => (Kind::Dots, digits),
+        "seen" => (Kind::Seen, digits),
+        "raise" => (Kind::Raised, digits),
+        _ => (Kind::Frame, line),
     }
-    if let Some(digits) = line.strip_prefix("join ") {
-        return (Kind::Join, digits);
-    }
-    (Kind::Frame, line)
 }

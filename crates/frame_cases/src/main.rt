@@ -1,14 +1,17 @@
 //! The program `frame_cases`, for tests: reads lines of frames as hexadecimal, and writes what each frame says, what streams of frames
-//! give, and what joins of frames say together (`docs/frames.md`, "Frames in words").
+//! give, and what is held after frames have changed it (`docs/frames.md`, "Frames in words").
 #![tactic(auto)]
 
+mod changing;
 mod line;
+mod reading;
 mod saying;
 mod words;
 
 use crate::line::give_line;
 use delta::Delta;
-use std::io::{self, BufWriter, Write};
+use std::alloc::Global;
+use std::io::{self, BufWriter, ErrorKind, Write};
 
 fn main(rt: HostRuntime) -> io::Result<()> {
     let mut out = BufWriter::new(rt.alloc(), io::writer(&rt))?;
@@ -27,7 +30,24 @@ fn give_lines<R: AllocGlobal + Input, W: Write>(
 ) -> io::Result<()> {
     for line in rt.lines(rt.alloc()) {
         let line = line?;
-        give_line(rt.alloc(), out, held, line.as_str())?;
+        give_again(rt.alloc(), out, held, line.as_str())?;
     }
     Ok(())
+}
+
+// Writes what a line gives. Where an allocation is refused for it, `memory` and what the line gives once more.
+fn give_again<W: Write>(
+    alloc: Global,
+    out: &mut W,
+    held: &mut Delta,
+    line: &str,
+) -> io::Result<()> {
+    match give_line(alloc, out, held, line) {
+        Err(error) if error.kind() == ErrorKind::OutOfMemory => {
+            drop(error);
+            writeln!(out, "memory")?;
+            give_line(alloc, out, held, line)
+        }
+        given => given,
+    }
 }

@@ -1,9 +1,8 @@
-//! What frames give, that come alone, in a stream, or one to another.
-use crate::words::{say_delta, say_rows};
-use delta::Delta;
+//! What frames give, alone or in a stream.
+use crate::words::say_delta;
 use delta_codec::{DecodeFault, Frame, Splitter, decode, encode};
 use std::alloc::Global;
-use std::io::{self, Write};
+use std::io::{self, ErrorKind, Write};
 
 // Writes what the frame says that the bytes begin with, and how many bytes stand behind it; or the fault.
 pub(crate) fn say_front<W: Write>(alloc: Global, out: &mut W, bytes: &[u8]) -> io::Result<()> {
@@ -58,29 +57,12 @@ fn say_come<W: Write>(out: &mut W, come: usize) -> io::Result<()> {
     writeln!(out, "at byte {come}")
 }
 
-// Joins the delta of the frame that the bytes begin with into what is held, and writes what is held then, with the rows that its
-// queues show; before it the join's fault, if it is refused.
-pub(crate) fn say_joined<W: Write>(
-    alloc: Global,
-    out: &mut W,
-    held: &mut Delta,
-    bytes: &[u8],
-) -> io::Result<()> {
-    let frame = match decode(alloc, bytes) {
-        Ok((frame, _)) => frame,
-        Err(fault) => return say_fault(out, fault),
-    };
-    if let Err((fault, refused)) = held.join(frame.delta) {
-        drop(refused);
-        writeln!(out, "refused {fault:?}")?;
+// Writes the name of a fault. Out of memory is an error.
+pub(crate) fn say_fault<W: Write>(out: &mut W, fault: DecodeFault) -> io::Result<()> {
+    match fault {
+        DecodeFault::Memory => Err(io::Error::from(ErrorKind::OutOfMemory)),
+        fault => writeln!(out, "fault {fault:?}"),
     }
-    say_delta(out, held)?;
-    say_rows(out, held.members())
-}
-
-// Writes the name of a fault.
-fn say_fault<W: Write>(out: &mut W, fault: DecodeFault) -> io::Result<()> {
-    writeln!(out, "fault {fault:?}")
 }
 
 // Writes what a frame says, and its bytes.

@@ -1,8 +1,11 @@
-//! Serves one session of a new site from standard input, for tests by files: `session_cases [--greeting=TEXT] PIECE USER SECRET QUEUE..`.
+//! Serves one session of a new site from standard input, for tests by files:
+//! `session_cases [--greeting=TEXT] [--tries=N] [--take=FRAME] PIECE USER SECRET QUEUE..`.
 //!
 //! Standard input is what the client sends. It is read whole, and then given to the session in pieces of at most PIECE bytes. A session
-//! with no USER, an empty word, is trusted; where no GREETING is given it has its own. The site has the queues that are named, in
-//! that order, and knows nothing at first. What the session writes goes to standard output, also where it ends with a fault.
+//! with no USER, an empty word, is trusted; where no greeting is given it has its own; where tries are given it ends with its refused Login
+//! of that number. The site has the number 0 and the queues that are
+//! named, in that order. It knows nothing at first, or what a frame says that it has taken, given as hexadecimal. What the session writes
+//! goes to standard output, also where it ends with a fault.
 //!
 //! | Status | How the session ended |
 //! |---|---|
@@ -24,21 +27,25 @@ ghost use Rattle.std.specs.Prelude.{◌<◌};
 
 use ami_session::Session;
 use ami_text::{MemorySource, StdSink};
+use delta_codec::decode;
 use dots::{QueueName, SiteId, Text80};
 use replica::{QueueList, Replica};
-use serve::{ReplicaDesk, ServeFault, serve};
+use serve::{NoWatch, ReplicaDesk, ServeFault, serve};
 use std::alloc::Global;
 use std::io;
 use std::io::Read;
 use std::process::ExitCode;
 use std::rt::Env;
 
-const USAGE: &str = "usage: session_cases [--greeting=TEXT] PIECE USER SECRET QUEUE..";
+const USAGE: &str =
+    "usage: session_cases [--greeting=TEXT] [--tries=N] [--take=FRAME] PIECE USER SECRET QUEUE..";
 
 // What the words of the command line tell.
 #[derive(Clone, Copy)]
 struct Told<'a> {
     greeting: Option<&'a str>,
+    tries: Option<&'a str>,
+    frame: Option<&'a str>,
     piece: usize,
     user: &'a str,
     secret: &'a str,
@@ -71,23 +78,33 @@ fn run<R: Env + AllocGlobal + Print + Eprint + Input>(rt: &R) -> io::Result<u8> 
     }
 }
 
+// What stands behind `front` in the first word where that begins with it, and the other words; else all words.
+fn optional<'a>(front: &str, words: &'a [String]) -> (Option<&'a str>, &'a [String]) {
+    let [first, rest @ ..] = words else {
+        return (None, words);
+    };
+    match first.strip_prefix(front) {
+        Some(told) => (Some(told), rest),
+        None => (None, words),
+    }
+}
+
 // What these words tell, of which the first is the program's own name.
 fn read_words(words: &[String]) -> Option<Told<'_>> {
-    let [_, first, rest @ ..] = words else {
+    let [_, words @ ..] = words else {
         return None;
     };
-    let greeting = first.strip_prefix("--greeting=");
-    let words = if greeting.is_some() {
-        rest
-    } else {
-        &words[1..]
-    };
+    let (greeting, words) = optional("--greeting=", words);
+    let (tries, words) = optional("--tries=", words);
+    let (frame, words) = optional("--take=", words);
     let [piece, user, secret, queues @ ..] = words else {
         return None;
     };
     match piece.parse() {
         Ok(piece) if piece > 0 => Some(Told {
             greeting,
+            tries,
+            frame,
             piece,
             user,
             secret,
@@ -97,20 +114,27 @@ fn read_words(words: &[String]) -> Option<Told<'_>> {
     }
 }
 
-// Serves the session that is told. None where the words are no texts of a session, or no list of queues.
+// Serves a session by the words of the command line. `None`: a word is no text of a session, no list of queues, or no frame that the site takes.
 fn serve_told<R: AllocGlobal + Print>(
     rt: &R,
     stream: &[u8],
     told: Told<'_>,
 ) -> Option<Result<(), ServeFault>> {
     let alloc = rt.alloc();
-    let site = SiteId::new(0)?;
     let session = session(told)?;
-    let list = queue_list(alloc, told.queues)?;
+    let replica = replica(alloc, told)?;
     let mut reader = MemorySource::new(stream, told.piece);
     let mut writer = StdSink::new(io::writer(rt));
-    let mut desk = ReplicaDesk::new(alloc, Replica::new(alloc, site, list));
-    Some(serve(rt, alloc, &mut reader, &mut writer, session, &mut desk))
+    let mut desk = ReplicaDesk::new(alloc, replica);
+    Some(serve(
+        rt,
+        alloc,
+        &mut reader,
+        &mut writer,
+        session,
+        &mut desk,
+        &mut NoWatch,
+    ))
 }
 
 fn session(told: Told<'_>) -> Option<Session> {
@@ -118,6 +142,10 @@ fn session(told: Told<'_>) -> Option<Session> {
         Session::trusted()
     } else {
         Session::new(text(told.user)?, text(told.secret)?)
+    };
+    let session = match told.tries {
+        None => session,
+        Some(tries) => session.with_tries(tries.parse().ok()?),
     };
     match told.greeting {
         None => Some(session),
@@ -135,6 +163,34 @@ fn queue_list(alloc: Global, queues: &[String]) -> Option<QueueList> {
         names.push(QueueName::new(queue.as_bytes()).ok()?).ok()?;
     }
     QueueList::new(alloc, &names).ok()
+}
+
+// Site 0 of these queues, which has taken the given frame, if there is one.
+fn replica(alloc: Global, told: Told<'_>) -> Option<Replica> {
+    let site = SiteId::new(0)?;
+    let list = queue_list(alloc, told.queues)?;
+    let mut replica = Replica::new(alloc, site, list);
+    let Some(frame) = told.frame else {
+        return Some(replica);
+    };
+    if has_taken(alloc, &mut replica, frame) {
+        return Some(replica);
+    }
+    drop(replica);
+    None
+}
+
+// Whether a site takes the frame that these digits spell.
+fn has_taken(alloc: Global, replica: &mut Replica, digits: &str) -> bool {
+    let Ok(bytes) = hex::decode(alloc, digits) else {
+        return false;
+    };
+    let front = decode(alloc, &bytes);
+    drop(bytes);
+    match front {
+        Ok((frame, _)) => replica.take(frame).is_ok(),
+        Err(_) => false,
+    }
 }
 
 // The exit status that tells how a session ended.

@@ -226,6 +226,9 @@ fn retired_cells_count_towards_the_limit(rt: HostRuntime) {
     take(&rt, &mut arena, 1, 2);
     place_at(&rt, &mut arena, 3, 2, 0);
     take(&rt, &mut arena, 2, 3);
+    assert_spent(&rt, &arena, 0);
+    assert_spent(&rt, &arena, 1);
+    assert_spent(&rt, &arena, 2);
     assert_cells(&rt, &arena, 0, 3);
     assert_full(&rt, &mut arena, 1_048_574);
     drop(arena);

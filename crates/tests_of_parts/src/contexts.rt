@@ -69,6 +69,23 @@ fn assert_one_run(rt: &impl Abort, context: &Context) {
 }
 
 #[test]
+fn a_dot_between_two_runs_makes_them_one(rt: HostRuntime) {
+    let mut context = of_dot(&rt, rt.alloc(), (0, 1));
+    insert(&rt, &mut context, (0, 3));
+    assert_runs(&rt, &context, 2, 1);
+    insert(&rt, &mut context, (0, 2));
+    assert_runs(&rt, &context, 1, 3);
+    let other = of_dot(&rt, rt.alloc(), (1, 5));
+    join(&rt, &mut context, &other);
+    drop(other);
+    assert_runs(&rt, &context, 2, 3);
+    let copy = context.copy().expect(&rt, "memory");
+    assert_same_runs(&rt, &copy, &context);
+    drop(copy);
+    drop(context);
+}
+
+#[test]
 fn runs_that_touch_are_joined_to_one(rt: HostRuntime) {
     let mut context = every_second(&rt, rt.alloc(), 1, 65_536);
     let other = every_second(&rt, rt.alloc(), 2, 65_535);

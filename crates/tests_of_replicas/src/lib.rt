@@ -3,6 +3,8 @@
 #![tactic(auto)]
 
 #[cfg(test)]
+mod asks;
+#[cfg(test)]
 mod frames;
 #[cfg(test)]
 mod histories;
@@ -18,5 +20,7 @@ mod parse_operations;
 mod replica_lines;
 #[cfg(test)]
 mod replicas;
+#[cfg(test)]
+mod restores;
 #[cfg(test)]
 mod steps;

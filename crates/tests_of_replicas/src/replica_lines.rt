@@ -52,7 +52,7 @@ fn command(rt: &impl Abort, kind: &str, words: &mut Words<'_>) -> Command {
 
 // What a command gives.
 fn answer(rt: &impl Abort, alloc: Global, replica: &mut Replica, command: Command) -> String {
-    match replica.command(command) {
+    match replica.command(&command) {
         Ok(()) => string(rt, alloc, "done"),
         Err(refusal) => refused_text(rt, alloc, &refusal),
     }

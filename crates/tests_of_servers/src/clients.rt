@@ -33,6 +33,12 @@ const HALF_LOGIN: Exchange = Exchange {
     read: "",
 };
 
+// An add that isn't permitted before a login.
+const EARLY_ADD: Exchange = Exchange {
+    sent: "Action: QueueAdd\r\nQueue: sales\r\nInterface: SIP/1\r\n\r\n",
+    read: replies::NOT_PERMITTED,
+};
+
 // An add to `sales`.
 const ADD: Exchange = Exchange {
     sent: "Action: QueueAdd\r\nQueue: sales\r\nInterface: SIP/1\r\n\r\n",
@@ -133,8 +139,8 @@ fn be_silent(rt: &(impl Abort + Clock), stream: &TcpStream) {
 pub enum Client {
     /// It asks for 999 reports.
     AskOften,
-    /// It is given up in the midst of its login.
-    InLogin,
+    /// It sends a message that is no login, and is given up in the midst of one.
+    NotLoggedIn,
     /// It is given up behind its login.
     LoggedIn,
     /// It is silent behind its login for a long time, and then logs off.
@@ -144,7 +150,7 @@ pub enum Client {
 fn behave(rt: &(impl Abort + Clock), stream: &TcpStream, client: Client) {
     match client {
         Client::AskOften => ask_often(rt, stream),
-        Client::InLogin => talk_to_the_end(rt, stream, &[GREETING, HALF_LOGIN]),
+        Client::NotLoggedIn => talk_to_the_end(rt, stream, &[GREETING, EARLY_ADD, HALF_LOGIN]),
         Client::LoggedIn => talk_to_the_end(rt, stream, &[GREETING, LOGIN]),
         Client::Silent => be_silent(rt, stream),
     }

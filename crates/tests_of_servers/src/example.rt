@@ -36,7 +36,7 @@ fn add(rt: &impl Abort) -> Command {
 
 // What a site has done once it has added SIP/1.
 fn added(rt: &impl Abort, site: &mut Replica) -> Frame {
-    site.command(add(rt)).expect(rt, "it is added");
+    site.command(&add(rt)).expect(rt, "it is added");
     let cut = site.cut().expect(rt, "a number is left");
     cut.expect(rt, "there is a change")
 }

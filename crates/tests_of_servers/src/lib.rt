@@ -13,6 +13,8 @@ mod feeds;
 #[cfg(test)]
 mod lists;
 #[cfg(test)]
+mod logs;
+#[cfg(test)]
 mod replies;
 #[cfg(test)]
 mod reports;

@@ -4,6 +4,9 @@ pub(crate) const GREETING: &str = "Queue Sites Call Manager/1.0.0\r\n";
 // The reply to a login.
 pub(crate) const ACCEPTED: &str = "Response: Success\r\nMessage: Authentication accepted\r\n\r\n";
 
+// The reply to an add before a login.
+pub(crate) const NOT_PERMITTED: &str = "Response: Error\r\nMessage: Permission denied\r\n\r\n";
+
 // The reply to an add.
 pub(crate) const ADDED: &str = "Response: Success\r\nMessage: Added interface to queue\r\n\r\n";
 

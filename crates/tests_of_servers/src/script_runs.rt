@@ -76,10 +76,11 @@ fn assert_read(
     drop(script);
 }
 
-// Runs a script of two lines that aren't understood.
+// Runs a script of lines that aren't understood.
 fn assert_written(
     rt: &impl Abort,
     alloc: Global,
+    script: &[u8],
     most: usize,
     calls: u64,
     wanted: Result<u64, ScriptFault>,
@@ -92,16 +93,11 @@ fn assert_written(
         },
         Device { most, calls },
     );
-    assert_run(
-        rt,
-        alloc,
-        b"0 dance\n0 dance\n",
-        read,
-        write,
-        wanted,
-        written,
-    );
+    assert_run(rt, alloc, script, read, write, wanted, written);
 }
+
+// Two lines that aren't understood.
+const TWO: &[u8] = b"0 dance\n0 dance\n";
 
 #[test]
 fn a_script_is_read_to_its_end_or_ends_with_its_fault(rt: HostRuntime) {
@@ -118,19 +114,30 @@ fn a_script_is_read_to_its_end_or_ends_with_its_fault(rt: HostRuntime) {
     assert_written(
         &rt,
         alloc,
+        b"0 dance",
+        9,
+        9,
+        Ok(1),
+        "line 1: not understood\n",
+    );
+    assert_written(
+        &rt,
+        alloc,
+        TWO,
         9,
         9,
         Ok(2),
         "line 1: not understood\nline 2: not understood\n",
     );
-    assert_written(&rt, alloc, 10, 0, Err(Write), "");
+    assert_written(&rt, alloc, TWO, 10, 0, Err(Write), "");
     assert_written(
         &rt,
         alloc,
+        TWO,
         10,
         4,
         Err(Write),
         "line 1: not understood\nline 2: no",
     );
-    assert_written(&rt, alloc, 0, 9, Err(Write), "");
+    assert_written(&rt, alloc, TWO, 0, 9, Err(Write), "");
 }

@@ -8,7 +8,7 @@ use crate::shared::{assert_text, is_text, replica, text};
 use ami_session::Session;
 use ami_text::{Failed, MemorySink, MemorySource, Sink, Source, StdSink, StdSource};
 use serve::laws::a_session_keeps_what_each_answer_keeps;
-use serve::{Desk, DeskDown, ReplicaDesk, ServeFault, serve};
+use serve::{Desk, DeskDown, NoWatch, ReplicaDesk, ServeFault, serve};
 use status_report::{Answer, Ask};
 use std::alloc::Global;
 use std::cell::Cell;
@@ -77,7 +77,7 @@ fn serve_session<S: Source, W: Sink, D: Desk<()>>(
     requires reader { S.failed reader.old ≡ false }
     requires writer { W.failed writer.old ≡ false }
 {
-    serve(&(), alloc, reader, writer, session, desk)
+    serve(&(), alloc, reader, writer, session, desk, &mut NoWatch)
 }
 
 // How a session on this stream ends. Its reader gives a byte a read and fails after a number of reads. Its writer takes a number of
@@ -350,7 +350,15 @@ fn served_over_a_slice<'a>(
     a_session_keeps_what_each_answer_keeps::<(), ReplicaDesk, u16>();
     let mut reader = StdSource::new(bytes);
     let mut writer = StdSink::new(held);
-    let served = serve(&(), alloc, &mut reader, &mut writer, session, desk);
+    let served = serve(
+        &(),
+        alloc,
+        &mut reader,
+        &mut writer,
+        session,
+        desk,
+        &mut NoWatch,
+    );
     (served, reader.into_inner(), writer.into_inner())
 }
 

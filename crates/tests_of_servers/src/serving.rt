@@ -1,14 +1,16 @@
 //! Sites that are served: their ports, their settings, and how serving them ends.
 use crate::shared::{list, text};
 use ami_text::MemorySink;
+use event_log::EventLog;
 use server::{
-    LAST_PORT, MOST_SERVED_SITES, ServeSitesFault, ServerSettings, SessionSettings, serve_sites,
+    LAST_PORT, MOST_PLACES, MOST_SERVED_SITES, ServeSitesFault, ServerSettings, SessionSettings,
+    serve_sites,
 };
 use site_journal::Journaled;
 use std::alloc::Global;
-use std::net::{Ipv4Addr, Net, SocketAddr, TcpListener, TcpStream};
+use std::net::{IpAddr, Ipv4Addr, Net, SocketAddr, TcpListener, TcpStream};
 use std::process::Abort;
-use std::sync::Wait;
+use std::sync::{Arc, Wait};
 use std::thread::Threads;
 use std::time::{Clock, Duration};
 
@@ -23,8 +25,8 @@ pub const SHORT: u64 = 300;
 pub enum Limit {
     /// As long as a server gives them by itself.
     Usual,
-    /// A short time for the first message; they may be silent without end.
-    FirstMessage,
+    /// A short time to log in; they may be silent without end.
+    Login,
     /// A short time in which they are silent.
     Idle,
 }
@@ -70,7 +72,7 @@ pub fn free_port<R: Net<Listener = TcpListener, Stream = TcpStream>>(
     port
 }
 
-/// A number of sites at this port, for the user `admin` with the secret `s3`.
+/// A number of sites at this port, of two places each, for the user `admin` with the secret `s3`.
 pub fn settings(
     rt: &impl Abort,
     sites: u16,
@@ -82,18 +84,25 @@ pub fn settings(
     let short = Duration::from_millis(SHORT);
     match limit {
         Limit::Usual => {}
-        Limit::FirstMessage => {
-            session.first_message = short;
+        Limit::Login => {
+            session.login = short;
             session.idle = None;
         }
         Limit::Idle => session.idle = Some(short),
     }
     ServerSettings {
         sites,
-        address,
+        places: 2,
+        address: IpAddr::V4(address),
         port,
         session,
     }
+}
+
+// A log of events that nobody reads.
+fn events(rt: &impl Abort, alloc: Global) -> Arc<EventLog, Global> {
+    let events = EventLog::new(alloc).expect(rt, "memory");
+    Arc::new(alloc, events).expect(rt, "memory")
 }
 
 /// Serves a number of sessions of each site, over a log that fails behind a number of writes. How that ends, and what the log has taken.
@@ -105,20 +114,25 @@ pub fn served<R>(
     writes: u64,
 ) -> (Result<Vec<Journaled>, ServeSitesFault>, MemorySink)
 where
-    R: Net<Listener = TcpListener, Stream = TcpStream>
-        + Abort
-        + Threads
-        + Wait
-        + Clock
-        + Eprint
-        + Sync,
+    R: Net<Listener = TcpListener, Stream = TcpStream> + Abort + Threads + Wait + Clock + Sync,
 {
     let (sites, port) = (settings.sites, settings.port);
     assert!(rt; 0 < sites && sites <= MOST_SERVED_SITES);
     assert!(rt; 0 < port && port <= LAST_PORT);
+    assert!(rt; settings.places <= MOST_PLACES);
     let mut log = MemorySink::failing(alloc, 700, writes);
     let list = list(rt, alloc, &["sales"]);
-    let ended = serve_sites(rt, alloc, settings, &list, Some(sessions), &mut log);
+    let events = events(rt, alloc);
+    let ended = serve_sites(
+        rt,
+        alloc,
+        settings,
+        &list,
+        Some(sessions),
+        &mut log,
+        &events,
+    );
+    drop(events);
     drop(list);
     (ended, log)
 }

@@ -2,9 +2,8 @@
 use crate::shared::assert_text;
 use ami_session::{Act, Pending, Session};
 use ami_text::{Feed, Message};
-use dots::Bytes;
 use replica::Refusal;
-use status_report::Answer;
+use status_report::{Answer, SharedBytes};
 use std::alloc::Global;
 use std::process::Abort;
 
@@ -107,7 +106,7 @@ fn each_refusal_has_its_text(rt: HostRuntime) {
 // Asserts that a report is the reply to a message of these lines as it is.
 fn assert_reported(rt: &impl Abort, alloc: Global, lines: &str) {
     let report = Vec::from_slice(alloc, b"a report").expect(rt, "memory");
-    let answer = Answer::Report(Bytes::new(report));
+    let answer = Answer::Report(SharedBytes::new(alloc, report).expect(rt, "memory"));
     assert_reply(rt, alloc, lines, answer, &["a report"]);
 }
 

@@ -42,13 +42,7 @@ fn has_done(journal: &Journaled) -> bool {
 // The journals of sites after each has had a number of sessions.
 fn journals_of<R>(rt: &R, alloc: Global, settings: &ServerSettings, sessions: u32) -> Vec<Journaled>
 where
-    R: Net<Listener = TcpListener, Stream = TcpStream>
-        + Abort
-        + Threads
-        + Wait
-        + Clock
-        + Eprint
-        + Sync,
+    R: Net<Listener = TcpListener, Stream = TcpStream> + Abort + Threads + Wait + Clock + Sync,
 {
     let (ended, log) = served(rt, alloc, settings, sessions, 10);
     drop(log);
@@ -66,13 +60,7 @@ fn served_to<R>(
     clients: Clients,
 ) -> Vec<Journaled>
 where
-    R: Net<Listener = TcpListener, Stream = TcpStream>
-        + Abort
-        + Threads
-        + Wait
-        + Clock
-        + Eprint
-        + Sync,
+    R: Net<Listener = TcpListener, Stream = TcpStream> + Abort + Threads + Wait + Clock + Sync,
 {
     let port = free_port(rt, first, sites);
     assert!(rt; port < LAST_PORT);
@@ -119,13 +107,7 @@ fn the_first_thousand_steps_are_dropped(rt: HostRuntime) {
 // One site is served to one client, which may take so long.
 fn assert_served<R>(rt: &R, alloc: Global, first: u16, limit: Limit, client: Client)
 where
-    R: Net<Listener = TcpListener, Stream = TcpStream>
-        + Abort
-        + Threads
-        + Wait
-        + Clock
-        + Eprint
-        + Sync,
+    R: Net<Listener = TcpListener, Stream = TcpStream> + Abort + Threads + Wait + Clock + Sync,
 {
     drop(served_to(rt, alloc, first, 1, limit, 1, Clients::One(client)));
 }
@@ -133,27 +115,30 @@ where
 #[test]
 fn clients_that_take_too_long_lose_their_places(rt: HostRuntime) {
     let alloc = rt.alloc();
-    // No message within the time for the first; nothing within the time for silence; and a message in time, after which silence is right.
-    assert_served(&rt, alloc, 24_460, Limit::FirstMessage, Client::InLogin);
+    // No login in time, whatever is sent; nothing within the time for silence; and a login in time, after which silence is right.
+    assert_served(&rt, alloc, 24_460, Limit::Login, Client::NotLoggedIn);
     assert_served(&rt, alloc, 24_480, Limit::Idle, Client::LoggedIn);
-    assert_served(&rt, alloc, 24_500, Limit::FirstMessage, Client::Silent);
+    assert_served(&rt, alloc, 24_500, Limit::Login, Client::Silent);
+}
+
+// Whether sites aren't served since this port can't be listened on.
+fn is_taken(ended: &Result<Vec<Journaled>, ServeSitesFault>, port: u16) -> bool {
+    match ended {
+        Err(ServeSitesFault::CannotListen(own, _)) => *own == port,
+        _ => false,
+    }
 }
 
 // Why three sites aren't served where two ports are taken; whether their first port is free afterwards.
 fn assert_cannot_listen<R>(rt: &R, alloc: Global, port: u16, one: u16, other: u16, told: u16)
 where
-    R: Net<Listener = TcpListener, Stream = TcpStream>
-        + Abort
-        + Threads
-        + Wait
-        + Clock
-        + Eprint
-        + Sync,
+    R: Net<Listener = TcpListener, Stream = TcpStream> + Abort + Threads + Wait + Clock + Sync,
 {
     let (one, other) = (bound(rt, HERE, one), bound(rt, HERE, other));
     let settings = settings(rt, 3, HERE, port, Limit::Usual);
     let (ended, log) = served(rt, alloc, &settings, 0, 10);
-    assert!(rt; ended.err() == Some(ServeSitesFault::CannotListen(told)));
+    assert!(rt; is_taken(&ended, told));
+    drop(ended);
     drop(log);
     drop(settings);
     drop(one);
@@ -170,34 +155,31 @@ fn a_port_that_is_taken(rt: HostRuntime) {
     assert_cannot_listen(&rt, alloc, port, port + 1, port + 2, port + 1);
 }
 
+// How serving two sites ends.
+#[derive(Clone, Copy)]
+enum End {
+    Served,
+    WriteFailed,
+    // This port is taken.
+    Taken(u16),
+}
+
 // Serves two sites at 127.0.0.2 that take no client, over a log that fails behind a number of writes. How that ends is asserted; what the
 // log has taken.
-fn told<R>(
-    rt: &R,
-    alloc: Global,
-    port: u16,
-    writes: u64,
-    wanted: Option<ServeSitesFault>,
-) -> MemorySink
+fn told<R>(rt: &R, alloc: Global, port: u16, writes: u64, wanted: End) -> MemorySink
 where
-    R: Net<Listener = TcpListener, Stream = TcpStream>
-        + Abort
-        + Threads
-        + Wait
-        + Clock
-        + Eprint
-        + Sync,
+    R: Net<Listener = TcpListener, Stream = TcpStream> + Abort + Threads + Wait + Clock + Sync,
 {
     let settings = settings(rt, 2, there(), port, Limit::Usual);
     let (ended, log) = served(rt, alloc, &settings, 0, writes);
     drop(settings);
-    match ended {
-        Ok(journals) => {
-            assert!(rt; wanted.is_none() && journals.len() == 2);
-            drop(journals);
-        }
-        Err(fault) => assert!(rt; wanted == Some(fault)),
-    }
+    let is_wanted = match wanted {
+        End::Served => matches!(&ended, Ok(journals) if journals.len() == 2),
+        End::WriteFailed => matches!(&ended, Err(ServeSitesFault::Write)),
+        End::Taken(port) => is_taken(&ended, port),
+    };
+    drop(ended);
+    assert!(rt; is_wanted);
     log
 }
 
@@ -212,23 +194,17 @@ fn the_log_tells_who_listens(rt: HostRuntime) {
         port + 1
     )
     .expect(&rt, "memory");
-    let log = told(&rt, alloc, port, 10, None);
+    let log = told(&rt, alloc, port, 10, End::Served);
     assert!(&rt; log.as_slice() == lines.as_bytes());
     drop(log);
     // The second line fails.
-    let log = told(&rt, alloc, port, 1, Some(ServeSitesFault::Write));
+    let log = told(&rt, alloc, port, 1, End::WriteFailed);
     assert!(&rt; lines.as_bytes().starts_with(log.as_slice()) && !log.as_slice().is_empty());
     drop(log);
     drop(lines);
     // The log fails at once, but a port that is taken is told first.
     let taken = bound(&rt, there(), port);
-    let log = told(
-        &rt,
-        alloc,
-        port,
-        0,
-        Some(ServeSitesFault::CannotListen(port)),
-    );
+    let log = told(&rt, alloc, port, 0, End::Taken(port));
     assert!(&rt; log.as_slice().is_empty());
     drop(log);
     drop(taken);

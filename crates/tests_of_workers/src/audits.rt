@@ -45,7 +45,7 @@ fn assert_wrong_sites(rt: &impl Abort, alloc: Global, first: u16, second: u16, q
 }
 
 #[test]
-fn journals_are_whole_of_one_list_and_in_order(rt: HostRuntime) {
+fn journals_are_fresh_of_one_list_and_in_order(rt: HostRuntime) {
     let alloc = rt.alloc();
     let events = audit(alloc, &[]).ok().expect(&rt, "events");
     assert!(rt; events.is_empty());
@@ -57,7 +57,7 @@ fn journals_are_whole_of_one_list_and_in_order(rt: HostRuntime) {
     assert!(rt; second.whole(0).is_ok());
     assert!(rt; second.checkpoint().is_ok());
     let first = journal(&rt, alloc, 0);
-    assert_no_run(&rt, alloc, first, second, AuditFault::NotWhole(1));
+    assert_no_run(&rt, alloc, first, second, AuditFault::NotFresh(1));
 }
 
 // The first frame of site 0, of which a byte is changed that was this before.

@@ -21,18 +21,18 @@ fn closed<L: SiteLedger>(
     close(desk, passes).ok().expect(rt, "a journal")
 }
 
-// Closes a desk with both of its passes, and asserts how long its journal is then, and how many of its steps were before its base.
+// Closes a desk with both of its passes, and asserts how many steps its journal has had then, and how many of them were before its base.
 pub(crate) fn assert_closed<L: SiteLedger>(
     rt: &impl Abort,
     alloc: Global,
     desk: SiteDesk<L>,
     first: Pass<L>,
     second: Pass<L>,
-    len: u64,
+    count: u64,
     start: u64,
 ) {
     let journal = closed(rt, alloc, desk, first, second);
-    assert!(rt; journal.len() == len && journal.start() == start);
+    assert!(rt; journal.count() == count && journal.start() == start);
     drop(journal);
 }
 
@@ -44,10 +44,10 @@ pub(crate) fn assert_settled<L: SiteLedger>(
     first: Pass<L>,
     second: Pass<L>,
     receipts: [Vec<Receipt>; 2],
-    len: u64,
+    count: u64,
 ) {
     let journal = closed(rt, alloc, desk, first, second);
-    assert!(rt; journal.len() == len);
+    assert!(rt; journal.count() == count);
     assert!(rt; settle(&journal, &receipts).is_ok());
     drop(receipts);
     drop(journal);

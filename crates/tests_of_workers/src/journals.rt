@@ -1,16 +1,17 @@
-//! Journals of a site: their steps, the receipts of these, and what they keep.
+//! Journals of a site: their steps, the receipts of these, and what they keep. How a full one goes on is shown by the cases of
+//! `cases/journals`.
 use crate::asks::{add, status};
 use crate::frames::ADDED;
-use crate::journal_steps::{called, cut, frame, journal, journal_of, knows, replica, shown, take};
+use crate::journal_steps::{called, cut, frame, journal, knows, shown, take};
 use replica::Refusal;
-use site_journal::{DeskFault, Journaled, Receipt, SettleFault, Step, StepDeed, settle};
+use site_journal::{Journaled, Receipt, SettleFault, Step, StepDeed, settle};
 use status_report::{Answer, Ask};
 use std::alloc::Global;
 use std::process::Abort;
 
-// Asserts how long a journal is, and how many of its steps were before its base.
+// Asserts how many steps a journal has had in all, and how many of them were before its base.
 fn assert_length(rt: &impl Abort, journal: &Journaled, len: u64, start: u64) {
-    assert!(rt; journal.len() == len && journal.start() == start);
+    assert!(rt; journal.len() == len && journal.count() == len && journal.start() == start);
     assert!(rt; journal.steps().len() as u64 == len.saturating_sub(start));
 }
 
@@ -91,12 +92,12 @@ fn add_twice(rt: &impl Abort, alloc: Global, journal: &mut Journaled) {
 
 // Asserts what a journal of two asks keeps: the frame of a cut, a report, and nothing behind a checkpoint. The frame.
 fn kept(rt: &impl Abort, alloc: Global, journal: &mut Journaled) -> Vec<u8> {
-    assert!(rt; journal.kept() == 0);
+    assert!(rt; journal.payload_bytes() == 0);
     let frame = frame(rt, journal, 7);
-    assert!(rt; journal.kept() == ADDED.len() as u64);
+    assert!(rt; journal.payload_bytes() == ADDED.len() as u64);
     ask_status(rt, alloc, journal);
-    assert!(rt; journal.kept() > ADDED.len() as u64);
-    assert!(rt; journal.checkpoint().is_ok() && journal.kept() == 0);
+    assert!(rt; journal.payload_bytes() > ADDED.len() as u64);
+    assert!(rt; journal.checkpoint().is_ok() && journal.payload_bytes() == 0);
     frame
 }
 
@@ -178,34 +179,5 @@ fn receipts_settle_where_they_are_those_of_the_steps(rt: HostRuntime) {
     assert!(rt; own.checkpoint().is_ok());
     let fault = SettleFault::Checkpointed;
     assert_settles(&rt, alloc, &own, &[1], &[0, 2], Some(fault));
-    drop(own);
-}
-
-// Makes a frame of all by a pass.
-fn make_whole(rt: &impl Abort, journal: &mut Journaled, pass: u32) {
-    let step = journal.whole(pass).ok().expect(rt, "a step");
-    assert!(rt; step.pass == pass && matches!(step.deed, StepDeed::Whole(_)));
-    drop(step);
-}
-
-// Asks twice in a journal of two steps, which is full then, and goes on behind a checkpoint.
-fn fill_and_go_on(rt: &impl Abort, alloc: Global, journal: &mut Journaled) {
-    ask_status(rt, alloc, journal);
-    ask_status(rt, alloc, journal);
-    assert!(rt; journal.cut(7).err() == Some(DeskFault::JournalFull));
-    assert!(rt; journal.checkpoint().is_ok());
-    assert_length(rt, journal, 2, 2);
-    cut_nothing(rt, journal, 7);
-    assert_length(rt, journal, 3, 2);
-    make_whole(rt, journal, 8);
-    assert_length(rt, journal, 4, 2);
-}
-
-#[test]
-fn a_full_journal_goes_on_behind_a_checkpoint(rt: HostRuntime) {
-    let mut own = journal_of(&rt, rt.alloc(), replica(&rt, rt.alloc(), 0), 2);
-    fill_and_go_on(&rt, rt.alloc(), &mut own);
-    let fault = SettleFault::Checkpointed;
-    assert_settles(&rt, rt.alloc(), &own, &[1], &[0], Some(fault));
     drop(own);
 }

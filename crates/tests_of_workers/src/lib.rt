@@ -1,5 +1,5 @@
-//! Tests of journals, of the bytes that they are given to take, of audits, links, pumps and desks, and of whole sites as threads, by their
-//! public calls. This crate has no code of its own.
+//! Tests of journals, audits, links, pumps and desks, and of whole sites as threads, by their public calls. Which bytes a journal and a
+//! desk refuse is shown by the cases of `cases/journals` and `cases/desks`. This crate has no code of its own.
 #![tactic(auto)]
 
 #[cfg(test)]
@@ -19,14 +19,16 @@ mod journal_steps;
 #[cfg(test)]
 mod journals;
 #[cfg(test)]
+mod launches;
+#[cfg(test)]
 mod links;
 #[cfg(test)]
 mod ports;
 #[cfg(test)]
+mod replays;
+#[cfg(test)]
 mod runs;
 #[cfg(test)]
 mod schedules;
-#[cfg(test)]
-mod takes;
 #[cfg(test)]
 mod trials;

@@ -2,7 +2,7 @@
 ghost use Rattle.std.specs.Prelude.{◌≡◌, ◌≤◌};
 
 use crate::gates::{MANY_TURNS, comes};
-use site_links::{LinkReceiver, LinkSender, compare, pair};
+use site_links::{Link, LinkReceiver, LinkSender, compare};
 use std::alloc::Global;
 use std::process::Abort;
 use std::sync::Wait;
@@ -16,7 +16,7 @@ pub(crate) fn link(rt: &impl Abort, alloc: Global, capacity: usize) -> (LinkSend
     requires most { capacity ≤ 1024 }
     ensures { result.1.link ≡ result.0.link }
 {
-    pair(alloc, capacity).expect(rt, "memory")
+    Link::pair(alloc, capacity).expect(rt, "memory")
 }
 
 // Sends an item, which must be taken.

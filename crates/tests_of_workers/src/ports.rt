@@ -1,8 +1,9 @@
-//! What is asserted of the port of a desk, of a pump that works by it, and of takes at a desk.
-ghost use Rattle.std.specs.Prelude.{◌≡◌, ◌+◌, vec_len};
+//! What is asserted of the port of a desk, and of a pump that works by it.
+ghost use Rattle.std.specs.Prelude.{◌≡◌, ◌+◌, [], length};
 ghost use Rattle.site_desk.specs.Ports.{HasDoneAll};
 
-use crate::desk_steps::{asked, assert_closed, kept_open, reports};
+use crate::desk_steps::{asked, assert_closed};
+use crate::frames::{ADDED, TOUCHING};
 use crate::links::{link, send};
 use site_desk::{DeskPort, Pass, SiteDesk, SiteLedger};
 use site_journal::{DecodeFault, DeskFault, Port, Receipt, StepDeed};
@@ -48,17 +49,25 @@ pub(crate) fn assert_answers<L: SiteLedger, R: Abort + Wait>(
 // What a pump takes by a pass, which then has done just these steps more.
 fn taken_by<L: SiteLedger, R: Wait>(
     rt: &R,
-    alloc: Global,
     desk: &SiteDesk<L>,
     pass: &mut Pass<L>,
     link: &mut LinkReceiver,
+    receipts: &mut Vec<Receipt>,
 ) -> PumpedIn
+    requires { receipts.old.items ≡ [] }
     ensures ordinal { pass.new.ordinal ≡ pass.old.ordinal }
-    ensures share { pass.new.share ≡ pass.old.share + vec_len result.receipts }
-    ensures done { HasDoneAll L.site L.names pass.old result.receipts.items pass.new }
+    ensures share { pass.new.share ≡ pass.old.share + length receipts.new.items }
+    ensures done { HasDoneAll L.site L.names pass.old receipts.new.items pass.new }
 {
     let mut port = DeskPort::new(desk, pass);
-    pump_in(rt, alloc, &mut port, link)
+    pump_in(rt, &mut port, link, receipts)
+}
+
+// What a pump has taken: its receipts, and how it ended.
+#[derive(Drop)]
+struct Taken {
+    receipts: Vec<Receipt>,
+    end: PumpedIn,
 }
 
 // What a pump takes of a link upon which a frame was sent, and then an item, and the frame again.
@@ -69,47 +78,35 @@ fn pumped<L: SiteLedger, R: Abort + Wait>(
     pass: &mut Pass<L>,
     frame: &[u8],
     item: &[u8],
-) -> PumpedIn {
+) -> Taken {
     let (mut sender, mut receiver) = link(rt, alloc, 3);
     send(rt, alloc, &mut sender, frame);
     send(rt, alloc, &mut sender, item);
     send(rt, alloc, &mut sender, frame);
     drop(sender);
-    let taken = taken_by(rt, alloc, desk, pass, &mut receiver);
+    let mut receipts = Vec::new(alloc);
+    let end = taken_by(rt, desk, pass, &mut receiver, &mut receipts);
     drop(receiver);
-    taken
-}
-
-// The frame of all that a desk's site knows.
-fn whole_of<L: SiteLedger, R: Abort + Wait>(
-    rt: &R,
-    desk: &SiteDesk<L>,
-    pass: &mut Pass<L>,
-) -> Vec<u8> {
-    let whole = desk.whole(rt, pass).ok().expect(rt, "a receipt");
-    match whole.deed {
-        StepDeed::Whole(frame) => frame.into_vec(),
-        _ => rt.panic("a frame"),
-    }
+    Taken { receipts, end }
 }
 
 // Asserts that a pump has taken three items, and went on to the end of its link.
-fn assert_all_taken(rt: &impl Abort, taken: PumpedIn) {
-    assert!(rt; taken.fault.is_none() && taken.refused.is_none());
-    assert!(rt; taken.receipts.len() == 3 && taken.receipts[0].position == 1);
+fn assert_all_taken(rt: &impl Abort, taken: Taken) {
+    assert!(rt; taken.end.fault.is_none() && taken.end.refused.is_none());
+    assert!(rt; taken.receipts.len() == 3 && taken.receipts[0].position == 0);
     drop(taken);
 }
 
-// Asserts that a pump has taken one item, at position 4, and was stopped by the next, the byte 9.
-fn assert_stopped(rt: &impl Abort, taken: PumpedIn) {
-    assert!(rt; taken.receipts.len() == 1 && taken.receipts[0].position == 4);
-    assert!(rt; taken.fault == Some(DeskFault::Decode(DecodeFault::Truncated)));
-    let refused = taken.refused.as_ref().expect(rt, "bytes");
-    assert!(rt; refused.as_slice() == [9].as_slice());
+// Asserts that a pump has taken one item, at position 3, and was stopped by two runs that touch.
+fn assert_stopped(rt: &impl Abort, taken: Taken) {
+    assert!(rt; taken.receipts.len() == 1 && taken.receipts[0].position == 3);
+    assert!(rt; taken.end.fault == Some(DeskFault::Decode(DecodeFault::BadOrder)));
+    let refused = taken.end.refused.as_ref().expect(rt, "bytes");
+    assert!(rt; refused.as_slice() == TOUCHING);
     drop(taken);
 }
 
-// A pump takes frames of the site's own until the link ends, or until it is stopped by bytes that are none.
+// A pump takes a frame of another site until the link ends, or until it is stopped by bytes that are none.
 pub(crate) fn assert_pumps<L: SiteLedger, R: Abort + Wait>(
     rt: &R,
     alloc: Global,
@@ -117,78 +114,12 @@ pub(crate) fn assert_pumps<L: SiteLedger, R: Abort + Wait>(
     first: Pass<L>,
     second: Pass<L>,
 ) {
-    let mut first = first;
     let mut second = second;
-    let frame = whole_of(rt, &desk, &mut first);
-    let taken = pumped(rt, alloc, &desk, &mut second, &frame, &frame);
+    let taken = pumped(rt, alloc, &desk, &mut second, ADDED, ADDED);
     assert_all_taken(rt, taken);
-    assert!(rt; second.seen() == 4);
-    let taken = pumped(rt, alloc, &desk, &mut second, &frame, &[9]);
+    assert!(rt; second.seen() == 3);
+    let taken = pumped(rt, alloc, &desk, &mut second, ADDED, TOUCHING);
     assert_stopped(rt, taken);
-    assert!(rt; second.seen() == 5);
-    drop(frame);
-    assert_closed(rt, alloc, desk, first, second, 5, 0);
-}
-
-// Asserts that a receipt is of a take of these bytes, by the pass of this number and at the position of the same number.
-fn assert_took(rt: &impl Abort, receipt: Receipt, number: u32, bytes: &[u8]) {
-    assert!(rt; receipt.pass == number && receipt.position == u64::from(number));
-    let StepDeed::Took(took) = &receipt.deed else {
-        rt.panic("another deed");
-    };
-    assert!(rt; took.as_slice() == bytes);
-    drop(receipt);
-}
-
-// The receipt of a take, by the desk itself.
-fn taken<L: SiteLedger, R: Abort + Wait>(
-    rt: &R,
-    alloc: Global,
-    desk: &SiteDesk<L>,
-    pass: &mut Pass<L>,
-    frame: &[u8],
-) -> Receipt {
-    let bytes = Vec::from_slice(alloc, frame).expect(rt, "memory");
-    desk.take(rt, pass, bytes).ok().expect(rt, "a receipt")
-}
-
-// The receipt of a take, by a port of the desk.
-fn taken_by_port<L: SiteLedger, R: Abort + Wait>(
-    rt: &R,
-    alloc: Global,
-    desk: &SiteDesk<L>,
-    pass: &mut Pass<L>,
-    frame: &[u8],
-) -> Receipt {
-    let bytes = Vec::from_slice(alloc, frame).expect(rt, "memory");
-    let mut port = DeskPort::new(desk, pass);
-    port.take(rt, bytes).ok().expect(rt, "a receipt")
-}
-
-// Asserts that the third step is a report of SIP/1 and SIP/9.
-fn assert_shows_both(rt: &impl Abort, shown: Receipt) {
-    assert!(rt; shown.position == 2);
-    assert!(rt; reports(&shown, b"Location: SIP/1\r\n"));
-    assert!(rt; reports(&shown, b"Location: SIP/9\r\n"));
-    drop(shown);
-}
-
-// A site that knew SIP/9 takes a frame of another twice, and then shows SIP/1 too. With one of its passes its desk isn't closed.
-pub(crate) fn assert_takes<L: SiteLedger, R: Abort + Wait>(
-    rt: &R,
-    alloc: Global,
-    desk: SiteDesk<L>,
-    first: Pass<L>,
-    second: Pass<L>,
-    frame: &[u8],
-) {
-    let mut first = first;
-    let mut second = second;
-    assert_took(rt, taken(rt, alloc, &desk, &mut first, frame), 0, frame);
-    let again = taken_by_port(rt, alloc, &desk, &mut second, frame);
-    assert_took(rt, again, 1, frame);
-    assert_shows_both(rt, asked(rt, alloc, &desk, &mut first));
-    let (desk, first) = kept_open(rt, alloc, desk, first);
-    assert!(rt; first.ordinal() == 0 && first.seen() == 3);
-    assert_closed(rt, alloc, desk, first, second, 3, 0);
+    assert!(rt; second.seen() == 4);
+    assert_closed(rt, alloc, desk, first, second, 4, 0);
 }

@@ -293,37 +293,48 @@ fn sending(rt: &impl Abort, alloc: Global, interface: &[u8], deed: Deed) -> Site
     work(rt, alloc, 0, asks, &[deed])
 }
 
-// Asserts how many frames a site has taken that has ended, one of two.
-fn assert_taken(rt: &impl Abort, end: &SiteEnd<TurnsGate>, takes: usize) {
-    assert!(rt; end.receipts.len() == 3);
-    assert!(rt; end.receipts[2].len() == takes);
+// Puts the work of a site that adds a member and treats its frames alike behind others.
+fn push_sending(
+    rt: &impl Abort,
+    alloc: Global,
+    works: &mut Vec<SiteWork<TurnsGate>>,
+    interface: &[u8],
+    deed: Deed,
+) {
+    works
+        .push(sending(rt, alloc, interface, deed))
+        .expect(rt, "memory");
 }
 
-// Asserts how often the second of two sites takes a frame of the first, which treats its one cut so, and the first one of the second,
-// whose one cut is lost.
-fn assert_sends<R: Abort + Threads + Wait + Sync>(rt: &R, alloc: Global, deed: Deed, takes: usize) {
+// The works of four sites, each of which treats its one cut in another way.
+fn works_of_senders(rt: &impl Abort, alloc: Global) -> Vec<SiteWork<TurnsGate>> {
     let mut works = Vec::new(alloc);
+    push_sending(rt, alloc, &mut works, b"SIP/0", Deed::Deliver);
+    push_sending(rt, alloc, &mut works, b"SIP/1", Deed::Lose);
+    push_sending(rt, alloc, &mut works, b"SIP/2", Deed::Twice);
+    push_sending(rt, alloc, &mut works, b"SIP/3", Deed::Hold);
     works
-        .push(sending(rt, alloc, b"SIP/0", deed))
-        .expect(rt, "memory");
-    works
-        .push(sending(rt, alloc, b"SIP/1", Deed::Lose))
-        .expect(rt, "memory");
-    let ends = ends_of(rt, alloc, works);
-    assert!(rt; ends.len() == 2);
-    assert_taken(rt, &ends[0], 1);
-    assert_taken(rt, &ends[1], takes);
-    drop(ends);
 }
 
+// Asserts how many frames a site, one of four, has taken of each other site.
+fn assert_taken(rt: &impl Abort, end: &SiteEnd<TurnsGate>, takes: [usize; 3]) {
+    assert!(rt; end.receipts.len() == 5);
+    assert!(rt; end.receipts[2].len() == takes[0]);
+    assert!(rt; end.receipts[3].len() == takes[1]);
+    assert!(rt; end.receipts[4].len() == takes[2]);
+}
+
+// Site 0 delivers its cut, site 1 loses it, site 2 sends it twice, and site 3 holds it up to the end. Each then sends a frame of all.
 #[test]
 fn each_site_sends_by_its_own_plan(rt: HostRuntime) {
-    use Deed::{Deliver, Hold, Lose, Twice};
     let alloc = rt.alloc();
-    assert_sends(&rt, alloc, Deliver, 2);
-    assert_sends(&rt, alloc, Lose, 1);
-    assert_sends(&rt, alloc, Twice, 3);
-    assert_sends(&rt, alloc, Hold, 2);
+    let ends = ends_of(&rt, alloc, works_of_senders(&rt, alloc));
+    assert!(&rt; ends.len() == 4);
+    assert_taken(&rt, &ends[0], [1, 3, 2]);
+    assert_taken(&rt, &ends[1], [2, 3, 2]);
+    assert_taken(&rt, &ends[2], [2, 1, 2]);
+    assert_taken(&rt, &ends[3], [2, 1, 3]);
+    drop(ends);
 }
 
 // Whether a site has lacked memory. Its receipts settle its journal, and it has no other fault.

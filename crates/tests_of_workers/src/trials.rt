@@ -2,18 +2,14 @@
 ghost use Rattle.std.specs.Prelude.{◌≡◌};
 ghost use Rattle.site_journal.specs.Journals.{IsOfSite};
 
-use crate::asks::add;
 use crate::desks::{assert_adds, assert_closes, assert_excludes, assert_fills};
-use crate::frames::{ADDED, OLD_ADDED};
 use crate::journal_steps::{journal_of, replica};
-use crate::ports::{assert_answers, assert_pumps, assert_takes};
+use crate::ports::{assert_answers, assert_pumps};
 use crate::schedules::{Schedule, assert_sends};
-use crate::takes::assert_refuses;
 use replica::Replica;
 use site_desk::{SiteDesk, SiteLedger};
 use site_journal::{DeskFault, Journaled};
 use site_pumps::Deed;
-use status_report::{Answer, ask};
 use std::alloc::Global;
 use std::marker::Brand;
 use std::process::Abort;
@@ -30,9 +26,6 @@ enum Trial<'a> {
     Excludes,
     Answers,
     Pumps,
-    Refuses,
-    // Takes this frame.
-    Takes(&'a [u8]),
     Sends(Schedule<'a>),
 }
 
@@ -64,8 +57,6 @@ fn assert_holds<L: SiteLedger + Send + Sync, R: Abort + Threads + Wait + Sync>(
         Trial::Excludes => assert_excludes(rt, alloc, desk, first, second),
         Trial::Answers => assert_answers(rt, alloc, desk, first, second),
         Trial::Pumps => assert_pumps(rt, alloc, desk, first, second),
-        Trial::Refuses => assert_refuses(rt, alloc, desk, first, second),
-        Trial::Takes(frame) => assert_takes(rt, alloc, desk, first, second, frame),
         Trial::Sends(schedule) => assert_sends(rt, alloc, desk, first, second, schedule),
     }
 }
@@ -113,38 +104,19 @@ fn a_gate_is_called_under_the_lock(rt: HostRuntime) {
 }
 
 #[test]
-fn a_desk_gives_back_bytes_that_are_no_frame(rt: HostRuntime) {
-    assert_of_new_site(&rt, rt.alloc(), 5, Trial::Refuses);
-}
-
-#[test]
 fn a_port_answers_as_its_desk(rt: HostRuntime) {
     assert_of_new_site(&rt, rt.alloc(), 2, Trial::Answers);
 }
 
 #[test]
 fn a_pump_works_by_its_pass(rt: HostRuntime) {
-    assert_of_new_site(&rt, rt.alloc(), 20, Trial::Pumps);
-}
-
-// Site 1, which has added SIP/9.
-fn knowing(rt: &impl Abort, alloc: Global) -> Replica {
-    let mut replica = replica(rt, alloc, 1);
-    let done = ask(alloc, &mut replica, add(rt, b"SIP/9", 0));
-    assert!(rt; matches!(done, Answer::Done));
-    drop(done);
-    replica
-}
-
-// Asserts that the desk of site 1, which has added SIP/9, takes this frame.
-fn assert_takes_frame<R: Abort + Threads + Wait + Sync>(rt: &R, alloc: Global, frame: &[u8]) {
-    assert_of(rt, alloc, knowing(rt, alloc), 5, Trial::Takes(frame));
-}
-
-#[test]
-fn a_desk_takes_frames_of_both_versions(rt: HostRuntime) {
-    assert_takes_frame(&rt, rt.alloc(), ADDED);
-    assert_takes_frame(&rt, rt.alloc(), OLD_ADDED);
+    assert_of(
+        &rt,
+        rt.alloc(),
+        replica(&rt, rt.alloc(), 1),
+        20,
+        Trial::Pumps,
+    );
 }
 
 // Asserts what a pump with this plan sends, and when.

@@ -1,0 +1,154 @@
+//! What the lines are.
+use crate::deed::{Deed, End, Place};
+use crate::saying::say_done;
+use dots::{Bytes, Interface, Label, Penalty, QueueName, Text80};
+use hex::FromHexError;
+use replica::Command;
+use site_journal::{DeskFault, Receipt};
+use status_report::{Ask, StatusRequest};
+use std::alloc::Global;
+use std::io::{self, ErrorKind, Write};
+use std::str::Split;
+
+// The words of a line that are still to be read.
+type Words<'a> = Split<'a, char>;
+
+// Does what a line says at a place, and writes what that gives. The receipt of a step goes behind the others.
+pub(crate) fn give_line<R, W: Write, P: Place<R>>(
+    rt: &R,
+    alloc: Global,
+    out: &mut W,
+    place: &mut P,
+    receipts: &mut Vec<Receipt>,
+    line: &str,
+) -> io::Result<()> {
+    if line.is_empty() || line.starts_with('#') {
+        return Ok(());
+    }
+    if let Some(digits) = line.strip_prefix("fronts ") {
+        return give_fronts(rt, alloc, out, place, receipts, digits);
+    }
+    match read_deed(alloc, line)? {
+        Some(deed) => {
+            let given = give(rt, alloc, out, place, receipts, &deed);
+            drop(deed);
+            given
+        }
+        None => writeln!(out, "not understood"),
+    }
+}
+
+// Takes each proper prefix of the bytes that these digits spell, the empty one first.
+fn give_fronts<R, W: Write, P: Place<R>>(
+    rt: &R,
+    alloc: Global,
+    out: &mut W,
+    place: &mut P,
+    receipts: &mut Vec<Receipt>,
+    digits: &str,
+) -> io::Result<()> {
+    for end in 0..digits.len() / 2 {
+        let Some(front) = digits.get(..2 * end) else {
+            break;
+        };
+        if let Some(bytes) = read_bytes(alloc, front)? {
+            give(rt, alloc, out, place, receipts, &Deed::Take(bytes))?;
+        }
+    }
+    Ok(())
+}
+
+// Does a deed, and writes how it ended: where an allocation is refused, `memory` and how the deed ends once more.
+fn give<R, W: Write, P: Place<R>>(
+    rt: &R,
+    alloc: Global,
+    out: &mut W,
+    place: &mut P,
+    receipts: &mut Vec<Receipt>,
+    deed: &Deed,
+) -> io::Result<()> {
+    if receipts.reserve(1).is_err() {
+        return Err(io::Error::from(ErrorKind::OutOfMemory));
+    }
+    let mut end = place.done(rt, alloc, deed);
+    if let End::Refused(DeskFault::Memory) = end {
+        writeln!(out, "memory")?;
+        end = place.done(rt, alloc, deed);
+    }
+    say_done(alloc, out, &end)?;
+    if let End::Done(receipt) = end {
+        receipts.push(receipt)?;
+    }
+    Ok(())
+}
+
+// What a line says is to be done. None where it isn't understood.
+fn read_deed(alloc: Global, line: &str) -> io::Result<Option<Deed>> {
+    if let Some(digits) = line.strip_prefix("take ") {
+        return match read_bytes(alloc, digits)? {
+            Some(bytes) => Ok(Some(Deed::Take(bytes))),
+            None => Ok(None),
+        };
+    }
+    let mut words = line.split(' ');
+    Ok(read_words(alloc, &mut words))
+}
+
+// The bytes that digits spell. None where they are no hexadecimal.
+fn read_bytes(alloc: Global, digits: &str) -> io::Result<Option<Vec<u8>>> {
+    match hex::decode(alloc, digits) {
+        Ok(bytes) => Ok(Some(bytes)),
+        Err(FromHexError::OutOfMemory) => Err(io::Error::from(ErrorKind::OutOfMemory)),
+        Err(_) => Ok(None),
+    }
+}
+
+// What words say is to be done.
+fn read_words(alloc: Global, words: &mut Words<'_>) -> Option<Deed> {
+    match words.next()? {
+        "status" => Some(Deed::Ask(status(alloc))),
+        "gated" => Some(Deed::Gated(status(alloc))),
+        "cut" => Some(Deed::Cut),
+        "whole" => Some(Deed::Whole),
+        "checkpoint" => Some(Deed::Checkpoint),
+        "above" => Some(Deed::CheckpointAbove(words.next()?.parse().ok()?)),
+        kind => Some(Deed::Ask(Ask::Command(read_command(kind, words)?))),
+    }
+}
+
+// The ask of the status of all queues, without an ActionID.
+fn status(alloc: Global) -> Ask {
+    Ask::Status(StatusRequest {
+        queue: None,
+        member: None,
+        action_id: Bytes::new(Vec::new(alloc)),
+    })
+}
+
+// The command of a kind, whose queue, interface and penalty are the next words.
+fn read_command(kind: &str, words: &mut Words<'_>) -> Option<Command> {
+    let queue = QueueName::new(words.next()?.as_bytes()).ok()?;
+    match kind {
+        "completed" => Some(Command::Completed { queue }),
+        "abandoned" => Some(Command::Abandoned { queue }),
+        "remove" => Some(Command::Remove {
+            queue,
+            interface: read_interface(words)?,
+        }),
+        "add" => Some(Command::Add {
+            queue,
+            interface: read_interface(words)?,
+            penalty: Penalty::new(words.next()?.parse().ok()?)?,
+            paused: false,
+            label: Label {
+                name: Text80::empty(),
+                state: Text80::empty(),
+            },
+        }),
+        _ => None,
+    }
+}
+
+fn read_interface(words: &mut Words<'_>) -> Option<Interface> {
+    Interface::new(words.next()?.as_bytes()).ok()
+}

@@ -1,0 +1,261 @@
+//! Does at one site what lines of standard input say, for tests by files: `site_cases journal|desk SITE LIMIT QUEUE..`.
+//!
+//! The site has the number SITE, 0 to 63, and the queues that are named, in that order, and knows nothing at first. Its journal may have
+//! LIMIT steps, 1 to 1,000,000. The lines are done at the journal itself, or by one pass of a desk over it. `docs/journals.md`, "Sites in
+//! lines", has the lines and what each gives.
+//!
+//! The status is 1 where standard input could not be read, a text not be written, or an allocation was refused that is no line's; and 2
+//! where the words are wrong, as a line on standard error says, or an allocation was refused for them.
+#![tactic(auto)]
+
+ghost use Rattle.std.specs.Prelude.{◌≡◌, IfSome};
+ghost use Rattle.site_journal.specs.Journals.{IsOfSite};
+
+mod at_desk;
+mod at_journal;
+mod deed;
+mod line;
+mod saying;
+
+use crate::at_desk::DeskPlace;
+use crate::at_journal::JournalPlace;
+use crate::deed::Place;
+use crate::line::give_line;
+use crate::saying::say_end;
+use dots::{QueueName, SiteId};
+use replica::{QueueList, Replica};
+use site_desk::{Pass, SiteDesk, SiteLedger, close};
+use site_journal::{Journaled, MOST_STEPS, Receipt};
+use std::alloc::Global;
+use std::io::{self, BufWriter, ErrorKind, Write};
+use std::marker::Brand;
+use std::process::ExitCode;
+use std::rt::Env;
+use std::sync::Wait;
+use std::sync::ledger::Blank;
+
+const USAGE: &str = "usage: site_cases journal|desk SITE LIMIT QUEUE..";
+
+// Where the lines are done.
+#[derive(Clone, Copy)]
+enum Where {
+    Journal,
+    Desk,
+}
+
+// What the words of the command line tell.
+#[derive(Clone, Copy)]
+struct Told<'a> {
+    at: Where,
+    site: SiteId,
+    limit: u32,
+    queues: &'a [String],
+}
+
+fn main(rt: HostRuntime) -> ExitCode {
+    ExitCode::from(run(&rt).unwrap_or(1))
+}
+
+// Runs the program, and answers its status. `Err`: standard input could not be read, a text not be written, or an allocation was refused.
+fn run<R: Env + AllocGlobal + Print + Eprint + Input + Wait>(rt: &R) -> io::Result<u8> {
+    let mut words = Vec::new(rt.alloc());
+    for word in std::env::args(rt)? {
+        words.push(word)?;
+    }
+    match read_words(&words) {
+        Some(told) => write_all(rt, &told),
+        None => say_usage(rt),
+    }
+}
+
+fn say_usage<R: Eprint>(rt: &R) -> io::Result<u8> {
+    eprintln!(rt; "{USAGE}")?;
+    Ok(2)
+}
+
+// Does all lines as the words say, writes their results, and returns the status.
+fn write_all<R: AllocGlobal + Print + Eprint + Input + Wait>(
+    rt: &R,
+    told: &Told<'_>,
+) -> io::Result<u8> {
+    let mut out = BufWriter::new(rt.alloc(), io::writer(rt))?;
+    if !work(rt, &mut out, told)? {
+        return say_usage(rt);
+    }
+    out.flush()?;
+    Ok(0)
+}
+
+// Does all lines as the words say. `false`: there is no site with these queues and this limit.
+fn work<R: AllocGlobal + Input + Wait, W: Write>(
+    rt: &R,
+    out: &mut W,
+    told: &Told<'_>,
+) -> io::Result<bool> {
+    let Some(journal) = journal(rt.alloc(), told) else {
+        return Ok(false);
+    };
+    match told.at {
+        Where::Journal => work_at_journal(rt, out, journal)?,
+        Where::Desk => work_at_desk::<Brand, R, W>(rt, out, Blank::new(1), journal)?,
+    }
+    Ok(true)
+}
+
+// What these words tell, of which the first is the program's own name.
+fn read_words(words: &[String]) -> Option<Told<'_>> {
+    let [_, at, site, limit, queues @ ..] = words else {
+        return None;
+    };
+    let at = match at.as_str() {
+        "journal" => Where::Journal,
+        "desk" => Where::Desk,
+        _ => return None,
+    };
+    let site = SiteId::new(site.parse().ok()?)?;
+    let limit = limit.parse().ok()?;
+    Some(Told {
+        at,
+        site,
+        limit,
+        queues,
+    })
+}
+
+// The journal of a new site, by the words of the command line.
+fn journal(alloc: Global, told: &Told<'_>) -> Option<Journaled>
+    ensures begun { IfSome result (λ journal. journal.count ≡ 0) }
+    ensures site { IfSome result (λ journal.
+        IsOfSite journal.base.site journal.base.names journal) }
+{
+    let limit = told.limit;
+    if limit < 1 || limit > MOST_STEPS {
+        return None;
+    }
+    let list = queue_list(alloc, told.queues)?;
+    match Journaled::new(alloc, Replica::new(alloc, told.site, list), limit) {
+        Ok(journal) => Some(journal),
+        Err(_) => None,
+    }
+}
+
+fn queue_list(alloc: Global, queues: &[String]) -> Option<QueueList> {
+    let mut names = Vec::new(alloc);
+    for queue in queues {
+        names.push(QueueName::new(queue.as_bytes()).ok()?).ok()?;
+    }
+    QueueList::new(alloc, &names).ok()
+}
+
+// Does all lines at a journal.
+fn work_at_journal<R: AllocGlobal + Input, W: Write>(
+    rt: &R,
+    out: &mut W,
+    journal: Journaled,
+) -> io::Result<()> {
+    let mut place = JournalPlace::new(journal);
+    let receipts = give_lines(rt, out, &mut place);
+    end(out, place.into_journal(), receipts)
+}
+
+// Does all lines at a new desk over a journal.
+fn work_at_desk<L: SiteLedger, R: AllocGlobal + Input + Wait, W: Write>(
+    rt: &R,
+    out: &mut W,
+    blank: Blank,
+    journal: Journaled,
+) -> io::Result<()>
+    requires name { blank.name ≡ L.name }
+    requires ledger { blank.parts ≡ L.parts }
+    requires one { blank.parts ≡ 1 }
+    requires begun { journal.count ≡ 0 }
+    requires site { IsOfSite L.site L.names journal }
+    requires limit { journal.limit ≡ L.limit }
+    requires base { journal.base ≡ L.base }
+{
+    match SiteDesk::<L>::new(rt.alloc(), blank, journal, 1) {
+        Ok((desk, passes)) => work_by_pass(rt, out, desk, passes),
+        Err(refused) => {
+            drop(refused);
+            Err(io::Error::from(ErrorKind::OutOfMemory))
+        }
+    }
+}
+
+// Does all lines at a desk by its one pass.
+fn work_by_pass<L: SiteLedger, R: AllocGlobal + Input + Wait, W: Write>(
+    rt: &R,
+    out: &mut W,
+    desk: SiteDesk<L>,
+    passes: Vec<Pass<L>>,
+) -> io::Result<()> {
+    let mut passes = passes;
+    let receipts = match passes.first_mut() {
+        Some(pass) => give_lines(rt, out, &mut DeskPlace::new(&desk, pass)),
+        None => Ok(Vec::new(rt.alloc())),
+    };
+    match close(desk, passes) {
+        Ok(journal) => end(out, journal, receipts),
+        Err(refused) => {
+            drop(refused);
+            drop(receipts);
+            Err(io::Error::from(ErrorKind::Other))
+        }
+    }
+}
+
+// Does each line of standard input at a place. The receipts of all steps.
+fn give_lines<R: AllocGlobal + Input, W: Write, P: Place<R>>(
+    rt: &R,
+    out: &mut W,
+    place: &mut P,
+) -> io::Result<Vec<Receipt>> {
+    let mut receipts = Vec::new(rt.alloc());
+    match give_each(rt, out, place, &mut receipts) {
+        Ok(()) => Ok(receipts),
+        Err(error) => {
+            drop(receipts);
+            Err(error)
+        }
+    }
+}
+
+// Does each line of standard input at a place.
+fn give_each<R: AllocGlobal + Input, W: Write, P: Place<R>>(
+    rt: &R,
+    out: &mut W,
+    place: &mut P,
+    receipts: &mut Vec<Receipt>,
+) -> io::Result<()> {
+    for line in rt.lines(rt.alloc()) {
+        let line = line?;
+        give_line(rt, rt.alloc(), out, place, receipts, line.as_str())?;
+    }
+    Ok(())
+}
+
+// Writes whether the receipts of all lines settle the journal, and how many steps it has had, unless the lines ended with an error.
+fn end<W: Write>(
+    out: &mut W,
+    journal: Journaled,
+    receipts: io::Result<Vec<Receipt>>,
+) -> io::Result<()> {
+    let said = match receipts {
+        Ok(receipts) => say_settled(out, &journal, receipts),
+        Err(error) => Err(error),
+    };
+    drop(journal);
+    said
+}
+
+// Writes whether these receipts settle a journal, and how many steps it has had.
+fn say_settled<W: Write>(
+    out: &mut W,
+    journal: &Journaled,
+    receipts: Vec<Receipt>,
+) -> io::Result<()> {
+    let lists = [receipts];
+    let said = say_end(out, journal, &lists);
+    drop(lists);
+    said
+}
