@@ -15,16 +15,18 @@ from crates import TOP, all_crates, below, folder, is_program, stored_words
 from proof_seconds import LOG, quickest, read_table
 
 MEMORY_OF_A_JOB = 3_000_000_000
-NICENESS = 6  # for each run that goes before
+NICENESS = 10  # for each run that goes before: a run behind one takes a tenth of a processor that both want
 MOST_NICENESS = 19
+SPARE_RUNS = 2  # so that a crate with a long way to the top waits for none with a shorter way
 
 
 def at_once():
-    """How many jobs there are at once: one a processor, as many as the free memory holds."""
+    """How many jobs there are at once, one a processor, and how many runs at most: as many as the free memory holds."""
     with open("/proc/meminfo", encoding="ascii") as file:
         lines = dict(line.split(":") for line in file)
-    free = 1024 * int(lines["MemAvailable"].split()[0])
-    return max(min(len(os.sched_getaffinity(0)), free // MEMORY_OF_A_JOB), 1)
+    held = 1024 * int(lines["MemAvailable"].split()[0]) // MEMORY_OF_A_JOB
+    processors = len(os.sched_getaffinity(0))
+    return max(min(processors, held), 1), max(min(processors + SPARE_RUNS, held), 1)
 
 
 def ways(crates, names, seconds):
@@ -116,7 +118,7 @@ class Build:
         self.log, self.progress, self.below = log, progress, {it: below(crates, it) for it in names}
         self.longest = ways(crates, names, {it: min(measured[it].values()) for it in names})
         self.quickest = {it: quickest(measured[it]) for it in names}
-        self.jobs, self.proved, self.running = at_once(), set(), []
+        (self.jobs, self.most_runs), self.proved, self.running = at_once(), set(), []
         self.left = sorted(names, key=lambda it: -self.longest[it])
         progress.count += len(names)
 
@@ -125,11 +127,13 @@ class Build:
         return self.longest[run.crate] - (time.monotonic() - run.started)
 
     def start(self):
-        """Starts crates of which all below are proved, those with the longest way to the top first. One that at most one run goes before
-        has as many jobs as were measured to take it least time, each other has one. Each run goes behind those with longer ways."""
-        ready = [it for it in self.left if self.below[it] <= self.proved]
-        for crate in ready[:self.jobs - len(self.running)]:
+        """Starts crates of which all below are proved, those with the longest way to the top first, while fewer runs than processors go
+        before them. A crate behind at most one run has the number of jobs that was measured to be quickest, each other crate has one job. Each
+        run goes behind those with longer ways."""
+        for crate in [it for it in self.left if self.below[it] <= self.proved]:
             behind = sum(self.way_left(it) > self.longest[crate] for it in self.running)
+            if behind >= self.jobs or len(self.running) >= self.most_runs:
+                break
             jobs = min(self.quickest[crate], self.jobs) if behind < 2 else 1
             self.begin(Run(crate, jobs, proving("check" if is_program(crate) else "lib", crate, jobs), behind))
             self.left.remove(crate)

@@ -9,6 +9,7 @@ A case is files of one stem. Its kind is the ending of the first, and tells whic
     STEM.script                standard input of queue_sites
     STEM.session               standard input of session_cases
     STEM.frames                standard input of frame_cases
+    STEM.steps                 standard input of site_cases
     STEM.expected              what the program must write to standard output, byte for byte
     STEM.words                 the words of the command line, one a line, where they are not those of the kind
     STEM.status                the exit status that it must end with, where that is not 0
@@ -40,6 +41,7 @@ KINDS = {
     "script": Kind("queue_sites", ["script", "1", "sales"]),
     "session": Kind("session_cases", ["1024", "", "", "sales"]),
     "frames": Kind("frame_cases", []),
+    "steps": Kind("site_cases", ["journal", "0", "20", "sales"]),
 }
 PARTS = ("expected", "words", "status")
 

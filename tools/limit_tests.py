@@ -6,7 +6,7 @@ import sys
 
 from crates import TOP, folder
 from program_tests import BUILT, Failed, first_difference, run
-from workloads import cells, frame, number, run_of, total
+from workloads import cells, frame, live, number, run_of, total
 
 MOST_MEMBERS = 16_384
 MOST_RUNS = 65_536
@@ -15,6 +15,7 @@ MOST_FRAME_BYTES = 7_618_588
 CHANGES, ROOM_OF_CHANGES = 20_000, 48 << 20  # twice what they take
 FRAMES = f"{folder('frame_cases')}/out/frame_cases"
 SESSIONS = f"{folder('session_cases')}/out/session_cases"
+SITES = f"{folder('site_cases')}/out/site_cases"
 
 
 def reply(response, message):
@@ -188,6 +189,31 @@ def session_of_all_members():
     return f"a session that shows {MOST_MEMBERS:,} members"
 
 
+def frames_that_a_site_has_no_room_for():
+    """A site that has taken as many members, or as many runs, as it may have refuses a frame with one more, at its journal and at a
+    desk over it. With as many runs it refuses an add too."""
+    full = frame(1, [run_of(1, it, it) for it in range(1, 2 * MOST_RUNS, 2)])
+    told = [
+        (cells(1, MOST_MEMBERS), "taken"),
+        (live(2, [(1, MOST_MEMBERS + 1)]), "Take(CellsFull)"),
+        (cells(1, 1), "taken"),
+    ]
+    runs = [(full, "taken"), (frame(2, [run_of(2, 1, 1)]), "Take(RunsFull)")]
+    for where in ("journal", "desk"):
+        for pairs, more, answers in ((told, "cut", "nothing"), (runs, "add sales SIP/1 0", "refused MembersFull")):
+            script = [*(f"take {given.hex()}" for given, _ in pairs), more]
+            lines, steps = [], 0
+            for word in (*(answer for _, answer in pairs), answers):
+                is_step = not word.startswith("Take(")
+                lines.append(f"step {steps}: {word}" if is_step else f"refused {word}")
+                steps += is_step
+            wanted = "\n".join([*lines, "settled", f"{steps} steps, 0 of them dropped", ""]).encode()
+            ran = run(SITES, [where, "0", "5", "sales"], "\n".join(script).encode())
+            if ran.stdout != wanted or ran.returncode:
+                raise Failed(f"a {where} that is full writes {ran.stdout!r}, with status {ran.returncode}")
+    return f"a journal and a desk of {MOST_MEMBERS:,} members or {MOST_RUNS:,} runs, and a frame with one more"
+
+
 def changes_with_little_memory():
     """Thousands of changes, each sent to another site, fit in little room: neither a step nor a frame that is kept takes more than it needs."""
     lines = [
@@ -210,6 +236,7 @@ TESTS = {
     ],
     "frame_cases": [frames_past_the_limits],
     "session_cases": [session_of_all_members],
+    "site_cases": [frames_that_a_site_has_no_room_for],
 }
 
 

@@ -1,12 +1,17 @@
 """Refuses each allocation in turn of what a test does with its memory, the first, the second and so on, until a run makes no more.
 The test prints `ready` once it has prepared that, asserts itself what was kept or written, and prints a word that tells how it ended.
-What is told here is that no refusal is passed over. A test that starts threads doesn't make as many allocations each time."""
+What is told here is that no refusal is passed over. A test that starts threads doesn't make as many allocations each time.
+
+The same for programs on cases. Such a program compares what a refusal leaves with a copy from before (of a journal its site and its
+lengths; of a desk and of a raise nothing is compared), writes `memory`, and does the line again: so it must write what the case expects, and that one line more. Or it ends with status 1, or 2 while it reads its words,
+where the refused allocation was its own."""
 import itertools
 import os
 import sys
 import tempfile
 from typing import NamedTuple
 
+import cases
 from crates import folder
 from program_tests import NO_COMPILER, Failed, expect, refusing
 
@@ -79,6 +84,25 @@ TESTS = [
 ]
 
 
+# The cases of programs that do a line again, by their names and folders.
+CASES = {
+    "frame_cases": [
+        "deltas/a_conflict_changes_nothing",
+        "deltas/a_newer_dot_of_a_site_replaces_its_older_one",
+        "deltas/a_total_is_raised_up_to_its_limit",
+        "deltas/dots_are_asserted_and_killed",
+        "deltas/room_is_made_for_a_set",
+        "deltas/sets_are_joined_without_totals",
+        "deltas/totals_are_the_greater_of_both",
+    ],
+    "site_cases": [
+        "journals",
+        "desks/a_full_journal_goes_on_after_a_checkpoint",
+        "desks/frames_that_are_not_taken_change_nothing",
+    ],
+}
+
+
 def is_ready(ran):
     """Whether what is to be done was prepared."""
     return ran.stdout.startswith(b"ready\n")
@@ -116,17 +140,60 @@ def run_one(test, run_refusing):
     return f"each of the {len(ends)} allocations of {test.what} refused in turn: {told}"
 
 
+def has_refusal(ran, wanted):
+    """Whether a case was run again at the line whose allocation was refused. False where the program has ended, and has written a front
+    of the output."""
+    lines = ran.stdout.splitlines(keepends=True)
+    is_again = b"memory\n" in lines
+    if is_again:
+        lines.remove(b"memory\n")
+    written = b"".join(lines)
+    if ran.returncode == 0:
+        expect(is_again and written == wanted, "no refusal is told, or more has changed", ran)
+    else:
+        expect(ran.returncode in (1, 2) and wanted.startswith(written), "it ends in another way", ran)
+    return ran.returncode == 0
+
+
+def run_case(case, program, run_refusing):
+    """Runs a program on a case with each of its allocations refused. Answers for how many it did a line again, and for how many it
+    ended."""
+    whole, allocations = run_refusing(0, program, case.words(), case.part(case.kind))
+    wanted = case.part("expected")
+    expect(whole.returncode == 0 and whole.stdout == wanted, "with all its memory it writes something else", whole)
+    again = 0
+    for number in range(1, allocations + 1):
+        ran, _ = run_refusing(number, program, case.words(), case.part(case.kind))
+        again += has_refusal(ran, wanted)
+    return again, allocations - again
+
+
+def run_cases(program, run_refusing):
+    """Runs the cases of a program. Answers a line that tells what was run."""
+    kind = next(it for it, of in cases.KINDS.items() if of.program == program)
+    found = [it for it in cases.all_cases() if it.kind == kind and cases.is_named(it, CASES[program])]
+    path = cases.built(kind)
+    again, ended = (sum(it) for it in zip(*(run_case(it, path, run_refusing) for it in found)))
+    if not again:
+        raise Failed(f"no refused allocation of {program} led to a line that was done again")
+    return (
+        f"each of the {again + ended} allocations of {len(found)} cases of {program} refused in turn: {again} changed nothing, and the "
+        f"line was done again, {ended} ended it"
+    )
+
+
 def run_all(crates):
-    """Runs the tests of these crates. Answers lines that tell what was run."""
+    """Runs the tests of these crates, and the cases of these programs. Answers lines that tell what was run."""
     with tempfile.TemporaryDirectory() as room:
         run_refusing = refusing(room)
         if not run_refusing:
             return [NO_COMPILER]
-        return [run_one(test, run_refusing) for test in TESTS if test.crate in crates]
+        told = [run_one(test, run_refusing) for test in TESTS if test.crate in crates]
+        return told + [run_cases(program, run_refusing) for program in CASES if program in crates]
 
 
 if __name__ == "__main__":
     try:
-        print("\n".join(run_all([test.crate for test in TESTS])))
+        print("\n".join(run_all(sys.argv[1:] or [*(test.crate for test in TESTS), *CASES])))
     except Failed as why:
         sys.exit(f"test: {why}")

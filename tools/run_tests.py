@@ -98,7 +98,7 @@ def run_server(parts):
 
 
 def run_without_memory(parts, crates):
-    if any(test.crate in crates for test in memory_tests.TESTS):
+    if any(it in crates for it in (*(test.crate for test in memory_tests.TESTS), *memory_tests.CASES)):
         parts.run("tests with each allocation refused", part_of(lambda: memory_tests.run_all(crates)))
 
 

@@ -1,59 +1,94 @@
-"""Times the server of queue_sites over loopback: so many clients, each in a process of its own, ask one after another, and each waits for a reply
-before it asks again. Prints, for each load, how many asks a second are answered, and within how many microseconds half of them are, and
-99 of 100. The clients share the processors with the server, so that the figures tell of both."""
-import multiprocessing
+"""Measures how fast the server of queue_sites answers over loopback, by the clients of tools/load.c: each sends one request, waits for the whole
+reply, and only then sends the next. Prints, for each load, how many requests a second are answered, how many megabytes of replies a second
+come, and within how many microseconds half of the replies come, and 99 of 100. Where Debian's redis-server is installed, the same clients
+measure it in the same run, by `HSET`. Clients and servers share the processors."""
+import contextlib
+import os
+import shutil
+import socket
+import subprocess
 import sys
+import tempfile
 import time
 
+from crates import TOP
 from program_tests import Failed
-from server_tests import Server
+from server_tests import PATIENCE, Server, fill, free_ports
 
 SECONDS = 3
-# How many clients there are, at how many sites, and how many members a queue has, of which each ask wants the status; or none, where each ask
-# sets a penalty.
+# How many clients there are, at how many sites, and how many members a queue has whose status each request asks for; None: each request sets
+# a penalty.
 LOADS = [(1, 1, None), (4, 1, None), (32, 1, None), (1, 8, None), (4, 8, None), (32, 8, None), (1, 1, 1_000), (4, 1, 1_000)]
+REDIS_CLIENTS = [1, 4]
 
 
-def asks(server, site, members, until, times):
-    """Asks at a site until a time, and hands over how long each reply took."""
-    client = server.logged_in(site)
-    took = []
-    while time.monotonic() < until:
-        began = time.perf_counter()
-        if members:
-            client.ask("QueueStatus")
-        else:
-            client.ask("QueuePenalty", Interface="SIP/0", Penalty=len(took) % 100)
-        took.append(time.perf_counter() - began)
-    client.leave()
-    times.put(took)
+def compiled_clients(room):
+    """The program of tools/load.c."""
+    compiler = next(filter(None, map(shutil.which, ["cc", "gcc", "clang"])), None)
+    if not compiler:
+        raise Failed("tools/load.c needs a C compiler")
+    program = f"{room}/load"
+    subprocess.run([compiler, "-O2", "-pthread", "-o", program, f"{TOP}/tools/load.c"], check=True)
+    return program
 
 
-def load(clients, sites, members):
-    """Runs a load. Answers how long each reply took, in seconds, in ascending order. Where more clients come to a site than it serves at once,
-    the others wait until those leave, and then find that the time is up."""
+def measured(program, *words):
+    """What the clients print: requests, bytes of replies, and the nanoseconds within which half of the replies came, and 99 of 100."""
+    ran = subprocess.run([program, *map(str, words)], capture_output=True, text=True, check=False)
+    if ran.returncode:
+        raise Failed(ran.stderr.strip())
+    return [int(it) for it in ran.stdout.split()]
+
+
+def manager_load(program, clients, sites, members):
+    """A load of the server. Where more clients come to a site than it serves at once, the others wait until those leave, and then find that the
+    time is up."""
     with Server(sites) as server:
-        with server.logged_in() as it:
-            for number in range(members or 1):
-                it.succeed("QueueAdd", Queue="sales", Interface=f"SIP/{number}")
-            it.leave()
-        times, until = multiprocessing.Queue(), time.monotonic() + SECONDS
-        them = [multiprocessing.Process(target=asks, args=(server, it % sites, members, until, times)) for it in range(clients)]
-        for it in them:
-            it.start()
-        took = sorted(second for _ in them for second in times.get())
-        for it in them:
-            it.join()
-    return took
+        fill(server, 0, members or 1)
+        if members is None:
+            time.sleep(0.1)  # the other sites take the member
+        ask = "penalty" if members is None else "status"
+        return measured(program, "manager", server.port, sites, clients, SECONDS, ask, server.user, server.secret)
+
+
+@contextlib.contextmanager
+def redis(room):
+    """A Redis that keeps nothing on disk, at a port of its own."""
+    port = free_ports(1)
+    words = ["redis-server", "--port", str(port), "--bind", "127.0.0.1", "--save", "", "--appendonly", "no", "--dir", room]
+    with subprocess.Popen(words, stdout=subprocess.DEVNULL, stderr=subprocess.DEVNULL) as process:
+        try:
+            ends = time.monotonic() + PATIENCE
+            while True:
+                with contextlib.suppress(OSError), socket.create_connection(("127.0.0.1", port), 1):
+                    break
+                if time.monotonic() > ends:
+                    raise Failed("redis-server doesn't listen")
+                time.sleep(0.02)
+            yield port
+        finally:
+            process.terminate()
+
+
+def show(what, clients, sites, members, figures):
+    count, bytes_read, half, most = figures
+    members = f"{members:,}" if members else "-"
+    print(f"{what:<10} {clients:>8} {sites:>6} {members:>8} {count / SECONDS:>11,.0f} {bytes_read / SECONDS / 1e6:>7,.0f} "
+          f"{half / 1e3:>8,.0f} us {most / 1e3:>8,.0f} us", flush=True)
 
 
 def main():
-    print(f"{'clients':>8} {'sites':>6} {'members':>8} {'asks/s':>9} {'50%':>9} {'99%':>9}")
-    for clients, sites, members in LOADS:
-        took = load(clients, sites, members)
-        at = lambda part: f"{took[int(part * (len(took) - 1))] * 1e6:.0f} us"
-        shown = f"{members:,}" if members else "-"
-        print(f"{clients:>8} {sites:>6} {shown:>8} {len(took) / SECONDS:>9,.0f} {at(0.5):>9} {at(0.99):>9}", flush=True)
+    print(f"{'request':<10} {'clients':>8} {'sites':>6} {'members':>8} {'requests/s':>11} {'MB/s':>7} {'50%':>11} {'99%':>11}")
+    with tempfile.TemporaryDirectory() as room:
+        program = compiled_clients(room)
+        for clients, sites, members in LOADS:
+            show("penalty" if members is None else "status", clients, sites, members, manager_load(program, clients, sites, members))
+        if not shutil.which("redis-server", path=f"{os.environ['PATH']}:/usr/sbin"):
+            print("bench: redis-server isn't installed: its rows are left out")
+            return
+        for clients in REDIS_CLIENTS:
+            with redis(room) as port:
+                show("Redis HSET", clients, 1, None, measured(program, "redis", port, 1, clients, SECONDS, "hset"))
 
 
 if __name__ == "__main__":

@@ -1,5 +1,6 @@
 """Runs the server of queue_sites: its words and texts, the sessions of the cases over loopback, many clients at once, clients that idle, flood,
-lie, linger and break off, what it tells on standard error, and each allocation of a short run refused."""
+lie, linger and break off, its log, and each allocation of a short run refused."""
+import collections
 import concurrent.futures
 import contextlib
 import os
@@ -13,6 +14,7 @@ import struct
 import subprocess
 import sys
 import tempfile
+import threading
 import time
 
 import cases
@@ -24,15 +26,22 @@ USER, SECRET = "admin", "s3"
 GREETING = "Queue Sites Call Manager/1.0.0"
 # How long anything may take that isn't a matter of time limits, in seconds.
 PATIENCE = 20
-# How long the server waits for a first message, and for a client that reads nothing, and how much longer such a client may keep its place.
-SLOT_SECONDS, MORE_SECONDS = 30, 5
+# The hidden option that shortens the times in which a client must log in and read; these, and how much longer a client may keep its place.
+SLOT_SECONDS, MORE_SECONDS = 4, 5
+SHORTER = ["--patience", str(SLOT_SECONDS)]
 SLOTS = 4
+# With how many failed logins a session ends.
+TRIES = 5
 # How long sites may take until they show the same, in seconds.
 SETTLED = 5
 # How much processor time a server may take while nobody asks, in seconds.
 LITTLE = 0.2
-# What is told on standard error of a client that was refused for want of something.
-TOLD = re.compile(rb"queue_sites: site \d+: (no connection: .+|connection refused: .+|session ended: (out of memory|desk down))")
+# What is logged where memory runs out.
+TOLD = re.compile(rb"queue_sites: (\d+ log lines dropped|site \d+: (no connection: .+|client \S+: (connection not prepared: .+|"
+                  rb"waits for a place|session ended: (out of memory; its last command may have been done|"
+                  rb"desk down; its last command was not done))))")
+# A line of the log that tells of a client.
+OF_CLIENT = re.compile(rb"queue_sites: site (\d+): client (\S+): (.+)")
 
 
 def need(is_so, what):
@@ -61,14 +70,15 @@ def free_ports(sites):
 
 
 class Server:
-    """A running server of so many sites. It is ended when it is left."""
+    """A running server of so many sites. It is ended when it is left. Where its options name a file of the secret, there is no word for it."""
 
     def __init__(self, sites, queues=("sales",), user=USER, secret=SECRET, options=(), more=None, out=None, address="127.0.0.1"):
         self.sites, self.port, self.user, self.secret, self.address = sites, free_ports(sites), user, secret, address
-        words = [BUILT, "serve", *options, str(sites), str(self.port), user, secret, *queues]
+        login = [user] if "--secret-file" in options else [user, secret]
+        words = [BUILT, "serve", *options, str(sites), str(self.port), *login, *queues]
         how = {"stdin": subprocess.DEVNULL, "stdout": out or subprocess.PIPE, "stderr": subprocess.PIPE}
         self.process = subprocess.Popen(words, env={**os.environ, **(more or {})}, **how)
-        self.printed = b""
+        self.printed, self.logged = b"", b""
 
     def __enter__(self):
         self.wait_until_it_listens()
@@ -79,7 +89,8 @@ class Server:
 
     def lines(self):
         """What it prints once all sites listen."""
-        return b"".join(b"listening %b:%d\n" % (self.address.encode(), self.port + site) for site in range(self.sites))
+        address = f"[{self.address}]" if ":" in self.address else self.address
+        return b"".join(b"listening %b:%d\n" % (address.encode(), self.port + site) for site in range(self.sites))
 
     def wait_until_it_listens(self):
         """Waits until it has told that all sites listen. Answers whether it has, which isn't so where it has ended."""
@@ -97,17 +108,34 @@ class Server:
         """Ends it by a signal, at once, and tells what it said on standard error."""
         self.process.send_signal(by)
         try:
-            _, told = self.process.communicate(timeout=PATIENCE)
+            _, rest = self.process.communicate(timeout=PATIENCE)
         except subprocess.TimeoutExpired:
             self.process.kill()
             self.process.communicate()
             raise Failed("a signal doesn't end the server") from None
-        return told
+        return self.logged + rest
+
+    def read_log(self, is_enough):
+        """Reads standard error until this holds of what was logged, or for a while. Who logs waits for nobody, so a line may come late."""
+        ends = time.monotonic() + SETTLED
+        while not is_enough(self.logged) and time.monotonic() < ends:
+            if select.select([self.process.stderr], [], [], 0.1)[0]:
+                self.logged += os.read(self.process.stderr.fileno(), 65_536)
+        return self.logged
 
     def stop_silent(self):
-        """Ends it where it has told nothing on standard error."""
+        """Ends it where it has logged nothing."""
         told = self.stop()
-        need(told == b"", f"the server told {told!r} on standard error")
+        need(told == b"", f"the server logged {told!r}")
+
+    def stop_logged(self, *events):
+        """Ends it where its log tells just these events of clients, in any order: of which site, which client, and what."""
+        self.read_log(lambda logged: logged.count(b"\n") >= len(events))
+        told = self.stop()
+        found = [OF_CLIENT.fullmatch(line) for line in told.splitlines()]
+        need(all(found), f"the server logged {told!r}")
+        found = collections.Counter((int(it[1]), it[2].decode(), it[3].decode()) for it in found)
+        need(found == collections.Counter(events), f"the server logged {told!r}, and not {events!r}")
 
     def memory(self):
         """How many bytes of memory it has."""
@@ -145,6 +173,8 @@ class Client:
     def __init__(self, port, patience=PATIENCE, address="127.0.0.1"):
         self.socket, self.held, self.greeting = socket.create_connection((address, port), patience), b"", b""
         self.socket.setsockopt(socket.IPPROTO_TCP, socket.TCP_NODELAY, 1)
+        host, own, *_ = self.socket.getsockname()
+        self.name = f"[{host}]:{own}" if ":" in host else f"{host}:{own}"
 
     def __enter__(self):
         return self
@@ -229,6 +259,8 @@ def wrong_words():
     check(BUILT, ["serve", *right[:-1]], 2, told=b"required arguments were not provided")
     check(BUILT, ["serve", "--idle", "soon", *right], 2, told=b"invalid value 'soon'")
     check(BUILT, ["serve", "--bind", "nowhere", *right], 2, told=b"queue_sites: bad address\n")
+    for places in ("0", "65", "few"):
+        check(BUILT, ["serve", "--sessions", places, *right], 2, told=b"invalid value '%b' for '--sessions <N>'" % places.encode())
     check(BUILT, ["serve", *right, "sales"], 2, told=b"queue_sites: bad queue list\n")
     check(BUILT, ["serve", "1", "24000", "", "", "a", "a"], 2, told=b"queue_sites: bad queue list\n")
     for word in ("", "a" * 81, "a\nb", " a", "a\t"):
@@ -239,10 +271,33 @@ def wrong_words():
         taken.listen()
         port = taken.getsockname()[1]
         if port <= 65_528:
-            check(BUILT, changed(1, str(port)), 1, told=b"queue_sites: cannot listen on %d\n" % port)
+            taken_told = b"queue_sites: cannot listen on %d: Address already in use (os error 98)\n" % port
+            check(BUILT, changed(1, str(port)), 1, told=taken_told)
+            elsewhere = b"queue_sites: cannot listen on %d: Cannot assign requested address (os error 99)\n" % port
+            check(BUILT, ["serve", "--bind", "192.0.2.1", *changed(1, str(port))[1:]], 1, told=elsewhere)
     with open("/dev/full", "wb") as full:
         check(BUILT, changed(1, str(free_ports(1))), 1, told=b"queue_sites: write failed\n", out=full)
     return "its words and texts"
+
+
+def secrets_of_files():
+    """The secret may stand in a file: in its first line, whose end is LF, CR LF or that of the file. Then there is no word for it."""
+    with tempfile.TemporaryDirectory() as room:
+        name = f"{room}/secret"
+        words = ["serve", "--secret-file", name, "1", "24000", USER, "sales"]
+        check(BUILT, words, 1, told=b"queue_sites: cannot read the secret's file: No such file or directory (os error 2)\n")
+        check(BUILT, ["serve", f"--secret-file={room}", *words[3:]], 1, told=b"queue_sites: cannot read the secret's file: Is a directory (os error 21)\n")
+        for content in (b"", b"\n", b"a" * 81, b" s3\n", b"s3 \n", b"s\0003\n"):
+            with open(name, "wb") as file:
+                file.write(content)
+            check(BUILT, words, 2, told=b"queue_sites: bad text\n")
+        for content, secret in ((b"s3", "s3"), (b"s3\n", "s3"), (b"s3\r\nmore\n", "s3"), (b"a" * 80 + b"\r\n" + b"b" * 9_999, "a" * 80), (b"@s3\n", "@s3")):
+            with open(name, "wb") as file:
+                file.write(content)
+            with Server(1, secret=secret, options=["--secret-file", name]) as server:
+                server.logged_in().leave()
+                server.stop_silent()
+    return "secrets in files"
 
 
 def greets_as_it_is_told():
@@ -261,6 +316,16 @@ def greets_as_it_is_told():
     return "its greetings and logins at each site"
 
 
+def has_ipv6():
+    """Whether this machine has a loopback address of IPv6."""
+    try:
+        with socket.socket(socket.AF_INET6) as it:
+            it.bind(("::1", 0))
+    except OSError:
+        return False
+    return True
+
+
 def refuses_at(port, address):
     """Whether nobody answers at an address and port."""
     try:
@@ -277,7 +342,15 @@ def listens_where_it_is_told():
             for site in range(2):
                 server.client(site).socket.close()
                 need(refuses_at(server.port + site, other), f"a server of {address} answers at {other}")
-    return "the addresses that it listens on"
+    if has_ipv6():
+        with Server(2, options=["--bind", "::1"], address="::1") as server:
+            server.logged_in(1).leave()
+            need(refuses_at(server.port, "127.0.0.1"), "a server of ::1 answers at 127.0.0.1")
+            it = server.client()
+            it.ask("Login", Username=USER)
+            it.socket.close()
+            server.stop_logged((0, it.name, "login failed"))
+    return f"the addresses that it listens on, {'of IPv6 too' if has_ipv6() else 'of IPv4 alone, since this machine has no IPv6'}"
 
 
 def sessions():
@@ -288,7 +361,11 @@ def sessions():
         if it.kind != "session":
             continue
         words = it.words()
+        if any(word.startswith("--take=") for word in words):  # of a site that has taken a frame, which no server can be given
+            continue
         greeting = words.pop(0).removeprefix("--greeting=") if words[0].startswith("--greeting=") else None
+        if words[0].startswith("--tries="):
+            need(words.pop(0) == f"--tries={TRIES}", f"{it.name}: a server has {TRIES} tries")
         _, user, secret, *queues = words
         given, wanted = it.part("session"), it.part("expected")
         if not user:
@@ -399,8 +476,61 @@ def fifth_client():
         fifth.leave()
         for it in first:
             it.leave()
-        server.stop_silent()
+        server.stop_logged((0, fifth.name, "waits for a place"))
     return "a fifth client"
+
+
+def places():
+    """A site has as many places as it is given."""
+    with Server(2, options=["--sessions", "1"]) as server:
+        first, second = server.logged_in(1), Client(server.port + 1)
+        need(not select.select([second.socket], [], [], 0.3)[0], "a second client is greeted where there is one place")
+        first.leave()
+        second.line()
+        second.leave()
+        server.stop_logged((1, second.name, "waits for a place"))
+    with Server(1, options=["--sessions", "64"]) as server:
+        for it in [server.logged_in() for _ in range(64)]:
+            it.leave()
+        server.stop_silent()
+    return "one place, and 64"
+
+
+def verbose_log():
+    """Where it is asked for, clients that log in are logged, and when they leave, in whichever way; others aren't."""
+    with Server(1, options=["--verbose"]) as server:
+        one, other = server.logged_in(), server.logged_in()
+        one.leave()
+        other.reset()
+        with server.client() as it:
+            it.leave()
+        third = server.logged_in()
+        third.socket.shutdown(socket.SHUT_WR)
+        need(third.rest() == b"", "something comes behind the last reply")
+        third.socket.close()
+        server.stop_logged(*((0, it.name, what) for it in (one, other, third) for what in ("logged in", "left")))
+    return "a log of logins"
+
+
+def failed_logins():
+    """Each failed login is logged, with the client's address and without what it sent. After the fifth the session ends; a login that is accepted
+    between them gives none back."""
+    refusal = b"Response: Error\r\nMessage: Authentication failed\r\n\r\n"
+    with Server(1) as server:
+        one, other = server.client(), server.logged_in()
+        for it in (one, other):
+            for turn in range(TRIES):
+                reply = it.ask("Login", Username=USER, Secret=f"{SECRET}{turn}")
+                need(reply == refusal, f"a failed login is answered {reply!r}")
+            need(it.rest() == b"", "something comes behind the reply to the last login")
+            it.socket.close()
+        many = server.client()
+        many.send(9 * b"Action: Login\r\n\r\n")
+        need(many.rest() == TRIES * refusal, "there are other replies to failed logins than five")
+        many.socket.close()
+        events = [(0, it.name, "login failed") for it in (one, other, many) for _ in range(TRIES)]
+        server.stop_logged(*events, *((0, it.name, "closed after too many failed logins") for it in (one, other, many)))
+    return "failed logins"
 
 
 def replies_before_the_end():
@@ -444,8 +574,112 @@ def clients_that_linger():
             it.result()
         for it in [*them, *served]:
             it.socket.close()
-        server.stop_silent()
+        # Of the others that wait, those are logged whose turn comes before a place is left.
+        told = server.stop()
+        waiting = b"queue_sites: site 0: client %b: waits for a place\n" % fifth.name.encode()
+        need(waiting in told and all(it.endswith(b": waits for a place") for it in told.splitlines()), f"the server logged {told!r}")
     return "clients that linger behind their Logoffs"
+
+
+class Model:
+    """What a site with the queue sales answers to some messages, told by rules of its own."""
+
+    def __init__(self):
+        self.members = set()
+
+    def reply(self, message, is_logged_in):
+        """The reply to a message, given as pairs of names and values."""
+        fields = {name.lower(): value for name, value in reversed(message)}
+        answer = lambda response, text: f"Response: {response}\r\nMessage: {text}\r\n\r\n".encode()
+        if not fields.get("action"):
+            return answer("Error", "Missing action in request")
+        if not is_logged_in:
+            return answer("Error", "Permission denied")
+        if fields["action"] not in ("QueueAdd", "QueueRemove"):
+            return answer("Error", "Invalid/unknown command")
+        for name in ("Queue", "Interface"):
+            if not fields.get(name.lower()):
+                return answer("Error", f"'{name}' not specified.")
+        if fields["queue"] != "sales":
+            return answer("Error", "No such queue")
+        interface, is_there = fields["interface"], fields["interface"] in self.members
+        if fields["action"] == "QueueAdd":
+            self.members.add(interface)
+            return answer("Error", "Unable to add interface: Already there") if is_there else answer("Success", "Added interface to queue")
+        self.members.discard(interface)
+        return answer("Success", "Removed interface from queue") if is_there else answer("Error", "Unable to remove interface: Not there")
+
+
+def message_by_lot(lot, prefix):
+    """A message at random, as pairs of names and values."""
+    message = [("Action", lot.choice(["QueueAdd", "QueueAdd", "QueueRemove", "Ping", "Dance", ""]))]
+    if lot.random() < 0.9:
+        message.append((lot.choice(["Queue", "queue"]), lot.choice(["sales", "sales", "sales", "nowhere", ""])))
+    if lot.random() < 0.9:
+        message.append(("Interface", f"SIP/{prefix}-{lot.randrange(9)}"))
+    message += [(f"X{number}", "a" * lot.randrange(30)) for number in range(lot.randrange(4))]
+    lot.shuffle(message)
+    return message
+
+
+def spelled(message, lot):
+    """The bytes of a message, whose lines end in LF or CR LF."""
+    end = lambda: lot.choice([b"\n", b"\r\n"])
+    return b"".join(f"{name}: {value}".encode() + end() for name, value in message) + end()
+
+
+def hostile_stream(seed):
+    """A stream at random: messages, a fault, and up to 300 KB of messages behind it. The messages before the fault, the bytes of all, and the fault's
+    text with how many whole messages stand behind the last of those before it."""
+    lot = random.Random(seed)
+    before = [message_by_lot(lot, seed) for _ in range(lot.randrange(1, 200))]
+    after = [message_by_lot(lot, seed) for _ in range(lot.randrange(5_000))]
+    text, fault = lot.choice([
+        ("line too long", b"Action: QueueAdd\r\nQueue: " + b"a" * lot.randrange(1_018, 9_000)),
+        ("line too long", b"\0" * 1_025),
+        ("too many fields", b"Action: Ping\r\n" + 128 * b"X: a\r\n"),
+    ])
+    given = [spelled(it, lot) for it in before]
+    rest = fault + b"\r\n\r\n" + b"".join(spelled(it, lot) for it in after)
+    return before, b"".join(given), rest, f"session ended: {text}; {len(after) + 1} commands behind it were not done"
+
+
+def send_all(it, given):
+    """Sends bytes, as far as the server takes them."""
+    with contextlib.suppress(OSError):
+        it.send(given)
+
+
+def hostile_session(server, seed, stream, model):
+    """A client that sends a hostile stream at once gets the replies to all messages before the fault. What is logged of it."""
+    before, given, rest, text = stream
+    login = f"Action: Login\r\nUsername: {USER}\r\nSecret: {SECRET}\r\n\r\n".encode()
+    wanted = f"{GREETING}\r\nResponse: Success\r\nMessage: Authentication accepted\r\n\r\n".encode()
+    wanted += b"".join(model.reply(it, True) for it in before)
+    with Client(server.port) as it:
+        sender = threading.Thread(target=send_all, args=(it, login + given + rest))
+        sender.start()
+        written = it.rest()
+        sender.join()
+        need(written == wanted, f"hostile stream {seed}: {first_difference(wanted, written) if written != wanted else ''}")
+        return 0, it.name, text
+
+
+def hostile_streams(streams=40, times=20):
+    """Streams at random that have a fault, with much behind it, are answered byte for byte up to the fault, again and again."""
+    them = [hostile_stream(seed) for seed in range(streams)]
+    with Server(1) as server, concurrent.futures.ThreadPoolExecutor(SLOTS) as threads:
+        models = [Model() for _ in range(streams)]
+        events = []
+        for _ in range(times):
+            events += threads.map(lambda seed: hostile_session(server, seed, them[seed], models[seed]), range(streams))
+        server.read_log(lambda logged: logged.count(b": session ended: ") >= len(events))
+        lines = collections.Counter(server.stop().splitlines())
+        for site, name, text in events:
+            lines[f"queue_sites: site {site}: client {name}: {text}".encode()] -= 1
+        others = [it for it, number in lines.items() if number and not (number > 0 and it.endswith(b": waits for a place"))]
+        need(not others, f"of hostile streams the server logged {others!r}")
+    return f"{streams} hostile streams, {times} times over"
 
 
 def hostile_clients():
@@ -481,7 +715,9 @@ def hostile_clients():
         need(b"ListItems: " in shown(server), "no client is served behind many")
         need(server.memory() - before < 64 << 20, f"the server had {before:,} bytes of memory and has {server.memory():,}")
         need(server.process.poll() is None, "the server has ended")
-        server.stop_silent()
+        known = re.compile(rb"queue_sites: site 0: client \S+: (waits for a place|session ended: (line too long|too many fields); \d+ commands behind it were not done)")
+        told = server.stop()
+        need(all(map(known.fullmatch, told.splitlines())), f"the server logged {told!r}")
     return "garbage, resets, and 200 connections"
 
 
@@ -505,7 +741,7 @@ def no_connections():
             it.line()
             it.leave()
         told = server.stop()
-        need(re.fullmatch(rb"(queue_sites: site 0: no connection: .+\n){1,9}", told), f"no connections are told as {told!r}")
+        need(re.fullmatch(rb"(queue_sites: site 0: no connection: .+\n){1,12}", told), f"no connections are logged as {told!r}")
     return "a system that has no connections to give"
 
 
@@ -555,25 +791,94 @@ def read_slowly(it):
     need(written.endswith(b"all the fish.\r\n\r\n"), f"a client that reads slowly gets {len(written):,} bytes of its report")
 
 
+def read_too_slowly(it, seconds):
+    """A client that is logged in reads fewer bytes than it must, though it reads some, for so many seconds."""
+    it.socket.setsockopt(socket.SOL_SOCKET, socket.SO_RCVBUF, 65_536)
+    it.send(20 * b"Action: QueueStatus\r\n\r\n")
+    ends = time.monotonic() + seconds
+    with contextlib.suppress(OSError):
+        while time.monotonic() < ends:
+            it.socket.recv(100)
+            time.sleep(0.2)
+
+
 def clients_that_hold_on():
-    """Clients that send nothing, or empty lines alone, or a message that never ends, and those that never read what they ask for, lose their
-    places after half a minute; others are served then, and no earlier. One that reads slowly keeps its place."""
+    """Clients that send nothing, or empty lines alone, or a message that never ends, or messages but no login, and those that never read what they
+    ask for, or read very little, lose their places; others are served then, and no earlier. One that reads slowly keeps its place."""
     most = SLOT_SECONDS + MORE_SECONDS
-    with Server(2) as server, concurrent.futures.ThreadPoolExecutor(SLOTS + 1) as threads:
+    with Server(2, options=SHORTER) as server, concurrent.futures.ThreadPoolExecutor(2 * SLOTS) as threads:
         fill(server, 1, 5_000)
         until_shown(server, 0, b"ListItems: 5001\r\n")
         slow, started = server.logged_in(), time.monotonic()
         held = [server.client() for _ in range(SLOTS - 1)]
-        deaf = [deaf_client(server, 1) for _ in range(SLOTS)]
-        jobs = [threads.submit(next_clients, server, site, len(them), started) for site, them in enumerate((held, deaf))]
-        jobs += [threads.submit(drip, held[0], b"\r\n", 1, most), threads.submit(drip, held[1], b"A: b\r\n", 1, most)]
-        jobs.append(threads.submit(read_slowly, slow))
+        deaf = [deaf_client(server, 1) for _ in range(SLOTS - 1)]
+        sleepy = server.logged_in(1)
+        jobs = [threads.submit(next_clients, server, 0, len(held), started), threads.submit(next_clients, server, 1, len(deaf), started)]
+        drips = (b"\r\n", b"A: b\r\n", b"Action: Ping\r\n\r\n")
+        jobs += [threads.submit(drip, it, given, 0.5, most) for it, given in zip(held, drips)]
+        jobs += [threads.submit(read_slowly, slow), threads.submit(read_too_slowly, sleepy, most)]
         for it in jobs:
             it.result()
-        for it in [slow, *held, *deaf]:
+        for it in [slow, *held, *deaf, sleepy]:
             it.socket.close()
-        server.stop_silent()
-    return "clients that send nothing, empty lines or no end of a message, that never read, and that read slowly"
+        server.read_log(lambda logged: logged.count(b": given up: ") >= len(held) + len(deaf) + 1)
+        told = server.stop()
+        logged = [(0, it.name, f"given up: no login within {SLOT_SECONDS} s") for it in held]
+        logged += [(1, it.name, f"given up: less than 4096 bytes read in {SLOT_SECONDS} s") for it in (*deaf, sleepy)]
+        lines = [it for it in told.decode().splitlines() if not it.endswith(": waits for a place")]
+        need(sorted(lines) == sorted(f"queue_sites: site {site}: client {name}: {text}" for site, name, text in logged), f"the server logged {told!r}")
+    return "clients that send nothing, no end or no login, that read nothing or too little, and that read slowly"
+
+
+def four_silent_clients():
+    """Four clients of a site that send one message each, and are silent then, don't keep a fifth out for more than the time for a login."""
+    with Server(1, options=SHORTER) as server:
+        started = time.monotonic()
+        four = [server.client() for _ in range(SLOTS)]
+        for it in four:
+            it.ask("Ping")
+        fifth = Client(server.port)
+        fifth.line()
+        waited = time.monotonic() - started
+        need(SLOT_SECONDS - 1 < waited < SLOT_SECONDS + 1, f"a fifth client waits {waited:.1f} seconds")
+        for it in four:
+            need(it.rest() == b"", "a client that is given up is told something")
+            it.socket.close()
+        fifth.succeed("Login", Username=USER, Secret=SECRET)
+        fifth.leave()
+        logged = [(0, it.name, f"given up: no login within {SLOT_SECONDS} s") for it in four]
+        server.stop_logged((0, fifth.name, "waits for a place"), *logged)
+    return "four clients that are silent behind one message"
+
+
+def fail_to_log_in(server, clients):
+    """So many clients fail to log in, one after another, five times each."""
+    for _ in range(clients):
+        with server.client() as it:
+            it.send(TRIES * b"Action: Login\r\n\r\n")
+            need(it.rest().count(b"Authentication failed") == TRIES, "a failed login isn't answered")
+
+
+def deaf_standard_error(clients=300):
+    """Where nobody reads standard error, which is full then, clients are served on. What was logged meanwhile, and isn't written, is counted."""
+    with Server(2) as server, concurrent.futures.ThreadPoolExecutor(SLOTS) as threads:
+        for it in [threads.submit(fail_to_log_in, server, clients) for _ in range(SLOTS)]:
+            it.result()
+        started = time.monotonic()
+        it = server.logged_in()
+        it.succeed("QueueAdd", Queue="sales", Interface="SIP/1")
+        it.leave()
+        until_shown(server, 1, b"Location: SIP/1\r\n")
+        need(time.monotonic() - started < 2, "a server whose log nobody reads serves slowly")
+        find = lambda logged: re.search(rb"queue_sites: (\d+) log lines dropped\n", logged)
+        dropped = find(server.read_log(find))
+        need(dropped, f"of {clients * SLOTS * (TRIES + 1)} lines none is told to be dropped")
+        lines = server.stop().splitlines()
+        number = sum(b": login failed" in it or b": closed after" in it for it in lines) + int(dropped[1])
+        waiting = sum(b": waits for a place" in it for it in lines)
+        all_events = clients * SLOTS * (TRIES + 1)
+        need(all_events <= number + waiting and int(dropped[1]) > 0, f"{number} lines are told of {all_events}")
+    return f"a standard error that nobody reads: {int(dropped[1]):,} lines dropped"
 
 
 def idle_clients():
@@ -596,7 +901,7 @@ def idle_clients():
         need(b"Message: Missing action in request\r\n" in slow.until(b"\r\n\r\n"), "a client that sends slowly isn't answered")
         slow.leave()
         busy.leave()
-        server.stop_silent()
+        server.stop_logged((0, quiet.name, "given up: silent for 1 s"))
     with Server(1, options=["--idle", "0"]) as server, server.logged_in() as it:
         time.sleep(2)
         it.leave()
@@ -715,8 +1020,9 @@ def refused_allocations(room):
 
 def run_all():
     """Runs all of it. Answers lines that tell what was run."""
-    tests = [wrong_words, greets_as_it_is_told, listens_where_it_is_told, sessions_of_files, clients_at_once, members_of_their_own, fifth_client,
-             replies_before_the_end, clients_that_linger, hostile_clients, no_connections, idle_clients, long_reports, clients_that_hold_on, signals]
+    tests = [wrong_words, secrets_of_files, greets_as_it_is_told, listens_where_it_is_told, sessions_of_files, clients_at_once, members_of_their_own,
+             fifth_client, places, verbose_log, failed_logins, replies_before_the_end, clients_that_linger, hostile_streams, hostile_clients,
+             no_connections, idle_clients, long_reports, clients_that_hold_on, four_silent_clients, deaf_standard_error, signals]
     with tempfile.TemporaryDirectory() as room:
         return [*(test() for test in tests), refused_allocations(room)]
 

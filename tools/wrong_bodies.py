@@ -493,7 +493,7 @@ def run(names, is_gate_passed=False, is_control=False):
         return True, report, seconds
     with contextlib.ExitStack() as stack:
         built = stack.enter_context(over_libraries(rt, left, is_gate_passed))
-        pool = stack.enter_context(concurrent.futures.ThreadPoolExecutor(build.at_once()))
+        pool = stack.enter_context(concurrent.futures.ThreadPoolExecutor(build.at_once()[0]))
         if not built:
             return False, [*report, "    they are not proved as they stand"], seconds
         # with which each check ends where this run does
