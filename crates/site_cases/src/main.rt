@@ -1,7 +1,7 @@
 //! Does at one site what lines of standard input say, for tests by files: `site_cases journal|desk SITE LIMIT QUEUE..`.
 //!
 //! The site has the number SITE, 0 to 63, and the queues that are named, in that order, and knows nothing at first. Its journal may have
-//! LIMIT steps, 1 to 1,000,000. The lines are done at the journal itself, or by one pass of a desk over it. `docs/journals.md`, "Sites in
+//! LIMIT steps, 1 to 1,000,000. The lines are done at the journal itself, or by one pass of a desk over it. `docs/model.md`, "Sites in
 //! lines", has the lines and what each gives.
 //!
 //! The status is 1 where standard input could not be read, a text not be written, or an allocation was refused that is no line's; and 2

@@ -6,12 +6,12 @@ ghost use Rattle.std.specs.Prelude.{◌≤◌};
 use crate::shared::Change::{Assert, Kill};
 use crate::shared::{
     Change, FIRST, OTHER, SECOND, SIP_1, SIP_2, ToldDot, ToldMember, do_change, do_changes, dot,
-    member, set_of, site,
+    fields, member, set_of, site,
 };
 use causal_context::Context;
 use dots::Dot;
 use member_orset::JoinFault::Conflict;
-use member_orset::{JoinFault, MemberSet};
+use member_orset::{JoinFault, MemberSet, SetBuilder};
 use std::alloc::Global;
 use std::io::Print;
 use std::process::Abort;
@@ -95,6 +95,23 @@ fn assert_changes(rt: &impl Abort, set: &mut MemberSet) {
 fn asserts_and_kills_join_or_are_refused(rt: HostRuntime) {
     let mut set = MemberSet::new(rt.alloc());
     assert_changes(&rt, &mut set);
+    drop(set);
+}
+
+// Builds the set of two known dots of site 0, of which the second is live.
+#[test]
+fn a_set_is_built_of_known_and_live_dots(rt: HostRuntime) {
+    let zero = site(&rt, 0);
+    let second = Dot::new(zero, 2).expect(&rt, "a dot");
+    let mut known = Context::new(rt.alloc());
+    known.insert_run(zero, 1, 2).expect(&rt, "room");
+    let mut builder = SetBuilder::new(rt.alloc(), known);
+    let id = builder.cell(second, &member(&rt, SIP_1), &fields(&rt, 5, 7));
+    let id = id.expect(&rt, "memory");
+    let set = builder.finish();
+    assert_state(&rt, &set, FIRST, DEAD);
+    assert_state(&rt, &set, SECOND, LIVE_7);
+    assert!(rt; set.cells() == 1 && set.id(second) == Some(id));
     drop(set);
 }
 

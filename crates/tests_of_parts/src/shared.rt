@@ -60,7 +60,7 @@ fn penalty(rt: &impl Abort, time: u64, number: u32) -> Register<Penalty>
 }
 
 // The fields of a penalty that site 0 has set at a time.
-fn fields(rt: &impl Abort, time: u64, number: u32) -> Fields
+pub(crate) fn fields(rt: &impl Abort, time: u64, number: u32) -> Fields
     ensures { HasField result }
 {
     let mut fields = Fields::none();
