@@ -105,6 +105,7 @@ fn a_set_is_built_of_known_and_live_dots(rt: HostRuntime) {
     let second = Dot::new(zero, 2).expect(&rt, "a dot");
     let mut known = Context::new(rt.alloc());
     known.insert_run(zero, 1, 2).expect(&rt, "room");
+    assert!(rt; known.contains(second));
     let mut builder = SetBuilder::new(rt.alloc(), known);
     let id = builder.cell(second, &member(&rt, SIP_1), &fields(&rt, 5, 7));
     let id = id.expect(&rt, "memory");
