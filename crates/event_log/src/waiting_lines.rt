@@ -94,14 +94,18 @@ impl WaitingLines {
 
     // Gives the oldest line, or else how many were dropped, if any were, or else the end.
     pub fn take_next(&mut self) -> LogEvent
+        requires { (self.old.lines.items ≡ []) → (self.old.dropped ≡ 0)
+            → self.old.has_ended ≡ true }
         ensures line { (line : _) → result ≡ LogEvent.Line line
             → (self.old.lines.items ≡ line ∷ self.new.lines.items)
             × (self.new.dropped ≡ self.old.dropped) }
         ensures dropped { (count : ℕ) → result ≡ LogEvent.Dropped count
             → (self.old.lines.items ≡ []) × (self.new.lines.items ≡ [])
             × (0 < count) × (self.old.dropped ≡ count) × (self.new.dropped ≡ 0) }
-        ensures end { result ≡ LogEvent.End
-            → (self.old.lines.items ≡ []) × (self.old.dropped ≡ 0) }
+        ensures end { result ≡ LogEvent.End → (self.old.has_ended ≡ true)
+            × (self.old.lines.items ≡ []) × (self.old.dropped ≡ 0) }
+        ensures ended { result ≡ LogEvent.End
+            → (self.new.lines.items ≡ []) × (self.new.dropped ≡ 0) }
         ensures has_ended { self.new.has_ended ≡ self.old.has_ended }
     {
         if let Some(line) = self.lines.pop_front() {

@@ -1,15 +1,14 @@
 -- The messages of a hello, and what its functions read and write (this project's own).
-use Rattle.std.specs.Prelude.{ℕ, ◌≡◌, ◌≢◌, ◌⊎◌, Bool, List, Option, [], ◌∷◌, ◌++◌, codes, length, take, true}
+use Rattle.std.specs.Prelude.{ℕ, ◌≡◌, ◌≢◌, ◌≤◌, ◌⊎◌, Bool, List, Option, [], ◌∷◌, ◌++◌, codes, length, take, true}
 use Rattle.std.specs.Io.KnownBytes.{Appends, Consumes}
-use Rattle.ami_text.specs.Devices.{HasGiven, HasTaken}
+use Rattle.ami_text.specs.Devices.{HasGiven, HasGivenUpTo, HasTaken}
 use Rattle.link_hello.specs.Cards.{IsCard, card_bytes}
 use Rattle.link_hello.specs.Codes.{acceptor_code, dialer_code, verdict_code}
 use Rattle.link_hello.specs.Refusals.{IsNumberOf}
 use Rattle.link_hello.specs.declared.card.Card.{Card}
 use Rattle.link_hello.specs.declared.hello_fault.HelloFault.{HelloFault}
-use Rattle.link_hello.specs.declared.hello_fault.HelloFault.TheVariants.{IsRefused, NotSent, OtherProtocol, OtherVersion, Refuses, Silent, WrongSecret}
+use Rattle.link_hello.specs.declared.hello_fault.HelloFault.TheVariants.{IsRefused, NotSent, OtherProtocol, OtherVersion, Silent, WrongSecret}
 use Rattle.link_hello.specs.declared.messages.TheConstants.{VERSION}
-use Rattle.link_hello.specs.declared.refusal.Refusal.{Refusal}
 use Rattle.link_hello.specs.declared.refusal.Refusal.TheVariants as refusal
 use Rattle.link_hello.specs.declared.transcript.Transcript.{Transcript}
 
@@ -83,6 +82,31 @@ AcceptWrites before after failed key nonce own Silent = Appends before after (op
 AcceptWrites before after failed key nonce own WrongSecret = (failed ≡ true) ⊎ HasOffered before after key nonce own (6 ∷ [])
 AcceptWrites before after failed key nonce own (IsRefused cause) = HasOffered before after key nonce own []
 AcceptWrites before after failed key nonce own fault = Appends before after (opening nonce)
+
+-- an acceptor has read a dialer's opening, and its sink failed within the offer to the nonce of that opening
+pub record HasCutOffer (left_before left_after taken_before taken_after : Option (List ℕ)) (key nonce : List ℕ) (own : Card) : Type 0 where
+  pub other : List ℕ
+  pub front : List ℕ
+  pub rest : List ℕ
+  pub is_nonce : length other ≡ 32
+  pub read : Consumes left_before left_after (opening other)
+  pub offer : card_bytes own ++ acceptor_code key other nonce own ≡ front ++ rest
+  pub written : Appends taken_before taken_after (opening nonce ++ front)
+
+-- an acceptor has read a dialer's opening and less than an answer, and written its own opening and its offer to the nonce of that opening
+pub record HasWaited (left_before left_after taken_before taken_after : Option (List ℕ)) (key nonce : List ℕ) (own : Card) : Type 0 where
+  pub other : List ℕ
+  pub part : List ℕ
+  pub is_nonce : length other ≡ 32
+  pub few : length part ≤ 89
+  pub read : Consumes left_before left_after (opening other ++ part)
+  pub written : Appends taken_before taken_after (opening nonce ++ (card_bytes own ++ acceptor_code key other nonce own))
+
+-- an acceptor to which too little came: it has written its opening where less than an opening came, else its offer too
+abbrev pub AcceptWaits : Option (List ℕ) → Option (List ℕ) → Option (List ℕ) → Option (List ℕ) → List ℕ → List ℕ → Card → Type 0
+AcceptWaits left_before left_after taken_before taken_after key nonce own =
+    (HasGivenUpTo left_before left_after 36 × Appends taken_before taken_after (opening nonce))
+    ⊎ HasWaited left_before left_after taken_before taken_after key nonce own
 
 -- what came of a source where an opening and an answer were to come, and its fault
 abbrev pub AcceptFails : Option (List ℕ) → Option (List ℕ) → List ℕ → List ℕ → Card → HelloFault → Type 0

@@ -1,12 +1,14 @@
 //! The hello of the site that dials, and that of the site that accepts.
-ghost use Rattle.std.specs.Prelude.{◌≡◌, ◌≢◌, ◌⊎◌, ◌++◌, ◌∷◌, [], length, Err, IfErr, IfOk, IfSome};
-ghost use Rattle.std.specs.Prelude.{None, OnErr, OnOk, Some, false, true};
+ghost use Rattle.std.specs.Prelude.{◌≡◌, ◌≢◌, ◌≤◌, ◌⊎◌, ◌+◌, ◌++◌, ◌∷◌, [], length, Err, IfErr, IfOk};
+ghost use Rattle.std.specs.Prelude.{IfSome, None, OnErr, OnOk, Some, false, true};
 ghost use Rattle.std.specs.Io.KnownBytes.{Appends, Consumes};
+ghost use Rattle.ami_text.specs.Devices.{HasGivenUpTo, HasTaken};
 ghost use Rattle.link_hello.specs.Cards.{IsCard, card_bytes};
 ghost use Rattle.link_hello.specs.Codes.{acceptor_code, acknowledgement_key, item_key};
-ghost use Rattle.link_hello.specs.Hellos.{AcceptFails, AcceptWrites, BeginFails, BeginWrites};
-ghost use Rattle.link_hello.specs.Hellos.{HasAccepted, HasBegun, IsSilence, VerdictFails};
-ghost use Rattle.link_hello.specs.Hellos.{answer_bytes, verdict_bytes};
+ghost use Rattle.link_hello.specs.Hellos.{AcceptFails, AcceptWaits, AcceptWrites, BeginFails};
+ghost use Rattle.link_hello.specs.Hellos.{BeginWrites, HasAccepted, HasBegun, HasCutOffer};
+ghost use Rattle.link_hello.specs.Hellos.{IsSilence, VerdictFails};
+ghost use Rattle.link_hello.specs.Hellos.{answer_bytes, opening, verdict_bytes};
 ghost use Rattle.link_hello.specs.Refusals.{verdict_number};
 
 use crate::card::{CARD_BYTES, card_in, put_card};
@@ -39,6 +41,8 @@ fn write_offer<W: Sink>(
     requires { W.failed sink.old ≡ false }
     ensures written { OnOk result (Appends (W.taken sink.old) (W.taken sink.new)
         (card_bytes own.now ++ acceptor_code key.now dialer_nonce.now nonce.now own.now)) }
+    ensures begun { OnErr result (HasTaken (W.taken sink.old) (W.taken sink.new)
+        (card_bytes own.now ++ acceptor_code key.now dialer_nonce.now nonce.now own.now)) }
     ensures works { OnOk result (W.failed sink.new ≡ false) }
     ensures fails { OnErr result (W.failed sink.new ≡ true) }
     ensures fault { OnErr result (result ≡ Err HelloFault.NotSent) }
@@ -62,6 +66,8 @@ fn read_card<S: Source>(source: &mut S) -> Result<(Card, [u8; 32]), HelloFault>
     ensures fault { OnErr result (result ≡ Err HelloFault.Silent) }
     ensures silent { OnErr result (IsSilence (S.left source.old) (S.left source.new)
         (S.ended source.new) (S.failed source.new)) }
+    ensures few { OnErr result (HasGivenUpTo (S.left source.old) (S.left source.new) 88) }
+    ensures reads { S.reads_left source.old ≤ S.reads_left source.new + 16 }
 {
     let mut bytes = [0u8; CARD_AND_CODE];
     read_exactly(source, &mut bytes)?;
@@ -82,6 +88,9 @@ fn read_verdict<S: Source>(source: &mut S) -> Result<u8, HelloFault>
         × Consumes (S.left source.old) (S.left source.new) (6 ∷ []))) }
     ensures silence { (result ≡ Err HelloFault.Silent) → IsSilence (S.left source.old)
         (S.left source.new) (S.ended source.new) (S.failed source.new) }
+    ensures few { (result ≡ Err HelloFault.Silent)
+        → HasGivenUpTo (S.left source.old) (S.left source.new) 0 }
+    ensures reads { S.reads_left source.old ≤ S.reads_left source.new + 16 }
 {
     let mut verdict = [0u8; 1];
     read_exactly(source, &mut verdict)?;
@@ -95,6 +104,9 @@ fn read_verdict<S: Source>(source: &mut S) -> Result<u8, HelloFault>
 /// Runs the hello of the site that dials, up to the card of the site that accepts. At Ok that card came with the code of the secret, over
 /// both nonces and the card. The caller judges the card and continues with `end_hello`. `nonce` is 32 random bytes that no other hello
 /// has.
+///
+/// The opening is written before anything is read. The source is read at most 48 times, and gives at most 125 bytes before `Silent`. At
+/// `NotSent` nothing was read, and the sink has taken a prefix of the opening.
 ///
 /// Errors: `NotSent`; `Silent` if too little came; else, by the bytes that came, in order: `OtherProtocol`, `OtherVersion`, `WrongSecret`.
 /// At `WrongSecret` the refusal is sent to the other site.
@@ -118,6 +130,10 @@ pub fn begin_hello<S: Source, W: Sink>(
     ensures silent { (result ≡ Err HelloFault.Silent) → IsSilence (S.left source.old)
         (S.left source.new) (S.ended source.new) (S.failed source.new) }
     ensures not_sent { (result ≡ Err HelloFault.NotSent) → W.failed sink.new ≡ true }
+    ensures unread { (result ≡ Err HelloFault.NotSent) → source.new ≡ source.old }
+    ensures few { (result ≡ Err HelloFault.Silent)
+        → HasGivenUpTo (S.left source.old) (S.left source.new) 125 }
+    ensures reads { S.reads_left source.old ≤ S.reads_left source.new + 48 }
 {
     write_opening(sink, nonce)?;
     let theirs = read_opening(source)?;
@@ -148,6 +164,9 @@ fn read_welcome<S: Source>(
         key.now transcript.now fault) }
     ensures silent { (result ≡ Err HelloFault.Silent) → IsSilence (S.left source.old)
         (S.left source.new) (S.ended source.new) (S.failed source.new) }
+    ensures few { (result ≡ Err HelloFault.Silent)
+        → HasGivenUpTo (S.left source.old) (S.left source.new) 32 }
+    ensures reads { S.reads_left source.old ≤ S.reads_left source.new + 32 }
 {
     let verdict = read_verdict(source)?;
     let mut code = [0u8; 32];
@@ -167,6 +186,9 @@ fn read_welcome<S: Source>(
 /// Runs the rest of the hello of the site that dials: it sends the verdict on the other site's card and its own card, and reads the other
 /// site's verdict. At Ok both verdicts are welcomes, the other one came with the code of the secret over both nonces and both cards, and
 /// the link has these keys. `refusal` is not `WrongSecret`, which is sent without a card.
+///
+/// The answer is written before anything is read. The source is read at most 32 times, and gives at most 32 bytes before `Silent`. At
+/// `NotSent` nothing was read, and the sink has taken a prefix of the answer.
 ///
 /// Errors: `NotSent`; `Refuses` if `refusal` is one, after it was sent; `Silent` if too little came; else, by the bytes that came, in
 /// order: `IsRefused` with `WrongSecret` if the other site refuses this site's code; `WrongSecret` if its verdict has another code;
@@ -197,6 +219,12 @@ pub fn end_hello<S: Source, W: Sink>(
     ensures silent { (result ≡ Err HelloFault.Silent) → IsSilence (S.left source.old)
         (S.left source.new) (S.ended source.new) (S.failed source.new) }
     ensures not_sent { (result ≡ Err HelloFault.NotSent) → W.failed sink.new ≡ true }
+    ensures begun { (result ≡ Err HelloFault.NotSent) → HasTaken (W.taken sink.old)
+        (W.taken sink.new) (answer_bytes key.now transcript.now (verdict_number refusal)) }
+    ensures unread { (result ≡ Err HelloFault.NotSent) → source.new ≡ source.old }
+    ensures few { (result ≡ Err HelloFault.Silent)
+        → HasGivenUpTo (S.left source.old) (S.left source.new) 32 }
+    ensures reads { S.reads_left source.old ≤ S.reads_left source.new + 32 }
 {
     let verdict = number_of_verdict(refusal);
     let mut message = Message::new();
@@ -216,7 +244,12 @@ pub fn end_hello<S: Source, W: Sink>(
 
 /// Runs the hello of the site that accepts, up to the card of the site that dials. At Ok that card came with a welcome and with the code
 /// of the secret, over both nonces and both cards. The caller judges the card and continues with `give_verdict`. `nonce` is 32 random
-/// bytes that no other hello has. The opening is written before anything is read, so that a site of another version learns this one's.
+/// bytes that no other hello has.
+///
+/// The opening is written before anything is read, so that a site of another version learns this one's, and the offer before anything is
+/// read after the dialer's opening. The source is read at most 64 times. Before `Silent` it gives at most 36 bytes without an offer, and at
+/// most 126 with one. At `NotSent` the sink has taken a prefix of the opening, and nothing was read; or the opening and a prefix of the
+/// offer, and the dialer's opening was read.
 ///
 /// Errors: `NotSent`; `Silent` if too little came; else, by the bytes that came, in order: `OtherProtocol`; `OtherVersion`; `IsRefused`
 /// with `WrongSecret` if the other site refuses this site's code; `WrongSecret`, after the refusal is sent to the other site; `IsRefused`
@@ -242,6 +275,13 @@ pub fn accept_hello<S: Source, W: Sink>(
     ensures silent { (result ≡ Err HelloFault.Silent) → IsSilence (S.left source.old)
         (S.left source.new) (S.ended source.new) (S.failed source.new) }
     ensures not_sent { (result ≡ Err HelloFault.NotSent) → W.failed sink.new ≡ true }
+    ensures unsent { (result ≡ Err HelloFault.NotSent) → ((source.new ≡ source.old)
+        × HasTaken (W.taken sink.old) (W.taken sink.new) (opening nonce.now))
+        ⊎ HasCutOffer (S.left source.old) (S.left source.new) (W.taken sink.old)
+        (W.taken sink.new) key.now nonce.now own.now }
+    ensures waits { (result ≡ Err HelloFault.Silent) → AcceptWaits (S.left source.old)
+        (S.left source.new) (W.taken sink.old) (W.taken sink.new) key.now nonce.now own.now }
+    ensures reads { S.reads_left source.old ≤ S.reads_left source.new + 64 }
 {
     write_opening(sink, nonce)?;
     let theirs = read_opening(source)?;
@@ -267,7 +307,7 @@ pub fn accept_hello<S: Source, W: Sink>(
 /// Runs the rest of the hello of the site that accepts: it sends the verdict on the other site's card. At Ok the link has these keys.
 /// `refusal` is not `WrongSecret`, which is sent without a code.
 ///
-/// Errors: `NotSent`; `Refuses` if `refusal` is one, after it was sent.
+/// Errors: `NotSent`, and the sink has taken a prefix of the verdict and its code; `Refuses` if `refusal` is one, after it was sent.
 pub fn give_verdict<W: Sink>(
     sink: &mut W,
     key: &Key,
@@ -286,6 +326,8 @@ pub fn give_verdict<W: Sink>(
         ⊎ (result ≡ Err (HelloFault.Refuses cause))) }
     ensures fault { refusal ≡ None → OnErr result (result ≡ Err HelloFault.NotSent) }
     ensures not_sent { (result ≡ Err HelloFault.NotSent) → W.failed sink.new ≡ true }
+    ensures begun { (result ≡ Err HelloFault.NotSent) → HasTaken (W.taken sink.old)
+        (W.taken sink.new) (verdict_bytes key.now transcript.now (verdict_number refusal)) }
 {
     let verdict = number_of_verdict(refusal);
     let mut message = Message::new();

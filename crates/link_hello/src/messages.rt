@@ -1,8 +1,8 @@
 //! The messages of a hello, as they are built, written and read.
-ghost use Rattle.std.specs.Prelude.{◌≡◌, ◌+◌, ◌++◌, ◌≤◌, Err, IfErr, IfOk, OnErr, OnOk, false};
+ghost use Rattle.std.specs.Prelude.{◌≡◌, ◌+◌, ◌-◌, ◌++◌, ◌≤◌, Err, IfErr, IfOk, OnErr, OnOk, false};
 ghost use Rattle.std.specs.Prelude.{length, true};
 ghost use Rattle.std.specs.Io.KnownBytes.{Appends, Consumes};
-ghost use Rattle.ami_text.specs.Devices.{HasTaken};
+ghost use Rattle.ami_text.specs.Devices.{HasGivenUpTo, HasTaken};
 ghost use Rattle.arrayvec.specs.ArrayVec.{array_vec_len};
 ghost use Rattle.link_hello.specs.Hellos.{IsSilence, OpeningFails, opening};
 
@@ -58,6 +58,9 @@ pub(crate) fn read_exactly<S: Source>(source: &mut S, piece: &mut [u8]) -> Resul
     ensures fault { OnErr result (result ≡ Err HelloFault.Silent) }
     ensures silent { OnErr result (IsSilence (S.left source.old) (S.left source.new)
         (S.ended source.new) (S.failed source.new)) }
+    ensures few { OnErr result
+        (HasGivenUpTo (S.left source.old) (S.left source.new) (length piece.new - 1)) }
+    ensures reads { S.reads_left source.old ≤ S.reads_left source.new + 16 }
 {
     let mut count = 0;
     'reads: for _ in 0..READS {
@@ -109,6 +112,9 @@ pub(crate) fn read_opening<S: Source>(source: &mut S) -> Result<[u8; 32], HelloF
         OpeningFails (S.left source.old) (S.left source.new) fault) }
     ensures silent { (result ≡ Err HelloFault.Silent) → IsSilence (S.left source.old)
         (S.left source.new) (S.ended source.new) (S.failed source.new) }
+    ensures few { (result ≡ Err HelloFault.Silent)
+        → HasGivenUpTo (S.left source.old) (S.left source.new) 36 }
+    ensures reads { S.reads_left source.old ≤ S.reads_left source.new + 32 }
 {
     let mut front = [0u8; 5];
     read_exactly(source, &mut front)?;

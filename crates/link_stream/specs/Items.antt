@@ -1,5 +1,5 @@
 -- What a link carries after its hello: items one way, acknowledgements back (this project's own).
-use Rattle.std.specs.Prelude.{ℕ, ◌≡◌, ◌⊎◌, ◌+◌, ◌-◌, ◌^◌, ◌<◌, ◌≤◌, List, [], ◌∷◌, length, min, replicate, take}
+use Rattle.std.specs.Prelude.{ℕ, ◌≡◌, ◌⊎◌, ◌+◌, ◌-◌, ◌^◌, ◌<◌, ◌≤◌, List, [], ◌∷◌, length, min, take}
 use Rattle.std.specs.Int.{from_be_bytes, to_be_bytes, w32, w64}
 use Rattle.delta_codec.specs.declared.limits.TheConstants.{LEAST_LENGTH, MOST_LENGTH}
 use Rattle.link_stream.specs.declared.acknowledgement.Acknowledgement.{Acknowledgement}

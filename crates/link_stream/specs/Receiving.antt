@@ -1,6 +1,7 @@
 -- What a receiver has read and given (this project's own).
 use Rattle.std.specs.Prelude.{ℕ, ◌≡◌, ◌⊎◌, ◌++◌, ◌-◌, ◌^◌, ◌<◌, ◌≤◌, Bool, List, Option, [], length, true}
-use Rattle.std.specs.Io.KnownBytes.{Consumes}
+use Rattle.std.specs.Io.KnownBytes.{Consumes, Keeps}
+use Rattle.ami_text.specs.Devices.{HasGivenUpTo}
 use Rattle.link_stream.specs.Items.{HasBadLength, HasWholeItem, IsPart}
 use Rattle.link_stream.specs.Tagged.{HasTag, TaggedState}
 use Rattle.link_stream.specs.declared.receive_fault.ReceiveFault.{ReceiveFault}
@@ -35,3 +36,8 @@ IsCause Ended stream ended failed = (stream.held ≡ []) × (ended ≡ true)
 IsCause CutOff stream ended failed = IsPart stream.held × (0 < length stream.held) × (ended ≡ true)
 IsCause Failed stream ended failed = IsPart stream.held × (failed ≡ true)
 IsCause Memory stream ended failed = HasRightTag stream ⊎ IsPart stream.held
+
+-- what a source has given when a receiver stops at a fault: nothing; at most one read where there was no memory for it
+abbrev pub GivesAt : ReceiveFault → Option (List ℕ) → Option (List ℕ) → Type 0
+GivesAt Memory before after = HasGivenUpTo before after 16384
+GivesAt fault before after = Keeps before after

@@ -1,5 +1,5 @@
 -- Bytes that are followed by their tags (this project's own).
-use Rattle.std.specs.Prelude.{ℕ, ◌≡◌, ◌+◌, ◌-◌, ◌^◌, List, [], ◌∷◌, ◌++◌, drop, take}
+use Rattle.std.specs.Prelude.{ℕ, ◌≡◌, ◌+◌, ◌-◌, ◌^◌, List, ◌++◌, drop, take}
 use Rattle.link_keys.specs.Macs.{tag_of}
 use Rattle.link_stream.specs.declared.receive_fault.ReceiveFault.{ReceiveFault}
 use Rattle.link_stream.specs.declared.receive_fault.ReceiveFault.TheVariants.{Exhausted, Memory, WrongTag}

@@ -64,6 +64,7 @@ impl AcknowledgementReceiver {
         ensures works { OnOk result (self.new.fault ≡ None) }
         ensures memory { IfErr result (λ fault.
             self.old.fault ≡ None → fault ≡ ReceiveFault.Memory) }
+        ensures err { OnErr result (self.new.stream ≡ self.old.stream) }
         ensures kept { IfErr result (λ fault. self.new.fault ≡ Some fault) }
         ensures again { IfSome self.old.fault (λ fault. (result ≡ Err fault)
             × (self.new ≡ self.old)) }
@@ -93,6 +94,7 @@ impl AcknowledgementReceiver {
         ensures works { OnOk result ((self.old.fault ≡ None) × (self.new.fault ≡ None)) }
         ensures stopped { IfErr result (λ fault. self.old.fault ≡ None
             → IsTagFault fault self.old.stream 8) }
+        ensures err { OnErr result (self.new.stream ≡ self.old.stream) }
         ensures kept { IfErr result (λ fault. self.new.fault ≡ Some fault) }
         ensures again { IfSome self.old.fault (λ fault. (result ≡ Err fault)
             × (self.new ≡ self.old)) }

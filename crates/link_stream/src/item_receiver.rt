@@ -1,7 +1,7 @@
 ghost use Rattle.std.specs.Prelude.{◌≡◌, ◌⊎◌, ◌↔◌, ◌<◌, [], Bool, Err, IfErr, IfOk, IfSome};
 ghost use Rattle.std.specs.Prelude.{IsErrOf, None, OnErr, OnOk, Ok, Some, false, length, true};
 ghost use Rattle.link_stream.specs.Items.{IsItem, IsPart, item_bytes};
-ghost use Rattle.link_stream.specs.Receiving.{HasRead, IsCause};
+ghost use Rattle.link_stream.specs.Receiving.{GivesAt, HasRead, IsCause};
 ghost use Rattle.link_stream.specs.Tagged.{TakesTagged};
 
 use crate::item::whole_item;
@@ -48,7 +48,8 @@ fn end_fault(stream: &TaggedBytes) -> ReceiveFault
     }
 }
 
-// The next item of a stream, if it is held; else one read, after which no item is returned.
+// The next item of a stream, if it is held; else one read, after which no item is returned. A fault leaves the stream as it is.
+#[tactic(auto, using(crate::proofs::Giving::gives_of_keeps, crate::proofs::Giving::gives_none))]
 fn advance<S: Source>(
     stream: &mut TaggedBytes,
     source: &mut S,
@@ -65,6 +66,9 @@ fn advance<S: Source>(
     ensures cause { IfErr result (λ fault.
         IsCause fault stream.old (S.ended source.new) (S.failed source.new)) }
     ensures unread { OnErr result (IsPart stream.old.held ⊎ (source.new ≡ source.old)) }
+    ensures same { OnErr result (stream.new ≡ stream.old) }
+    ensures given { IfErr result (λ fault.
+        GivesAt fault (S.left source.old) (S.left source.new)) }
 {
     match next_held(stream) {
         Ok(Some(item)) => return Ok(Some(item)),
@@ -119,7 +123,8 @@ impl ItemReceiver {
     ///
     /// Errors, in order: the first fault again, if there was one, and nothing is read; `BadLength`, `WrongTag`, `Exhausted` and `Memory`,
     /// by the bytes that are held; if those are less than an item and its tag, `Failed` if the source fails, `Ended` or `CutOff` if it has
-    /// ended, and `Memory` if there is none to hold what came. No item is given after a fault.
+    /// ended, and `Memory` if there is none to hold what came. No item is given after a fault. A fault leaves what is held as it is; the
+    /// bytes of a read for which there is no memory are lost.
     pub fn recv<S: Source>(&mut self, source: &mut S) -> Result<Option<Item>, ReceiveFault>
         requires { self.old.fault ≡ None → S.failed source.old ≡ false }
         ensures item { IfOk result (λ next. IfSome next (λ item. IsItem item
@@ -139,6 +144,11 @@ impl ItemReceiver {
         ensures cause { self.old.fault ≡ None → IfErr result (λ fault.
             IsCause fault self.old.stream (S.ended source.new) (S.failed source.new)) }
         ensures unread { OnErr result (IsPart self.old.stream.held ⊎ (source.new ≡ source.old)) }
+
+        // It takes no item from what is held, and loses no byte of the source but at `Memory`.
+        ensures same { OnErr result (self.new.stream ≡ self.old.stream) }
+        ensures given { self.old.fault ≡ None → IfErr result (λ fault.
+            GivesAt fault (S.left source.old) (S.left source.new)) }
         ensures kept { IfErr result (λ fault. self.new.fault ≡ Some fault) }
         ensures again { IfSome self.old.fault (λ fault. (result ≡ Err fault)
             × (self.new ≡ self.old) × (source.new ≡ source.old)) }

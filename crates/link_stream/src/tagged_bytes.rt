@@ -1,7 +1,8 @@
 //! Bytes that were read from a stream whose items are followed by their tags.
 ghost use Rattle.std.specs.Prelude.{◌≡◌, ◌⊎◌, ◌↔◌, ◌++◌, ◌+◌, ◌<◌, ◌≤◌, [], IfErr, IfOk, IsErrOf};
 ghost use Rattle.std.specs.Prelude.{IsTrue, OnErr, OnOk, Ok, false, length, take, true};
-ghost use Rattle.link_stream.specs.Receiving.{HasRead};
+ghost use Rattle.std.specs.Io.KnownBytes.{Keeps};
+ghost use Rattle.link_stream.specs.Receiving.{GivesAt, HasRead};
 ghost use Rattle.link_stream.specs.Tagged.{HasTag, IsTagFault, TakesTagged};
 
 use crate::ReceiveFault;
@@ -96,7 +97,8 @@ impl TaggedBytes {
         Ok(bytes)
     }
 
-    // Reads once, and holds what came. False exactly at the end of the stream. Errors: `Failed` where the source failed, `Memory`.
+    // Reads once, and holds what came. False exactly at the end of the stream. Errors: `Failed` where the source failed; `Memory`, and
+    // what came is lost.
     pub fn read_piece<S: Source>(&mut self, source: &mut S) -> Result<bool, ReceiveFault>
         requires { S.failed source.old ≡ false }
         ensures read { OnOk result
@@ -105,10 +107,14 @@ impl TaggedBytes {
         ensures more { result ≡ Ok true → length self.old.held < length self.new.held }
         ensures end { result ≡ Ok false
             → (self.new ≡ self.old) × (S.ended source.new ≡ true) }
+        ensures all { result ≡ Ok false → Keeps (S.left source.old) (S.left source.new) }
         ensures most { OnOk result (length self.new.held ≤ length self.old.held + PIECE) }
         ensures fails { IfErr result (λ fault.
             ((fault ≡ ReceiveFault.Failed) × (S.failed source.new ≡ true))
             ⊎ ((fault ≡ ReceiveFault.Memory) × (S.failed source.new ≡ false))) }
+        ensures err { OnErr result (self.new ≡ self.old) }
+        ensures given { IfErr result (λ fault.
+            GivesAt fault (S.left source.old) (S.left source.new)) }
     {
         let mut piece = [0u8; PIECE];
         let Ok(count) = source.read(&mut piece) else {

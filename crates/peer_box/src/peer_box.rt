@@ -21,7 +21,8 @@ pub enum Due {
 }
 
 /// The box of one peer. Frames are put into it in the order in which the site made them, and its link takes them in that order. Where more
-/// bytes would wait than its limit, it gives up all of them, and a whole is due in their place.
+/// bytes would wait than its limit, it gives up all of them, and a whole is due in their place. The limit counts the bytes of frames, and
+/// no memory beside them: frames without bytes, which no site makes, would not count.
 #[derive(Drop)]
 pub struct PeerBox {
     alloc: Global,
@@ -152,6 +153,9 @@ impl PeerBox {
 
     /// Takes what is due: a whole, if one is, which then is due no more; else the frame that has waited longest. A frame that is put while
     /// the caller makes the whole is put behind it, and says at worst what the whole says too.
+    ///
+    /// A caller that can't make the whole, as when it is out of memory, calls `require_whole`: until then no whole is due, and the peer may
+    /// lack what the site knows. If the peer's link ends before the whole was sent, the next `open` makes one due again.
     pub fn take(&mut self) -> Due
         ensures { IsTakenBy self.old result self.new }
     {

@@ -20,8 +20,8 @@ pub struct Identity {
     pub starts: u64,
 }
 
-/// The stores that were seen, one for each of the 64 site numbers. A number stays that of the first store that was seen with it, and its
-/// start count never falls.
+/// The stores that were seen, one for each of the 64 site numbers. As long as the roll lasts a number stays that of the first store that was
+/// seen with it, and its start count never falls. A new process begins with a roll on which no store was seen.
 #[derive(Drop)]
 pub struct Roll {
     seen: [Option<Identity>; NUMBERS],

@@ -13,23 +13,24 @@ use replica::QueueList;
 use std::alloc::Global;
 use std::process::Abort;
 
-const SECRET: &[u8] = b"correct horse battery staple 123";
+pub(crate) const SECRET: &[u8] = b"correct horse battery staple 123";
 
 // The nonces of the site that dials and of the one that accepts: bytes that count up from 0 and from 32.
-const DIALER: &str = "000102030405060708090a0b0c0d0e0f101112131415161718191a1b1c1d1e1f";
+pub(crate) const DIALER: &str = "000102030405060708090a0b0c0d0e0f101112131415161718191a1b1c1d1e1f";
 
-const ACCEPTOR: &str = "202122232425262728292a2b2c2d2e2f303132333435363738393a3b3c3d3e3f";
+pub(crate) const ACCEPTOR: &str =
+    "202122232425262728292a2b2c2d2e2f303132333435363738393a3b3c3d3e3f";
 
 // The openings of both.
-const DIALER_OPENS: &str =
+pub(crate) const DIALER_OPENS: &str =
     "51534c4b01000102030405060708090a0b0c0d0e0f101112131415161718191a1b1c1d1e1f";
 
-const ACCEPTOR_OPENS: &str =
+pub(crate) const ACCEPTOR_OPENS: &str =
     "51534c4b01202122232425262728292a2b2c2d2e2f303132333435363738393a3b3c3d3e3f";
 
 // The card and the code of the site that accepts: site 1, of the store `a0a1..`, which was started 3 times; and the same without its last
 // byte, `4c`.
-const OFFER: &str = "01a0a1a2a3a4a5a6a7a8a9aaabacadaeaf0000000000000003\
+pub(crate) const OFFER: &str = "01a0a1a2a3a4a5a6a7a8a9aaabacadaeaf0000000000000003\
     73f9bf545c85c81aa43403020558947f8329b0323c2feeef4052a2aed19b1976\
     5366a0046e90c55b9566fa4999778f7ff9d426df7d582c3f245963ca759e524c";
 
@@ -39,7 +40,7 @@ const SHORT_OFFER: &str = "01a0a1a2a3a4a5a6a7a8a9aaabacadaeaf0000000000000003\
 
 // What the site that dials answers after its verdict: site 0, of the store `d0d1..`, which was started 7 times; with the codes of a
 // welcome and of refusal 5.
-const ANSWER: &str = "00d0d1d2d3d4d5d6d7d8d9dadbdcdddedf0000000000000007\
+pub(crate) const ANSWER: &str = "00d0d1d2d3d4d5d6d7d8d9dadbdcdddedf0000000000000007\
     73f9bf545c85c81aa43403020558947f8329b0323c2feeef4052a2aed19b1976\
     12c2e85fa22674bef7f7ef0cb974daf912339303d4f5621c7096dd9256d4a3ad";
 
@@ -61,14 +62,15 @@ const OTHER_WELCOME: &str = "000af33df7b2048b0b6fa2df516c6ba205740c791bfc0378a4c
 const UNKNOWN: &str = "09d1355d700ac6ba1bf8ad99d7bc497c23052001aed6e4522bb7bf5a49981c2dbc";
 
 // The verdicts of the site that accepts: a welcome, and refusals 4 and 7.
-const WELCOME: &str = "00471f73b61b5a492c247cc39d98da170c3adcb21dcb82696e70ef4b10cfbfd5c7";
+pub(crate) const WELCOME: &str =
+    "00471f73b61b5a492c247cc39d98da170c3adcb21dcb82696e70ef4b10cfbfd5c7";
 
 const SAME_NUMBER: &str = "047ea6475466d9bb138acaec39166691e86fbda014c8ca3f3c92472e230e1a58ac";
 
 const OLDER_COPY: &str = "07d7dd97e6d64db76963d24b6b1a15b50a7e916b964477a633ab878e056f214d31";
 
 // What both sides know at the end.
-fn transcript(rt: &impl Abort) -> Transcript {
+pub(crate) fn transcript(rt: &impl Abort) -> Transcript {
     Transcript {
         dialer_nonce: bytes32(rt, DIALER),
         acceptor_nonce: bytes32(rt, ACCEPTOR),
@@ -78,7 +80,7 @@ fn transcript(rt: &impl Abort) -> Transcript {
 }
 
 // Some parts in hexadecimal, as bytes.
-fn joined(rt: &impl Abort, alloc: Global, parts: &[&str]) -> Vec<u8> {
+pub(crate) fn joined(rt: &impl Abort, alloc: Global, parts: &[&str]) -> Vec<u8> {
     let mut all = Vec::new(alloc);
     for part in parts {
         let bytes = bytes(rt, alloc, part);
@@ -231,7 +233,7 @@ fn an_acceptor_hears_the_card_and_the_code(rt: HostRuntime) {
 }
 
 // Asserts the keys of a link, or the fault in their place.
-fn assert_keys(
+pub(crate) fn assert_keys(
     rt: &impl Abort,
     alloc: Global,
     keys: Result<LinkKeys, HelloFault>,

@@ -7,6 +7,8 @@ mod boxes;
 #[cfg(test)]
 mod codes;
 #[cfg(test)]
+mod hello_order;
+#[cfg(test)]
 mod hellos;
 #[cfg(test)]
 mod rolls;

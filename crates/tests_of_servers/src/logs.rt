@@ -1,6 +1,6 @@
 //! Logs of events: what they give, and what they drop.
 use event_log::{EventLog, LogEvent, MOST_LINES};
-use std::alloc::Global;
+use std::alloc::{AllocError, Global};
 use std::process::Abort;
 use std::sync::Wait;
 
@@ -41,6 +41,19 @@ fn a_full_log_drops_lines_and_says_how_many(rt: HostRuntime) {
     assert_line(&rt, &events, "line 0");
     let event = events.next(&rt);
     assert!(&rt; matches!(&event, LogEvent::End));
+    drop(event);
+    drop(events);
+}
+
+#[test]
+fn a_line_without_memory_is_dropped_and_counted(rt: HostRuntime) {
+    let alloc = rt.alloc();
+    let events = EventLog::new(alloc).expect(&rt, "memory");
+    events.add(&rt, Err(AllocError));
+    add(&rt, alloc, &events, 1);
+    assert_line(&rt, &events, "line 0");
+    let event = events.next(&rt);
+    assert!(&rt; matches!(&event, LogEvent::Dropped(1)));
     drop(event);
     drop(events);
 }

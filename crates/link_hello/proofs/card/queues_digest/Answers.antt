@@ -1,4 +1,4 @@
-use Rattle.std.proofs.Common.{◌≡◌, ◌∙◌, ◌<◌, ◌≤◌, ◌++◌, ◌+◌, ◌∷◌, List, None, Option, Some, [], ap, append-nil, append_assoc, arith, length, option_map, refl, slice_get, subst, suc, sym, take, zero, ℕ}
+use Rattle.std.proofs.Common.{◌≡◌, ◌∙◌, ◌≤◌, ◌++◌, ◌+◌, ◌∷◌, List, None, Some, [], ap, append-nil, append_assoc, arith, length, slice_get, subst, suc, sym, take, zero, ℕ}
 use Rattle.sha2.specs.Hashers.{Holds256}
 use Rattle.link_hello.specs.Cards.{queues_bytes}
 use Rattle.link_hello.proofs.card.queues_digest.Goals as goal

@@ -1,5 +1,5 @@
 use Rattle.std.proofs.Common.{◌≡◌, ◌∙◌, ◌++◌, List, [], ap, append_assoc, ℕ}
-use Rattle.link_keys.specs.Macs.{HoldsMessage, mac_of}
+use Rattle.link_keys.specs.Macs.{mac_of}
 use Rattle.link_hello.specs.Cards.{card_bytes}
 use Rattle.link_hello.specs.Codes.{accepts}
 use Rattle.link_hello.proofs.codes.code_of_acceptor.Goals as goal

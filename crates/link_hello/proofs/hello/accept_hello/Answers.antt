@@ -1,4 +1,4 @@
-use Rattle.std.proofs.Common.{◌≡◌, ◌≢◌, ◌∙◌, ◌++◌, ◌∷◌, Err, List, Option, [], ap, inl, inr, refl, rules, subst, sym, ℕ}
+use Rattle.std.proofs.Common.{◌≡◌, ◌≢◌, ◌∙◌, ◌++◌, ◌∷◌, Err, List, Option, [], ap, arith, inl, inr, refl, rules, subst, sym, ℕ}
 use Rattle.std.specs.Io.KnownBytes.{Consumes}
 use Rattle.ami_text.proofs.Taking.{given_grows}
 use Rattle.link_hello.specs.Cards.{card_bytes}
@@ -9,8 +9,8 @@ use Rattle.link_hello.specs.declared.hello_fault.HelloFault.TheVariants.{IsRefus
 use Rattle.link_hello.specs.declared.refusal.Refusal.{Refusal}
 use Rattle.link_hello.specs.declared.refusal.Refusal.TheVariants.{Itself, NoSuchSite, OlderCopy, OtherQueues, SameNumber, TakenNumber, Unknown, WrongSecret}
 use Rattle.link_hello.specs.declared.transcript.Transcript.{Transcript}
-use Rattle.link_hello.proofs.Offers.{offered_then}
-use Rattle.link_hello.proofs.Silences.{silence_grows}
+use Rattle.link_hello.proofs.Offers.{cut_offer, offered, offered_then, waited}
+use Rattle.link_hello.proofs.Silences.{fewer, silence_grows, up_to_grows}
 use Rattle.link_hello.proofs.hello.accept_hello.Goals as goal
 
 -- an opening, a verdict, a card and a code, one after another
@@ -75,3 +75,37 @@ returns-in_err-verdict-clause-silent g c = λ is.
 pub returns-in_err-card-clause-silent : goal.returns-in_err-card-clause-silent
 returns-in_err-card-clause-silent g c = λ is.
     silence_grows _ _ _ _ _ _ c.in_ok-theirs.ensures.read (silence_grows _ _ _ _ _ _ c.in_ok-verdict.ensures.read.0 c.in_err-card.ensures.silent)
+
+pub returns-in_err-theirs-clause-waits : goal.returns-in_err-theirs-clause-waits
+returns-in_err-theirs-clause-waits g c = λ is.
+    let same : c.from_residual-in_err-theirs.result ≡ Err c.in_err-theirs.field-0.0 = search rules in
+    let silent : c.in_err-theirs.field-0.0 ≡ Silent = cc (same, is) in
+    inl (c.in_err-theirs.ensures.few (ap Err silent), c.in_ok-write_opening.ensures.written)
+
+pub returns-in_err-verdict-clause-waits : goal.returns-in_err-verdict-clause-waits
+returns-in_err-verdict-clause-waits g c = λ is.
+    let same : c.from_residual-in_err-verdict.result ≡ Err c.in_err-verdict.field-0.0 = search rules in
+    let silent : c.in_err-verdict.field-0.0 ≡ Silent = cc (same, is) in
+    inr (waited _ _ _ _ _ _ c.args.key.now c.args.nonce.now c.in_ok-theirs.theirs c.args.own.now c.in_ok-theirs.ensures.length c.in_ok-theirs.ensures.read
+    (fewer _ _ 0 89 (c.in_err-verdict.ensures.few (ap Err silent)) (omega arith)) c.in_ok-write_opening.ensures.written c.in_ok-write_offer.ensures.written)
+
+pub returns-in_err-card-clause-waits : goal.returns-in_err-card-clause-waits
+returns-in_err-card-clause-waits g c = λ is.
+    inr (waited _ _ _ _ _ _ c.args.key.now c.args.nonce.now c.in_ok-theirs.theirs c.args.own.now c.in_ok-theirs.ensures.length c.in_ok-theirs.ensures.read
+    (up_to_grows _ _ _ (c.in_ok-verdict.verdict ∷ []) 88 89 c.in_ok-verdict.ensures.read.0 c.in_err-card.ensures.few (omega arith))
+    c.in_ok-write_opening.ensures.written c.in_ok-write_offer.ensures.written)
+
+pub returns-in_err-write_offer-clause-unsent : goal.returns-in_err-write_offer-clause-unsent
+returns-in_err-write_offer-clause-unsent g c = λ is.
+    inr (cut_offer _ _ _ _ _ c.args.key.now c.args.nonce.now c.in_ok-theirs.theirs c.args.own.now c.in_ok-theirs.ensures.length c.in_ok-theirs.ensures.read
+    c.in_ok-write_opening.ensures.written c.in_err-write_offer.ensures.begun)
+
+pub returns-in_err-card-clause-wrote : goal.returns-in_err-card-clause-wrote
+returns-in_err-card-clause-wrote g c =
+    let same : c.from_residual-in_err-card.result ≡ Err Silent = search rules in
+    rw same (inr (offered _ _ _ c.args.key.now c.args.nonce.now c.in_ok-theirs.theirs c.args.own.now c.in_ok-write_opening.ensures.written
+    c.in_ok-write_offer.ensures.written))
+
+pub returns-in-Some-clause-wrote : goal.returns-in-Some-clause-wrote
+returns-in-Some-clause-wrote g c =
+    offered _ _ _ c.args.key.now c.args.nonce.now c.in_ok-theirs.theirs c.args.own.now c.in_ok-write_opening.ensures.written c.in_ok-write_offer.ensures.written

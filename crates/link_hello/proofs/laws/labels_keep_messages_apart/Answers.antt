@@ -1,8 +1,8 @@
-use Rattle.std.proofs.Common.{◌≡◌, ◌≢◌, ◌∙◌, ◌<◌, ◌++◌, ◌∷◌, All, AllPairs, List, [], ap, arith, get_or, inl, inr, length, lit<, sym, ◌⊎◌, ℕ}
+use Rattle.std.proofs.Common.{◌≡◌, ◌≢◌, ◌∙◌, ◌<◌, ◌++◌, ◌∷◌, List, [], ap, arith, get_or, inl, inr, length, lit<, sym, ◌⊎◌, ℕ}
 use Rattle.std.proofs.lemmas.List.Elements.{All-cons, All-nil}
 use Rattle.std.proofs.lemmas.List.Kept.{AllPairs-cons}
 use Rattle.std.proofs.Math.ListN.{get_or-append}
-use Rattle.link_hello.specs.Codes.{accepts, acknowledgements_label, dials, items_label, labels, verdict_label}
+use Rattle.link_hello.specs.Codes.{accepts, acknowledgements_label, dials, items_label, verdict_label}
 use Rattle.link_hello.proofs.laws.labels_keep_messages_apart.Goals as goal
 
 -- no message under one label is one under the other

@@ -30,4 +30,5 @@ reads-preserved g c =
       subst (λ (b : List ℕ). Consumes (g.S.Source.left c.args.source.now) (g.S.Source.left c.read.new.self) b)
           (sym (one_read c.reads.piece c.read.new.piece c.reads.count (length c.reads.piece - c.reads.count) c.in-Ok.more was.1 few))
           (given_grows _ _ _ (take c.reads.count c.reads.piece) (take c.in-Ok.more c.read.new.piece) was.3 c.in-Ok.ensures.bytes),
+      omega (arith, was.4, c.read.ensures.counted),
     )

@@ -1,7 +1,7 @@
-use Rattle.std.proofs.Common.{◌≡◌, ◌∙◌, ◌<◌, ◌≤◌, ◌++◌, ◌+◌, ◌-◌, ◌^◌, ◌∷◌, All, Contains, List, [], ap, arith, get_or, length, refl, suc, sym, take, drop, zero, ℕ}
-use Rattle.std.proofs.lemmas.List.{drop_at, ext_get_or, get_or-take, length-take-le}
+use Rattle.std.proofs.Common.{◌≡◌, ◌∙◌, ◌<◌, ◌≤◌, ◌+◌, ◌^◌, ◌∷◌, Contains, List, [], ap, arith, get_or, length, refl, suc, sym, take, drop, zero, ℕ}
+use Rattle.std.proofs.lemmas.List.{ext_get_or, get_or-take, length-take-le}
 use Rattle.std.proofs.lemmas.Nat.{from_be_bytes-to_be_bytes_8}
-use Rattle.std.specs.Int.{from_be_bytes, to_be_bytes, w64}
+use Rattle.std.specs.Int.{from_be_bytes, w64}
 use Rattle.link_keys.specs.Macs.{counted}
 use Rattle.link_stream.specs.Sequences.{all_counted}
 use Rattle.link_stream.proofs.laws.what_is_given_was_sent.Goals as goal

@@ -1,7 +1,7 @@
-use Rattle.std.proofs.Common.{◌≡◌, ◌∙◌, ◌++◌, ◌+◌, ◌∷◌, List, None, Option, Some, [], ap, append-nil, subst, sym, ℕ}
+use Rattle.std.proofs.Common.{◌∙◌, ◌+◌, ◌∷◌, List, None, Option, Some, [], ap, append-nil, subst, sym, ℕ}
 use Rattle.std.specs.Io.KnownBytes.{Appends, Keeps}
 use Rattle.ami_text.proofs.Taking.{taken_grows}
-use Rattle.link_stream.specs.Sending.{HasSent, SenderState}
+use Rattle.link_stream.specs.Sending.{SenderState}
 use Rattle.link_stream.specs.Sequences.{HaveSent, all_tagged}
 use Rattle.link_stream.specs.Tagged.{tagged}
 use Rattle.link_stream.proofs.laws.what_is_written_is_what_was_sent.Goals as goal

@@ -1,7 +1,7 @@
-use Rattle.std.proofs.Common.{◌≡◌, ◌∙◌, ◌++◌, ◌+◌, ◌≤◌, List, ap, append_assoc, arith, drop, length, refl, rules, sym, take, ℕ}
+use Rattle.std.proofs.Common.{◌≡◌, ◌∙◌, ◌++◌, ◌+◌, List, ap, append_assoc, drop, refl, rules, sym, take, ℕ}
 use Rattle.std.proofs.lemmas.List.{drop-drop, take-append-drop}
 use Rattle.link_keys.specs.Macs.{tag_of}
-use Rattle.link_stream.specs.Tagged.{HasTag, TakesTagged, tagged}
+use Rattle.link_stream.specs.Tagged.{HasTag, tagged}
 use Rattle.link_stream.proofs.tagged_bytes.TaggedBytes.take.Goals as goal
 
 -- bytes that begin with an item and its tag
