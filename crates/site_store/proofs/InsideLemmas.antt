@@ -1,41 +1,36 @@
 -- The statements that replace all steps, within a transaction.
-use Rattle.std.proofs.Common.{◌≡◌, ◌⊎◌, inl, inr, ℕ, List, [], ◌∷◌, false, true, Ok, Err, Result, OnOk, IsTrue, sym, ap, subst, ◌∙◌, arith}
-use Rattle.sqlite.specs.Order.{Row}
+use Rattle.std.proofs.Common.{◌≡◌, ℕ, Bool, not, refl, List, [], false, true, Ok, Err, Result, OnOk, IsTrue, sym, ap, subst, ◌∙◌, if◌then◌else◌}
 use Rattle.sqlite.specs.Tree.{Trees}
 use Rattle.sqlite.specs.Effect.{Database}
 use Rattle.sqlite.specs.declared.error.Error.{Error}
-use Rattle.sqlite.specs.State.{State, ExecutesInside, Shows}
+use Rattle.sqlite.specs.State.{State, Executes, Shows}
 use Rattle.stored_steps.specs.Stored.{Stored}
 use Rattle.site_store.specs.Steps.{Holds, IsInside, LeavesOnly, Lists, no_schema, step_schema}
-use Rattle.site_store.proofs.StepLemmas.{creates, drops, create_text, drop_text, insert_text, params_of}
-use Rattle.site_store.proofs.WriteLemmas.{holds_added}
+use Rattle.site_store.proofs.StepLemmas.{creates, create_shows, create_text, drops, drop_shows, drop_text}
 
-inside_of : (old new : State) → Shows old new new.now old.committed true → IsInside old new
-inside_of old new shown = record { mode = shown.mode; is_open = shown.is_open; committed = shown.committed_is }
+inside_of : (old new : State) → IsTrue old.in_transaction → Shows old new new.now (if old.in_transaction then old.committed else new.now) old.in_transaction → IsInside old new
+inside_of old new inside shown = record { mode = subst IsTrue (sym shown.mode) inside; is_open = shown.is_open; committed = rw inside at shown.committed_is }
 
-pub dropped_inside : (old new : State) (r : Result ℕ Error) → IsTrue old.in_transaction → old.now.schema ≡ step_schema → ExecutesInside 0 drop_text [] old new r
-    → OnOk r (IsInside old new × new.now.schema ≡ no_schema)
+pub dropped_inside : (old new : State) (r : Result ℕ Error) → IsTrue old.in_transaction → old.now.schema ≡ step_schema → Executes drop_text [] old new r → OnOk r (IsInside old new × new.now.schema ≡ no_schema)
 dropped_inside old new (Err e) inside has ran = tt
-dropped_inside old new (Ok count) inside has ran = (inside_of old new ran.1, drops old new count has ran.0)
+dropped_inside old new (Ok count) inside has ran = (inside_of old new inside (drop_shows old new count has ran), drops old new count has ran)
 
-pub made_inside : (old new : State) (r : Result ℕ Error) → IsTrue old.in_transaction → old.now.schema ≡ no_schema → ExecutesInside 0 create_text [] old new r
-    → OnOk r (IsInside old new × Holds new 0 [])
-made_inside old new (Err e) inside has ran = tt
-made_inside old new (Ok count) inside has ran = (inside_of old new ran.1, creates old new (Ok count) has ran.0)
+-- no rows are listed from any position on
+made_at : (s : State) (at : ℕ) → Holds s 0 [] → Holds s at []
+made_at s at holds = record { schema = holds.schema; rows = holds.rows }
 
-none_listed : (rows : List Row) (at : ℕ) → Lists rows 0 [] → Lists rows at []
-none_listed rows at none = none
+pub made_inside : (old new : State) (at : ℕ) (r : Result ℕ Error) → IsTrue old.in_transaction → old.now.schema ≡ no_schema → Executes create_text [] old new r → OnOk r (IsInside old new × Holds new at [])
+made_inside old new at (Err e) inside has ran = tt
+made_inside old new at (Ok count) inside has ran = (inside_of old new inside (create_shows old new count has ran), made_at new at (creates old new (Ok count) has ran))
 
-pub put_inside : (old new : State) (at : ℕ) (s : Stored) (words : List ℕ) (r : Result ℕ Error) (params : Row) → params ≡ params_of at s words → IsTrue old.in_transaction → Holds old 0 [] → ExecutesInside 0 insert_text params old new r
-    → OnOk r (IsInside old new × Holds new at (s ∷ []))
-put_inside old new at s words (Err e) params same inside holds ran = tt
-put_inside old new at s words (Ok count) params same inside holds ran =
-    let none : Holds old at [] = record { schema = holds.schema; rows = none_listed (old.now.trees 0) at holds.rows } in
-    (inside_of old new ran.1, holds_added old new at at s words [] (Ok count) params same ran.0 none (omega arith))
+-- within a transaction no statement commits that commits outside one alone
+pub not_outside : (s : State) → IsTrue s.in_transaction → s.in_transaction ≡ false → ⊥
+not_outside s inside outside = let both : true ≡ false = sym inside ∙ outside in cc
 
-pub only : {A : Type 0} → A ⊎ ⊥ → A
-only (inl a) = a
-only (inr none) = absurd none
+-- outside a transaction, by the test for it
+pub is_outside : (autocommit in_transaction : Bool) → IsTrue autocommit → autocommit ≡ not in_transaction → in_transaction ≡ false
+is_outside autocommit false passed same = refl
+is_outside autocommit true passed same = absurd (let both : true ≡ false = sym passed ∙ same in cc)
 
 -- a transaction whose steps are these is committed
 pub committed_as : (before after : State) (at : ℕ) (list : List Stored) → Holds before at list → Shows before after before.now before.now false

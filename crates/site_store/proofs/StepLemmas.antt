@@ -25,6 +25,7 @@ use Rattle.sqlite_tied.specs.Compute.{everything}
 use Rattle.sqlite.specs.declared.error.Error.{Error}
 use Rattle.sqlite.specs.Listing.{understood, reads_listing}
 use Rattle.sqlite.specs.Effect.{Database}
+use Rattle.sqlite.specs.Schema.{Schema}
 use Rattle.sqlite.specs.State.{State, mode_of, Writes, Executes, Shown, Shows, CommitsBy, CommitsShowing, MayCommit, text_of, IsUnchanged}
 use Rattle.sqlite.specs.Clock.{timed}
 use Rattle.sqlite.specs.declared.run.Mode.{Mode}
@@ -281,16 +282,27 @@ commit_plain : IsPlain (understood step_schema commit_text)
 unfolding understood everything
 commit_plain = (refl, refl)
 
+begin_blank_is : command_of (understood no_schema begin_text) ≡ Begin
+unfolding understood everything
+begin_blank_is = refl
+
+begin_blank_plain : IsPlain (understood no_schema begin_text)
+unfolding understood everything
+begin_blank_plain = (refl, refl)
+
 pub begins : (old new : State) (count : ℕ) → old.now.schema ≡ step_schema → Executes begin_text [] old new (Ok count) → Shows old new old.now old.committed true
 begins old new count has h = (runs_as begin_text [] old new step_schema has Begin begin_is begin_plain count h).1
+
+pub begins_blank : (old new : State) (count : ℕ) → old.now.schema ≡ no_schema → Executes begin_text [] old new (Ok count) → Shows old new old.now old.committed true
+begins_blank old new count has h = (runs_as begin_text [] old new no_schema has Begin begin_blank_is begin_blank_plain count h).1
 
 pub commits : (old new : State) (count : ℕ) → old.now.schema ≡ step_schema → Executes commit_text [] old new (Ok count) → Shows old new old.now old.now false
 commits old new count has h = (runs_as commit_text [] old new step_schema has Commit commit_is commit_plain count h).1
 
-commits_of : (text : List ℕ) (command : Command) → command_of (understood step_schema text) ≡ command → IsPlain (understood step_schema text) → (s : State) (db : Trees) → s.now.schema ≡ step_schema
-    → CommitsBy text [] s db → MayCommit s None command (statement_of text (understood step_schema text)) [] db
+commits_of : (schema : Schema) (text : List ℕ) (command : Command) → command_of (understood schema text) ≡ command → IsPlain (understood schema text) → (s : State) (db : Trees) → s.now.schema ≡ schema
+    → CommitsBy text [] s db → MayCommit s None command (statement_of text (understood schema text)) [] db
 unfolding CommitsBy
-commits_of text command is plain s db has h =
+commits_of schema text command is plain s db has h =
     let c = h.0 in
     let it = h.1 in
     let known = sym it.is ∙ ap (λ x. understood x text) has in
@@ -298,17 +310,49 @@ commits_of text command is plain s db has h =
     let may : MayCommit s c.returning c.command (text_of text c) (timed [] c.formats it.now) db = h.2 in
     subst₂ (λ k t. MayCommit s None k t [] db) (ap command_of known ∙ is) (ap (statement_of text) known) (rw (bare.0, bare.1, append-nil {A = Value} []) at may)
 
-pub begin_commits : (s : State) (db : Trees) → s.now.schema ≡ step_schema → CommitsBy begin_text [] s db → ⊥
-begin_commits s db has h = go (commits_of begin_text Begin begin_is begin_plain s db has h)
+no_begin : (schema : Schema) → command_of (understood schema begin_text) ≡ Begin → IsPlain (understood schema begin_text) → (s : State) (db : Trees) → s.now.schema ≡ schema → CommitsBy begin_text [] s db → ⊥
+no_begin schema is plain s db has h = go (commits_of schema begin_text Begin is plain s db has h)
   where
-    go : MayCommit s None Begin (statement_of begin_text (understood step_schema begin_text)) [] db → ⊥
+    go : MayCommit s None Begin (statement_of begin_text (understood schema begin_text)) [] db → ⊥
     go (inl (inl ends, same)) = cc
     go (inl (inr ends, same)) = let e = ends.2 in cc
     go (inr writes) = let e = writes.3 in cc
 
+pub begin_commits : (s : State) (db : Trees) → s.now.schema ≡ step_schema → CommitsBy begin_text [] s db → ⊥
+begin_commits s db has h = no_begin step_schema begin_is begin_plain s db has h
+
+pub begin_blank_commits : (s : State) (db : Trees) → s.now.schema ≡ no_schema → CommitsBy begin_text [] s db → ⊥
+begin_blank_commits s db has h = no_begin no_schema begin_blank_is begin_blank_plain s db has h
+
 pub commit_commits : (s : State) (db : Trees) → s.now.schema ≡ step_schema → CommitsBy commit_text [] s db → db ≡ s.now.trees
-commit_commits s db has h = go (commits_of commit_text Commit commit_is commit_plain s db has h)
+commit_commits s db has h = go (commits_of step_schema commit_text Commit commit_is commit_plain s db has h)
   where
     go : MayCommit s None Commit (statement_of commit_text (understood step_schema commit_text)) [] db → db ≡ s.now.trees
     go (inl (ends, same)) = same
     go (inr writes) = absurd (let e = writes.3 in cc)
+
+-- ---- the table, within a transaction
+
+-- what a create and a drop show
+pub create_shows : (old new : State) (count : ℕ) → old.now.schema ≡ no_schema → Executes create_text [] old new (Ok count) → Shows old new new.now (if old.in_transaction then old.committed else new.now) old.in_transaction
+create_shows old new count has h = (runs_as create_text [] old new no_schema has CreateTable create_is.0 create_plain count h).shown
+
+pub drop_shows : (old new : State) (count : ℕ) → old.now.schema ≡ step_schema → Executes drop_text [] old new (Ok count) → Shows old new new.now (if old.in_transaction then old.committed else new.now) old.in_transaction
+drop_shows old new count has h = (runs_as drop_text [] old new step_schema has (DropTable 0) drop_is drop_plain count h).shown
+
+-- they commit outside a transaction alone
+pub create_outside : (s : State) (db : Trees) → s.now.schema ≡ no_schema → CommitsBy create_text [] s db → s.in_transaction ≡ false
+create_outside s db has h = go (commits_of no_schema create_text CreateTable create_is.0 create_plain s db has h)
+  where
+    go : MayCommit s None CreateTable (statement_of create_text (understood no_schema create_text)) [] db → s.in_transaction ≡ false
+    go (inl (inl ends, same)) = absurd (cc)
+    go (inl (inr ends, same)) = absurd (let e = ends.2 in cc)
+    go (inr writes) = writes.0
+
+pub drop_outside : (s : State) (db : Trees) → s.now.schema ≡ step_schema → CommitsBy drop_text [] s db → s.in_transaction ≡ false
+drop_outside s db has h = go (commits_of step_schema drop_text (DropTable 0) drop_is drop_plain s db has h)
+  where
+    go : MayCommit s None (DropTable 0) (statement_of drop_text (understood step_schema drop_text)) [] db → s.in_transaction ≡ false
+    go (inl (inl ends, same)) = absurd (cc)
+    go (inl (inr ends, same)) = absurd (let e = ends.2 in cc)
+    go (inr writes) = writes.0

@@ -5,7 +5,8 @@ ghost use Rattle.sqlite.specs.State.{HasCleanDisk};
 ghost use Rattle.sqlite.specs.Tree.{Trees};
 ghost use Rattle.site_store.specs.Steps.{Holds, IsIdle, LeavesOnly, Lists, no_schema};
 
-use crate::replacing::{make_table, put_first};
+use crate::group::{begin, commit};
+use crate::replacing::put_base;
 use sqlite::{Alter, Connection, Error};
 use stored_steps::StoredRow;
 
@@ -33,9 +34,8 @@ pub fn create<S: Alter>(conn: &mut Connection<S>, at: u64, base: &StoredRow) -> 
     if !conn.is_autocommit() {
         return Ok(false);
     }
-    let mut tx = conn.transaction();
-    make_table(&mut tx)?;
-    put_first(&mut tx, at, base)?;
-    tx.commit()?;
+    begin(conn)?;
+    put_base(conn, at, base)?;
+    commit(conn)?;
     Ok(true)
 }

@@ -4,7 +4,7 @@ ghost use Rattle.sqlite.specs.Held.{state};
 ghost use Rattle.sqlite.specs.State.{HasCleanDisk};
 ghost use Rattle.sqlite.specs.Tree.{Trees};
 ghost use Rattle.stored_steps.specs.Stored.{Stored};
-ghost use Rattle.site_store.specs.Steps.{Holds, IsIdle, IsInside, LeavesOnly, Lists};
+ghost use Rattle.site_store.specs.Steps.{Holds, IsIdle, IsInside, LeavesOnly, Lists, no_schema};
 
 use crate::writing::append;
 use sqlite::{Alter, Connection, Error};
@@ -39,14 +39,22 @@ fn append_each<S: Alter>(
     Ok(())
 }
 
-// Begins a transaction by its text.
-fn begin<S: Alter>(conn: &mut Connection<S>) -> Result<usize, Error>
+// Begins a transaction by its text, in a database that has the table of steps, or no table.
+pub(crate) fn begin<S: Alter>(conn: &mut Connection<S>) -> Result<usize, Error>
     ensures begun { HasCleanDisk (state S.Store conn.new) → (first : ℕ) (list : List Stored)
         → Holds (state S.Store conn.old) first list
         → OnOk result (Holds (state S.Store conn.new) first list
         × IsInside (state S.Store conn.old) (state S.Store conn.new)) }
+    ensures blank { HasCleanDisk (state S.Store conn.new)
+        → (state S.Store conn.old).now.schema ≡ no_schema
+        → OnOk result (((state S.Store conn.new).now.schema ≡ no_schema)
+        × IsInside (state S.Store conn.old) (state S.Store conn.new)) }
     ensures crash { HasCleanDisk (state S.Store conn.new) → (first : ℕ) (list : List Stored)
         → Holds (state S.Store conn.old) first list
+        → (db : Trees) → (state S.Store conn.new).may_leave db
+        → (state S.Store conn.old).may_leave db }
+    ensures blank_crash { HasCleanDisk (state S.Store conn.new)
+        → (state S.Store conn.old).now.schema ≡ no_schema
         → (db : Trees) → (state S.Store conn.new).may_leave db
         → (state S.Store conn.old).may_leave db }
     ensures clean { HasCleanDisk (state S.Store conn.new) → HasCleanDisk (state S.Store conn.old) }
@@ -55,7 +63,7 @@ fn begin<S: Alter>(conn: &mut Connection<S>) -> Result<usize, Error>
 }
 
 // Commits by its text.
-fn commit<S: Alter>(conn: &mut Connection<S>) -> Result<usize, Error>
+pub(crate) fn commit<S: Alter>(conn: &mut Connection<S>) -> Result<usize, Error>
     ensures done { HasCleanDisk (state S.Store conn.new) → (first : ℕ) (list : List Stored)
         → Holds (state S.Store conn.old) first list
         → OnOk result (Holds (state S.Store conn.new) first list

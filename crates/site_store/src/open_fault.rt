@@ -26,6 +26,9 @@ pub enum OpenFault {
     /// The rows are no store of this site, for this cause.
     #[error(transparent)]
     Site(StoreFault),
+    /// A transaction is open.
+    #[error("a transaction is open")]
+    InTransaction,
     /// The database failed, for this cause.
     #[error(transparent)]
     Database(Error),

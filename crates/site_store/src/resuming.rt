@@ -1,5 +1,5 @@
 //! A site that goes on over its store.
-ghost use Rattle.std.specs.Prelude.{◌≡◌, ◌≢◌, ◌⊎◌, ◌≤◌, ◌<◌, ◌^◌, ◌+◌, ◌++◌, ◌∷◌, [], ℕ, List, false, length, IfOk, IsTrue, OnOk};
+ghost use Rattle.std.specs.Prelude.{◌≡◌, ◌≢◌, ◌⊎◌, ◌≤◌, ◌<◌, ◌^◌, ◌+◌, ◌++◌, ◌∷◌, [], ℕ, List, false, length, Err, IfOk, IsTrue, OnOk};
 ghost use Rattle.sqlite.specs.Held.{state};
 ghost use Rattle.sqlite.specs.State.{HasCleanDisk};
 ghost use Rattle.sqlite.specs.Tree.{Trees};
@@ -7,7 +7,9 @@ ghost use Rattle.site_journal.specs.declared.journaled.TheConstants.{MOST_STEPS}
 ghost use Rattle.stored_steps.specs.Restoring.{IsRestoredSite};
 ghost use Rattle.stored_steps.specs.StartRows.{start_row};
 ghost use Rattle.stored_steps.specs.Stored.{Stored};
-ghost use Rattle.site_store.specs.Steps.{Holds, LeavesOnly, Lists};
+ghost use Rattle.site_store.specs.declared.open_fault.OpenFault.{OpenFault};
+ghost use Rattle.site_store.specs.Steps.{Holds, IsIdle, LeavesOnly, Lists, step_schema};
+ghost use Rattle.site_store.specs.Resumed.{IsRestoredAt, IsResumed};
 
 use crate::OpenFault;
 use crate::open_fault::open_fault;
@@ -20,8 +22,8 @@ use sqlite::{Alter, Connection};
 use std::alloc::Global;
 use stored_steps::{RestoredSite, StoreFault, StoredRow, restore};
 
-// The positions of a store are below this one.
-const MOST_POSITION: u64 = 1 << 63;
+/// The last position that a row of a store may have, 2^63 - 1 (this project's own).
+pub const LAST_POSITION: u64 = (1 << 63) - 1;
 
 // Why rows make no site, as the fault of an open.
 fn site_fault(fault: StoreFault) -> OpenFault {
@@ -31,11 +33,15 @@ fn site_fault(fault: StoreFault) -> OpenFault {
     }
 }
 
-// The rows of a store, if they are positions below `MOST_POSITION`.
+// The rows of a store, if two more have positions up to `LAST_POSITION`.
 fn listed_rows<S: Alter>(alloc: Global, conn: &mut Connection<S>) -> Result<Listed, OpenFault>
     ensures listed { HasCleanDisk (state S.Store conn.new) → (first : ℕ) (rows : List Stored)
         → Holds (state S.Store conn.old) first rows → rows ≢ []
         → IfOk result (λ it. (it.first ≡ first) × (it.steps.items ≡ rows)) }
+    // Whatever rows the connection holds, these are they.
+    ensures found { HasCleanDisk (state S.Store conn.new)
+        → (state S.Store conn.old).now.schema ≡ step_schema
+        → IfOk result (λ it. Holds (state S.Store conn.old) it.first it.steps.items) }
     ensures holds { HasCleanDisk (state S.Store conn.new) → (first : ℕ) (rows : List Stored)
         → Holds (state S.Store conn.old) first rows
         → OnOk result (Holds (state S.Store conn.new) first rows) }
@@ -47,7 +53,7 @@ fn listed_rows<S: Alter>(alloc: Global, conn: &mut Connection<S>) -> Result<List
         → Holds (state S.Store conn.old) first rows
         → (db : Trees) → (state S.Store conn.new).may_leave db
         → (state S.Store conn.old).may_leave db }
-    ensures fits { IfOk result (λ it. it.first + length it.steps.items < MOST_POSITION) }
+    ensures fits { IfOk result (λ it. it.first + length it.steps.items < LAST_POSITION) }
     ensures clean { HasCleanDisk (state S.Store conn.new) → HasCleanDisk (state S.Store conn.old) }
 {
     let found = match read_all(alloc, conn) {
@@ -58,7 +64,7 @@ fn listed_rows<S: Alter>(alloc: Global, conn: &mut Connection<S>) -> Result<List
         return Err(OpenFault::Gap);
     };
     let len = listed.steps.len() as u64;
-    if listed.first >= MOST_POSITION || len >= MOST_POSITION - listed.first {
+    if listed.first >= LAST_POSITION || len >= LAST_POSITION - listed.first {
         drop(listed);
         return Err(OpenFault::Gap);
     }
@@ -78,6 +84,9 @@ fn restore_rows<S: Alter>(
     ensures restored { HasCleanDisk (state S.Store conn.new) → (first : ℕ) (rows : List Stored)
         → Holds (state S.Store conn.old) first rows → rows ≢ []
         → IfOk result (λ it. IsRestoredSite rows it.0 × (it.1 ≡ first + length rows)) }
+    ensures found { HasCleanDisk (state S.Store conn.new)
+        → (state S.Store conn.old).now.schema ≡ step_schema
+        → IfOk result (λ it. IsRestoredAt (state S.Store conn.old) it.0 it.1) }
     ensures holds { HasCleanDisk (state S.Store conn.new) → (first : ℕ) (rows : List Stored)
         → Holds (state S.Store conn.old) first rows
         → OnOk result (Holds (state S.Store conn.new) first rows) }
@@ -89,7 +98,10 @@ fn restore_rows<S: Alter>(
         → Holds (state S.Store conn.old) first rows
         → (db : Trees) → (state S.Store conn.new).may_leave db
         → (state S.Store conn.old).may_leave db }
-    ensures fits { IfOk result (λ it. it.1 < MOST_POSITION) }
+    ensures fits { IfOk result (λ it. it.1 < LAST_POSITION) }
+    ensures site { IfOk result (λ it. it.0.journal.replica.site ≡ site) }
+    ensures names { IfOk result (λ it. it.0.journal.replica.names ≡ list.now) }
+    ensures limit { IfOk result (λ it. it.0.journal.limit ≡ limit) }
     ensures clean { HasCleanDisk (state S.Store conn.new) → HasCleanDisk (state S.Store conn.old) }
 {
     let listed = listed_rows(alloc, conn)?;
@@ -109,9 +121,9 @@ fn restore_rows<S: Alter>(
     }
 }
 
-// Adds the row of a start at this position, in a commit of its own.
+// Adds the row of a start at this position, in a commit of its own, where no transaction is open.
 fn add_start<S: Alter>(alloc: Global, conn: &mut Connection<S>, at: u64) -> Result<(), OpenFault>
-    requires fits { at < MOST_POSITION }
+    requires fits { at < LAST_POSITION }
     ensures added { HasCleanDisk (state S.Store conn.new) → (first : ℕ) (rows : List Stored)
         → Holds (state S.Store conn.old) first rows → at ≡ first + length rows
         → OnOk result (Holds (state S.Store conn.new) first (rows ++ start_row ∷ [])) }
@@ -119,6 +131,10 @@ fn add_start<S: Alter>(alloc: Global, conn: &mut Connection<S>, at: u64) -> Resu
         → Holds (state S.Store conn.old) first rows → at ≡ first + length rows
         → (state S.Store conn.old).in_transaction ≡ false
         → OnOk result (LeavesOnly (state S.Store conn.new) first (rows ++ start_row ∷ [])) }
+    ensures idle { HasCleanDisk (state S.Store conn.new) → (first : ℕ) (rows : List Stored)
+        → Holds (state S.Store conn.old) first rows
+        → (state S.Store conn.old).in_transaction ≡ false
+        → OnOk result (IsIdle (state S.Store conn.new)) }
     ensures crash { HasCleanDisk (state S.Store conn.new) → (first : ℕ) (rows : List Stored)
         → Holds (state S.Store conn.old) first rows → at ≡ first + length rows
         → (db : Trees) → (state S.Store conn.new).may_leave db
@@ -148,8 +164,9 @@ pub struct ResumedSite {
 /// Builds a site again of the rows of its store, and adds the row of this start in a commit of its own. Its journal may have `limit` steps,
 /// 1 to 1,000,000.
 ///
-/// Errors, in order: those of the database; `Gap`, if a position is missing; `Site`, with the fault of `restore`; and those of the database
-/// again, where the row of the start is added.
+/// Errors, in order: `InTransaction`, if a transaction is open, and then nothing is done; those of the database, as `open` has them; `Gap`,
+/// if a position is missing; `Site`, with the fault of `restore`; and those of the database again, where the row of the start is added.
+/// `Memory` may stand in place of each from those of the database on.
 pub fn resume<S: Alter>(
     alloc: Global,
     conn: &mut Connection<S>,
@@ -163,17 +180,32 @@ pub fn resume<S: Alter>(
         → Holds (state S.Store conn.old) first rows → rows ≢ []
         → IfOk result (λ it. IsRestoredSite rows it.site × (it.next ≡ first + length rows + 1)
         × Holds (state S.Store conn.new) first (rows ++ start_row ∷ [])) }
-    // Outside a transaction the start is committed.
+    // Whatever rows the connection held, the site is that of these rows.
+    ensures found { HasCleanDisk (state S.Store conn.new)
+        → (state S.Store conn.old).now.schema ≡ step_schema
+        → IfOk result (λ it. IsResumed (state S.Store conn.new) it) }
+    ensures site { IfOk result (λ it. it.site.journal.replica.site ≡ site) }
+    ensures names { IfOk result (λ it. it.site.journal.replica.names ≡ list.now) }
+    ensures limit { IfOk result (λ it. it.site.journal.limit ≡ limit) }
+    // A further row has a position.
+    ensures fits { IfOk result (λ it. it.next < 2 ^ 63) }
     ensures durable { HasCleanDisk (state S.Store conn.new) → (first : ℕ) (rows : List Stored)
         → Holds (state S.Store conn.old) first rows → rows ≢ []
-        → (state S.Store conn.old).in_transaction ≡ false
         → OnOk result (LeavesOnly (state S.Store conn.new) first (rows ++ start_row ∷ [])) }
+    ensures idle { HasCleanDisk (state S.Store conn.new) → (first : ℕ) (rows : List Stored)
+        → Holds (state S.Store conn.old) first rows
+        → OnOk result (IsIdle (state S.Store conn.new)) }
+    ensures refused { IsTrue (state S.Store conn.old).in_transaction
+        → (result ≡ Err OpenFault.InTransaction) × (conn.new ≡ conn.old) }
     ensures crash { HasCleanDisk (state S.Store conn.new) → (first : ℕ) (rows : List Stored)
         → Holds (state S.Store conn.old) first rows → rows ≢ []
         → (db : Trees) → (state S.Store conn.new).may_leave db
         → (state S.Store conn.old).may_leave db ⊎ Lists (db 0) first (rows ++ start_row ∷ []) }
     ensures clean { HasCleanDisk (state S.Store conn.new) → HasCleanDisk (state S.Store conn.old) }
 {
+    if !conn.is_autocommit() {
+        return Err(OpenFault::InTransaction);
+    }
     let (site, at) = restore_rows(alloc, conn, site, list, limit)?;
     match add_start(alloc, conn, at) {
         Ok(()) => Ok(ResumedSite { site, next: at + 1 }),

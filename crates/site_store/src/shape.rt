@@ -1,5 +1,6 @@
 //! Whether a schema is that of the table of steps.
-ghost use Rattle.std.specs.Prelude.{◌≡◌, IsTrue, [], ◌∷◌, Some, false};
+ghost use Rattle.std.specs.Prelude.{◌≡◌, ◌↔◌, IsTrue, [], ◌∷◌, Some, false};
+ghost use Rattle.site_store.specs.declared.shape.Shape.{Shape};
 ghost use Rattle.site_store.specs.Steps.{no_schema, step_column, step_schema, step_table};
 
 use sqlite_schema::schema::{Column, Kind, Schema, Stamps, Table};
@@ -8,7 +9,7 @@ use sqlite_value::value::Value;
 
 // Whether a column of a strict table has this name and kind, and no default.
 fn is_step_column(column: &Column, name: &[u8], kind: Kind, not_null: bool) -> bool
-    ensures { IsTrue result → column.now ≡ step_column name.now kind not_null }
+    ensures { IsTrue result ↔ (column.now ≡ step_column name.now kind not_null) }
 {
     column.name.as_slice() == name
         && column.kind == kind
@@ -20,14 +21,14 @@ fn is_step_column(column: &Column, name: &[u8], kind: Kind, not_null: bool) -> b
 
 // Whether stamps have nothing.
 fn has_no_stamps(stamps: &Stamps) -> bool
-    ensures { IsTrue result → stamps.now ≡ record { places = []; terms = []; formats = [] } }
+    ensures { IsTrue result ↔ (stamps.now ≡ record { places = []; terms = []; formats = [] }) }
 {
     stamps.places.is_empty() && stamps.terms.roots.is_empty() && stamps.formats.is_empty()
 }
 
 // Whether columns are those of the table of steps.
 fn are_step_columns(columns: &[Column]) -> bool
-    ensures { IsTrue result → columns.now ≡ step_table.columns }
+    ensures { IsTrue result ↔ (columns.now ≡ step_table.columns) }
 {
     match columns {
         [position, pass, kind, body, words] => {
@@ -47,6 +48,8 @@ fn is_keyed(table: &Table) -> bool
     ensures primary { IsTrue result → table.now.primary ≡ 0 ∷ [] }
     ensures uniques { IsTrue result → table.now.uniques ≡ [] }
     ensures orders { IsTrue result → table.now.orders ≡ [] }
+    ensures all { table.now.key ≡ Some 0 → table.now.primary ≡ 0 ∷ [] → table.now.uniques ≡ []
+        → table.now.orders ≡ [] → IsTrue result }
 {
     table.key == Some(0)
         && table.primary.as_slice() == [0].as_slice()
@@ -62,6 +65,9 @@ fn is_bare(table: &Table) -> bool
     ensures stamps { IsTrue result
         → table.now.stamps ≡ record { places = []; terms = []; formats = [] } }
     ensures counted { IsTrue result → table.now.is_counted ≡ false }
+    ensures all { table.now.checks ≡ [] → table.now.references ≡ [] → table.now.computed ≡ []
+        → table.now.stamps ≡ record { places = []; terms = []; formats = [] }
+        → table.now.is_counted ≡ false → IsTrue result }
 {
     table.checks.roots.is_empty()
         && table.references.is_empty()
@@ -72,7 +78,7 @@ fn is_bare(table: &Table) -> bool
 
 // Whether a table is that of steps.
 fn is_step_table(table: &Table) -> bool
-    ensures { IsTrue result → table.now ≡ step_table }
+    ensures { IsTrue result ↔ (table.now ≡ step_table) }
 {
     table.name.as_slice() == b"step".as_slice()
         && table.tree == 0
@@ -83,7 +89,7 @@ fn is_step_table(table: &Table) -> bool
 
 /// Whether a schema has the table of steps, and nothing else (this project's own).
 pub fn is_step_schema(schema: &Schema) -> bool
-    ensures { IsTrue result → schema.now ≡ step_schema }
+    ensures { IsTrue result ↔ (schema.now ≡ step_schema) }
 {
     match schema.tables.as_slice() {
         [table] => is_step_table(table) && schema.indexes.is_empty() && schema.views.is_empty(),
@@ -93,7 +99,25 @@ pub fn is_step_schema(schema: &Schema) -> bool
 
 /// Whether a schema has nothing.
 pub fn is_blank_schema(schema: &Schema) -> bool
-    ensures { IsTrue result → schema.now ≡ no_schema }
+    ensures { IsTrue result ↔ (schema.now ≡ no_schema) }
 {
     schema.tables.is_empty() && schema.indexes.is_empty() && schema.views.is_empty()
+}
+
+// What a database may be: one with the table of steps and nothing else, or one without a table.
+#[derive(Clone, Copy)]
+pub(crate) enum Shape {
+    Steps,
+    Blank,
+}
+
+// Whether a schema has this shape.
+pub(crate) fn has_shape(schema: &Schema, wanted: Shape) -> bool
+    ensures steps { wanted ≡ Shape.Steps → IsTrue result → schema.now ≡ step_schema }
+    ensures blank { wanted ≡ Shape.Blank → IsTrue result → schema.now ≡ no_schema }
+{
+    match wanted {
+        Shape::Steps => is_step_schema(schema),
+        Shape::Blank => is_blank_schema(schema),
+    }
 }

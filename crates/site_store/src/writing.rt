@@ -10,15 +10,15 @@ use sqlite::{Alter, Connection, Error, params};
 use stored_steps::StoredRow;
 
 // A position as the number that is stored.
-pub(crate) fn stored_position(at: u64) -> i64
+fn stored_position(at: u64) -> i64
     requires { at < 2 ^ 63 }
     ensures { result ≡ pos at }
 {
     at as i64
 }
 
-/// Adds a row at this position, which is the next one, and commits it where no transaction is open. Fails with the database's error: outside a transaction the rows
-/// are then as before while the connection is open.
+/// Adds a row at this position, which is the next one, and commits it where no transaction is open. Fails with the database's error: outside
+/// a transaction the rows are then as before while the connection is open.
 pub fn append<S: Alter>(conn: &mut Connection<S>, at: u64, kept: &StoredRow) -> Result<usize, Error>
     requires fits { at < 2 ^ 63 }
     ensures added { HasCleanDisk (state S.Store conn.new) → (first : ℕ) (list : List Stored)

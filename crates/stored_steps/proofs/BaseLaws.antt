@@ -1,21 +1,23 @@
 -- Bytes spell one base alone.
 use Rattle.std.proofs.Common.{◌≡◌, ◌≤◌, ◌<◌, ◌^◌, ◌+◌, ℕ, List, [], ◌∷◌, ◌++◌, length, take, drop, refl, sym, ap, ap₂, subst, subst₂, ◌∙◌, append_assoc, arith, length-append}
 use Rattle.std.specs.Int.{w16, w64, from_be_bytes, to_be_bytes}
+use Rattle.std.specs.FinSet as set
 use Rattle.std.specs.List.{flat_map}
 use Rattle.std.proofs.lemmas.Nat.{from_be_bytes-to_be_bytes_2, from_be_bytes-to_be_bytes_8}
 use Rattle.std.proofs.Math.Seq.{take-append_seam}
-use Rattle.operations.specs.Totals.{totals_of}
-use Rattle.operations.specs.Conditions.{IsConditionBelow}
+use Rattle.operations.specs.Totals.{join_of, totals_of}
+use Rattle.operations.specs.Conditions.{IsConditionBelow, condition_joined}
 use Rattle.site_totals.specs.Raising.{number_of}
 use Rattle.dots.specs.declared.calls.Calls.{Calls}
 use Rattle.delta.specs.DeltaStates.{DeltaState, IsSame}
 use Rattle.delta.specs.Frames.{frame_of}
+use Rattle.delta.specs.Joining.{IsJoinOf}
 use Rattle.delta_codec.specs.Frames.{Spells}
 use Rattle.delta_codec.proofs.FrameLaws.{both_found, one_frame}
 use Rattle.replica.specs.Keeping.{IsBelow}
 use Rattle.replica.specs.Queues.{AreQueues}
 use Rattle.replica.specs.Site.{IsSameSite, SiteState}
-use Rattle.replica.proofs.SameSites.{site_through, site_turned}
+use Rattle.replica.proofs.SameSites.{delta_through, delta_turned, site_through, site_turned}
 use Rattle.stored_steps.specs.declared.base.StoredBase.{StoredBase}
 use Rattle.stored_steps.specs.declared.limits.TheConstants.{BASE_VERSION, NAME_BYTES}
 use Rattle.stored_steps.specs.Bases.{HasLimits, IsBase, IsReadBase, IsRowOfBase, IsSameBase, SpellsBase, SpellsDelta, head_bytes, last_of, list_bytes, name_bytes, numbers_bytes, with_parts}
@@ -160,3 +162,31 @@ read_same base read row of is =
     let same = one_base base (with_parts is.parts read) row.bytes of.good.limits is.limits of.spelled is.spelled in
     let below = below_same base.replica.pending is.parts.pending base.replica.state is.parts.state same.site.pending same.site.state of.good.kept.below in
     record { site = site_through base.replica is.parts read.replica same.site (is.same below); name = same.name; starts = same.starts }
+
+-- joins of what says the same say the same
+joins_same : (d e x y f g : DeltaState) → IsSame d e → IsSame x y → IsJoinOf d x f → IsJoinOf e y g → IsSame f g
+joins_same d e x y f g a b j k = record {
+  conditions = λ dot. j.members.conditions dot ∙ (λ i. condition_joined (a.conditions dot i) (b.conditions dot i)) ∙ sym (k.members.conditions dot);
+  known = j.members.known ∙ (λ i. set.union (a.known i) (b.known i)) ∙ sym k.members.known;
+  totals = j.totals ∙ (λ i. join_of (a.totals i) (b.totals i)) ∙ sym k.totals;
+}
+
+-- what is read of one row says the same each time
+pub read_once : (one other : StoredBase) (row : Stored) → IsReadBase row one → IsReadBase row other → IsSameBase one other
+read_once one other row p q =
+    let same = one_base (with_parts p.parts one) (with_parts q.parts other) row.bytes p.limits q.limits p.spelled q.spelled in
+    let mine = p.restored in
+    let yours = q.restored in
+    let buffers = delta_through p.parts.pending q.parts.pending other.replica.pending same.site.pending yours.pending in record {
+      site = record {
+        site = yours.site ∙ (same.site.site ∙ sym mine.site);
+        names = yours.names ∙ (same.site.names ∙ sym mine.names);
+        state = joins_same p.parts.state q.parts.state p.parts.pending q.parts.pending one.replica.state other.replica.state same.site.state same.site.pending mine.state yours.state;
+        pending = delta_through one.replica.pending p.parts.pending other.replica.pending (delta_turned p.parts.pending one.replica.pending mine.pending) buffers;
+        last_count = yours.last_count ∙ (same.site.last_count ∙ sym mine.last_count);
+        last_time = yours.last_time ∙ (same.site.last_time ∙ sym mine.last_time);
+        frames = yours.frames ∙ (same.site.frames ∙ sym mine.frames);
+      };
+      name = same.name;
+      starts = same.starts;
+    }

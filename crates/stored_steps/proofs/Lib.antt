@@ -6,3 +6,4 @@ pub mod BaseLaws
 pub mod Writing
 pub mod Reading
 pub mod RestoringLaws
+pub mod PartsLaws

@@ -1,6 +1,6 @@
 -- Rows that are done again, and the site that they lead to.
-use Rattle.std.proofs.Common.{◌≡◌, ◌<◌, ◌+◌, ◌-◌, ◌^◌, min, inl, inr, ℕ, Bool, true, false, not, ◌&&◌, List, [], ◌∷◌, ◌++◌, length, get_or, take, Option, Some, refl, sym, ap, ap₂, subst, ◌∙◌, append_assoc, append-nil, arith}
-use Rattle.std.specs.Prelude.{nat_eq, filter, count_by}
+use Rattle.std.proofs.Common.{◌≡◌, ◌<◌, ◌≤◌, ◌+◌, ◌-◌, ◌^◌, min, inl, inr, ℕ, Bool, true, false, not, ◌&&◌, List, [], ◌∷◌, ◌++◌, length, get_or, take, Option, Some, refl, sym, ap, subst, subst₂, ◌∙◌, append_assoc, append-nil, length-append, arith}
+use Rattle.std.specs.Prelude.{nat_eq, count_by}
 use Rattle.std.specs.List.{All, cons_option}
 use Rattle.std.proofs.lemmas.List.{take_all, take_more}
 use Rattle.std.proofs.lemmas.List.Elements.{All-append, All-cons, All-nil, filter-append, filter_map-append}
@@ -8,56 +8,65 @@ use Rattle.replica.specs.Site.{IsSameSite, SiteState}
 use Rattle.replica.proofs.SameSites.{site_itself}
 use Rattle.site_journal.specs.declared.step.Step.{Step}
 use Rattle.site_journal.specs.declared.step.StepDeed.{StepDeed}
-use Rattle.site_journal.specs.Journals.{HasAdded, IsNewJournal, JournalState}
+use Rattle.site_journal.specs.Journals.{HasAdded, HasDropped, IsFull, IsJournal, IsNewJournal, JournalState}
 use Rattle.stored_steps.specs.declared.base.StoredBase.{StoredBase}
 use Rattle.stored_steps.specs.declared.restored_site.RestoredSite.{RestoredSite}
 use Rattle.stored_steps.specs.Bases.{IsReadBase, IsRowOfBase}
-use Rattle.stored_steps.specs.Restoring.{HasReplayed, IsRestoredSite, step_rows}
+use Rattle.stored_steps.specs.Restoring.{HasReplayed, HasReplayedStep, HasRoom, IsRestoredSite, step_rows}
 use Rattle.stored_steps.specs.RowsLead.{RowsLead}
 use Rattle.stored_steps.specs.StartRows.{is_start, start_row}
 use Rattle.stored_steps.specs.StepRows.{IsDeedWithinLimits, IsWithinLimits, row_of, row_of_deed, rows_of}
 use Rattle.stored_steps.specs.Stored.{Stored}
 use Rattle.stored_steps.proofs.BaseLaws.{read_same}
-use Rattle.stored_steps.proofs.Replaying.{lead_on, one_site, rows_site}
+use Rattle.stored_steps.proofs.Replaying.{lead_on, one_site}
 use Rattle.stored_steps.proofs.RowLaws.{HasForm, form_of, started_row}
 
--- of no rows nothing is done again
-pub none_replayed : (j : JournalState) → HasReplayed j [] j
-none_replayed j = record { more = []; rows_are = refl; within = All-nil IsWithinLimits; base = refl; steps = sym (append-nil j.steps); limit = refl; led = site_itself j.replica }
-
--- rows are done again, and then more rows
-pub replayed_on : (a b c : JournalState) (xs ys : List Stored) → HasReplayed a xs b → HasReplayed b ys c → HasReplayed a (xs ++ ys) c
-replayed_on a b c xs ys p q = record {
-  more = p.more ++ q.more;
-  rows_are = filter_map-append row_of p.more q.more ∙ ap₂ (λ (m n : List Stored). m ++ n) p.rows_are q.rows_are ∙ sym (filter-append (λ row. not (is_start row)) xs ys);
-  within = All-append IsWithinLimits p.more q.more p.within q.within;
-  base = q.base ∙ p.base;
-  steps = q.steps ∙ ap (λ (l : List Step). l ++ q.more) p.steps ∙ append_assoc a.steps p.more q.more;
-  limit = q.limit ∙ p.limit;
-  led = lead_on a.replica b.replica c.replica xs ys p.led q.led;
+-- a new journal, of no rows
+pub none_replayed : (from : SiteState) (limit : ℕ) (j : JournalState) → IsNewJournal from limit j → HasReplayed from [] j
+none_replayed from limit j fresh = record {
+  dropped = [];
+  kept = [];
+  rows_are = refl;
+  begun = fresh.base;
+  led = subst (λ (s : SiteState). IsSameSite from s) (sym fresh.replica_is) (site_itself from);
+  steps = ap rows_of fresh.steps;
+  within = subst (λ (l : List Step). All IsWithinLimits l) (sym fresh.steps) (All-nil IsWithinLimits);
+  count = fresh.count;
+  all = λ few. refl;
 }
 
--- one row more is done again
-pub one_more_replayed : (a b c : JournalState) (rows : List Stored) (row : Stored) (i : ℕ) → i < length rows → row ≡ get_or rows i row → HasReplayed a (take i rows) b → HasReplayed b (row ∷ []) c
-    → HasReplayed a (take (i + 1) rows) c
-one_more_replayed a b c rows row i lt is p q =
-    subst (λ (l : List Stored). HasReplayed a l c) (sym (take_more rows i row lt ∙ ap (λ (r : Stored). take i rows ++ r ∷ []) (sym is))) (replayed_on a b c (take i rows) (row ∷ []) p q)
+step_rows_on : (xs ys : List Stored) → step_rows (xs ++ ys) ≡ step_rows xs ++ step_rows ys
+step_rows_on xs ys = filter-append (λ row. not (is_start row)) xs ys
+
+-- the rows up to the next one, and that one
+pub one_more_replayed : (from : SiteState) (j : JournalState) (rows : List Stored) (row : Stored) (i : ℕ) → i < length rows → row ≡ get_or rows i row → HasReplayed from (take i rows ++ row ∷ []) j
+    → HasReplayed from (take (i + 1) rows) j
+one_more_replayed from j rows row i lt is p =
+    subst (λ (l : List Stored). HasReplayed from l j) (sym (take_more rows i row lt ∙ ap (λ (r : Stored). take i rows ++ r ∷ []) (sym is))) p
 
 -- all rows are
-pub all_replayed : (a b : JournalState) (rows : List Stored) (n : ℕ) → n ≡ length rows → HasReplayed a (take n rows) b → HasReplayed a rows b
-all_replayed a b rows n size p = subst (λ (l : List Stored). HasReplayed a l b) (take_all n rows (omega arith)) p
+pub all_replayed : (from : SiteState) (j : JournalState) (rows : List Stored) (n : ℕ) → n ≡ length rows → HasReplayed from (take n rows) j → HasReplayed from rows j
+all_replayed from j rows n size p = subst (λ (l : List Stored). HasReplayed from l j) (take_all n rows (omega arith)) p
+
+no_step_row : (rows : List Stored) (row : Stored) → row ≡ start_row → step_rows (rows ++ row ∷ []) ≡ step_rows rows
+no_step_row rows row is = step_rows_on rows (row ∷ []) ∙ ap (λ (r : Stored). step_rows rows ++ step_rows (r ∷ [])) is ∙ append-nil (step_rows rows)
 
 -- the row of a start changes nothing
-pub start_replayed : (j : JournalState) (row : Stored) → is_start row ≡ true → HasReplayed j (row ∷ []) j
-start_replayed j row started = let is : row ≡ start_row = started_row row started in record {
-  more = [];
-  rows_are = ap (λ (r : Stored). step_rows (r ∷ [])) (sym is);
-  within = All-nil IsWithinLimits;
-  base = refl;
-  steps = sym (append-nil j.steps);
-  limit = refl;
-  led = (j.replica, inr (is, site_itself j.replica), site_itself j.replica);
-}
+pub start_replayed : (from : SiteState) (rows : List Stored) (j : JournalState) (row : Stored) → is_start row ≡ true → HasReplayed from rows j → HasReplayed from (rows ++ row ∷ []) j
+start_replayed from rows j row started p =
+    let is : row ≡ start_row = started_row row started in
+    let same : step_rows (rows ++ row ∷ []) ≡ step_rows rows = no_step_row rows row is in
+    record {
+      dropped = p.dropped;
+      kept = p.kept ++ row ∷ [];
+      rows_are = ap (λ (l : List Stored). l ++ row ∷ []) p.rows_are ∙ append_assoc p.dropped p.kept (row ∷ []);
+      begun = p.begun;
+      led = lead_on from j.replica j.replica rows (row ∷ []) p.led (j.replica, inr (is, site_itself j.replica), site_itself j.replica);
+      steps = p.steps ∙ sym (no_step_row p.kept row is);
+      within = p.within;
+      count = p.count ∙ sym (ap length same);
+      all = λ few. p.all (subst (λ (n : ℕ). n ≤ j.limit) (ap length same) few);
+    }
 
 -- of another kind no row is that of a start
 other_kind : (row : Stored) (k : ℕ) → row.kind ≡ k → nat_eq k 6 ≡ false → is_start row ≡ false
@@ -76,43 +85,82 @@ no_start_row pass d row e good = by (form_of pass d row e good)
 one_kept : (row : Stored) → is_start row ≡ false → step_rows (row ∷ []) ≡ row ∷ []
 one_kept row differs = rw differs
 
+one_step_row : (rows : List Stored) (row : Stored) → is_start row ≡ false → step_rows (rows ++ row ∷ []) ≡ step_rows rows ++ row ∷ []
+one_step_row rows row differs = step_rows_on rows (row ∷ []) ∙ ap (λ (l : List Stored). step_rows rows ++ l) (one_kept row differs)
+
+one_row_more : (steps : List Step) (step : Step) (row : Stored) → row_of step ≡ Some row → rows_of (steps ++ step ∷ []) ≡ rows_of steps ++ row ∷ []
+one_row_more steps step row is = filter_map-append row_of steps (step ∷ []) ∙ ap (λ (o : Option Stored). rows_of steps ++ cons_option o []) is
+
 -- a step that was done again is that of its row
-pub step_replayed : (old new : JournalState) (row : Stored) (step : Step) → row_of step ≡ Some row → IsWithinLimits step → HasAdded old step new → HasReplayed old (row ∷ []) new
-step_replayed old new row step is good added = record {
-  more = step ∷ [];
-  rows_are = ap (λ (o : Option Stored). cons_option o []) is ∙ sym (one_kept row (no_start_row step.pass step.deed row is good));
-  within = All-cons IsWithinLimits step [] good (All-nil IsWithinLimits);
-  base = added.base;
-  steps = added.steps;
-  limit = added.limit;
-  led = (new.replica, inl (record { step = step; row_is = is; within = good; leads = added.done }), site_itself new.replica);
-}
+added_leads : (old new : JournalState) (row : Stored) (step : Step) → row_of step ≡ Some row → IsWithinLimits step → HasAdded old step new → RowsLead old.replica (row ∷ []) new.replica
+added_leads old new row step is good added = (new.replica, inl (record { step = step; row_is = is; within = good; leads = added.done }), site_itself new.replica)
 
--- what a new journal of the base has done again is what the rows say
-pub restored_from : (first : Stored) (rest : List Stored) (base : StoredBase) (limit starts : ℕ) (begun j : JournalState) → IsReadBase first base → IsNewJournal base.replica limit begun
-    → HasReplayed begun rest j → starts ≡ min (base.starts + count_by is_start rest) (2 ^ 64 - 1) → IsRestoredSite (first ∷ rest) (record { journal = j; name = base.name; starts = starts })
-restored_from first rest base limit starts begun j read fresh done counted = record {
-  first = first;
-  rest = rest;
-  rows_are = refl;
-  base = base;
-  base_is = read;
-  name = refl;
-  starts = counted;
-  begun = subst (λ (s : SiteState). IsSameSite base.replica s) (sym done.base) fresh.base;
-  steps = ap rows_of all ∙ done.rows_are;
-  within = subst (λ (l : List Step). All IsWithinLimits l) (sym all) done.within;
-  led = subst (λ (s : SiteState). RowsLead s rest j.replica) fresh.replica_is done.led;
-}
+-- in a journal that had room
+step_kept : (from : SiteState) (rows : List Stored) (old new : JournalState) (row : Stored) (step : Step) → row_of step ≡ Some row → IsWithinLimits step → HasAdded old step new → HasReplayed from rows old
+    → HasReplayed from (rows ++ row ∷ []) new
+step_kept from rows old new row step is good added p =
+    let differs = no_start_row step.pass step.deed row is good in
+    let one = one_step_row rows row differs in
+    let size : length (step_rows (rows ++ row ∷ [])) ≡ length (step_rows rows) + 1 = ap length one ∙ length-append (step_rows rows) (row ∷ []) in
+    record {
+      dropped = p.dropped;
+      kept = p.kept ++ row ∷ [];
+      rows_are = ap (λ (l : List Stored). l ++ row ∷ []) p.rows_are ∙ append_assoc p.dropped p.kept (row ∷ []);
+      begun = subst (λ (s : SiteState). RowsLead from p.dropped s) (sym added.base) p.begun;
+      led = lead_on from old.replica new.replica rows (row ∷ []) p.led (added_leads old new row step is good added);
+      steps = ap rows_of added.steps ∙ one_row_more old.steps step row is ∙ ap (λ (l : List Stored). l ++ row ∷ []) p.steps ∙ sym (one_step_row p.kept row differs);
+      within = subst (λ (l : List Step). All IsWithinLimits l) (sym added.steps) (All-append IsWithinLimits old.steps (step ∷ []) p.within (All-cons IsWithinLimits step [] good (All-nil IsWithinLimits)));
+      count = added.count ∙ ap (λ (n : ℕ). n + 1) p.count ∙ sym size;
+      all = λ few. p.all (omega (arith, size, added.limit, few));
+    }
+
+-- a full journal had as many steps as it may
+too_many : (j : JournalState) (n : ℕ) → IsJournal j → IsFull j → j.count ≡ n → n + 1 ≤ j.limit → ⊥
+too_many j n is (inl full) count few = omega (arith, is.counted, full, count, few)
+too_many j n is (inr full) count few = omega (arith, is.few, full, count, few)
+
+-- in a journal that was full, and dropped its steps
+step_alone : (from : SiteState) (rows : List Stored) (old mid new : JournalState) (row : Stored) (step : Step) → row_of step ≡ Some row → IsWithinLimits step → IsJournal old → IsFull old → HasDropped old mid
+    → HasAdded mid step new → HasReplayed from rows old → HasReplayed from (rows ++ row ∷ []) new
+step_alone from rows old mid new row step is good journal full drops added p =
+    let differs = no_start_row step.pass step.deed row is good in
+    let one = one_step_row rows row differs in
+    let size : length (step_rows (rows ++ row ∷ [])) ≡ length (step_rows rows) + 1 = ap length one ∙ length-append (step_rows rows) (row ∷ []) in
+    let all_steps : new.steps ≡ step ∷ [] = added.steps ∙ ap (λ (l : List Step). l ++ step ∷ []) drops.steps in
+    let based : RowsLead from (rows ++ []) mid.base = lead_on from old.replica mid.base rows [] p.led drops.base in
+    record {
+      dropped = rows;
+      kept = row ∷ [];
+      rows_are = refl;
+      begun = subst₂ (λ (l : List Stored) (s : SiteState). RowsLead from l s) (append-nil rows) (sym added.base) based;
+      led = lead_on from old.replica new.replica rows (row ∷ []) p.led (subst (λ (s : SiteState). RowsLead s (row ∷ []) new.replica) drops.replica (added_leads mid new row step is good added));
+      steps = ap rows_of all_steps ∙ one_row_more [] step row is ∙ sym (one_kept row differs);
+      within = subst (λ (l : List Step). All IsWithinLimits l) (sym all_steps) (All-cons IsWithinLimits step [] good (All-nil IsWithinLimits));
+      count = added.count ∙ ap (λ (n : ℕ). n + 1) (drops.count ∙ p.count) ∙ sym size;
+      all = λ few. absurd (too_many old (length (step_rows rows)) journal full p.count (omega (arith, size, added.limit, drops.limit, few)));
+    }
+
+-- a step is done again, in a journal that makes room for it
+pub step_replayed : (from : SiteState) (rows : List Stored) (old new : JournalState) (row : Stored) (step : Step) → row_of step ≡ Some row → IsWithinLimits step → HasReplayedStep old step new
+    → HasReplayed from rows old → HasReplayed from (rows ++ row ∷ []) new
+step_replayed from rows old new row step is good done p = by done.room
   where
-    all : j.steps ≡ done.more
-    all = done.steps ∙ ap (λ (l : List Step). l ++ done.more) fresh.steps
+    by : HasRoom old done.mid → HasReplayed from (rows ++ row ∷ []) new
+    by (inl same) = step_kept from rows done.mid new row step is good done.added (subst (λ (j : JournalState). HasReplayed from rows j) (sym same) p)
+    by (inr (journal, full, drops)) = step_alone from rows old done.mid new row step is good journal full drops done.added p
 
--- a journal that has done rows again is at the site of its base
-pub replayed_site : (replica : SiteState) (limit : ℕ) (begun j : JournalState) (rows : List Stored) → IsNewJournal replica limit begun → HasReplayed begun rows j → (j.replica.site ≡ replica.site) × (j.replica.names ≡ replica.names)
-replayed_site replica limit begun j rows fresh done =
-    let kept = rows_site begun.replica j.replica rows done.led in
-    (kept.0 ∙ ap (λ (s : SiteState). s.site) fresh.replica_is, kept.1 ∙ ap (λ (s : SiteState). s.names) fresh.replica_is)
+-- and has the limit that it had
+pub step_limit : (old new : JournalState) (step : Step) → HasReplayedStep old step new → new.limit ≡ old.limit
+step_limit old new step done = done.added.limit ∙ by done.room
+  where
+    by : HasRoom old done.mid → done.mid.limit ≡ old.limit
+    by (inl same) = ap (λ (j : JournalState). j.limit) same
+    by (inr (journal, full, drops)) = drops.limit
+
+-- what a journal of the base has done again is what the rows say
+pub restored_from : (first : Stored) (rest : List Stored) (base : StoredBase) (starts : ℕ) (j : JournalState) → IsReadBase first base → HasReplayed base.replica rest j
+    → starts ≡ min (base.starts + count_by is_start rest) (2 ^ 64 - 1) → IsRestoredSite (first ∷ rest) (record { journal = j; name = base.name; starts = starts })
+restored_from first rest base starts j read done counted = record { first = first; rest = rest; rows_are = refl; base = base; base_is = read; name = refl; starts = counted; replayed = done }
 
 -- the site that is restored is the one that the rows of the store led to
 pub same_site_again : (base : StoredBase) (first : Stored) (rest : List Stored) (to : SiteState) (it : RestoredSite) → IsRowOfBase base first → RowsLead base.replica rest to
@@ -122,4 +170,4 @@ same_site_again base first rest to it of led is =
     let first_is : first ≡ is.first = cc in
     let rest_is : rest ≡ is.rest = cc in
     let same = read_same base is.base first of (subst (λ (r : Stored). IsReadBase r is.base) (sym first_is) is.base_is) in
-    one_site base.replica is.base.replica to it.journal.replica rest same.site led (subst (λ (l : List Stored). RowsLead is.base.replica l it.journal.replica) (sym rest_is) is.led)
+    one_site base.replica is.base.replica to it.journal.replica rest same.site led (subst (λ (l : List Stored). RowsLead is.base.replica l it.journal.replica) (sym rest_is) is.replayed.led)

@@ -97,7 +97,8 @@ fn three_numbers(bytes: &[u8]) -> Option<((u64, u64, u64), &[u8])>
 
 // The name and the numbers at the front of bytes, and what follows them.
 fn head_in(bytes: &[u8]) -> Option<Head<'_>>
-    ensures { IfSome result (λ head. IsHead head.name head.starts head.last head.frames.now bytes.now) }
+    ensures { IfSome result
+        (λ head. IsHead head.name head.starts head.last head.frames.now bytes.now) }
 {
     let (name, rest) = bytes.split_first_chunk::<NAME_BYTES>()?;
     let (starts, rest) = number8(rest)?;

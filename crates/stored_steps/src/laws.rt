@@ -1,7 +1,10 @@
 //! Laws of rows: which step a row stands for, and where rows lead a site. The functions have no body: their contracts are the laws.
-ghost use Rattle.std.specs.Prelude.{◌≡◌, ◌⊎◌, ◌++◌, ◌∷◌, List, None, Some};
+ghost use Rattle.std.specs.Prelude.{◌≡◌, ◌≢◌, ◌⊎◌, ◌++◌, ◌∷◌, List, None, Some};
 ghost use Rattle.std.specs.List.{All};
 ghost use Rattle.ask_code.specs.Asks.{AreBytes};
+ghost use Rattle.replica.specs.declared.restore_fault.RestoreFault.{RestoreFault};
+ghost use Rattle.replica.specs.Replicas.{IsReplica};
+ghost use Rattle.replica.specs.Restoring.{IsRestoreCause};
 ghost use Rattle.replica.specs.Site.{IsSameSite, SiteState};
 ghost use Rattle.site_journal.specs.declared.step.Step.{Step};
 ghost use Rattle.site_journal.specs.Legal.{LeadAll, Leads};
@@ -60,9 +63,21 @@ pub fn a_row_is_of_one_base()
         → IsReadBase row read → IsSameBase base read }
 {}
 
+/// What is read of one row of a base says the same each time.
+pub fn a_row_is_read_as_one_base()
+    ensures { (one other : StoredBase) (row : Stored) → IsReadBase row one → IsReadBase row other
+        → IsSameBase one other }
+{}
+
 /// A site that is restored of the row of a base, and of rows that led from this base to a site, says the same as that site.
 pub fn a_restored_site_did_what_its_rows_say()
     ensures { (base : StoredBase) (row : Stored) (rows : List Stored) (site : SiteState)
         (found : RestoredSite) → IsRowOfBase base row → RowsLead base.replica rows site
         → IsRestoredSite (row ∷ rows) found → IsSameSite site found.journal.replica }
+{}
+
+/// The parts of a replica are those of a replica: `Replica::restored` refuses them only when out of memory.
+pub fn the_parts_of_a_replica_are_accepted()
+    ensures { (site : SiteState) (fault : RestoreFault) → IsReplica site
+        → fault ≢ RestoreFault.Memory → IsRestoreCause site fault → ⊥ }
 {}

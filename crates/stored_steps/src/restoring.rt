@@ -1,9 +1,10 @@
 //! Builds a site again of the rows of its store.
-ghost use Rattle.std.specs.Prelude.{◌≡◌, ◌<◌, ◌≤◌, ◌^◌, ◌+◌, ◌∷◌, [], IfOk, OnOk, count_by, length};
+ghost use Rattle.std.specs.Prelude.{◌≡◌, ◌<◌, ◌≤◌, ◌^◌, ◌+◌, ◌++◌, ◌∷◌, [], List, IfOk, OnOk, count_by, length};
+ghost use Rattle.replica.specs.Site.{SiteState};
 ghost use Rattle.site_journal.specs.declared.journaled.TheConstants.{MOST_STEPS};
 ghost use Rattle.site_journal.specs.Journals.{IsNewJournal};
 ghost use Rattle.stored_steps.specs.Bases.{IsReadBase};
-ghost use Rattle.stored_steps.specs.Restoring.{HasReplayed, IsRestoredSite};
+ghost use Rattle.stored_steps.specs.Restoring.{HasReplayed, HasReplayedStep, HasRoom, IsRestoredSite};
 ghost use Rattle.stored_steps.specs.StartRows.{is_start};
 ghost use Rattle.stored_steps.specs.Stored.{Stored};
 
@@ -13,7 +14,7 @@ use crate::step_rows::step_of_row;
 use crate::{BaseFault, RowFault, StoreFault, StoredBase, StoredRow};
 use dots::SiteId;
 use replica::{QueueList, Replica};
-use site_journal::{Journaled, MOST_STEPS, ReplayFault};
+use site_journal::{Journaled, MOST_STEPS, ReplayFault, Step};
 use std::alloc::Global;
 
 // Why a row is no base, as the fault of a store.
@@ -41,15 +42,41 @@ fn replay_fault(position: u64, fault: ReplayFault) -> StoreFault {
     }
 }
 
+// Makes room for one step more in a journal: drops the steps of one that is full.
+fn make_room(journal: &mut Journaled) -> Result<(), StoreFault>
+    ensures { OnOk result (HasRoom journal.old journal.new) }
+{
+    if !journal.is_full() {
+        return Ok(());
+    }
+    match journal.checkpoint() {
+        Ok(()) => Ok(()),
+        Err(_) => Err(StoreFault::Memory),
+    }
+}
+
+// Does the step of this position again.
+fn replay_step(journal: &mut Journaled, position: u64, step: &Step) -> Result<(), StoreFault>
+    ensures { OnOk result (HasReplayedStep journal.old step.now journal.new) }
+{
+    make_room(journal)?;
+    match journal.replay(step) {
+        Ok(()) => Ok(()),
+        Err(fault) => Err(replay_fault(position, fault)),
+    }
+}
+
 // Does again what the row of this position says.
-#[tactic(auto, using(crate::proofs::RestoringLaws::start_replayed, crate::proofs::RestoringLaws::step_replayed))]
+#[tactic(auto, using(crate::proofs::RestoringLaws::start_replayed, crate::proofs::RestoringLaws::step_replayed, crate::proofs::RestoringLaws::step_limit))]
 fn replay_row(
     alloc: Global,
     journal: &mut Journaled,
     position: u64,
     row: &StoredRow,
 ) -> Result<(), StoreFault>
-    ensures { OnOk result (HasReplayed journal.old (row.now ∷ []) journal.new) }
+    ensures replayed { (from : SiteState) (rows : List Stored) → HasReplayed from rows journal.old
+        → OnOk result (HasReplayed from (rows ++ row.now ∷ []) journal.new) }
+    ensures limit { OnOk result (journal.new.limit ≡ journal.old.limit) }
 {
     if row.is_start() {
         return Ok(());
@@ -58,14 +85,12 @@ fn replay_row(
         Ok(step) => step,
         Err(fault) => return Err(row_fault(position, fault)),
     };
-    match journal.replay(&step) {
-        Ok(()) => Ok(()),
-        Err(fault) => Err(replay_fault(position, fault)),
-    }
+    let done = replay_step(journal, position, &step);
+    drop(step);
+    done
 }
 
 // Does again what rows say, the first of which has this position.
-#[tactic(auto, using(crate::proofs::RestoringLaws::none_replayed, crate::proofs::RestoringLaws::one_more_replayed, crate::proofs::RestoringLaws::all_replayed))]
 fn replay_rows(
     alloc: Global,
     journal: &mut Journaled,
@@ -73,7 +98,9 @@ fn replay_rows(
     rows: &[StoredRow],
 ) -> Result<(), StoreFault>
     requires { first + length rows.now < 2 ^ 64 }
-    ensures { OnOk result (HasReplayed journal.old rows.now journal.new) }
+    ensures replayed { (from : SiteState) → HasReplayed from [] journal.old
+        → OnOk result (HasReplayed from rows.now journal.new) }
+    ensures limit { OnOk result (journal.new.limit ≡ journal.old.limit) }
 {
     let mut position = first;
     for row in rows {
@@ -120,6 +147,7 @@ fn restore_from(
         → IfOk result (λ it. IsRestoredSite (row ∷ rows.now) it) }
     ensures site { IfOk result (λ it. it.journal.replica.site ≡ base.replica.site) }
     ensures names { IfOk result (λ it. it.journal.replica.names ≡ base.replica.names) }
+    ensures limit { IfOk result (λ it. it.journal.limit ≡ limit) }
 {
     let StoredBase {
         replica,
@@ -140,12 +168,13 @@ fn restore_from(
     }
 }
 
-/// Builds a site again of the rows of its store, the first of which has the position `first`. Its journal may have `limit` steps, 1 to
-/// 1,000,000. The first row is the base; the step of each further row is done again, and must be the very same.
+/// Builds a site again of the rows of its store, the first of which has the position `first`. The first row is the base; the step of each
+/// further row is done again, and must be the very same. The journal may have `limit` steps, 1 to 1,000,000. A journal that is full drops
+/// its steps before the next one, so it has the steps of the last rows: all of them, if they are at most `limit`.
 ///
 /// Errors, of the first row that has one: `Base`, with the fault of `base_of_row`, also where there is no row; `Row`, with the position and
 /// the fault of `step_of_row`; `Damaged`, with the position, if the site refuses the step, or gives another answer or other bytes;
-/// `JournalFull`; `Memory`.
+/// `JournalFull`, if 2^40 steps were done before; `Memory`.
 pub fn restore(
     alloc: Global,
     site: SiteId,
@@ -160,6 +189,7 @@ pub fn restore(
     ensures restored { IfOk result (λ it. IsRestoredSite rows.now it) }
     ensures site { IfOk result (λ it. it.journal.replica.site ≡ site) }
     ensures names { IfOk result (λ it. it.journal.replica.names ≡ list.now) }
+    ensures limit { IfOk result (λ it. it.journal.limit ≡ limit) }
 {
     let Some((row, rest)) = rows.split_first() else {
         return Err(StoreFault::Base(BaseFault::NoBase));

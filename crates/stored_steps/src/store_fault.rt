@@ -13,7 +13,7 @@ pub enum StoreFault {
     /// The site refuses the step of the row of this position, or gives another answer or other bytes.
     #[error("row {0} is damaged")]
     Damaged(u64),
-    /// There are more steps than a journal may have.
+    /// 2^40 steps were done before.
     #[error("journal full")]
     JournalFull,
     /// An allocation was refused.

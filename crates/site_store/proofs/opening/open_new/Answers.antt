@@ -1,10 +1,16 @@
-use Rattle.std.proofs.Common.{◌≡◌, sym, ◌∙◌, rules, IsTrue}
-use Rattle.sqlite.specs.Files.{file_state}
-use Rattle.site_store.specs.Steps.{no_schema}
+use Rattle.std.proofs.Common.{Result, Ok, Err, IfOk}
 use Rattle.site_store.proofs.opening.open_new.Goals as goal
 
-pub returns-in-Ok-true : goal.returns-in-Ok-true
-returns-in-Ok-true g c =
-    let passed : IsTrue c.is_blank_schema.result = search rules in
-    let has : (file_state c.in-Ok.conn).now.schema ≡ no_schema = sym c.schema.ensures.value ∙ c.is_blank_schema.ensures passed in
-    record { made = λ clean. c.in-Ok-true.ensures.made clean has c.in-Ok-true.field-0-test }
+-- what follows of a fact of the result
+of_fact : {A B : Type 0} (r : Result A B) (P S : A → Type 0) → ((it : A) → P it → S it) → IfOk r P → IfOk r S
+of_fact (Ok it) P S f p = f it p
+of_fact (Err fault) P S f p = tt
+
+pub returns-clause-made : goal.returns-clause-made
+returns-clause-made g c = c.with_base.ensures.made c.in_ok-conn.ensures.schema
+
+pub returns-clause-idle : goal.returns-clause-idle
+returns-clause-idle g c = c.with_base.ensures.idle c.in_ok-conn.ensures.schema
+
+pub returns-clause-schema : goal.returns-clause-schema
+returns-clause-schema g c = of_fact c.with_base.result _ _ (λ it made clean. (made clean).0.schema) (c.with_base.ensures.made c.in_ok-conn.ensures.schema)

@@ -16,3 +16,6 @@ returns-clause-holds g c clean first rows holds =
 
 pub returns-clause-mode : goal.returns-clause-mode
 returns-clause-mode g c clean first rows holds = (c.in-Ok.ensures.same clean holds.schema).0.mode
+
+pub returns-clause-found : goal.returns-clause-found
+returns-clause-found g c clean schema = record { schema = schema; rows = rw c.in-Some.is at (c.in-Ok.ensures.listed clean schema) }
