@@ -1,11 +1,11 @@
 -- Each move at the mark keeps its rule.
-use Rattle.std.proofs.Common.{◌≡◌, ◌≢◌, ◌⊎◌, ◌≤◌, ◌∙◌, ℕ, zero, suc, List, [], ◌∷◌, ◌++◌, set, Bool, true, false, true≢false, refl, sym, ap, subst, ⊎_elim, arith, slice_index}
+use Rattle.std.proofs.Common.{◌≡◌, ◌≢◌, ◌≤◌, ◌∙◌, ℕ, zero, suc, List, [], ◌∷◌, set, Bool, cond, true, false, true≢false, refl, sym, subst, ⊎_elim, arith, slice_index}
 use mathlib.Core.Option.{some, some-ne-none, some-injective}
 use lib.ListN.{get_elem?}
 use Rattle.crossbeam_utils.specs.Register.{Turns, Forks, Merges}
 use Rattle.atomic_table.proofs.Lists.{at_set, at_snoc, set_again}
 use Rattle.stored_desk.specs.declared.mark.MarkView.{MarkView}
-use Rattle.stored_desk.specs.Marks.{FitsMark, IsMarked, Raised, Compared, beside, claim_of, keeper_at}
+use Rattle.stored_desk.specs.Marks.{FitsMark, IsMarked, Raised, beside, claim_of, keeper_at, known_saved}
 
 off : false ≡ true → ⊥
 off e = true≢false (sym e)
@@ -30,29 +30,20 @@ begins = (0, one)
     one zero v e = subst (FitsMark 0 0 0) (some-injective _ _ e) (record { keeper = λ _. (refl, refl); claim = omega arith })
     one (suc pass) v e = absurd (some-ne-none v (sym e))
 
--- the keeper raises the mark
-pub raises : (pass n m : ℕ) → n ≤ m → Turns IsMarked pass (keeper_at n) (λ _. m ∷ []) Raised
-raises pass n m up words views h at =
-    let mine = (h.1 pass (keeper_at n) at).keeper refl in
+-- the keeper sets the mark
+pub raises : (pass m : ℕ) (v : MarkView) → v.keeps ≡ true → v.saved ≤ m → Turns IsMarked pass v (λ _. m ∷ []) Raised
+raises pass m v keeps up words views h at =
+    let fits = h.1 pass v at in
+    let mine = fits.keeper keeps in
     let low : slice_index words 0 ≤ m = omega (arith, mine.1, up) in (
       keeper_at m,
       (
         h.0,
         fits_set h.0 m views pass (keeper_at m)
-            (λ j u apart e. record { keeper = λ keeps. absurd (apart (((h.1 j u e).keeper keeps).0 ∙ sym mine.0)); claim = omega (arith, (h.1 j u e).claim, low) })
+            (λ j u apart e. record { keeper = λ also. absurd (apart (((h.1 j u e).keeper also).0 ∙ sym mine.0)); claim = omega (arith, (h.1 j u e).claim, low) })
             (record { keeper = λ _. (mine.0, refl); claim = omega arith }),
       ),
-      refl,
-    )
-
--- the keeper compares a claim that it has taken in
-pub compares : (pass : ℕ) (v : MarkView) → v.keeps ≡ true → Turns IsMarked pass v (λ x. x) Compared
-compares pass v keeps words views h at =
-    let mine = h.1 pass v at in
-    let known = mine.keeper keeps in (
-      keeper_at v.saved,
-      (h.0, fits_set h.0 (slice_index words 0) views pass (keeper_at v.saved) (λ j u apart e. h.1 j u e) (record { keeper = λ _. known; claim = omega arith })),
-      (refl, omega (arith, mine.claim, known.1)),
+      (refl, omega (arith, fits.claim, mine.1)),
     )
 
 -- a pass gives a claim that isn't above the mark
@@ -65,11 +56,15 @@ gives pass least v low words views h at = (
       (at_snoc (set views pass v) (claim_of least) u j e),
 )
 
-pub keeper_gives : (pass : ℕ) (v : MarkView) → v.keeps ≡ true → Forks IsMarked pass v v (claim_of v.saved)
-keeper_gives pass v keeps = gives pass v.saved v (λ mark seat fits. omega (arith, (fits.keeper keeps).1))
+known_low : (mark seat pass : ℕ) (v : MarkView) → FitsMark mark seat pass v → known_saved v ≤ mark
+known_low mark seat pass v fits = low v.keeps refl
+  where
+    low : (keeps : Bool) → v.keeps ≡ keeps → cond keeps v.saved v.least ≤ mark
+    low true is = omega (arith, (fits.keeper is).1)
+    low false is = fits.claim
 
-pub claim_gives : (pass : ℕ) (v : MarkView) → Forks IsMarked pass v v (claim_of v.least)
-claim_gives pass v = gives pass v.least v (λ mark seat fits. fits.claim)
+pub known_gives : (pass : ℕ) (v : MarkView) → Forks IsMarked pass v v (claim_of (known_saved v))
+known_gives pass v = gives pass (known_saved v) v (λ mark seat fits. known_low mark seat pass v fits)
 
 -- the keeper takes in a claim
 pub takes_in : (pass : ℕ) (v : MarkView) (other : ℕ) (u : MarkView) → Merges IsMarked pass v other u (beside v u) (claim_of 0)
@@ -83,7 +78,3 @@ takes_in pass v other u words views h at apart there =
           (λ j x _ e. fits_set h.0 mark views pass w (λ i y _ e'. h.1 i y e') (record { keeper = mine.keeper; claim = theirs.claim }) j x e)
           (claim_fits mark h.0 other 0 (omega arith)),
     )
-
--- the moves of a keeper whose view is known
-pub raises_as : (pass n m : ℕ) (v : MarkView) → v ≡ keeper_at n → n ≤ m → Turns IsMarked pass v (λ _. m ∷ []) Raised
-raises_as pass n m v is up = subst (λ (x : MarkView). Turns IsMarked pass x (λ _. m ∷ []) Raised) (sym is) (raises pass n m up)

@@ -1,5 +1,5 @@
 -- Prefixes of one list.
-use Rattle.std.proofs.Common.{◌≡◌, ◌∙◌, ℕ, zero, suc, ◌+◌, ◌<◌, ◌≤◌, List, [], ◌∷◌, ◌++◌, length, Some, slice_get, refl, ap, sym, arith, append_assoc, length-append, ⊎_elim}
+use Rattle.std.proofs.Common.{◌≡◌, ◌∙◌, ℕ, zero, suc, ◌<◌, ◌≤◌, List, [], ◌∷◌, ◌++◌, length, Some, slice_get, refl, sym, arith, ⊎_elim}
 use Rattle.std.proofs.lemmas.Bool.{cases_lt}
 use mathlib.Core.List.{IsPrefix}
 

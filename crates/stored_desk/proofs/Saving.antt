@@ -1,5 +1,5 @@
 -- Steps that are saved behind those before.
-use Rattle.std.proofs.Common.{◌≡◌, ◌∙◌, ◌+◌, ◌≤◌, ℕ, List, ◌++◌, length, sym, ap, arith, length-append}
+use Rattle.std.proofs.Common.{◌≡◌, ◌∙◌, ◌+◌, ◌≤◌, List, ◌++◌, length, sym, ap, arith, length-append}
 use mathlib.Core.List.{IsPrefix}
 use Rattle.site_journal.specs.declared.step.Step.{Step}
 use Rattle.stored_desk.specs.Recorded.{IsRest}

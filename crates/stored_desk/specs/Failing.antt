@@ -23,7 +23,12 @@ pub record HasDoneUnanswered (base : SiteState) (old new : PassState) : Type 0 w
   pub done : HasDone old receipt new
   pub legal : IsLegalReceipt base receipt
 
--- a call fails with `fault`: the pass is as before, or, after `Unsaved` and `Memory` alone, it has
+-- an ask fails with `fault`: the pass is as before, or, after `Unsaved` and `Memory` alone, it has
 -- done a step that isn't known to be durable
 abbrev pub Fails : SiteState → PassState → DeskFault → PassState → Type 0
 Fails base old fault new = (new ≡ old) ⊎ (((fault ≡ Unsaved) ⊎ (fault ≡ Memory)) × HasDoneUnanswered base old new)
+
+-- a cut, a whole or a take fails with `fault`: the pass is as before, or, after `Unsaved` alone, it
+-- has done a step that isn't known to be durable
+abbrev pub FailsUnsaved : SiteState → PassState → DeskFault → PassState → Type 0
+FailsUnsaved base old fault new = (new ≡ old) ⊎ ((fault ≡ Unsaved) × HasDoneUnanswered base old new)

@@ -1,5 +1,5 @@
 -- The history of a site's steps, of which each thread has seen a prefix (this project's own).
-use Rattle.std.specs.Prelude.{ℕ, ◌≡◌, ◌==◌, ⊤, true, List, [], ◌∷◌, ◌++◌, length, MatchBool}
+use Rattle.std.specs.Prelude.{ℕ, ◌≡◌, ◌==◌, true, List, [], ◌∷◌, ◌++◌, length, MatchBool}
 use Rattle.logbook.specs.Pages.{Book, Cell, Named, Step as Move, View}
 use Rattle.site_journal.specs.declared.step.Step.{Step}
 

@@ -1,5 +1,5 @@
 -- The mark: how many steps of a site's history are saved, by one keeper who raises it and by claims of others (this project's own).
-use Rattle.std.specs.Prelude.{ℕ, ◌≡◌, ◌≤◌, true, false, List, [], ◌∷◌, slice_index}
+use Rattle.std.specs.Prelude.{ℕ, ◌≡◌, ◌≤◌, true, false, cond, List, [], slice_index}
 use mathlib.Core.Option.{some}
 use lib.ListN.{get_elem?}
 use Rattle.atomic_table.specs.Seated.{TableId}
@@ -26,13 +26,13 @@ pub record FitsMark (mark seat pass : ℕ) (v : MarkView) : Type 0 where
 abbrev pub IsMarked : List ℕ → List MarkView → Type 0
 IsMarked words views = (seat : ℕ) × ((pass : ℕ) (v : MarkView) → get_elem? views pass ≡ some v → FitsMark (slice_index words 0) seat pass v)
 
--- the keeper has set the mark
-abbrev pub Raised : MarkView → List ℕ → List ℕ → MarkView → Type 0
-Raised old before after new = new ≡ keeper_at (slice_index after 0)
+-- how many steps a pass knows to be saved
+abbrev pub known_saved : MarkView → ℕ
+known_saved v = cond v.keeps v.saved v.least
 
--- the keeper has compared a claim with the mark
-abbrev pub Compared : MarkView → List ℕ → List ℕ → MarkView → Type 0
-Compared old before after new = (new ≡ keeper_at old.saved) × (old.least ≤ old.saved)
+-- the keeper has set the mark, and what it had taken in claimed no more than the mark before
+abbrev pub Raised : MarkView → List ℕ → List ℕ → MarkView → Type 0
+Raised old before after new = (new ≡ keeper_at (slice_index after 0)) × (old.least ≤ old.saved)
 
 -- the name of no table, which stands where a call picks none
 abbrev pub no_table : TableId

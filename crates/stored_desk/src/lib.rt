@@ -1,8 +1,8 @@
-//! A site with a store: nothing leaves it before it is durable.
+//! A site with a store: no answer and no frame leaves it before its step is durable.
 //!
-//! A step is done in memory under the site's lock. Then its caller waits until the step is in the store: one of those who wait takes the
-//! store and commits all steps that aren't saved yet at once, while no lock is held. Receipts of asks, cuts and wholes leave
-//! only as [`Settled`].
+//! A step is done in memory under the site's lock. Then its caller waits until the step is in the store, unless it is a take: one of those
+//! who wait takes the store and commits all steps that aren't saved yet at once, while no lock is held. Receipts of asks, cuts and wholes
+//! leave only as [`Settled`].
 #![tactic(auto)]
 
 mod done;
@@ -22,7 +22,7 @@ pub use history::NewHistory;
 pub use mark::NewMark;
 pub use saved_steps::SavedSteps;
 pub use settled::Settled;
-pub use step_store::{CommitFault, StepStore};
+pub use step_store::{CommitFault, Growth, StepStore};
 pub use stored_desk::StoredDesk;
 pub use stored_ledger::StoredLedger;
 pub use stored_port::StoredPort;

@@ -1,8 +1,8 @@
 //! How many steps of a site are saved: a number in a cell, which one keeper raises. Whoever has a claim knows that the number is at least
 //! that of the claim.
-ghost use Rattle.std.specs.Prelude.{◌≡◌, ◌≤◌, ◌∷◌, []};
+ghost use Rattle.std.specs.Prelude.{◌≡◌, ◌≤◌, ◌∷◌, [], true};
 ghost use Rattle.crossbeam_utils.specs.Seq.{cell_view};
-ghost use Rattle.stored_desk.specs.Marks.{keeper_at};
+ghost use Rattle.stored_desk.specs.Marks.{beside, claim_of, keeper_at, known_saved};
 
 use crate::StoredLedger;
 use atomic_table::{Join, Split};
@@ -32,7 +32,7 @@ impl Protocol<[u64; 1], MarkView> for MarkRule {
     ghost first = { keeper_at 0 };
 }
 
-// The keeper sets the mark.
+// The keeper sets the mark, and compares with it a claim that it has taken in.
 pub(crate) struct Raise;
 
 impl Outcome<[u64; 1], MarkView> for Raise {
@@ -41,35 +41,15 @@ impl Outcome<[u64; 1], MarkView> for Raise {
     ghost then = { Raised };
 }
 
-// The keeper compares a claim with the mark.
-pub(crate) struct Compare;
+// A pass gives a claim of all that it knows to be saved.
+pub(crate) struct ClaimOfKnown;
 
-impl Outcome<[u64; 1], MarkView> for Compare {
-    ghost use Rattle.stored_desk.specs.Marks.{Compared};
-
-    ghost then = { Compared };
-}
-
-// The keeper gives a claim of all that is saved.
-pub(crate) struct ClaimOfKeeper;
-
-impl Split<MarkView> for ClaimOfKeeper {
-    ghost use Rattle.stored_desk.specs.Marks.{claim_of};
+impl Split<MarkView> for ClaimOfKnown {
+    ghost use Rattle.stored_desk.specs.Marks.{claim_of, known_saved};
 
     ghost left = { λ v. v };
 
-    ghost right = { λ v. claim_of v.saved };
-}
-
-// A claim gives another of the same number.
-pub(crate) struct ClaimOfClaim;
-
-impl Split<MarkView> for ClaimOfClaim {
-    ghost use Rattle.stored_desk.specs.Marks.{claim_of};
-
-    ghost left = { λ v. v };
-
-    ghost right = { λ v. claim_of v.least };
+    ghost right = { λ v. claim_of (known_saved v) };
 }
 
 // The keeper takes in a claim, to compare it.
@@ -86,6 +66,41 @@ impl Join<MarkView> for TakeIn {
 type MarkCell = RuledSeqCell<[u64; 1], MarkView, MarkRule, 1>;
 
 type MarkPass = Pass<[u64; 1], MarkView>;
+
+// Sets the cell, by the keeper's pass, which may have taken in a claim.
+fn set<R: Wait>(cell: &MarkCell, rt: &R, pass: &mut MarkPass, saved: u64)
+    requires cell { pass.old.table_id ≡ cell.now.table.shared.table_id }
+    requires keeper { (cell_view pass.old).keeps ≡ true }
+    requires up { (cell_view pass.old).saved ≤ saved }
+    ensures cell { pass.new.table_id ≡ pass.old.table_id }
+    ensures set { cell_view pass.new ≡ keeper_at saved }
+    ensures claim { (cell_view pass.old).least ≤ (cell_view pass.old).saved }
+{
+    cell.swap_as::<Raise, R>(rt, pass, [saved]);
+}
+
+// The keeper's pass takes in that of a claim.
+fn take_in(cell: &MarkCell, keeper: &mut MarkPass, claim: MarkPass)
+    requires cell { keeper.old.table_id ≡ cell.now.table.shared.table_id }
+    requires claim { claim.table_id ≡ keeper.old.table_id }
+    requires alone { claim.me.1 ≡ [] }
+    ensures cell { keeper.new.table_id ≡ keeper.old.table_id }
+    ensures both { cell_view keeper.new ≡ beside (cell_view keeper.old) (cell_view claim) }
+{
+    cell.join_pass::<TakeIn>(keeper, claim);
+}
+
+// The pass of a claim of all that a pass knows to be saved.
+fn give(cell: &MarkCell, pass: &mut MarkPass) -> MarkPass
+    requires { pass.old.table_id ≡ cell.now.table.shared.table_id }
+    ensures cell { pass.new.table_id ≡ pass.old.table_id }
+    ensures same { cell_view pass.new ≡ cell_view pass.old }
+    ensures table { result.table_id ≡ pass.old.table_id }
+    ensures claim { cell_view result ≡ claim_of (known_saved (cell_view pass.old)) }
+    ensures alone { result.me.1 ≡ [] }
+{
+    cell.split_pass::<ClaimOfKnown>(pass)
+}
 
 /// A mark at 0, which no ledger names yet. Contracts see which mark it is (this project's own).
 #[derive(Drop)]
@@ -166,10 +181,11 @@ pub(crate) struct SharedClaim<L: StoredLedger> {
 impl<L: StoredLedger> Model for SharedClaim<L> {
     ghost use Rattle.std.specs.Prelude.{◌≡◌, ℕ};
     ghost use Rattle.crossbeam_utils.specs.Seq.{cell_view};
+    ghost use Rattle.stored_desk.specs.Marks.{known_saved};
 
     ghost Value = { ℕ };
 
-    ghost view = { λ c. (cell_view c.pass).least };
+    ghost view = { λ c. known_saved (cell_view c.pass) };
 
     ghost invariant = { λ c. c.pass.table_id ≡ L.mark };
 }
@@ -206,7 +222,7 @@ impl<L: StoredLedger> Mark<L> {
         requires { keeper.old ≤ saved }
         ensures { keeper.new ≡ saved }
     {
-        self.cell.swap_as::<Raise, R>(rt, &mut keeper.pass, [saved]);
+        set(&self.cell, rt, &mut keeper.pass, saved);
     }
 
     // A claim of all that is saved.
@@ -215,7 +231,7 @@ impl<L: StoredLedger> Mark<L> {
         ensures same { keeper.new ≡ keeper.old }
     {
         SharedClaim {
-            pass: self.cell.split_pass::<ClaimOfKeeper>(&mut keeper.pass),
+            pass: give(&self.cell, &mut keeper.pass),
             of: PhantomData,
         }
     }
@@ -226,18 +242,19 @@ impl<L: StoredLedger> Mark<L> {
         ensures same { shared.new ≡ shared.old }
     {
         Claim {
-            pass: self.cell.split_pass::<ClaimOfClaim>(&mut shared.pass),
+            pass: give(&self.cell, &mut shared.pass),
             of: PhantomData,
         }
     }
 
-    // What is claimed is saved.
-    pub fn confirm<R: Wait>(&self, rt: &R, keeper: &mut Keeper<L>, claim: Claim<L>)
+    // What is claimed is saved. `saved` is the number that the mark has.
+    pub fn confirm<R: Wait>(&self, rt: &R, keeper: &mut Keeper<L>, claim: Claim<L>, saved: u64)
+        requires { saved ≡ keeper.old }
         ensures same { keeper.new ≡ keeper.old }
         ensures saved { claim ≤ keeper.old }
     {
         let Claim { pass, .. } = claim;
-        self.cell.join_pass::<TakeIn>(&mut keeper.pass, pass);
-        self.cell.load_as::<Compare, R>(rt, &mut keeper.pass);
+        take_in(&self.cell, &mut keeper.pass, pass);
+        set(&self.cell, rt, &mut keeper.pass, saved);
     }
 }

@@ -8,7 +8,7 @@ ghost use Rattle.site_journal.specs.Legal.{LeadAll};
 ghost use Rattle.site_journal.specs.Receipts.{IsOfCut, IsOfTake, IsOfWhole};
 ghost use Rattle.site_desk.specs.Deeds.{IsLegalReceipt, IsRefusedFrom};
 ghost use Rattle.site_desk.specs.Passes.{HasDone, IsRewound, step_of};
-ghost use Rattle.stored_desk.specs.Failing.{Fails, IsAnsweredAt};
+ghost use Rattle.stored_desk.specs.Failing.{FailsUnsaved, IsAnsweredAt};
 ghost use Rattle.stored_desk.specs.Recorded.{IsGroupOfRest, IsLegalHistory, IsRecorded};
 
 use crate::done::{Done, record, record_take};
@@ -29,6 +29,8 @@ pub(crate) struct RecordedSite<L: StoredLedger> {
     writer: HistoryWriter<L>,
     // Whether a step isn't in the history. Nothing is saved from then on.
     is_lost: bool,
+    // How many bytes the journal's steps kept beside themselves when they were last taken for a commit.
+    taken_bytes: u64,
 }
 
 impl<L: StoredLedger> Model for RecordedSite<L> {
@@ -60,6 +62,7 @@ impl<L: StoredLedger> RecordedSite<L> {
             prefix,
             writer,
             is_lost: false,
+            taken_bytes: 0,
         }
     }
 
@@ -81,6 +84,11 @@ impl<L: StoredLedger> RecordedSite<L> {
     // How many bytes the journal's steps keep beside themselves.
     pub fn payload_bytes(&self) -> u64 {
         self.journal.journal().payload_bytes()
+    }
+
+    // How many bytes the steps keep beside themselves that were done since steps were last taken for a commit.
+    pub fn untaken_bytes(&self) -> u64 {
+        self.payload_bytes().saturating_sub(self.taken_bytes)
     }
 
     // The fault of a call that fails with `fault` wherever the journal lets it begin.
@@ -107,7 +115,7 @@ impl<L: StoredLedger> RecordedSite<L> {
             self.new.history ≡ self.old.history ++ step_of done ∷ []) }
         ensures answer { IfOk result (λ done. IsAnsweredAt L.base asked.now done) }
         ensures legal { IfOk result (λ done. IsLegalReceipt L.base done) }
-        ensures fails { IfErr result (λ fault. Fails L.base pass.old fault pass.new) }
+        ensures fails { IfErr result (λ fault. FailsUnsaved L.base pass.old fault pass.new) }
         ensures only { IfErr result (λ fault. IsRewound pass.old fault
             ⊎ ((fault ≡ DeskFault.JournalFull)
             ⊎ ((fault ≡ DeskFault.Memory) ⊎ (fault ≡ DeskFault.Unsaved)))) }
@@ -121,6 +129,7 @@ impl<L: StoredLedger> RecordedSite<L> {
             prefix,
             writer,
             is_lost,
+            ..
         } = self;
         let receipt = journal.call(pass, asked, copy)?;
         record(prefix, writer, is_lost, receipt)
@@ -135,7 +144,7 @@ impl<L: StoredLedger> RecordedSite<L> {
             self.new.history ≡ self.old.history ++ step_of done ∷ []) }
         ensures cut { IfOk result (λ done. IsOfCut done) }
         ensures legal { IfOk result (λ done. IsLegalReceipt L.base done) }
-        ensures fails { IfErr result (λ fault. Fails L.base pass.old fault pass.new) }
+        ensures fails { IfErr result (λ fault. FailsUnsaved L.base pass.old fault pass.new) }
         ensures only { IfErr result (λ fault. IsRewound pass.old fault
             ⊎ ((fault ≡ DeskFault.JournalFull) ⊎ ((fault ≡ DeskFault.Exhausted)
             ⊎ ((fault ≡ DeskFault.Memory) ⊎ (fault ≡ DeskFault.Unsaved))))) }
@@ -148,6 +157,7 @@ impl<L: StoredLedger> RecordedSite<L> {
             prefix,
             writer,
             is_lost,
+            ..
         } = self;
         let receipt = journal.cut(pass)?;
         record(prefix, writer, is_lost, receipt)
@@ -162,7 +172,7 @@ impl<L: StoredLedger> RecordedSite<L> {
             self.new.history ≡ self.old.history ++ step_of done ∷ []) }
         ensures whole { IfOk result (λ done. IsOfWhole done) }
         ensures legal { IfOk result (λ done. IsLegalReceipt L.base done) }
-        ensures fails { IfErr result (λ fault. Fails L.base pass.old fault pass.new) }
+        ensures fails { IfErr result (λ fault. FailsUnsaved L.base pass.old fault pass.new) }
         ensures only { IfErr result (λ fault. IsRewound pass.old fault
             ⊎ ((fault ≡ DeskFault.JournalFull) ⊎ ((fault ≡ DeskFault.Exhausted)
             ⊎ ((fault ≡ DeskFault.Memory) ⊎ (fault ≡ DeskFault.Unsaved))))) }
@@ -175,6 +185,7 @@ impl<L: StoredLedger> RecordedSite<L> {
             prefix,
             writer,
             is_lost,
+            ..
         } = self;
         let receipt = journal.whole(pass)?;
         record(prefix, writer, is_lost, receipt)
@@ -198,7 +209,7 @@ impl<L: StoredLedger> RecordedSite<L> {
         ensures refused { (fault : TakeFault) → IsRefusedFor result (DeskFault.Take fault)
             → IsRefusedFrom L.base pass.old.seen decoded fault }
         ensures memory { IsRefusedFor result DeskFault.Memory → HasOpening decoded }
-        ensures fails { IfErr result (λ refused. Fails L.base pass.old refused.0 pass.new) }
+        ensures fails { IfErr result (λ refused. FailsUnsaved L.base pass.old refused.0 pass.new) }
         ensures only { IfErr result (λ refused. IsRewound pass.old refused.0
             ⊎ (RefusesTake refused.0 ⊎ (refused.0 ≡ DeskFault.Unsaved))) }
         ensures back { IfErr result (λ refused. refused.1.items ≡ decoded) }
@@ -211,6 +222,7 @@ impl<L: StoredLedger> RecordedSite<L> {
             prefix,
             writer,
             is_lost,
+            ..
         } = self;
         let receipt = match journal.take(pass, decoded) {
             Ok(receipt) => receipt,
@@ -244,8 +256,70 @@ impl<L: StoredLedger> RecordedSite<L> {
         }
     }
 
-    // As `rest`, and with `drops` it drops the steps of the journal. `Memory` may also be for that: then none is dropped.
-    pub fn take_rest<S: StepStore>(
+    // As `rest`. What it returns counts as taken for a commit.
+    fn take_rest<S: StepStore>(
+        &mut self,
+        store: &S,
+        saved: u64,
+    ) -> Result<(S::Group, HistoryPrefix<L>), DeskFault>
+        ensures rest { IfOk result (λ rest. IsGroupOfRest S.groups rest.0 rest.1 saved) }
+        ensures legal { IfOk result (λ rest. IsLegalHistory L.base rest.1) }
+        ensures whole { IfOk result (λ rest. rest.1 ≡ self.old.history) }
+        ensures same { self.new ≡ self.old }
+        ensures fault { IfErr result (λ fault.
+            (fault ≡ DeskFault.Unsaved) ⊎ (fault ≡ DeskFault.Memory)) }
+    {
+        let rest = self.rest(store, saved)?;
+        self.taken_bytes = self.payload_bytes();
+        Ok(rest)
+    }
+
+    // Drops the journal's steps. The fault is `Memory`, and none is dropped.
+    fn drop_steps(&mut self) -> Result<(), DeskFault>
+        ensures dropped { OnOk result (HasDropped self.old.journal self.new.journal) }
+        ensures unchanged { OnErr result (self.new ≡ self.old) }
+        ensures history { self.new.history ≡ self.old.history }
+        ensures fault { IfErr result (λ fault. fault ≡ DeskFault.Memory) }
+    {
+        let RecordedSite {
+            journal,
+            taken_bytes,
+            ..
+        } = self;
+        match journal.checkpoint() {
+            Ok(()) => {
+                *taken_bytes = 0;
+                Ok(())
+            }
+            Err(_) => Err(DeskFault::Memory),
+        }
+    }
+
+    // As `take_rest`, and drops the journal's steps. `Memory` may also be for that: then none is dropped.
+    fn take_all<S: StepStore>(
+        &mut self,
+        store: &S,
+        saved: u64,
+    ) -> Result<(S::Group, HistoryPrefix<L>), DeskFault>
+        ensures rest { IfOk result (λ rest. IsGroupOfRest S.groups rest.0 rest.1 saved) }
+        ensures legal { IfOk result (λ rest. IsLegalHistory L.base rest.1) }
+        ensures whole { IfOk result (λ rest. rest.1 ≡ self.old.history) }
+        ensures dropped { OnOk result (HasDropped self.old.journal self.new.journal) }
+        ensures unchanged { OnErr result (self.new ≡ self.old) }
+        ensures history { self.new.history ≡ self.old.history }
+        ensures fault { IfErr result (λ fault.
+            (fault ≡ DeskFault.Unsaved) ⊎ (fault ≡ DeskFault.Memory)) }
+    {
+        let rest = self.rest(store, saved)?;
+        if let Err(fault) = self.drop_steps() {
+            drop(rest);
+            return Err(fault);
+        }
+        Ok(rest)
+    }
+
+    // As `take_all` with `drops`, and else as `take_rest`.
+    pub fn take_steps<S: StepStore>(
         &mut self,
         store: &S,
         saved: u64,
@@ -253,25 +327,13 @@ impl<L: StoredLedger> RecordedSite<L> {
     ) -> Result<(S::Group, HistoryPrefix<L>), DeskFault>
         ensures rest { IfOk result (λ rest. IsGroupOfRest S.groups rest.0 rest.1 saved) }
         ensures legal { IfOk result (λ rest. IsLegalHistory L.base rest.1) }
-        ensures whole { IfOk result (λ rest. rest.1 ≡ self.old.history) }
-        ensures dropped { drops ≡ true
-            → OnOk result (HasDropped self.old.journal self.new.journal) }
-        ensures same { drops ≡ false → self.new ≡ self.old }
-        ensures unchanged { OnErr result (self.new ≡ self.old) }
-        ensures history { self.new.history ≡ self.old.history }
         ensures fault { IfErr result (λ fault.
             (fault ≡ DeskFault.Unsaved) ⊎ (fault ≡ DeskFault.Memory)) }
     {
-        let rest = self.rest(store, saved)?;
-        if !drops {
-            return Ok(rest);
+        if drops {
+            return self.take_all(store, saved);
         }
-        let RecordedSite { journal, .. } = self;
-        if journal.checkpoint().is_err() {
-            drop(rest);
-            return Err(DeskFault::Memory);
-        }
-        Ok(rest)
+        self.take_rest(store, saved)
     }
 
     // A copy of the site, to which its history leads, and the history. Faults, in order: 1 `Unsaved`, where a step isn't in the history;
@@ -291,7 +353,7 @@ impl<L: StoredLedger> RecordedSite<L> {
         }
     }
 
-    // As `take_rest` with a drop of the journal's steps, and with a copy of the site after the whole history.
+    // As `take_all`, and with a copy of the site after the whole history.
     pub fn take_base<S: StepStore>(
         &mut self,
         store: &S,
@@ -308,7 +370,7 @@ impl<L: StoredLedger> RecordedSite<L> {
     {
         let (copy, before) = self.copy()?;
         drop(before);
-        match self.take_rest(store, saved, true) {
+        match self.take_all(store, saved) {
             Ok((group, history)) => Ok((group, history, copy)),
             Err(fault) => {
                 drop(copy);

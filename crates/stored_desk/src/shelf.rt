@@ -4,7 +4,7 @@ ghost use Rattle.std.specs.Prelude.{length, true};
 use crate::done::Done;
 use crate::mark::{Mark, SharedClaim};
 use crate::vault::Vault;
-use crate::{CommitFault, Settled, StepStore, StoredLedger};
+use crate::{CommitFault, Growth, Settled, StepStore, StoredLedger};
 use std::marker::Model;
 
 // What all threads see while one of them commits: how many steps are saved, and the vault, unless a thread has it.
@@ -15,6 +15,8 @@ pub(crate) struct Shelf<S: StepStore, L: StoredLedger> {
     claim: SharedClaim<L>,
     // Why a commit has failed, if one has.
     fault: Option<CommitFault>,
+    // How much the store had stored since its base when it last came back.
+    since_base: Growth,
 }
 
 impl<S: StepStore, L: StoredLedger> Model for Shelf<S, L> {
@@ -37,11 +39,13 @@ impl<S: StepStore, L: StoredLedger> Shelf<S, L> {
         let mut vault = vault;
         let saved = vault.len();
         let claim = vault.claim(mark);
+        let since_base = vault.since_base();
         Shelf {
             vault: Some(vault),
             saved,
             claim,
             fault: None,
+            since_base,
         }
     }
 
@@ -55,6 +59,11 @@ impl<S: StepStore, L: StoredLedger> Shelf<S, L> {
     // Why a commit has failed, if one has.
     pub fn fault(&self) -> Option<CommitFault> {
         self.fault
+    }
+
+    // How much the store had stored since its base when it last came back.
+    pub fn since_base(&self) -> Growth {
+        self.since_base
     }
 
     // Whether a thread has nothing to wait for that needs as many steps saved.
@@ -80,6 +89,7 @@ impl<S: StepStore, L: StoredLedger> Shelf<S, L> {
         self.saved = vault.len();
         self.claim = vault.claim(mark);
         self.fault = vault.fault();
+        self.since_base = vault.since_base();
         self.vault = Some(vault);
     }
 

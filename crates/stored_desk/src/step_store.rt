@@ -1,4 +1,5 @@
 ghost use Rattle.std.specs.Prelude.{◌≡◌, ◌++◌, IfOk, List, OnOk};
+ghost use Rattle.replica.specs.Site.{SiteState};
 ghost use Rattle.site_journal.specs.Legal.{LeadAll};
 ghost use Rattle.site_journal.specs.declared.step.Step.{Step};
 
@@ -21,6 +22,15 @@ pub enum CommitFault {
     Other,
 }
 
+/// How much a store has stored since its base (this project's own).
+#[derive(Clone, Copy)]
+pub struct Growth {
+    /// How many rows.
+    pub rows: u64,
+    /// How many bytes these rows have.
+    pub bytes: u64,
+}
+
 /// Where the steps are stored that a site does after its desk was made, in their order (this project's own). An instance says by relations
 /// what it has, and what a crash leaves. It may keep a base in place of first steps: then the site to which they lead stands for them.
 pub trait StepStore: Drop {
@@ -31,8 +41,14 @@ pub trait StepStore: Drop {
     /// Steps that are made ready for a commit, in the form in which they are stored.
     type Group: Drop;
 
+    /// A site that is made ready to be a base, in the form in which it is stored.
+    type Base: Drop;
+
     /// The group has just these steps.
     ghost groups: { Self.Group → List Step → Type 0 };
+
+    /// The base is of a site in this state.
+    ghost bases: { Self.Base → SiteState → Type 0 };
 
     /// The store has just these steps, and can take more.
     ghost holds: { Self → List Step → Type 0 };
@@ -57,13 +73,21 @@ pub trait StepStore: Drop {
             → groups group more → keeps self.new list }
         ensures begun { begun self.new ≡ begun self.old };
 
+    /// Makes a base of a site. It is called while no lock is held. Fails only when out of memory.
+    fn base(&self, site: Replica) -> Result<Self::Base, Memory>
+        ensures { IfOk result (λ base. bases base site) };
+
     /// Puts a base in place of all its steps, in one commit: the site after them. The store still stands for the same steps. After an
     /// error no call follows.
-    fn replace_base(&mut self, site: Replica) -> Result<(), CommitFault>
-        ensures replaced { (list : List Step) → holds self.old list → keeps self.old list
-            → LeadAll (begun self.old) list site
+    fn replace_base(&mut self, base: Self::Base) -> Result<(), CommitFault>
+        ensures replaced { (list : List Step) → (site : SiteState) → holds self.old list
+            → keeps self.old list → bases base site → LeadAll (begun self.old) list site
             → OnOk result (holds self.new list × keeps self.new list) }
-        ensures kept { (list : List Step) → holds self.old list → keeps self.old list
-            → LeadAll (begun self.old) list site → keeps self.new list }
+        ensures kept { (list : List Step) → (site : SiteState) → holds self.old list
+            → keeps self.old list → bases base site → LeadAll (begun self.old) list site
+            → keeps self.new list }
         ensures begun { begun self.new ≡ begun self.old };
+
+    /// How much it has stored since its base. It takes no memory.
+    fn since_base(&self) -> Growth;
 }

@@ -5,20 +5,25 @@ ghost use Rattle.site_journal.specs.Journals.{HasFaultAlone, IsRefusedFor, Refus
 ghost use Rattle.site_journal.specs.Receipts.{IsOfCut, IsOfTake, IsOfWhole};
 ghost use Rattle.site_desk.specs.Deeds.{IsLegalReceipt, IsRefusedFrom};
 ghost use Rattle.site_desk.specs.Passes.{HasDone, IsRewound};
-ghost use Rattle.stored_desk.specs.Failing.{Fails, IsAnsweredAt};
+ghost use Rattle.stored_desk.specs.Failing.{Fails, FailsUnsaved, IsAnsweredAt};
 
 use crate::done::Done;
 use crate::mark::Mark;
 use crate::recorded_site::RecordedSite;
 use crate::shelf::Shelf;
 use crate::vault::Vault;
-use crate::{CommitFault, NewHistory, NewMark, SavedSteps, Settled, StepStore, StoredLedger};
+use crate::{
+    CommitFault, Growth, NewHistory, NewMark, SavedSteps, Settled, StepStore, StoredLedger,
+};
 use site_desk::{Pass, SiteDesk};
 use site_journal::{DecodeFault, DecodedFrame, DeskFault, Receipt, TakeFault};
 use status_report::Ask;
 use std::marker::Model;
 use std::sync::{Condvar, Mutex, Wait};
 use std::thread;
+
+// How many bytes the steps that aren't saved may keep beside themselves where a step is begun: 4 MiB.
+const MOST_UNSAVED_BYTES: u64 = 4 << 20;
 
 // How steps are saved: alone; with a drop of the journal's steps; with that, and with the site after them in their place.
 #[derive(Clone, Copy)]
@@ -29,9 +34,9 @@ enum Way {
 }
 
 /// A site with a store, which several threads call, each by a pass of its own. A step is done in memory, in the order of a lock; its
-/// receipt is answered once the step is durable. A thread that finds the store free commits all steps that aren't saved yet, and holds no
-/// lock meanwhile; all who wait for one of these steps then go on. After a failed commit the site does no more steps, and no receipt of a step
-/// that isn't saved is answered (this project's own).
+/// receipt is returned once the step is durable, but that of a take at once. A thread that finds the store free commits all steps that aren't
+/// saved yet, and holds no lock meanwhile; all who wait for one of these steps then go on. Calls that begin after a failed commit do no step
+/// (this project's own).
 #[derive(Drop)]
 pub struct StoredDesk<S: StepStore, L: StoredLedger> {
     site: Mutex<RecordedSite<L>>,
@@ -90,18 +95,20 @@ impl<S: StepStore, L: StoredLedger> StoredDesk<S, L> {
         })
     }
 
-    /// Why a commit of the store has failed, if one has. Then the site does no more steps.
+    /// Why a commit of the store has failed, if one has. Calls that begin later do no step.
     pub fn fault<R: Wait>(&self, rt: &R) -> Option<CommitFault> {
         self.shelf.lock(rt).fault()
     }
 
-    // `Unsaved`, where a commit of the store has failed.
-    fn refuse_after_failure<R: Wait>(&self, rt: &R) -> Result<(), DeskFault>
-        ensures { IfErr result (λ fault. fault ≡ DeskFault.Unsaved) }
+    // Saves all that the site has done, by the vault, in this way.
+    fn save_by<R: Wait>(&self, rt: &R, vault: &mut Vault<S, L>, way: Way) -> Result<(), DeskFault>
+        ensures { IfErr result (λ fault.
+            (fault ≡ DeskFault.Unsaved) ⊎ (fault ≡ DeskFault.Memory)) }
     {
-        match self.fault(rt) {
-            Some(_) => Err(DeskFault::Unsaved),
-            None => Ok(()),
+        match way {
+            Way::Steps => vault.save_rest(rt, &self.mark, &self.site, false),
+            Way::Dropped => vault.save_rest(rt, &self.mark, &self.site, true),
+            Way::Base => vault.save_base(rt, &self.mark, &self.site),
         }
     }
 
@@ -122,14 +129,25 @@ impl<S: StepStore, L: StoredLedger> StoredDesk<S, L> {
         let Some(mut vault) = vault else {
             return Err(DeskFault::Unsaved);
         };
-        let saved = match way {
-            Way::Steps => vault.save_rest(rt, &self.mark, &self.site, false),
-            Way::Dropped => vault.save_rest(rt, &self.mark, &self.site, true),
-            Way::Base => vault.save_base(rt, &self.mark, &self.site),
-        };
+        let saved = self.save_by(rt, &mut vault, way);
         self.shelf.lock(rt).put(vault, &self.mark);
         self.returned.notify_all();
         saved
+    }
+
+    // Makes ready for a step: where the unsaved steps keep more than 4 MiB beside themselves, it saves all that the site has done, so that
+    // no commit needs much more memory than that. Faults, in order: 1 `Unsaved`, where a commit has failed before; 2 those of the commit.
+    fn make_ready<R: Wait>(&self, rt: &R) -> Result<(), DeskFault>
+        ensures { IfErr result (λ fault.
+            (fault ≡ DeskFault.Unsaved) ⊎ (fault ≡ DeskFault.Memory)) }
+    {
+        if self.fault(rt).is_some() {
+            return Err(DeskFault::Unsaved);
+        }
+        if self.site.lock(rt).untaken_bytes() <= MOST_UNSAVED_BYTES {
+            return Ok(());
+        }
+        self.settle_all(rt)
     }
 
     // The settled receipt of a step that is saved. The fault is `Unsaved`.
@@ -185,12 +203,14 @@ impl<S: StepStore, L: StoredLedger> StoredDesk<S, L> {
         self.settled(rt, done)
     }
 
-    /// Asks the site, and answers the receipt of the step once it is durable; so too the receipt of a refusal or a report, which may show
-    /// steps that were not durable when it was made. It waits for the lock, and for the store.
+    /// Asks the site, and returns the receipt of the step once it is durable; so too the receipt of a refusal or a report, which may show
+    /// steps that were not durable when it was made. It waits for the lock, and for the store. Where the unsaved steps keep more than 4 MiB
+    /// beside themselves, it saves them before its own step.
     ///
-    /// Errors: `Rewound`, where the journal is shorter than the pass has seen; `JournalFull`, where no step may be added; `Memory`;
-    /// `Unsaved`, where the store has failed. After the last two the step may have been done: then the pass has counted it
-    /// (`Pass::seen`), and after `Memory` a later call saves it.
+    /// Errors, in order: 1 `Unsaved`, where a commit has failed before; 2 `Memory` or `Unsaved`, where it can't save steps before its own;
+    /// 3 `Rewound`, where the journal is shorter than the pass has seen; 4 `JournalFull`, where no step may be added; 5 `Memory`;
+    /// 6 `Memory` or `Unsaved`, where it can't save its own step. After the last the step was done, and the pass has counted it
+    /// (`Pass::seen`); after its `Memory` a later call saves it.
     pub fn call<R: Wait>(
         &self,
         rt: &R,
@@ -205,52 +225,87 @@ impl<S: StepStore, L: StoredLedger> StoredDesk<S, L> {
             ⊎ ((fault ≡ DeskFault.JournalFull)
             ⊎ ((fault ≡ DeskFault.Memory) ⊎ (fault ≡ DeskFault.Unsaved)))) }
     {
-        self.refuse_after_failure(rt)?;
+        self.make_ready(rt)?;
         let copy = asked.copy();
         let done = self.site.lock(rt).call(pass, asked, copy)?;
         self.settle(rt, done)
     }
 
-    /// Puts the site's buffer into its next frame, if there is something in it, and answers the receipt once the step is durable. A commit
-    /// for which memory is wanting is tried again, so that no frame is lost.
+    /// Puts the site's buffer into its next frame, if there is something in it, and returns the receipt once the step is durable. A commit
+    /// of that step that runs out of memory is tried again, so that no frame is lost.
     ///
-    /// Errors: `Rewound`, `JournalFull`, `Memory`, as of a call; `Exhausted`, where the site has made 2^40 frames; `Unsaved`, where the
-    /// store has failed. After `Unsaved` alone the step may have been done.
+    /// Errors, in order: 1 to 4 as of a call; 5 `Exhausted`, where the buffer isn't empty and the site has made 2^40 frames; 6 `Memory`;
+    /// 7 `Unsaved`, where the commit of its step fails. After the last alone the step was done, and the pass has counted it.
     pub fn cut<R: Wait>(&self, rt: &R, pass: &mut Pass<L>) -> Result<Settled<L>, DeskFault>
         ensures done { IfOk result (λ settled. HasDone pass.old settled pass.new) }
         ensures cut { IfOk result (λ settled. IsOfCut settled) }
         ensures legal { IfOk result (λ settled. IsLegalReceipt L.base settled) }
-        ensures fails { IfErr result (λ fault. Fails L.base pass.old fault pass.new) }
+        ensures fails { IfErr result (λ fault. FailsUnsaved L.base pass.old fault pass.new) }
         ensures only { IfErr result (λ fault. IsRewound pass.old fault
             ⊎ ((fault ≡ DeskFault.JournalFull) ⊎ ((fault ≡ DeskFault.Exhausted)
             ⊎ ((fault ≡ DeskFault.Memory) ⊎ (fault ≡ DeskFault.Unsaved))))) }
     {
-        self.refuse_after_failure(rt)?;
+        self.make_ready(rt)?;
         let done = self.site.lock(rt).cut(pass)?;
         self.settle_frame(rt, done)
     }
 
-    /// Puts all that the site knows into its next frame, and answers the receipt once the step is durable. Errors as of a cut.
+    /// Puts all that the site knows into its next frame, and returns the receipt once the step is durable. Errors as of a cut, but
+    /// `Exhausted` wherever the site has made 2^40 frames.
     pub fn whole<R: Wait>(&self, rt: &R, pass: &mut Pass<L>) -> Result<Settled<L>, DeskFault>
         ensures done { IfOk result (λ settled. HasDone pass.old settled pass.new) }
         ensures whole { IfOk result (λ settled. IsOfWhole settled) }
         ensures legal { IfOk result (λ settled. IsLegalReceipt L.base settled) }
-        ensures fails { IfErr result (λ fault. Fails L.base pass.old fault pass.new) }
+        ensures fails { IfErr result (λ fault. FailsUnsaved L.base pass.old fault pass.new) }
         ensures only { IfErr result (λ fault. IsRewound pass.old fault
             ⊎ ((fault ≡ DeskFault.JournalFull) ⊎ ((fault ≡ DeskFault.Exhausted)
             ⊎ ((fault ≡ DeskFault.Memory) ⊎ (fault ≡ DeskFault.Unsaved))))) }
     {
-        self.refuse_after_failure(rt)?;
+        self.make_ready(rt)?;
         let done = self.site.lock(rt).whole(pass)?;
         self.settle_frame(rt, done)
     }
 
+    // Decodes the frame that bytes spell, for a take by this pass, and makes ready for a step. The bytes come back where it fails.
+    fn decode_ready<R: Wait>(
+        &self,
+        rt: &R,
+        pass: &Pass<L>,
+        bytes: Vec<u8>,
+    ) -> Result<DecodedFrame, (DeskFault, Vec<u8>)>
+        ensures value { IfOk result (λ decoded. decoded ≡ bytes.items) }
+        ensures decode { (fault : DecodeFault) → IsRefusedFor result (DeskFault.Decode fault)
+            → HasFaultAlone bytes.items fault }
+        ensures no_take { (fault : TakeFault)
+            → IsRefusedFor result (DeskFault.Take fault) → ⊥ }
+        ensures memory { IsRefusedFor result DeskFault.Memory → HasOpening bytes.items }
+        ensures only { IfErr result (λ refused. IsRewound pass.now refused.0
+            ⊎ (RefusesTake refused.0 ⊎ (refused.0 ≡ DeskFault.Unsaved))) }
+        ensures back { IfErr result (λ refused. refused.1.items ≡ bytes.items) }
+    {
+        if self.fault(rt).is_some() {
+            return Err((DeskFault::Unsaved, bytes));
+        }
+        let alloc = *bytes.allocator();
+        let decoded = match DecodedFrame::decode(alloc, bytes) {
+            Ok(decoded) => decoded,
+            Err((fault, bytes)) => return Err((self.site.lock(rt).first_fault(pass, fault), bytes)),
+        };
+        match self.make_ready(rt) {
+            Ok(()) => Ok(decoded),
+            Err(fault) => Err((fault, decoded.into_bytes())),
+        }
+    }
+
     /// Lets the site take the frame that bytes spell; they come back where it doesn't. The step is saved with a later one, or by
-    /// `settle_all`, and nobody waits for that: a receipt of a take says nothing that its caller didn't hand in.
+    /// `settle_all`, and nobody waits for that: a receipt of a take says nothing that its caller didn't hand in. Where the unsaved steps keep
+    /// more than 4 MiB beside themselves, it saves them before its own step.
     ///
-    /// Errors, in order: 1 `Unsaved`, where the store has failed; 2 `Rewound`, 3 `JournalFull`, as of a call; 4 `Decode`, with the fault of
-    /// the bytes, or `BadRange` where more follows their frame; 5 `Take`, with the fault for which the site refuses the frame; 6
-    /// `Memory`, but never in place of a `Decode` that comes up to the heading's end.
+    /// Errors, in order: 1 `Unsaved`, where a commit has failed before; 2 where the bytes can't be decoded, `Rewound` and `JournalFull`, as
+    /// of a call, and then `Decode`, with the fault of the bytes, or `BadRange` where more follows their frame; 3 `Memory` or `Unsaved`, where
+    /// it can't save steps before its own; 4 `Rewound`; 5 `JournalFull`; 6 `Take`, with the fault for which the site refuses the frame.
+    /// `Memory` may also stand in place of a `Take`, and of a `Decode`, but never of one that comes up to the heading's end. After `Unsaved`
+    /// alone the step may have been done.
     pub fn take<R: Wait>(
         &self,
         rt: &R,
@@ -265,18 +320,14 @@ impl<S: StepStore, L: StoredLedger> StoredDesk<S, L> {
         ensures refused { (fault : TakeFault) → IsRefusedFor result (DeskFault.Take fault)
             → IsRefusedFrom L.base pass.old.seen bytes.items fault }
         ensures memory { IsRefusedFor result DeskFault.Memory → HasOpening bytes.items }
-        ensures fails { IfErr result (λ refused. Fails L.base pass.old refused.0 pass.new) }
+        ensures fails { IfErr result (λ refused. FailsUnsaved L.base pass.old refused.0 pass.new) }
         ensures only { IfErr result (λ refused. IsRewound pass.old refused.0
             ⊎ (RefusesTake refused.0 ⊎ (refused.0 ≡ DeskFault.Unsaved))) }
         ensures back { IfErr result (λ refused. refused.1.items ≡ bytes.items) }
     {
-        if self.refuse_after_failure(rt).is_err() {
-            return Err((DeskFault::Unsaved, bytes));
-        }
-        let alloc = *bytes.allocator();
-        let decoded = match DecodedFrame::decode(alloc, bytes) {
+        let decoded = match self.decode_ready(rt, pass, bytes) {
             Ok(decoded) => decoded,
-            Err((fault, bytes)) => return Err((self.site.lock(rt).first_fault(pass, fault), bytes)),
+            Err(refused) => return Err(refused),
         };
         let taken = self.site.lock(rt).take(pass, decoded);
         match taken {
@@ -288,8 +339,8 @@ impl<S: StepStore, L: StoredLedger> StoredDesk<S, L> {
         }
     }
 
-    /// Saves all that the site has done so far. Errors, in order: 1 `Unsaved`, where the store has failed; 2 `Memory`, and a later call
-    /// saves them.
+    /// Saves all that the site has done so far. Errors, in order: 1 `Unsaved`, where the store has failed and a step isn't saved; 2 `Memory`,
+    /// and a later call saves them.
     pub fn settle_all<R: Wait>(&self, rt: &R) -> Result<(), DeskFault>
         ensures { IfErr result (λ fault.
             (fault ≡ DeskFault.Unsaved) ⊎ (fault ≡ DeskFault.Memory)) }
@@ -298,8 +349,8 @@ impl<S: StepStore, L: StoredLedger> StoredDesk<S, L> {
         self.save_first(rt, wanted, Way::Steps)
     }
 
-    /// Saves all that the site has done so far, and drops the steps of the journal; positions go on. Errors as of `settle_all`; after
-    /// `Memory` no step is dropped.
+    /// Saves all that the site has done so far, and drops the steps of the journal; positions go on. Errors, in order: 1 `Unsaved`, where
+    /// the store has failed; 2 `Memory`, and no step is dropped.
     pub fn checkpoint<R: Wait>(&self, rt: &R) -> Result<(), DeskFault>
         ensures { IfErr result (λ fault.
             (fault ≡ DeskFault.Unsaved) ⊎ (fault ≡ DeskFault.Memory)) }
@@ -308,8 +359,11 @@ impl<S: StepStore, L: StoredLedger> StoredDesk<S, L> {
     }
 
     /// Saves all that the site has done so far, drops the steps of the journal, and puts the site after them in their place in the store.
-    /// The copy of the site is made under its lock, and both commits while no lock is held; a call that has a step to save waits for both.
-    /// Errors as of `checkpoint`.
+    /// The site is copied under its lock. The base is made of that copy, and both commits are done, while no lock is held; a call that has a
+    /// step to save waits for both.
+    ///
+    /// Errors, in order: 1 `Unsaved` and `Memory`, as of `checkpoint`; 2 `Memory`, where there is none for the base: the steps are saved and
+    /// dropped, the store keeps the base that it had, and later calls go on; 3 `Unsaved`, where the commit of the base fails.
     pub fn replace_base<R: Wait>(&self, rt: &R) -> Result<(), DeskFault>
         ensures { IfErr result (λ fault.
             (fault ≡ DeskFault.Unsaved) ⊎ (fault ≡ DeskFault.Memory)) }
@@ -327,6 +381,20 @@ impl<S: StepStore, L: StoredLedger> StoredDesk<S, L> {
             return Ok(false);
         }
         self.checkpoint(rt)?;
+        Ok(true)
+    }
+
+    /// Does as `replace_base` where the store had stored more rows than `most.rows` or more bytes than `most.bytes` since its base, when
+    /// it last came back from a commit. Returns whether it did.
+    pub fn replace_base_above<R: Wait>(&self, rt: &R, most: Growth) -> Result<bool, DeskFault>
+        ensures { IfErr result (λ fault.
+            (fault ≡ DeskFault.Unsaved) ⊎ (fault ≡ DeskFault.Memory)) }
+    {
+        let stored = self.shelf.lock(rt).since_base();
+        if stored.rows <= most.rows && stored.bytes <= most.bytes {
+            return Ok(false);
+        }
+        self.replace_base(rt)?;
         Ok(true)
     }
 

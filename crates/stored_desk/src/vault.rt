@@ -10,7 +10,7 @@ ghost use Rattle.stored_desk.specs.Recorded.{IsGroupOfRest, IsLegalHistory};
 use crate::history::HistoryPrefix;
 use crate::mark::{Keeper, Mark, SharedClaim};
 use crate::recorded_site::RecordedSite;
-use crate::{CommitFault, Settled, StepStore, StoredLedger};
+use crate::{CommitFault, Growth, Settled, StepStore, StoredLedger};
 use replica::Replica;
 use site_journal::{DeskFault, Receipt};
 use std::marker::Model;
@@ -86,6 +86,11 @@ impl<S: StepStore, L: StoredLedger> Vault<S, L> {
         self.fault
     }
 
+    // How much its store has stored since its base.
+    pub fn since_base(&self) -> Growth {
+        self.store.since_base()
+    }
+
     // A claim of all that it has saved.
     pub fn claim(&mut self, mark: &Mark<L>) -> SharedClaim<L>
         ensures claim { result ≡ length self.old.list }
@@ -130,7 +135,7 @@ impl<S: StepStore, L: StoredLedger> Vault<S, L> {
     }
 
     // Saves all steps that the site has done, in one commit; with `drops` the site's journal drops its steps too. Faults, in order: 1
-    // `Unsaved`, where the vault is broken; 2 `Unsaved` and `Memory`, as of `RecordedSite::take_rest`; 3 `Unsaved`, where the commit fails, and
+    // `Unsaved`, where the vault is broken; 2 `Unsaved` and `Memory`, as of `RecordedSite::take_steps`; 3 `Unsaved`, where the commit fails, and
     // the vault is then broken.
     pub fn save_rest<R: Wait>(
         &mut self,
@@ -152,24 +157,30 @@ impl<S: StepStore, L: StoredLedger> Vault<S, L> {
             return Err(DeskFault::Unsaved);
         }
         let saved = self.prefix.len();
-        let taken = site.lock(rt).take_rest(&self.store, saved, drops);
+        let taken = site.lock(rt).take_steps(&self.store, saved, drops);
         match taken {
             Ok((group, history)) => self.save(rt, mark, group, history),
             Err(fault) => Err(fault),
         }
     }
 
-    // Puts the site after all saved steps, `site`, in place of them. The fault is `Unsaved`, and the vault is then broken.
+    // Makes a base of the site after all saved steps, `site`, and puts it in place of them. Faults, in order: 1 `Memory`, which changes
+    // nothing; 2 `Unsaved`, and the vault is then broken.
     fn put_base(&mut self, site: Replica) -> Result<(), DeskFault>
         requires well { self.old.broken ≡ false }
         requires lead { LeadAll L.base self.old.list site }
         ensures keeps { S.keeps self.new.store self.new.list }
         ensures list { self.new.list ≡ self.old.list }
-        ensures broken { OnErr result (self.new.broken ≡ true) }
-        ensures fault { IfErr result (λ fault. fault ≡ DeskFault.Unsaved) }
+        ensures memory { result ≡ Err DeskFault.Memory → self.new ≡ self.old }
+        ensures broken { result ≡ Err DeskFault.Unsaved → self.new.broken ≡ true }
+        ensures fault { IfErr result (λ fault.
+            (fault ≡ DeskFault.Memory) ⊎ (fault ≡ DeskFault.Unsaved)) }
     {
+        let Ok(base) = self.store.base(site) else {
+            return Err(DeskFault::Memory);
+        };
         self.is_broken = true;
-        match self.store.replace_base(site) {
+        match self.store.replace_base(base) {
             Ok(()) => {
                 self.is_broken = false;
                 Ok(())
@@ -181,8 +192,8 @@ impl<S: StepStore, L: StoredLedger> Vault<S, L> {
         }
     }
 
-    // Saves all steps that the site has done, drops them of its journal, and puts the site after them in their place in the store.
-    // Faults as of `save_rest`, and `Unsaved`, where the second commit fails.
+    // Saves all steps that the site has done, drops them of its journal, and puts the site after them in their place in the store. Faults, in
+    // order: 1 those of `save_rest`; 2 those of `put_base`: after `Memory` the steps are saved, and the base is as before.
     pub fn save_base<R: Wait>(
         &mut self,
         rt: &R,
@@ -192,6 +203,7 @@ impl<S: StepStore, L: StoredLedger> Vault<S, L> {
         ensures keeps { S.keeps self.new.store self.new.list }
         ensures grows { IsPrefix self.old.list self.new.list }
         ensures none { self.old.broken ≡ true → OnOk result ⊥ }
+        ensures memory { result ≡ Err DeskFault.Memory → self.new.broken ≡ false }
         ensures fault { IfErr result (λ fault.
             (fault ≡ DeskFault.Unsaved) ⊎ (fault ≡ DeskFault.Memory)) }
     {
@@ -225,7 +237,7 @@ impl<S: StepStore, L: StoredLedger> Vault<S, L> {
             prefix,
             claim,
         } = settled;
-        mark.confirm(rt, &mut self.keeper, claim);
+        mark.confirm(rt, &mut self.keeper, claim, self.prefix.len());
         prefix.compare(&self.prefix);
         drop(prefix);
         receipt

@@ -97,8 +97,8 @@ impl<'a, S: StepStore, L: StoredLedger, R: Wait> Desk<R> for StoredPassDesk<'a, 
     /// The site's answer, once it is durable. Where the site's journal is full, the journal's steps are dropped, and the site is asked
     /// once more.
     ///
-    /// `DeskDown`: a commit of the store has failed; or memory was wanting, for the answer, its commit or the drop; or the journal was full
-    /// again, or is shorter than the pass has seen. The ask may have been done, and nothing shows it to the client.
+    /// `DeskDown`: a commit of the store has failed; or the desk is out of memory, for the answer, its commit or the drop; or the journal was
+    /// full again, or is shorter than the pass has seen. The ask may have been done, and nothing shows it to the client.
     fn ask(&mut self, rt: &R, asked: Ask) -> Result<Answer, DeskDown> {
         let answered = answer_with_room(rt, self.desk, &mut self.pass, &asked);
         drop(asked);

@@ -3,14 +3,14 @@ use crate::asks::{add, status};
 use crate::memory_store::MemoryStore;
 use serve::Desk as SessionDesk;
 use site_desk::Pass;
-use site_journal::{DeskFault, Port, StepDeed};
-use status_report::Answer;
+use site_journal::{DeskFault, Port, Receipt, StepDeed};
+use status_report::{Answer, Ask};
 use std::alloc::Global;
 use std::process::Abort;
 use std::sync::Wait;
 use std::thread;
 use std::thread::Threads;
-use stored_desk::{SavedSteps, Settled, StoredDesk, StoredLedger, StoredPort};
+use stored_desk::{CommitFault, Growth, SavedSteps, Settled, StoredDesk, StoredLedger, StoredPort};
 use stored_pass_desk::StoredPassDesk;
 
 type Desk<L> = StoredDesk<MemoryStore, L>;
@@ -34,6 +34,30 @@ fn saved<L: StoredLedger>(rt: &impl Abort, desk: Desk<L>) -> SavedSteps<MemorySt
     saved.expect(rt, "saved steps")
 }
 
+// Asserts how many steps a desk has saved, and how many commits its store had left.
+fn assert_steps<L: StoredLedger>(
+    rt: &impl Abort,
+    saved: SavedSteps<MemoryStore, L>,
+    steps: usize,
+    commits_left: u32,
+) {
+    let store = saved.into_store();
+    assert!(rt; store.steps.len() == steps && store.commits_left == commits_left);
+    drop(store);
+}
+
+// At which position a settled receipt is found among the steps that a desk has saved.
+fn position_in<L: StoredLedger, R: Abort + Wait>(
+    rt: &R,
+    saved: &mut SavedSteps<MemoryStore, L>,
+    settled: Settled<L>,
+) -> u64 {
+    let receipt = saved.find(rt, settled);
+    let position = receipt.position;
+    drop(receipt);
+    position
+}
+
 // Finds a settled receipt among the steps that a desk has saved, at this position, and asserts how many steps and commits there were.
 fn assert_saved<L: StoredLedger, R: Abort + Wait>(
     rt: &R,
@@ -44,15 +68,21 @@ fn assert_saved<L: StoredLedger, R: Abort + Wait>(
     commits_left: u32,
 ) {
     let mut saved = saved(rt, desk);
-    let receipt = saved.find(rt, settled);
-    assert!(rt; receipt.position == position);
-    drop(receipt);
-    let store = saved.into_store();
-    assert!(rt; store.steps.len() == steps && store.commits_left == commits_left);
-    drop(store);
+    assert!(rt; position_in(rt, &mut saved, settled) == position);
+    assert_steps(rt, saved, steps, commits_left);
 }
 
-// The store of this desk takes one commit, and no other.
+// Why a desk gives no receipt of an ask.
+fn fault_of<L: StoredLedger, R: Abort + Wait>(
+    rt: &R,
+    desk: &Desk<L>,
+    pass: &mut Pass<L>,
+    ask: &Ask,
+) -> Option<DeskFault> {
+    desk.call(rt, pass, ask).err()
+}
+
+// The store of this desk takes one commit, and no other. The step of the next ask is done, but not saved; that of a later ask isn't done.
 pub(crate) fn assert_stops<L: StoredLedger, R: Abort + Wait>(
     rt: &R,
     alloc: Global,
@@ -62,9 +92,11 @@ pub(crate) fn assert_stops<L: StoredLedger, R: Abort + Wait>(
     let first = added(rt, &desk, pass);
     let ask = status(alloc);
     for _ in 0..2 {
-        assert!(rt; desk.call(rt, pass, &ask).err() == Some(DeskFault::Unsaved));
+        assert!(rt; fault_of(rt, &desk, pass, &ask) == Some(DeskFault::Unsaved));
+        assert!(rt; pass.seen() == 2);
     }
     drop(ask);
+    assert!(rt; desk.fault(rt) == Some(CommitFault::Full));
     assert_saved(rt, desk, first, 0, 1, 0);
 }
 
@@ -82,61 +114,114 @@ pub(crate) fn assert_groups<L: StoredLedger + Send + Sync, R: Abort + Threads + 
         move || added(rt, lent, second),
     );
     let mut saved = saved(rt, desk);
-    let one = saved.find(rt, one);
-    let other = saved.find(rt, other);
-    assert!(rt; one.position < 2 && other.position < 2 && one.position != other.position);
-    drop(one);
-    drop(other);
+    let one = position_in(rt, &mut saved, one);
+    let other = position_in(rt, &mut saved, other);
     drop(saved);
+    assert!(rt; one < 2 && other < 2 && one != other);
 }
 
-// The bytes of a frame of all that a site knows.
-fn whole_of<L: StoredLedger, R: Abort + Wait>(
-    rt: &R,
-    desk: &Desk<L>,
-    pass: &mut Pass<L>,
-) -> Vec<u8> {
-    let settled = desk.whole(rt, pass).ok().expect(rt, "a receipt");
-    match settled.into_receipt().deed {
+// The bytes of the frame of a receipt.
+fn frame_of(rt: &impl Abort, receipt: Receipt) -> Vec<u8> {
+    match receipt.deed {
         StepDeed::Whole(bytes) => bytes.into_vec(),
         _ => rt.panic("no frame"),
     }
 }
 
-// A site puts all that it knows into a frame, and takes it. The take is saved with a later commit, and then the site as the store's base.
+// A site puts all that it knows into a frame, and takes it.
+fn take_whole<L: StoredLedger, R: Abort + Wait>(rt: &R, desk: &Desk<L>, pass: &mut Pass<L>) {
+    let whole = desk.whole(rt, pass).ok().expect(rt, "a receipt");
+    let bytes = frame_of(rt, whole.into_receipt());
+    let taken = desk.take(rt, pass, bytes).ok();
+    drop(taken.expect(rt, "a receipt"));
+}
+
+// Steps are saved, and dropped of the journal once, and of the store once.
+fn assert_drops<L: StoredLedger, R: Abort + Wait>(rt: &R, desk: &Desk<L>) {
+    let most = Growth { rows: 1, bytes: 0 };
+    assert!(rt; desk.settle_all(rt).is_ok());
+    assert!(rt; desk.checkpoint_above(rt, 0) == Ok(true));
+    assert!(rt; desk.checkpoint_above(rt, 0) == Ok(false));
+    assert!(rt; desk.replace_base_above(rt, most) == Ok(true));
+    assert!(rt; desk.replace_base_above(rt, most) == Ok(false));
+}
+
+// A take is saved with a later commit, and then the site as the store's base.
 pub(crate) fn assert_saves<L: StoredLedger, R: Abort + Wait>(
     rt: &R,
     desk: Desk<L>,
     pass: &mut Pass<L>,
 ) {
-    let bytes = whole_of(rt, &desk, pass);
-    let taken = desk.take(rt, pass, bytes).ok();
-    drop(taken.expect(rt, "a receipt"));
-    assert!(rt; desk.settle_all(rt).is_ok());
-    assert!(rt; desk.checkpoint(rt).is_ok());
-    assert!(rt; desk.replace_base(rt).is_ok());
-    assert!(rt; desk.checkpoint_above(rt, 0) == Ok(false));
+    take_whole(rt, &desk, pass);
+    assert_drops(rt, &desk);
     let cut = desk.cut(rt, pass).ok().expect(rt, "a receipt");
     assert_saved(rt, desk, cut, 2, 3, 0);
 }
 
-// A port whose frame is saved, and a session's desk whose answer is.
-pub(crate) fn assert_answers<L: StoredLedger, R: Abort + Wait>(
+// The store of this desk has no memory for a base. Steps are saved as before.
+pub(crate) fn assert_goes_on<L: StoredLedger, R: Abort + Wait>(
     rt: &R,
     desk: Desk<L>,
-    first: &mut Pass<L>,
-    second: Pass<L>,
+    pass: &mut Pass<L>,
 ) {
-    let mut port = StoredPort::new(&desk, first);
+    assert!(rt; desk.replace_base(rt) == Err(DeskFault::Memory));
+    assert!(rt; desk.fault(rt).is_none());
+    let first = added(rt, &desk, pass);
+    assert_saved(rt, desk, first, 0, 1, 0);
+}
+
+// A port takes its own frame of all that its site knows.
+fn assert_takes<L: StoredLedger, R: Abort + Wait>(
+    rt: &R,
+    port: &mut StoredPort<'_, MemoryStore, L>,
+) {
     let whole = port.whole(rt).ok().expect(rt, "a receipt");
+    let taken = port.take(rt, frame_of(rt, whole)).ok();
+    drop(taken.expect(rt, "a receipt"));
+}
+
+// A port whose site has no change cuts no frame.
+fn assert_cuts<L: StoredLedger, R: Abort + Wait>(
+    rt: &R,
+    port: &mut StoredPort<'_, MemoryStore, L>,
+) {
+    let cut = port.cut(rt).ok().expect(rt, "a receipt");
+    assert!(rt; matches!(cut.deed, StepDeed::Cut(None)));
+    drop(cut);
+}
+
+// The steps of a port are saved, and a take with the next of its frames.
+pub(crate) fn assert_port<L: StoredLedger, R: Abort + Wait>(
+    rt: &R,
+    desk: Desk<L>,
+    pass: &mut Pass<L>,
+) {
+    let mut port = StoredPort::new(&desk, pass);
+    assert_takes(rt, &mut port);
+    assert_cuts(rt, &mut port);
     drop(port);
-    drop(whole);
-    let mut sessions = StoredPassDesk::new(&desk, second);
-    assert!(rt; matches!(sessions.ask(rt, add(rt, b"SIP/2")), Ok(Answer::Done)));
-    let second = sessions.into_pass();
-    assert!(rt; second.seen() == 2);
-    drop(second);
-    let store = saved(rt, desk).into_store();
-    assert!(rt; store.steps.len() == 2);
-    drop(store);
+    assert_steps(rt, saved(rt, desk), 3, 0);
+}
+
+// An add of a session is done.
+fn assert_adds<L: StoredLedger, R: Abort + Wait>(
+    rt: &R,
+    sessions: &mut StoredPassDesk<'_, MemoryStore, L>,
+    interface: &[u8],
+) {
+    let answered = sessions.ask(rt, add(rt, interface));
+    assert!(rt; matches!(answered, Ok(Answer::Done)));
+    drop(answered);
+}
+
+// The journal of this desk's site is full after each step. A session's adds are all done.
+pub(crate) fn assert_fills<L: StoredLedger, R: Abort + Wait>(rt: &R, desk: Desk<L>, pass: Pass<L>) {
+    let mut sessions = StoredPassDesk::new(&desk, pass);
+    assert_adds(rt, &mut sessions, b"SIP/1");
+    assert_adds(rt, &mut sessions, b"SIP/2");
+    assert_adds(rt, &mut sessions, b"SIP/3");
+    let pass = sessions.into_pass();
+    assert!(rt; pass.seen() == 3);
+    drop(pass);
+    assert_steps(rt, saved(rt, desk), 3, 0);
 }

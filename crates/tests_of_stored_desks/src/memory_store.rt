@@ -5,7 +5,7 @@ use dots::Memory;
 use replica::Replica;
 use site_journal::Step;
 use std::alloc::Global;
-use stored_desk::{CommitFault, StepStore};
+use stored_desk::{CommitFault, Growth, StepStore};
 
 // A store in memory, which fails after a number of commits.
 #[derive(Drop)]
@@ -14,11 +14,15 @@ pub(crate) struct MemoryStore {
     pub base: Replica,
     pub steps: Vec<Step>,
     pub commits_left: u32,
+    // Whether it has memory for a base.
+    takes_base: bool,
+    // How many of its steps stood before its base.
+    before_base: usize,
 }
 
 impl MemoryStore {
     // A store without a step, of a site that begins in this state.
-    pub fn new(alloc: Global, base: Replica, commits_left: u32) -> MemoryStore
+    pub fn new(alloc: Global, base: Replica, commits_left: u32, takes_base: bool) -> MemoryStore
         ensures base { result.base ≡ base }
         ensures steps { result.steps.items ≡ [] }
     {
@@ -27,6 +31,8 @@ impl MemoryStore {
             base,
             steps: Vec::new(alloc),
             commits_left,
+            takes_base,
+            before_base: 0,
         }
     }
 }
@@ -59,7 +65,11 @@ impl StepStore for MemoryStore {
 
     type Group = Vec<Step>;
 
+    type Base = Replica;
+
     ghost groups = { λ group steps. group.items ≡ steps };
+
+    ghost bases = { λ base site. base ≡ site };
 
     ghost holds = { λ store list. store.steps.items ≡ list };
 
@@ -84,13 +94,30 @@ impl StepStore for MemoryStore {
         Ok(())
     }
 
+    fn base(&self, site: Replica) -> Result<Replica, Memory> {
+        if !self.takes_base {
+            drop(site);
+            return Err(Memory);
+        }
+        Ok(site)
+    }
+
     // It keeps the steps too.
-    fn replace_base(&mut self, site: Replica) -> Result<(), CommitFault> {
-        drop(site);
+    fn replace_base(&mut self, base: Replica) -> Result<(), CommitFault> {
+        drop(base);
         if self.commits_left == 0 {
             return Err(CommitFault::Full);
         }
         self.commits_left -= 1;
+        self.before_base = self.steps.len();
         Ok(())
+    }
+
+    // It counts no bytes.
+    fn since_base(&self) -> Growth {
+        Growth {
+            rows: self.steps.len().saturating_sub(self.before_base) as u64,
+            bytes: 0,
+        }
     }
 }

@@ -3,9 +3,11 @@ ghost use Rattle.std.specs.Prelude.{◌≡◌};
 ghost use Rattle.site_journal.specs.Journals.{IsOfSite};
 
 use crate::asks::{base_of, journal_of};
-use crate::desks::{assert_answers, assert_groups, assert_saves, assert_stops};
+use crate::desks::{
+    assert_fills, assert_goes_on, assert_groups, assert_port, assert_saves, assert_stops,
+};
 use crate::memory_store::MemoryStore;
-use site_desk::SiteDesk;
+use site_desk::{Pass, SiteDesk};
 use site_journal::Journaled;
 use std::alloc::Global;
 use std::marker::Brand;
@@ -22,7 +24,56 @@ enum Trial {
     Stops,
     Groups,
     Saves,
-    Answers,
+    GoesOn,
+    Port,
+    Fills,
+}
+
+impl Trial {
+    // How many commits it needs.
+    fn commits(self) -> u32 {
+        match self {
+            Trial::Stops => 1,
+            Trial::Groups | Trial::GoesOn | Trial::Port => 2,
+            Trial::Saves => 6,
+            Trial::Fills => 5,
+        }
+    }
+
+    // How many steps may stand in its journal.
+    fn limit(self) -> u32 {
+        match self {
+            Trial::Fills => 1,
+            _ => 10,
+        }
+    }
+}
+
+// Asserts what is tried of a desk and its two passes.
+fn assert_trial<L: StoredLedger + Send + Sync, R: Abort + Threads + Wait + Sync>(
+    rt: &R,
+    alloc: Global,
+    desk: StoredDesk<MemoryStore, L>,
+    first: Pass<L>,
+    second: Pass<L>,
+    trial: Trial,
+) {
+    let mut first = first;
+    let mut second = second;
+    match trial {
+        Trial::Fills => {
+            drop(second);
+            assert_fills(rt, desk, first);
+            return;
+        }
+        Trial::Stops => assert_stops(rt, alloc, desk, &mut first),
+        Trial::Groups => assert_groups(rt, desk, &mut first, &mut second),
+        Trial::Saves => assert_saves(rt, desk, &mut first),
+        Trial::GoesOn => assert_goes_on(rt, desk, &mut first),
+        Trial::Port => assert_port(rt, desk, &mut first),
+    }
+    drop(first);
+    drop(second);
 }
 
 // Makes a desk of a journal, over a store that takes a number of commits, and asserts what is tried of it.
@@ -48,34 +99,19 @@ fn assert_holds<L: StoredLedger + Send + Sync, R: Abort + Threads + Wait + Sync>
     let base = base_of(rt, &journal);
     let made = SiteDesk::<L>::new(alloc, blank, journal, 2).ok();
     let (desk, mut passes) = made.expect(rt, "memory");
-    let commits = match trial {
-        Trial::Stops => 1,
-        Trial::Groups | Trial::Answers => 2,
-        Trial::Saves => 6,
-    };
-    let store = MemoryStore::new(alloc, base, commits);
+    let takes_base = !matches!(trial, Trial::GoesOn);
+    let store = MemoryStore::new(alloc, base, trial.commits(), takes_base);
     let desk = StoredDesk::new(desk, store, history, mark).ok();
     let desk = desk.expect(rt, "a new desk");
-    let mut second = passes.pop().expect(rt, "a pass");
-    let mut first = passes.pop().expect(rt, "a pass");
+    let second = passes.pop().expect(rt, "a pass");
+    let first = passes.pop().expect(rt, "a pass");
     drop(passes);
-    match trial {
-        Trial::Stops => assert_stops(rt, alloc, desk, &mut first),
-        Trial::Groups => assert_groups(rt, desk, &mut first, &mut second),
-        Trial::Saves => assert_saves(rt, desk, &mut first),
-        Trial::Answers => {
-            assert_answers(rt, desk, &mut first, second);
-            drop(first);
-            return;
-        }
-    }
-    drop(first);
-    drop(second);
+    assert_trial(rt, alloc, desk, first, second, trial);
 }
 
 // Asserts what is tried of the desk of site 0.
 fn assert_of<R: Abort + Threads + Wait + Sync>(rt: &R, alloc: Global, trial: Trial) {
-    let journal = journal_of(rt, alloc, 10);
+    let journal = journal_of(rt, alloc, trial.limit());
     let mark = NewMark::new(alloc).expect(rt, "memory");
     assert_holds::<Brand, R>(
         rt,
@@ -104,6 +140,16 @@ fn a_take_and_a_base_are_saved(rt: HostRuntime) {
 }
 
 #[test]
-fn a_port_and_sessions_have_receipts_of_saved_steps(rt: HostRuntime) {
-    assert_of(&rt, rt.alloc(), Trial::Answers);
+fn without_memory_for_a_base_steps_are_saved(rt: HostRuntime) {
+    assert_of(&rt, rt.alloc(), Trial::GoesOn);
+}
+
+#[test]
+fn a_port_takes_and_cuts(rt: HostRuntime) {
+    assert_of(&rt, rt.alloc(), Trial::Port);
+}
+
+#[test]
+fn asks_of_sessions_are_done_while_the_journal_is_full(rt: HostRuntime) {
+    assert_of(&rt, rt.alloc(), Trial::Fills);
 }

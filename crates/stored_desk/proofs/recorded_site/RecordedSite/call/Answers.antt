@@ -1,10 +1,9 @@
-use Rattle.std.proofs.Common.{inl, refl}
+use Rattle.std.proofs.Common.{refl}
 use Rattle.site_journal.specs.declared.desk_fault.DeskFault.{DeskFault}
 use Rattle.site_journal.specs.declared.desk_fault.DeskFault.TheVariants.{Unsaved}
-use Rattle.site_journal.specs.declared.receipt.Receipt.{Receipt}
 use Rattle.site_desk.specs.Deeds.{IsLegalReceipt}
 use Rattle.site_desk.specs.Passes.{step_of}
-use Rattle.stored_desk.specs.Failing.{Fails, IsAnsweredAt}
+use Rattle.stored_desk.specs.Failing.{FailsUnsaved, IsAnsweredAt}
 use Rattle.stored_desk.proofs.Answering.{answered_at, if_err, if_ok, legal_receipt, unanswered}
 use Rattle.stored_desk.proofs.Recording.{recorded_after, recorded_unchanged}
 use Rattle.stored_desk.proofs.recorded_site.RecordedSite.call.Goals as goal
@@ -17,13 +16,13 @@ invariant_of-self-2 g c = recorded_after g.L.SiteLedger.base c.self.inside.prefi
     c.in_ok-receipt.ensures.added c.record.ensures.added c.record.ensures.lost
 
 pub returns-clause-legal : goal.returns-clause-legal
-returns-clause-legal g c = let receipt = c.in_ok-receipt.receipt in let told = c.in_ok-receipt.ensures in if_ok (IsLegalReceipt g.L.SiteLedger.base) receipt c.record.result c.record.ensures.receipt
-    (legal_receipt g.L.SiteLedger.base c.self.inside.journal c.call.new.self receipt told.reached told.position told.added)
+returns-clause-legal g c = let receipt = c.in_ok-receipt.receipt in let known = c.in_ok-receipt.ensures in if_ok (IsLegalReceipt g.L.SiteLedger.base) receipt c.record.result c.record.ensures.receipt
+    (legal_receipt g.L.SiteLedger.base c.self.inside.journal c.call.new.self receipt known.reached known.position known.added)
 
 pub returns-clause-fails : goal.returns-clause-fails
-returns-clause-fails g c = let receipt = c.in_ok-receipt.receipt in let told = c.in_ok-receipt.ensures in if_err (λ (fault : DeskFault). Fails g.L.SiteLedger.base c.args.pass.now fault c.call.new.pass) Unsaved c.record.result c.record.ensures.fault
-    (unanswered g.L.SiteLedger.base c.args.pass.now c.call.new.pass Unsaved receipt (inl refl) told.done (legal_receipt g.L.SiteLedger.base c.self.inside.journal c.call.new.self receipt told.reached told.position told.added))
+returns-clause-fails g c = let receipt = c.in_ok-receipt.receipt in let known = c.in_ok-receipt.ensures in if_err (λ (fault : DeskFault). FailsUnsaved g.L.SiteLedger.base c.args.pass.now fault c.call.new.pass) Unsaved c.record.result c.record.ensures.fault
+    (unanswered g.L.SiteLedger.base c.args.pass.now c.call.new.pass Unsaved receipt refl known.done (legal_receipt g.L.SiteLedger.base c.self.inside.journal c.call.new.self receipt known.reached known.position known.added))
 
 pub returns-clause-answer : goal.returns-clause-answer
-returns-clause-answer g c = let receipt = c.in_ok-receipt.receipt in let told = c.in_ok-receipt.ensures in if_ok (IsAnsweredAt g.L.SiteLedger.base c.args.asked.now) receipt c.record.result c.record.ensures.receipt
-    (answered_at g.L.SiteLedger.base c.args.asked.now c.self.inside.journal c.call.new.self.replica receipt told.reached told.position told.answer)
+returns-clause-answer g c = let receipt = c.in_ok-receipt.receipt in let known = c.in_ok-receipt.ensures in if_ok (IsAnsweredAt g.L.SiteLedger.base c.args.asked.now) receipt c.record.result c.record.ensures.receipt
+    (answered_at g.L.SiteLedger.base c.args.asked.now c.self.inside.journal c.call.new.self.replica receipt known.reached known.position known.answer)
