@@ -1,0 +1,49 @@
+-- The site that is restored of a table.
+use Rattle.std.proofs.Common.{◌≡◌, ◌≢◌, ◌+◌, ◌-◌, ◌^◌, ◌∙◌, min, inl, inr, ℕ, List, [], ◌∷◌, ◌++◌, sym, ap, ap₂, subst}
+use Rattle.std.specs.Prelude.{count_by}
+use Rattle.sqlite.specs.Order.{Row}
+use Rattle.site_journal.specs.declared.step.Step.{Step}
+use Rattle.stored_steps.specs.declared.base.StoredBase.{StoredBase}
+use Rattle.stored_steps.specs.declared.restored_site.RestoredSite.{RestoredSite}
+use Rattle.stored_steps.specs.Bases.{IsReadBase, IsSameBase}
+use Rattle.stored_steps.specs.Restoring.{IsRestoredSite}
+use Rattle.stored_steps.specs.RowsLead.{RowsLead}
+use Rattle.stored_steps.specs.StartRows.{is_start}
+use Rattle.stored_steps.specs.Stored.{Stored}
+use Rattle.stored_steps.proofs.BaseLaws.{read_once, read_same}
+use Rattle.stored_steps.proofs.Replaying.{one_site}
+use Rattle.site_store.specs.Steps.{Lists}
+use Rattle.site_store.proofs.RowLemmas.{lists_once}
+use Rattle.step_database.specs.Standing.{IsFoundSite, IsOfBase, StandForSteps, StoreOrigin}
+use Rattle.step_database.specs.Databases.{BeginsWith}
+
+-- what is read of the row of a base says the same
+same_base : (base read : StoredBase) (row : Stored) → IsOfBase base row → IsReadBase row read → IsSameBase base read
+same_base base read row (inl written) is = read_same base read row written is
+same_base base read row (inr was) is = read_once base read row was is
+
+-- the site that is restored of rows that stand for steps has done them
+restored_stands : (origin : StoreOrigin) (rows : List Stored) (steps more : List Step) (found : RestoredSite) → StandForSteps origin rows (steps ++ more) → IsRestoredSite rows found → IsFoundSite origin steps found
+restored_stands origin rows steps more found s is =
+    let both : s.first ∷ s.rest ≡ is.first ∷ is.rest = sym s.rows_are ∙ is.rows_are in
+    let first : is.first ≡ s.first = cc in
+    let rest : is.rest ≡ s.rest = cc in
+    let same = same_base s.base is.base s.first s.base_is (subst (λ (r : Stored). IsReadBase r is.base) first is.base_is) in
+    let led = subst (λ (l : List Stored). RowsLead is.base.replica l found.journal.replica) rest is.replayed.led in
+    let counted : min (is.base.starts + count_by is_start is.rest) (2 ^ 64 - 1) ≡ min (s.base.starts + count_by is_start s.rest) (2 ^ 64 - 1) =
+    ap₂ (λ (n : ℕ) (l : List Stored). min (n + count_by is_start l) (2 ^ 64 - 1)) same.starts rest in record {
+      more = more;
+      site = λ site all. one_site s.base.replica is.base.replica site found.journal.replica s.rest same.site (s.lead site all) led;
+      name = is.name ∙ (same.name ∙ s.name);
+      starts = is.starts ∙ (counted ∙ sym s.starts);
+    }
+
+some_row : (rows rest : List Stored) (row : Stored) → rows ≡ row ∷ rest → rows ≢ []
+some_row rows rest row are none = cc
+
+-- a table whose rows begin with those of steps is restored as a site that has done them
+pub found_site : (table : List Row) (origin : StoreOrigin) (steps : List Step) → BeginsWith table origin steps → (first : ℕ) (rows : List Stored) (found : RestoredSite) → Lists table first rows → IsRestoredSite rows found
+    → IsFoundSite origin steps found
+found_site table origin steps it first rows found lists is =
+    let same = (lists_once table it.first first it.rows rows it.lists lists (some_row it.rows it.stand.rest it.stand.first it.stand.rows_are)).1 in
+    restored_stands origin it.rows steps it.more found it.stand (subst (λ (l : List Stored). IsRestoredSite l found) (sym same) is)

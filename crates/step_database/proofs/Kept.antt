@@ -1,0 +1,81 @@
+-- What a crash leaves of steps.
+use Rattle.std.proofs.Common.{◌≡◌, ◌⊎◌, ◌+◌, ◌-◌, ◌^◌, ◌++◌, min, ⊎_elim, ℕ, List, [], ◌∷◌, length, sym, subst, subst₂, arith, append-nil, length-append}
+use Rattle.sqlite.specs.Order.{Row}
+use Rattle.sqlite.specs.State.{State}
+use Rattle.sqlite.specs.Tree.{Trees}
+use Rattle.replica.specs.Site.{SiteState}
+use Rattle.site_journal.specs.Legal.{LeadAll}
+use Rattle.site_journal.specs.declared.step.Step.{Step}
+use Rattle.stored_steps.specs.Bases.{IsRowOfBase}
+use Rattle.stored_steps.specs.StartRows.{start_row}
+use Rattle.stored_steps.specs.Stored.{Stored}
+use Rattle.site_store.specs.declared.resuming.ResumedSite.{ResumedSite}
+use Rattle.site_store.specs.Resumed.{IsResumed}
+use Rattle.site_store.specs.Steps.{Holds, LeavesOnly, Lists}
+use Rattle.step_database.specs.Standing.{AreRowsOf, StandForSteps, StoreOrigin}
+use Rattle.step_database.specs.Databases.{BeginsWith, Keeps, Stores}
+use Rattle.step_database.proofs.Stands.{stand_anew, stand_begun, stand_on}
+
+-- rows that stand for just these steps begin with them
+begins : (table : List Row) (origin : StoreOrigin) (first : ℕ) (rows : List Stored) (steps : List Step) → Lists table first rows → StandForSteps origin rows steps → BeginsWith table origin steps
+begins table origin first rows steps lists stand = record { first = first; rows = rows; more = []; lists = lists; stand = subst (λ (l : List Step). StandForSteps origin rows l) (sym (append-nil steps)) stand }
+
+-- what a database stores it keeps
+pub stores_keeps : (s : State) (origin : StoreOrigin) (next : ℕ) (steps : List Step) → Stores s origin next steps → Keeps s origin steps
+stores_keeps s origin next steps it db may = begins (db 0) origin it.first it.rows steps (it.leaves db may) it.stand
+
+-- and still while other rows that stand for them are put in their place
+pub keeps_put : (old new : State) (origin : StoreOrigin) (next at : ℕ) (steps : List Step) (rows : List Stored) → Stores old origin next steps → StandForSteps origin rows steps
+    → ((db : Trees) → new.may_leave db → old.may_leave db ⊎ Lists (db 0) at rows) → Keeps new origin steps
+keeps_put old new origin next at steps rows it stand crash db may =
+    ⊎_elim (λ was. stores_keeps old origin next steps it db was) (λ lists. begins (db 0) origin at rows steps lists stand) (crash db may)
+
+module _ (old new : State) (origin : StoreOrigin) (next : ℕ) (steps more : List Step) (rows : List Stored) (it : Stores old origin next steps) (are : AreRowsOf rows more) where
+  -- the rows with those of more steps stand for all of these
+  pub stand_more : StandForSteps origin (it.rows ++ rows) (steps ++ more)
+  stand_more = subst (λ (l : List Stored). StandForSteps origin (it.rows ++ l) (steps ++ more)) (sym are.are) (stand_on origin it.rows steps more it.stand are.within)
+
+  -- a database to which they were added stores all of these
+  pub stores_more : Holds new it.first (it.rows ++ rows) × LeavesOnly new it.first (it.rows ++ rows) → Stores new origin (next + length rows) (steps ++ more)
+  stores_more both = record {
+    first = it.first;
+    rows = it.rows ++ rows;
+    next_is = omega (arith, it.next_is, length-append it.rows rows);
+    holds = both.0;
+    leaves = both.1;
+    stand = stand_more;
+  }
+
+  -- and while they are added it keeps the steps before
+  pub keeps_more : ((db : Trees) → new.may_leave db → old.may_leave db ⊎ Lists (db 0) it.first (it.rows ++ rows)) → Keeps new origin steps
+  keeps_more crash db may =
+      ⊎_elim (λ was. stores_keeps old origin next steps it db was) (λ lists. record { first = it.first; rows = it.rows ++ rows; more = more; lists = lists; stand = stand_more }) (crash db may)
+
+-- steps without a row need no more rows
+pub stores_rowless : (s : State) (origin : StoreOrigin) (next : ℕ) (steps more : List Step) → Stores s origin next steps → AreRowsOf [] more → Stores s origin next (steps ++ more)
+stores_rowless s origin next steps more it are = record {
+  first = it.first;
+  rows = it.rows;
+  next_is = it.next_is;
+  holds = it.holds;
+  leaves = it.leaves;
+  stand = subst (λ (l : List Stored). StandForSteps origin l (steps ++ more)) (append-nil it.rows) (stand_more s s origin next steps more [] it are);
+}
+
+-- what a connection holds of a site that goes on stands for no step of it
+pub resumed_stores : (s : State) (it : ResumedSite) (begun : SiteState) (starts : ℕ) → IsResumed s it → begun ≡ it.site.journal.replica → starts ≡ min (it.site.starts + 1) (2 ^ 64 - 1)
+    → Stores s (record { begun = begun; name = it.site.name; starts = starts }) it.next []
+resumed_stores s it begun starts is here counted = record {
+  first = is.first;
+  rows = is.rows ++ start_row ∷ [];
+  next_is = omega (arith, is.next_is, length-append is.rows (start_row ∷ []));
+  holds = is.holds;
+  leaves = is.leaves;
+  stand = subst (λ (r : SiteState). StandForSteps (record { begun = r; name = it.site.name; starts = starts }) (is.rows ++ start_row ∷ []) []) (sym here) (stand_begun is.rows it.site starts is.restored counted);
+}
+
+-- the row of the site after the steps stands for them, if it has the store's name and starts
+pub base_stands : (s : State) (origin : StoreOrigin) (next : ℕ) (steps : List Step) (site : SiteState) (row : Stored) (name : List ℕ) (starts : ℕ) → Stores s origin next steps → LeadAll origin.begun steps site
+    → IsRowOfBase (record { replica = site; name = name; starts = starts }) row → name ≡ origin.name → starts ≡ origin.starts → StandForSteps origin (row ∷ []) steps
+base_stands s origin next steps site row name starts it lead of names counts =
+    stand_anew origin it.rows steps site row it.stand lead (subst₂ (λ (n : List ℕ) (k : ℕ). IsRowOfBase (record { replica = site; name = n; starts = k }) row) names counts of)

@@ -1,0 +1,4 @@
+pub mod StepRows
+pub mod Stands
+pub mod Kept
+pub mod Found

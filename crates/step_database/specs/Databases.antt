@@ -1,0 +1,42 @@
+-- What a database holds of a site's steps, and what a crash leaves of them.
+use Rattle.std.specs.Prelude.{ℕ, ◌≡◌, ◌+◌, ◌++◌, List, length, refl}
+use Rattle.std.specs.Coded.{Coded, code_by, coded×, coded_ℕ}
+use Rattle.sqlite.specs.Order.{Row}
+use Rattle.sqlite.specs.State.{State}
+use Rattle.sqlite.specs.Tree.{Trees}
+use Rattle.site_journal.specs.declared.step.Step.{Step}
+use Rattle.stored_steps.specs.Stored.{Stored}
+use Rattle.site_store.specs.Steps.{Holds, LeavesOnly, Lists}
+use Rattle.step_database.specs.Standing.{StandForSteps, StoreOrigin, origin_code}
+
+-- what contracts see of a store: its connection, of which site it is, and the position of the next row
+pub record DatabaseState (C : Type 0) : Type 0 where
+  pub conn : C
+  pub origin : StoreOrigin
+  pub next : ℕ
+
+-- it is stored as the tuple of its fields
+abbrev pub database_code : {C : Type 0} → Coded C → Coded (DatabaseState C)
+database_code {C} conn =
+    code_by (C × (StoreOrigin × ℕ)) (coded× conn (coded× origin_code coded_ℕ)) (λ d. (d.conn, (d.origin, d.next))) (λ p. record { conn = p.0; origin = p.1.0; next = p.1.1 }) (λ _. refl)
+
+-- a database holds rows that stand for just these steps, a crash leaves the same rows, and `next` is the position of the next
+pub record Stores (s : State) (origin : StoreOrigin) (next : ℕ) (steps : List Step) : Type 0 where
+  pub first : ℕ
+  pub rows : List Stored
+  pub next_is : next ≡ first + length rows
+  pub holds : Holds s first rows
+  pub leaves : LeavesOnly s first rows
+  pub stand : StandForSteps origin rows steps
+
+-- the rows of a table stand for these steps, and maybe for more behind them
+pub record BeginsWith (table : List Row) (origin : StoreOrigin) (steps : List Step) : Type 0 where
+  pub first : ℕ
+  pub rows : List Stored
+  pub more : List Step
+  pub lists : Lists table first rows
+  pub stand : StandForSteps origin rows (steps ++ more)
+
+-- the rows of each outcome of a crash stand for these steps, and maybe for more behind them
+abbrev pub Keeps : State → StoreOrigin → List Step → Type 0
+Keeps s origin steps = (db : Trees) → s.may_leave db → BeginsWith (db 0) origin steps

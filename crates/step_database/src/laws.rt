@@ -1,0 +1,40 @@
+//! What the next run finds of a site's steps. The functions have no body: their contracts are the laws.
+ghost use Rattle.std.specs.Prelude.{ℕ, List, IsTrue};
+ghost use Rattle.sqlite.specs.FileStore.{state, view, recovers};
+ghost use Rattle.sqlite.specs.Files.{file_state};
+ghost use Rattle.sqlite.specs.Held.{AreDatabases, Held};
+ghost use Rattle.sqlite.specs.Order.{Row};
+ghost use Rattle.sqlite.specs.Recovery.{Image};
+ghost use Rattle.sqlite.specs.Start.{FindsIn};
+ghost use Rattle.sqlite.specs.Tree.{Trees};
+ghost use Rattle.sqlite_store.specs.declared.store.FileStore.{FileStore};
+ghost use Rattle.site_journal.specs.declared.step.Step.{Step};
+ghost use Rattle.stored_steps.specs.Restoring.{IsRestoredSite};
+ghost use Rattle.stored_steps.specs.Stored.{Stored};
+ghost use Rattle.stored_steps.specs.declared.restored_site.RestoredSite.{RestoredSite};
+ghost use Rattle.site_store.specs.Steps.{Lists};
+ghost use Rattle.step_database.specs.Standing.{IsFoundSite, StoreOrigin};
+ghost use Rattle.step_database.specs.Databases.{BeginsWith};
+
+use sqlite_disk::Disk;
+
+/// The site that is restored of a table whose rows begin with those of some steps has done these steps, and maybe more. Its store's name and
+/// the number of its starts are those of the store (this project's own).
+pub fn a_restored_site_has_done_the_steps()
+    ensures { (table : List Row) (origin : StoreOrigin) (steps : List Step)
+        → BeginsWith table origin steps
+        → (first : ℕ) (rows : List Stored) (found : RestoredSite)
+        → Lists table first rows → IsRestoredSite rows found → IsFoundSite origin steps found }
+{}
+
+/// Where a store keeps steps, the site that the next run restores of any files that a crash leaves has done these steps, and maybe more.
+pub fn the_next_run_has_done_the_steps<D: Disk, E: Disk>()
+    ensures { (it : FileStore D D.Disk) (origin : StoreOrigin) (steps : List Step)
+        → IsTrue (view it).is_numbered → AreDatabases (recovers it)
+        → ((db : Trees) → recovers it db → BeginsWith (db 0) origin steps)
+        → (left : Image) → (state it).may_leave left → (opened : Held (FileStore E E.Disk))
+        → FindsIn left (file_state opened)
+        → (first : ℕ) (rows : List Stored) (found : RestoredSite)
+        → Lists ((file_state opened).committed.trees 0) first rows → IsRestoredSite rows found
+        → ∥ IsFoundSite origin steps found ∥₁ }
+{}

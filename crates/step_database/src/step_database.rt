@@ -1,0 +1,219 @@
+ghost use Rattle.std.specs.Prelude.{◌≡◌, ◌≢◌, ◌≤◌, ◌++◌, ◌∷◌, [], ℕ, List, IfOk, min, ◌+◌, ◌-◌, ◌^◌};
+ghost use Rattle.site_journal.specs.declared.journaled.TheConstants.{MOST_STEPS};
+ghost use Rattle.sqlite.specs.Held.{state};
+ghost use Rattle.sqlite.specs.State.{HasCleanDisk};
+ghost use Rattle.stored_steps.specs.StartRows.{start_row};
+ghost use Rattle.stored_steps.specs.Stored.{Stored};
+ghost use Rattle.site_store.specs.Resumed.{IsResumed};
+ghost use Rattle.site_store.specs.Steps.{Holds};
+ghost use Rattle.step_database.specs.Databases.{Keeps, Stores};
+
+use crate::ready_base::ReadyBase;
+use crate::writing::{append_rows, grown, put_base, rows_of_steps};
+use dots::{Memory, SiteId};
+use replica::{QueueList, Replica};
+use site_journal::{Journaled, Step};
+use site_store::{OpenFault, ResumedSite, is_step_schema};
+use sqlite::{Alter, Connection};
+use std::alloc::Global;
+use std::marker::Model;
+use std::snapshot::Snapshot;
+use stored_desk::{CommitFault, Growth, StepStore};
+use stored_steps::{NAME_BYTES, RestoredSite, StoredRow, row_of_base};
+
+/// The store of a site since its last start, in an SQLite database. Its rows are a base, the rows from before that start, and those of the
+/// steps since. Statuses, refused commands and cuts of an empty buffer have no row (this project's own).
+#[derive(Drop)]
+pub struct StepDatabase<S: Alter + Drop> {
+    conn: Connection<S>,
+    // What the site said before the steps. Only contracts read it.
+    begun: Snapshot<Replica>,
+    // The bytes that name the store for ever.
+    name: [u8; NAME_BYTES],
+    // How often the site was started over the store, with the last start.
+    starts: u64,
+    // The position of the next row.
+    next: u64,
+    // How much it has stored since its base.
+    growth: Growth,
+    alloc: Global,
+}
+
+impl<S: Alter + Drop> Model for StepDatabase<S> {
+    ghost use Rattle.sqlite.specs.Held.{Held, held_code};
+    ghost use Rattle.step_database.specs.Databases.{DatabaseState, database_code};
+
+    ghost Value = { DatabaseState (Held S) };
+
+    ghost coded = { database_code (held_code S.code) };
+
+    ghost view = { λ d. record {
+      conn = d.conn;
+      origin = record { begun = d.begun.value; name = d.name; starts = d.starts };
+      next = d.next;
+    } };
+}
+
+impl<S: Alter + Drop> StepDatabase<S> {
+    /// The store of a site that goes on, and the site's journal: `conn` is the connection over which `resume` of `site_store` has returned
+    /// `resumed`. The store has no step yet, and its steps are those that the site does from here on.
+    pub fn new(
+        alloc: Global,
+        conn: Connection<S>,
+        resumed: ResumedSite,
+    ) -> (StepDatabase<S>, Journaled)
+        requires resumed { HasCleanDisk (state S.Store conn)
+            → IsResumed (state S.Store conn) resumed }
+        ensures journal { result.1 ≡ resumed.site.journal }
+        ensures begun { result.0.origin.begun ≡ result.1.replica }
+        ensures name { result.0.origin.name ≡ resumed.site.name }
+        ensures starts { result.0.origin.starts ≡ min (resumed.site.starts + 1) (2 ^ 64 - 1) }
+        ensures conn { result.0.conn ≡ conn }
+        ensures holds { HasCleanDisk (state S.Store result.0.conn)
+            → Stores (state S.Store result.0.conn) result.0.origin result.0.next [] }
+        ensures keeps { HasCleanDisk (state S.Store result.0.conn)
+            → Keeps (state S.Store result.0.conn) result.0.origin [] }
+    {
+        let ResumedSite { site, next } = resumed;
+        let RestoredSite {
+            journal,
+            name,
+            starts,
+        } = site;
+        let growth = Growth {
+            rows: journal.len().saturating_add(1),
+            bytes: journal.payload_bytes(),
+        };
+        let store = StepDatabase {
+            conn,
+            begun: Snapshot::of(journal.replica()),
+            name,
+            starts: starts.saturating_add(1),
+            next,
+            growth,
+            alloc,
+        };
+        (store, journal)
+    }
+
+    /// The store of a site that goes on over a connection, and the site's journal, which may have `limit` steps, 1 to 1,000,000. The row of
+    /// this start is added, in a commit of its own.
+    ///
+    /// Errors, in order: `NoStore`, if the database hasn't the one table of a store; those of `resume` of `site_store`.
+    pub fn resume(
+        alloc: Global,
+        conn: Connection<S>,
+        site: SiteId,
+        list: &QueueList,
+        limit: u32,
+    ) -> Result<(StepDatabase<S>, Journaled), OpenFault>
+        requires some { 1 ≤ limit }
+        requires most { limit ≤ MOST_STEPS }
+        ensures site { IfOk result (λ it. it.1.replica.site ≡ site) }
+        ensures names { IfOk result (λ it. it.1.replica.names ≡ list.now) }
+        ensures begun { IfOk result (λ it. it.0.origin.begun ≡ it.1.replica) }
+        ensures rows { IfOk result (λ it. HasCleanDisk (state S.Store it.0.conn)
+            → (first : ℕ) (rows : List Stored)
+            → Holds (state S.Store conn) first rows → rows ≢ []
+            → Holds (state S.Store it.0.conn) first (rows ++ start_row ∷ [])) }
+        ensures clean { IfOk result (λ it. HasCleanDisk (state S.Store it.0.conn)
+            → HasCleanDisk (state S.Store conn)) }
+        ensures holds { IfOk result (λ it. HasCleanDisk (state S.Store it.0.conn)
+            → Stores (state S.Store it.0.conn) it.0.origin it.0.next []) }
+        ensures keeps { IfOk result (λ it. HasCleanDisk (state S.Store it.0.conn)
+            → Keeps (state S.Store it.0.conn) it.0.origin []) }
+    {
+        let mut conn = conn;
+        if !is_step_schema(conn.schema()) {
+            drop(conn);
+            return Err(OpenFault::NoStore);
+        }
+        match site_store::resume(alloc, &mut conn, site, list, limit) {
+            Ok(resumed) => Ok(StepDatabase::new(alloc, conn, resumed)),
+            Err(fault) => {
+                drop(conn);
+                Err(fault)
+            }
+        }
+    }
+
+    /// Gives up the store for its connection.
+    pub fn into_connection(self) -> Connection<S>
+        ensures { result ≡ self.conn }
+    {
+        let StepDatabase { conn, .. } = self;
+        conn
+    }
+}
+
+impl<S: Alter + Drop> StepStore for StepDatabase<S> {
+    ghost use Rattle.sqlite.specs.Held.{state};
+    ghost use Rattle.sqlite.specs.State.{HasCleanDisk};
+    ghost use Rattle.stored_steps.specs.Bases.{IsRowOfBase};
+    ghost use Rattle.step_database.specs.Standing.{AreRowsOf};
+    ghost use Rattle.step_database.specs.Databases.{Keeps, Stores};
+
+    type Group = Vec<StoredRow>;
+
+    type Base = ReadyBase;
+
+    ghost groups = { λ group steps. AreRowsOf group.items steps };
+
+    ghost bases = { λ base site.
+        IsRowOfBase (record { replica = site; name = base.name; starts = base.starts }) base.row };
+
+    ghost holds = { λ store list. HasCleanDisk (state S.Store store.conn)
+        → Stores (state S.Store store.conn) store.origin store.next list };
+
+    ghost keeps = { λ store list. HasCleanDisk (state S.Store store.conn)
+        → Keeps (state S.Store store.conn) store.origin list };
+
+    ghost begun = { λ store. store.origin.begun };
+
+    fn group(&self, steps: &[Step]) -> Result<Vec<StoredRow>, Memory> {
+        rows_of_steps(self.alloc, steps)
+    }
+
+    // Where no step of the group has a row there is nothing to commit.
+    fn commit(&mut self, group: Vec<StoredRow>) -> Result<(), CommitFault> {
+        if group.is_empty() {
+            drop(group);
+            return Ok(());
+        }
+        let growth = grown(self.growth, group.as_slice());
+        let added = append_rows(&mut self.conn, self.next, group.as_slice());
+        drop(group);
+        self.next = added?;
+        self.growth = growth;
+        Ok(())
+    }
+
+    // The new base has the store's name and counts all starts.
+    fn base(&self, site: Replica) -> Result<ReadyBase, Memory> {
+        let row = row_of_base(self.alloc, &site, &self.name, self.starts);
+        drop(site);
+        Ok(ReadyBase {
+            row: row?,
+            name: self.name,
+            starts: self.starts,
+        })
+    }
+
+    // It refuses a base that was made for another store.
+    fn replace_base(&mut self, base: ReadyBase) -> Result<(), CommitFault> {
+        if base.name != self.name || base.starts != self.starts {
+            drop(base);
+            return Err(CommitFault::Other);
+        }
+        let put = put_base(&mut self.conn, self.next, &base.row);
+        drop(base);
+        self.next = put?;
+        self.growth = Growth { rows: 0, bytes: 0 };
+        Ok(())
+    }
+
+    // After a start it counts the steps since the base and that start, and of their bytes the frames.
+    fn since_base(&self) -> Growth {
+        self.growth
+    }
+}
