@@ -28,17 +28,18 @@ abbrev pub IsStopped : List Deed → ℕ → List Receipt → Bool → List Send
 IsStopped plan rung receipts ended start links = ((length receipts ≤ rung) × EachLink (Carries (sent_from plan 0 [] (cut_frames receipts))) start links)
     ⊎ ((length receipts ≡ rung + 1) × (ended ≡ true) × EachLink (Carries (planned plan (cut_frames receipts) [])) start links)
 
--- a call of a pump has one receipt more, of this kind, where it succeeded, and else perhaps; not where its port tells the call's fault
-pub record AddsReceipt {T : Type 0} (IsOf : Receipt → Type 0) (told : Option DeskFault) (old new : List Receipt) (result : Result T DeskFault) : Type 0 where
+-- a call of a pump has added one receipt of this kind if it succeeded, and may have if it failed; not if the port has refused its call for
+-- the same fault
+pub record AddsReceipt {T : Type 0} (IsOf : Receipt → Type 0) (last_fault : Option DeskFault) (old new : List Receipt) (result : Result T DeskFault) : Type 0 where
   pub receipt : OnOk result ((r : Receipt) × IsOf r × (new ≡ old ++ r ∷ []))
   pub perhaps : OnErr result ((new ≡ old) ⊎ ((r : Receipt) × IsOf r × (new ≡ old ++ r ∷ [])))
-  pub refused : IfErr result (λ cause. told ≡ Some cause → new ≡ old)
+  pub refused : IfErr result (λ cause. last_fault ≡ Some cause → new ≡ old)
 
--- what a call of a pump has done at its port, from state `p` to `q`: the steps of its receipts, and perhaps a refusal for its fault, which the port
--- tells or which is want of memory; its pass is the same, and has done a step for each receipt
-pub record WorksAt {P T : Type 0} (Makes : P → Receipt → P → Type 0) (Refuses : P → DeskFault → P → Type 0) (told : P → Option DeskFault) (ordinal share : P → ℕ) (p q : P) (old new : Outgoing) (result : Result T DeskFault) : Type 0 where
+-- what a call of a pump has done at its port, from state `p` to `q`: the steps of its receipts, and perhaps a refusal for its fault, which
+-- is the port's or `Memory`; its pass is the same, and has done a step for each receipt
+pub record WorksAt {P T : Type 0} (Makes : P → Receipt → P → Type 0) (Refuses : P → DeskFault → P → Type 0) (last_fault : P → Option DeskFault) (ordinal share : P → ℕ) (p q : P) (old new : Outgoing) (result : Result T DeskFault) : Type 0 where
   pub run : OnOk result ((start : P) → PortRun Makes start old.receipts.items p → PortRun Makes start new.receipts.items q)
   pub work : IfErr result (λ cause. (start : P) → PortRun Makes start old.receipts.items p → PortWork Makes Refuses start new.receipts.items (Some cause) q)
-  pub fault : IfErr result (λ cause. (told q ≡ Some cause) ⊎ (cause ≡ Memory))
+  pub fault : IfErr result (λ cause. (last_fault q ≡ Some cause) ⊎ (cause ≡ Memory))
   pub same : ordinal q ≡ ordinal p
   pub done : share q + vec_len old.receipts ≡ share p + vec_len new.receipts

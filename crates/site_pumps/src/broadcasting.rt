@@ -71,8 +71,12 @@ fn cut_once<R: Wait, P: Port<R>, O: Outlet<R>, K: ReceiptSink>(
     }
 }
 
-// Makes a frame of all that the site knows, sends it on each outlet, and hands the receipt to the sink.
-fn whole_once<R: Wait, P: Port<R>, O: Outlet<R>, K: ReceiptSink>(
+/// Makes a whole, a frame of all that the site knows, sends it on every outlet, and hands the receipt to the sink. An outlet that is down
+/// drops the frame. It waits where the port or an outlet does.
+///
+/// Errors, in order: 1 `Memory`, where the sink has no room for a receipt; 2 the port's own; 3 `Memory`, where the frame can't be sent on
+/// every outlet: the first of them may have been given it (this project's own).
+pub fn broadcast_whole<R: Wait, P: Port<R>, O: Outlet<R>, K: ReceiptSink>(
     rt: &R,
     port: &mut P,
     outlets: &mut [O],
@@ -102,11 +106,12 @@ fn whole_once<R: Wait, P: Port<R>, O: Outlet<R>, K: ReceiptSink>(
 }
 
 /// Cuts at each ring of the bell, and sends the frame on every outlet, in order. Once the bell has ended it cuts once more, and then sends
-/// a frame of all that the site knows. Each receipt is handed to the sink. An outlet that is down drops its frames, and the others go on.
-/// It waits where the bell, the port or an outlet does.
+/// a whole, a frame of all that the site knows. Each receipt is handed to the sink. An outlet that is down drops its frames, and the others
+/// go on. It waits where the bell, the port or an outlet does.
 ///
-/// Errors, in order: the port's own; `Memory`, where the sink has no room for a receipt or a frame can't be sent on every outlet (this
-/// project's own).
+/// A fault of a cut or of the whole stops it. Errors of each, in order: 1 `Memory`, where the sink has no room for a receipt; 2 the port's
+/// own; 3 `Memory`, where the frame can't be sent on every outlet: the first of them may have been given it, and no later frame holds the
+/// changes of a cut but a whole (this project's own).
 pub fn broadcast<R: Wait, P: Port<R>, O: Outlet<R>, B: Bell<R>, K: ReceiptSink>(
     rt: &R,
     port: &mut P,
@@ -136,5 +141,5 @@ pub fn broadcast<R: Wait, P: Port<R>, O: Outlet<R>, B: Bell<R>, K: ReceiptSink>(
     if let Err(fault) = cut_once(rt, port, outlets, sink) {
         return Err(fault);
     }
-    whole_once(rt, port, outlets, sink)
+    broadcast_whole(rt, port, outlets, sink)
 }

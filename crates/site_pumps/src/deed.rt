@@ -1,12 +1,12 @@
-/// What becomes of a frame on its way out (this project's own).
+/// What a pump does with a frame that its site has cut (this project's own).
 #[derive(Clone, Copy, Debug, PartialEq, Eq)]
 pub enum Deed {
-    /// It is sent, and those that are held go behind it.
+    /// The pump sends it, and then the frames that it holds.
     Deliver,
-    /// It is lost, and those that are held go in its place.
+    /// The pump drops it, and sends the frames that it holds in its place.
     Lose,
-    /// It is sent twice, and those that are held go behind it.
+    /// The pump sends it twice, and then the frames that it holds.
     Twice,
-    /// It is held until the next frame that isn't, or until no more are cut.
+    /// The pump holds it until the next frame that it doesn't hold, or until the last cut.
     Hold,
 }

@@ -13,7 +13,7 @@ pub trait Inlet<R> {
     /// `ends old new`: a receive finds the end, and leads the inlet from `old` to `new`.
     ghost ends: { Self → Self → Type 0 };
 
-    /// Waits for the next item, and returns it. `None`: no item comes any more.
+    /// Waits for the next item, and returns it. `None`: the inlet has ended.
     fn next(&mut self, rt: &R) -> Option<Vec<u8>>
         ensures given { IfSome result (λ item. gives self.old item.items self.new) }
         ensures ended { IfNone result (ends self.old self.new) };

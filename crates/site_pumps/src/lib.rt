@@ -1,7 +1,7 @@
-//! Pumps: what carries a site's frames to its links, and the frames of others from their links to the site.
+//! Pumps: each carries the frames of a site to the site's links, or those of other sites from their links to the site.
 //!
-//! A pump works upon a port and links as values, so that it knows nothing of locks, and a desk nothing of links. What it sends is told by
-//! a plan: deeds for its frames, used in turn.
+//! A pump has a port and links as values, so that it knows nothing of locks, and a desk knows nothing of links. `pump_out` sends by a plan,
+//! a list of deeds for the frames. `broadcast` sends each frame on every link.
 #![tactic(auto)]
 
 mod broadcasting;
@@ -15,7 +15,7 @@ mod outward;
 mod receipt_sink;
 mod sending;
 
-pub use broadcasting::broadcast;
+pub use broadcasting::{broadcast, broadcast_whole};
 pub use deed::Deed;
 pub use inlet::Inlet;
 pub use inward::{PumpedIn, pump_in};

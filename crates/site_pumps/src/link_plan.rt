@@ -3,8 +3,8 @@ ghost use Rattle.std.specs.Prelude.{◌≡◌};
 use crate::Deed;
 use std::marker::Model;
 
-/// A list of deeds, which says what becomes of each frame that a pump cuts. The deeds are used in turn, again from the front. Without
-/// deeds each frame is delivered (this project's own).
+/// A list of deeds, one for each frame that a pump cuts. After the last deed the pump uses the first again. Without deeds it sends each
+/// frame once (this project's own).
 #[derive(Drop)]
 pub struct LinkPlan {
     deeds: Vec<Deed>,

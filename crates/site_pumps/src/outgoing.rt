@@ -1,4 +1,4 @@
-//! How far a pump has come that sends.
+//! The state of a pump that sends.
 ghost use Rattle.std.specs.Prelude.{◌≡◌, ◌+◌, ◌∷◌, ◌++◌, [], ◌≤◌, vec_len, List, IfErr, IfOk};
 ghost use Rattle.std.specs.Prelude.{OnErr, OnOk, MatchOption, None, Some};
 ghost use Rattle.site_journal.specs.Receipts.{IsOfCut, IsOfWhole};
@@ -26,7 +26,7 @@ fn deed_of(plan: &[Deed], number: usize) -> Deed
     plan[number % plan.len()]
 }
 
-// What is sent for a frame. What is held before goes with it, or stays behind it.
+// What is sent for a frame. The frames that were held before go with it, or stay held.
 fn burst(
     alloc: Global,
     deed: Deed,
@@ -80,7 +80,7 @@ fn send_whole<R: Wait>(rt: &R, links: &mut [LinkSender], receipt: &Receipt) -> R
     }
 }
 
-// What a pump has that sends: its receipts, the frames that are held, and how many of the plan's deeds were used.
+// The state of a pump that sends: its receipts, the frames that it holds, and how many of the plan's deeds it has used.
 #[derive(Drop)]
 pub(crate) struct Outgoing {
     pub receipts: Vec<Receipt>,
@@ -89,7 +89,7 @@ pub(crate) struct Outgoing {
 }
 
 impl Outgoing {
-    // Nothing yet.
+    // The state of a pump that has done nothing.
     pub fn new(alloc: Global) -> Outgoing
         ensures { (result.receipts.items ≡ []) × (result.held.items ≡ []) × (result.used ≡ 0)
             × (vec_len result.receipts ≡ 0) }
@@ -139,7 +139,7 @@ impl Outgoing {
         }
     }
 
-    // One cut more, whose frame is sent as the plan says.
+    // Cuts once more, and sends the frame as the plan says.
     pub fn cut<R: Wait, P: Port<R>>(
         &mut self,
         rt: &R,
@@ -180,7 +180,7 @@ impl Outgoing {
         treated
     }
 
-    // The held frames, and then a frame of all that the site knows.
+    // Sends the held frames, and then a frame of all that the site knows.
     pub fn finish<R: Wait, P: Port<R>>(
         &mut self,
         rt: &R,
@@ -221,7 +221,7 @@ impl Outgoing {
         }
     }
 
-    // All of it is done.
+    // The result of a pump that has sent everything.
     pub fn done(self) -> Pumped
         ensures { (result.receipts ≡ self.receipts) × (result.fault ≡ None) }
     {
@@ -232,7 +232,7 @@ impl Outgoing {
         }
     }
 
-    // A fault has stopped it.
+    // The result of a pump that a fault has stopped.
     pub fn stopped(self, fault: DeskFault) -> Pumped
         ensures { (result.receipts ≡ self.receipts) × (result.fault ≡ Some fault) }
     {

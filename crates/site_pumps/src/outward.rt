@@ -13,16 +13,16 @@ use site_links::LinkSender;
 use std::alloc::Global;
 use std::sync::Wait;
 
-/// What a pump gives that sends.
+/// The result of a pump that sends.
 #[derive(Drop)]
 pub struct Pumped {
-    /// The receipts of its cuts, and behind them that of the frame of all, if it came so far.
+    /// The receipts of its cuts, and after them that of the whole, if it made one.
     pub receipts: Vec<Receipt>,
     /// The fault that stopped it, if one did.
     pub fault: Option<DeskFault>,
 }
 
-// A cut at each ring and one more, the held frames, and a frame of all that the site knows.
+// Cuts at each ring and once more, and sends the held frames, and then a frame of all that the site knows.
 fn drive<R: Wait, P: Port<R>, B: Bell<R>>(
     rt: &R,
     alloc: Global,
@@ -66,11 +66,12 @@ fn drive<R: Wait, P: Port<R>, B: Bell<R>>(
     outgoing.finish(rt, port, links)
 }
 
-/// Cuts at each ring of the bell, and sends each frame on all links alike, as the plan says: its deeds are used in turn, again from
-/// its front, and where there are none each frame is delivered; a cut without a frame uses none. Once the bell has ended it cuts once
-/// more, sends what is held, and then a frame of all that the site knows, whatever the plan. A link that is down gets no more, and the
-/// others go on. It waits where the bell, the port or a link does. A fault stops it: the port's own, or `Memory` where there is no room
-/// (this project's own).
+/// Cuts at each ring of the bell, and sends each frame on all links alike, as the plan says. It uses the plan's deeds in turn, and after the
+/// last the first again; without deeds it sends each frame once. A cut without a frame uses no deed. Once the bell has ended it cuts once
+/// more, sends the frames that it holds, and then, whatever the plan, a frame of all that the site knows. A link that is down gets no more,
+/// and the others go on. It waits where the bell, the port or a link does.
+///
+/// A fault stops it: the port's own, or `Memory` where a receipt or a frame has no room (this project's own).
 pub fn pump_out<R: Wait, P: Port<R>, B: Bell<R>>(
     rt: &R,
     alloc: Global,
@@ -83,7 +84,8 @@ pub fn pump_out<R: Wait, P: Port<R>, B: Bell<R>>(
         (cut_frames result.receipts.items) (whole_frames result.receipts.items)))
         links.old links.new }
     ensures front { IsFrontOf plan.now result.receipts.items links.old links.new }
-    // Where the port has refused a cut, all was sent that the plan says of the frames cut so far; where it has refused the whole, what was held too.
+    // If the port has refused a cut, everything was sent that the plan says of the frames cut before. If it has refused the whole, the held
+    // frames were sent too.
     ensures stopped { MatchOption result.fault ⊤ (λ cause. P.fault port.new ≡ Some cause
         → (rung : ℕ) × (B.rings bell.new ≡ B.rings bell.old + rung)
         × IsStopped plan.now rung result.receipts.items (B.ended bell.new) links.old links.new) }

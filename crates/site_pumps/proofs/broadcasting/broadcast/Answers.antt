@@ -60,7 +60,7 @@ pub returns-clause-broadcast : goal.returns-clause-broadcast
 returns-clause-broadcast g c =
     let was = c.loop.invariant in
     let step = c.in_default-cut_once.ensures.step in
-    let whole = c.whole_once.ensures.step in
+    let whole = c.broadcast_whole.ensures.step in
     let same : g.B.Bell.rings c.match-next.bell ≡ g.B.Bell.rings c.loop.bell = elim c.match-next.branch [ in-None w ↦ ap g.B.Bell.rings w.bell-is | in-Some+then-not-wait w ↦ ap g.B.Bell.rings w.bell-is ∙ w.if-not-wait.ensures.rings ] in
     let all = was.1 ++ step.0 in
     let cuts : AreCuts (was.0 + 1) all = cuts_more was.0 was.1 _ step.1.receipt.0 (ap (λ l. was.1 ++ l) step.1.receipt.2) step.1.receipt.1 was.3 in
@@ -68,11 +68,11 @@ returns-clause-broadcast g c =
       was.0,
       all ++ whole.0,
       same ∙ was.2,
-      either_way c.whole_once.result whole.1.receipt whole.1.perhaps (λ r. (was.0 + 1, omega arith, omega arith, inr (cuts_whole (was.0 + 1) all _ r.0 (ap (λ l. all ++ l) r.2) r.1 cuts)))
+      either_way c.broadcast_whole.result whole.1.receipt whole.1.perhaps (λ r. (was.0 + 1, omega arith, omega arith, inr (cuts_whole (was.0 + 1) all _ r.0 (ap (λ l. all ++ l) r.2) r.1 cuts)))
           (λ r. whole_perhaps was.0 all _ (behind_perhaps IsOfWhole all whole.0 r) cuts),
-      on_ok_weaker c.whole_once.result (λ r. cuts_whole (was.0 + 1) all _ r.0 (ap (λ l. all ++ l) r.2) r.1 cuts) whole.1.receipt,
-      broadcast_more g.P.Port.makes g.P.Port.refuses g.P.Port.share g.O.Outlet.given g.K.ReceiptSink.holds _ _ _ _ _ _ _ _ _ all whole.0 (result_err c.whole_once.result) done whole.2,
+      on_ok_weaker c.broadcast_whole.result (λ r. cuts_whole (was.0 + 1) all _ r.0 (ap (λ l. all ++ l) r.2) r.1 cuts) whole.1.receipt,
+      broadcast_more g.P.Port.makes g.P.Port.refuses g.P.Port.share g.O.Outlet.given g.K.ReceiptSink.holds _ _ _ _ _ _ _ _ _ all whole.0 (result_err c.broadcast_whole.result) done whole.2,
     )
 
 pub returns-clause-ordinal : goal.returns-clause-ordinal
-returns-clause-ordinal g c = c.whole_once.ensures.ordinal ∙ (c.in_default-cut_once.ensures.ordinal ∙ c.loop.invariant.5)
+returns-clause-ordinal g c = c.broadcast_whole.ensures.ordinal ∙ (c.in_default-cut_once.ensures.ordinal ∙ c.loop.invariant.5)
