@@ -1,13 +1,15 @@
-//! Desks for the sessions of a site.
+//! Desks for the sessions of a site, and the site's bell.
 //!
 //! A [`PassDesk`] has asks answered by a pass of a site's desk, and drops the steps of a full journal once. A [`RingingDesk`] rings the
-//! site's bell at each answer, so that whoever hears it sends what was done.
+//! site's bell at each answer. The thread that sends the site's changes hears the bell by an [`Ear`].
 #![tactic(auto)]
 
+mod ear;
 mod pass_desk;
 mod ringing_desk;
 mod site_bell;
 
+pub use ear::Ear;
 pub use pass_desk::PassDesk;
 pub use ringing_desk::RingingDesk;
-pub use site_bell::{Ear, SiteBell};
+pub use site_bell::{Heard, SiteBell};

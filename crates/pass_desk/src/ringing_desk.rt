@@ -2,6 +2,7 @@ ghost use Rattle.std.specs.Prelude.{◌≡◌};
 ghost use Rattle.pass_desk.specs.RingingDesks.{inner_desk};
 
 use crate::SiteBell;
+use replica::Command;
 use serve::{Desk, DeskDown};
 use status_report::{Answer, Ask};
 use std::sync::Wait;
@@ -36,13 +37,16 @@ impl<'a, R: Wait, D: Desk<R>> Desk<R> for RingingDesk<'a, D> {
 
     ghost refuses = { λ old asked new. D.refuses (inner_desk old) asked (inner_desk new) };
 
-    /// The answer of its own desk, at which it rings.
+    /// The answer of its own desk, at which it rings. If that removed a member, the bell notes it.
     ///
-    /// `DeskDown`: that desk gives none, and nothing rings.
+    /// `DeskDown`: that desk gives no answer, and nothing rings.
     fn ask(&mut self, rt: &R, asked: Ask) -> Result<Answer, DeskDown> {
+        let removes = matches!(asked, Ask::Command(Command::Remove { .. }));
         let answered = self.desk.ask(rt, asked);
-        if answered.is_ok() {
-            self.bell.ring(rt);
+        match &answered {
+            Ok(Answer::Done) if removes => self.bell.ring_with_room(rt),
+            Ok(_) => self.bell.ring(rt),
+            Err(_) => {}
         }
         answered
     }

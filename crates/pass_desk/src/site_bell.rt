@@ -1,66 +1,143 @@
-//! The bell of a site: each answer rings it, and the pump that sends hears it.
-ghost use Rattle.std.specs.Prelude.{◌≡◌, ◌↔◌, IsTrue, false, true};
+//! The bell of a site: each answer rings it, and the thread that sends hears it. Sites whose peers share it also ask by it for wholes.
+ghost use Rattle.std.specs.Prelude.{◌≡◌, ◌↔◌, IsFalse, IsTrue, false, true};
 
-use dots::MOST_COUNT;
-use site_journal::Bell;
-use std::marker::Model;
-use std::sync::{Condvar, Mutex, Wait};
+use dots::SiteId;
+use std::sync::{Condvar, CondvarTimeouts, Mutex, Wait};
+use std::time::{Clock, Duration};
 
-// Whether a bell has rung since that was last heard, and whether it has ended.
-#[derive(Drop)]
-struct Rung {
-    rung: bool,
-    ended: bool,
+/// What a bell says to the one thread that hears it (this project's own).
+#[derive(Clone, Copy)]
+pub struct Heard {
+    /// The bell has rung since that was last heard.
+    pub has_rung: bool,
+    /// The site has removed a member since that was last heard.
+    pub has_room: bool,
+    /// A peer that is behind this site has removed a member since that was last heard.
+    pub is_hurried: bool,
+    /// A peer is behind this site.
+    pub is_behind: bool,
+    /// The bell has ended.
+    pub has_ended: bool,
 }
 
-impl Rung {
-    // It rings.
+// What a bell has to say, and which peers are behind its site: bit N stands for site N.
+#[derive(Drop)]
+struct Signals {
+    has_rung: bool,
+    has_room: bool,
+    is_hurried: bool,
+    behind: u64,
+    has_ended: bool,
+}
+
+// The bit of a site.
+fn bit_of(site: SiteId) -> u64 {
+    1 << site.number()
+}
+
+impl Signals {
+    // The bell rings.
     fn ring(&mut self)
-        ensures { self.new ≡ record self.old { rung = true } }
+        ensures { self.new ≡ record self.old { has_rung = true } }
     {
-        self.rung = true;
+        self.has_rung = true;
     }
 
-    // It ends, and a ring stays.
+    // The bell rings, and the site has removed a member.
+    fn ring_with_room(&mut self)
+        ensures { self.new ≡ record self.old { has_rung = true; has_room = true } }
+    {
+        self.has_rung = true;
+        self.has_room = true;
+    }
+
+    // The bell ends, and what was not heard yet stays.
     fn end(&mut self)
-        ensures { self.new ≡ record self.old { ended = true } }
+        ensures { self.new ≡ record self.old { has_ended = true } }
     {
-        self.ended = true;
+        self.has_ended = true;
     }
 
-    // Whether who hears it waits.
-    fn waits(&self) -> bool
-        ensures { IsTrue result ↔ ((self.now.rung ≡ false) × (self.now.ended ≡ false)) }
+    // A peer falls behind. That rings too, so that the thread that hears the bell from now on waits with a limit.
+    fn fall_behind(&mut self, peer: SiteId)
+        ensures { self.new.has_rung ≡ true }
     {
-        !self.rung && !self.ended
+        self.behind |= bit_of(peer);
+        self.has_rung = true;
     }
 
-    // Hears the ring, if there is one, and tells whether there was.
-    fn hear(&mut self) -> bool
-        ensures heard { result ≡ self.old.rung }
-        ensures rung { self.new ≡ record self.old { rung = false } }
+    // A peer has caught up.
+    fn catch_up(&mut self, peer: SiteId)
+        ensures { self.new.has_rung ≡ self.old.has_rung }
     {
-        let heard = self.rung;
-        self.rung = false;
+        self.behind &= !bit_of(peer);
+    }
+
+    // A peer has removed a member, which matters if it is behind. Returns whether it is.
+    fn hurry(&mut self, peer: SiteId) -> bool
+        ensures hurried { IsTrue result → self.new ≡ record self.old { is_hurried = true } }
+        ensures same { IsFalse result → self.new ≡ self.old }
+    {
+        let is_behind = self.behind & bit_of(peer) != 0;
+        if is_behind {
+            self.is_hurried = true;
+        }
+        is_behind
+    }
+
+    // Whether there is nothing to hear yet.
+    fn is_idle(&self) -> bool
+        ensures { IsTrue result ↔ ((self.now.has_rung ≡ false) × (self.now.is_hurried ≡ false)
+            × (self.now.has_ended ≡ false)) }
+    {
+        !self.has_rung && !self.is_hurried && !self.has_ended
+    }
+
+    // Hears what there is. Only the end, and which peers are behind, stay.
+    fn hear(&mut self) -> Heard
+        ensures rung { result.has_rung ≡ self.old.has_rung }
+        ensures ended { result.has_ended ≡ self.old.has_ended }
+        ensures left { self.new ≡ record self.old {
+          has_rung = false;
+          has_room = false;
+          is_hurried = false;
+        } }
+    {
+        let heard = Heard {
+            has_rung: self.has_rung,
+            has_room: self.has_room,
+            is_hurried: self.is_hurried,
+            is_behind: self.behind != 0,
+            has_ended: self.has_ended,
+        };
+        self.has_rung = false;
+        self.has_room = false;
+        self.is_hurried = false;
         heard
     }
 }
 
-/// A bell that many threads ring and one hears. Rings that nobody has heard yet are one ring, since one cut sends what all of them tell
-/// of. It takes no memory, and who rings waits for nobody that hears (this project's own).
+/// The bell of a site, which many threads ring and one hears (this project's own). Rings that were not heard yet are one ring, since one
+/// cut sends the changes of all of them. Each call but `hear` waits for the bell's lock alone. No call allocates.
+///
+/// A peer that refused a frame of this site is *behind* it, until it has taken a frame of all that the site knows. The bell notes which
+/// peers are.
 #[derive(Drop)]
 pub struct SiteBell {
-    rung: Mutex<Rung>,
+    signals: Mutex<Signals>,
     changed: Condvar,
 }
 
 impl SiteBell {
-    /// A bell that hasn't rung yet.
+    /// A bell that has not rung, of a site that no peer is behind.
     pub fn new() -> SiteBell {
         SiteBell {
-            rung: Mutex::new(Rung {
-                rung: false,
-                ended: false,
+            signals: Mutex::new(Signals {
+                has_rung: false,
+                has_room: false,
+                is_hurried: false,
+                behind: 0,
+                has_ended: false,
             }),
             changed: Condvar::new(),
         }
@@ -68,77 +145,57 @@ impl SiteBell {
 
     /// Rings.
     pub fn ring<R: Wait>(&self, rt: &R) {
-        self.rung.lock(rt).ring();
+        self.signals.lock(rt).ring();
         self.changed.notify_all();
     }
 
-    /// Ends the bell, once a ring that nobody has heard yet is heard.
+    /// Rings, and notes that the site has removed a member, so that a frame that it refused may fit.
+    pub fn ring_with_room<R: Wait>(&self, rt: &R) {
+        self.signals.lock(rt).ring_with_room();
+        self.changed.notify_all();
+    }
+
+    /// Ends the bell. A ring before that is still heard.
     pub fn end<R: Wait>(&self, rt: &R) {
-        self.rung.lock(rt).end();
+        self.signals.lock(rt).end();
         self.changed.notify_all();
     }
 
-    // Waits until it has rung or ended, and tells whether it has rung.
-    fn heard<R: Wait>(&self, rt: &R) -> bool {
-        let rung = self.rung.lock(rt);
-        let mut rung = self.changed.wait_while(rt, rung, |rung| rung.waits());
-        rung.hear()
+    /// Notes that the site `peer` has refused a frame of this site, and rings.
+    pub fn fall_behind<R: Wait>(&self, rt: &R, peer: SiteId) {
+        self.signals.lock(rt).fall_behind(peer);
+        self.changed.notify_all();
     }
-}
 
-/// The ear of the one that hears a bell (this project's own).
-#[derive(Drop)]
-pub struct Ear<'a> {
-    bell: &'a SiteBell,
-    heard: u64,
-    has_ended: bool,
-}
+    /// Notes that the site `peer` has taken a frame of all that this site knows.
+    pub fn catch_up<R: Wait>(&self, rt: &R, peer: SiteId) {
+        self.signals.lock(rt).catch_up(peer);
+    }
 
-impl<'a> Model for Ear<'a> {
-    ghost use Rattle.std.specs.Prelude.{◌≤◌};
-    ghost use Rattle.dots.specs.declared.limits.TheConstants.{MOST_COUNT};
-    ghost use Rattle.pass_desk.specs.Ears.{EarState};
-
-    ghost Value = { EarState };
-
-    ghost view = { λ ear. record { rings = ear.heard; ended = ear.has_ended } };
-
-    ghost invariant = { λ ear. ear.heard ≤ MOST_COUNT };
-}
-
-impl<'a> Ear<'a> {
-    /// An ear for this bell, which has heard nothing yet.
-    pub fn new(bell: &'a SiteBell) -> Ear<'a>
-        ensures rings { result.rings ≡ 0 }
-        ensures ended { result.ended ≡ false }
-    {
-        Ear {
-            bell,
-            heard: 0,
-            has_ended: false,
+    /// Notes that the site `peer` has removed a member, if it is behind this site.
+    pub fn hurry<R: Wait>(&self, rt: &R, peer: SiteId) {
+        let is_hurried = self.signals.lock(rt).hurry(peer);
+        if is_hurried {
+            self.changed.notify_all();
         }
     }
 
-    /// Whether it has found the bell ended, which stays.
-    pub fn has_ended(&self) -> bool
-        ensures { result ≡ self.now.ended }
-    {
-        self.has_ended
-    }
-}
-
-impl<'a, R: Wait> Bell<R> for Ear<'a> {
-    ghost rings = { λ ear. ear.rings };
-
-    ghost ended = { λ ear. ear.ended };
-
-    /// Waits for a ring. `false`: the bell has ended, or 2^40 rings were heard.
-    fn wait(&mut self, rt: &R) -> bool {
-        if self.has_ended || self.heard == MOST_COUNT || !self.bell.heard(rt) {
-            self.has_ended = true;
-            return false;
+    /// Waits until the bell has rung, was hurried or has ended, and returns what it says. With a `limit` it waits no longer than that.
+    pub fn hear<R: Wait + Clock>(&self, rt: &R, limit: Option<Duration>) -> Heard {
+        let signals = self.signals.lock(rt);
+        match limit {
+            None => {
+                let mut signals = self
+                    .changed
+                    .wait_while(rt, signals, |signals| signals.is_idle());
+                signals.hear()
+            }
+            Some(limit) => {
+                let (mut signals, _) = self
+                    .changed
+                    .wait_timeout_while(rt, signals, limit, |signals| signals.is_idle());
+                signals.hear()
+            }
         }
-        self.heard += 1;
-        true
     }
 }
