@@ -144,6 +144,15 @@ fn end_session<R: Wait + Clock>(
     }
 }
 
+// The time that a client has not kept: that in which it must read, if it was given up for this, or else that of its source.
+fn late_of(has_given_up: bool, of_source: Option<Late>) -> Option<Late> {
+    if has_given_up {
+        Some(Late::Reading)
+    } else {
+        of_source
+    }
+}
+
 /// Serves a client of a site over a desk: a session of these settings, from its greeting to its end, and then the stream's end. Where the
 /// connection can't be prepared there is no session, the desk stays as it is, and a line is logged.
 ///
@@ -187,11 +196,7 @@ pub fn answer_client<'x, R: Wait + Clock, D: Desk<R>>(
         desk,
         &mut watch,
     );
-    let late = if writer.has_given_up() {
-        Some(Late::Reading)
-    } else {
-        reader.late
-    };
+    let late = late_of(writer.has_given_up(), reader.late);
     let end = SessionEnd {
         served,
         late,

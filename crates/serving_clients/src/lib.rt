@@ -19,7 +19,7 @@ mod timed_read;
 pub use accepting::accept;
 pub use client::answer_client;
 pub use client_log::ClientLog;
-pub use places::Places;
+pub use places::{Places, Turn};
 pub use server_settings::{
     IDLE_SECONDS, LOGIN_TRIES, PATIENCE_SECONDS, PLACES, ServerSettings, SessionSettings,
 };
