@@ -89,7 +89,7 @@ impl<'a, L: SiteLedger, R: Wait> Desk<R> for PassDesk<'a, L> {
 
     /// The site's answer. Where its journal is full, the journal's steps are dropped, and the site is asked once more.
     ///
-    /// `DeskDown`: memory was wanting, for the answer or for that; or the journal was full again, or is shorter than the pass has seen.
+    /// `DeskDown`: out of memory, for the answer or for that; or the journal was full again, or is shorter than the pass has seen.
     /// Nothing was asked.
     fn ask(&mut self, rt: &R, asked: Ask) -> Result<Answer, DeskDown> {
         let answered = answer_with_room(rt, self.desk, &mut self.pass, &asked);

@@ -86,7 +86,7 @@ fn serve_sites_of<
     if sites < 1 || sites > MOST_SERVED_SITES || port < 1 || port > LAST_PORT {
         return ServedEnd::BadNumbers;
     }
-    if settings.places > MOST_PLACES {
+    if settings.places < 1 || settings.places > MOST_PLACES {
         return ServedEnd::BadNumbers;
     }
     let mut log = StdSink::new(io::writer(rt));

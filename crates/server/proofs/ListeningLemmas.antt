@@ -1,4 +1,4 @@
--- What was told of sites that listen.
+-- The lines of sites that listen.
 use Rattle.std.proofs.Common.{◌≡◌, ◌∙◌, ◌+◌, ◌<◌, ◌≤◌, ℕ, zero, suc, List, [], ◌++◌, Option, refl, sym, ap, subst, append_assoc, append-nil, ⊎_elim, arith}
 use Rattle.std.proofs.lemmas.Bool.{cases_lt}
 use Rattle.std.specs.Io.KnownBytes.{Appends}
@@ -19,21 +19,21 @@ lines_front address port (suc sites) site low = ⊎_elim
     (before.0 ++ line, ap (λ t. t ++ line) before.1 ∙ append_assoc (listening_lines address port site) before.0 line))
     (cases_lt sites site)
 
--- those of some sites were told
-pub some_told : (address : IpAddr) (port sites site : ℕ) (before after : Option (List ℕ)) → site ≤ sites
+-- those of some sites were written
+pub some_written : (address : IpAddr) (port sites site : ℕ) (before after : Option (List ℕ)) → site ≤ sites
     → Appends before after (listening_lines address port site) → HasTaken before after (listening_lines address port sites)
-some_told address port sites site before after low told = let all = lines_front address port sites site low in record {
+some_written address port sites site before after low written = let all = lines_front address port sites site low in record {
   front = listening_lines address port site;
   rest = all.0;
   is = all.1;
-  taken = told;
+  taken = written;
 }
 
--- and a front of the next one
+-- and a prefix of the next one
 pub next_begun : (address : IpAddr) (port sites site : ℕ) (before now after : Option (List ℕ)) (line : List ℕ) → site < sites
     → Appends before now (listening_lines address port site) → line ≡ listening_line address (port + site) → HasTaken now after line
     → HasTaken before after (listening_lines address port sites)
-next_begun address port sites site before now after line low told is begun =
+next_begun address port sites site before now after line low written is begun =
     let some = listening_lines address port site in
     let all = lines_front address port sites (suc site) (omega (arith, low)) in
     let split : listening_line address (port + site) ≡ begun.front ++ begun.rest = sym is ∙ begun.is in record {
@@ -41,5 +41,5 @@ next_begun address port sites site before now after line low told is begun =
       rest = begun.rest ++ all.0;
       is = all.1 ∙ ap (λ t. (some ++ t) ++ all.0) split ∙ ap (λ t. t ++ all.0) (sym (append_assoc some begun.front begun.rest))
           ∙ append_assoc (some ++ begun.front) begun.rest all.0;
-      taken = taken_grows before now after some begun.front told begun.taken;
+      taken = taken_grows before now after some begun.front written begun.taken;
     }

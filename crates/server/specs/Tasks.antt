@@ -1,6 +1,7 @@
 -- What the threads of a site do (this project's own).
-use Rattle.std.specs.Prelude.{ℕ, ◌≡◌, List, ◌∷◌, ◌++◌, Some, map, replicate, reverse, slice_get}
+use Rattle.std.specs.Prelude.{ℕ, ◌≡◌, ◌+◌, ◌<◌, List, [], ◌∷◌, ◌++◌, Some, if◌then◌else◌, length, nat_lt, replicate, reverse, slice_get}
 use Rattle.replica.specs.Deeds.{IsNew}
+use Rattle.site_links.specs.Links.{Receiving}
 use Rattle.site_links.specs.declared.linking.LinkEnds.{LinkEnds}
 use Rattle.site_links.specs.declared.linking.SiteLinks.{SiteLinks}
 use Rattle.site_threads.specs.declared.site_tasks.SiteTasks.{SiteTasks}
@@ -8,10 +9,19 @@ use Rattle.server.specs.declared.site.Site.{Site}
 use Rattle.server.specs.declared.working.SiteTask.{SiteTask}
 use Rattle.server.specs.declared.working.SiteTask.TheVariants.{Answer, Send, Take}
 
--- the tasks of a site that has these ends of links: `answering` of them answer, one sends on all of those that send, and one takes from each
--- that receives, the last first
-abbrev pub tasks_for : ℕ → LinkEnds → List SiteTask
-tasks_for answering links = replicate answering Answer ++ Send links.to ∷ map Take (reverse links.from.items)
+-- the site that stands at this place among all sites but `own`
+abbrev pub peer_at : ℕ → ℕ → ℕ
+peer_at own place = if nat_lt place own then place else place + 1
+
+-- a task for each of these links of the site `own`, the last of which comes from the first of the other sites
+abbrev pub takes_for : ℕ → List Receiving → List SiteTask
+takes_for own [] = []
+takes_for own (link ∷ links) = Take (peer_at own (length links)) link ∷ takes_for own links
+
+-- the tasks of the site `own` that has these ends of links: `answering` of them answer, one sends on all of those that send, and one takes
+-- from each that receives, the last first
+abbrev pub tasks_for : ℕ → ℕ → LinkEnds → List SiteTask
+tasks_for own answering links = replicate answering Answer ++ Send links.to ∷ takes_for own (reverse links.from.items)
 
 -- the site at this place is a new one with the place for its number and the queues `names`, and has the
 -- tasks of those ends of `links` that are its own, `answering` of which answer
@@ -23,4 +33,4 @@ pub record HasItsTasks (names : List (List ℕ)) (answering : ℕ) (links : Site
   pub ends : LinkEnds
   pub to : slice_get links.to.items place ≡ Some ends.to
   pub from : slice_get links.from.items place ≡ Some ends.from
-  pub tasks_are : site.tasks.items ≡ tasks_for answering ends
+  pub tasks_are : site.tasks.items ≡ tasks_for place answering ends

@@ -1,4 +1,4 @@
-//! The listeners of all sites, and what is told of them.
+//! The listeners of all sites, and the lines that say where they listen.
 ghost use Rattle.std.specs.Prelude.{◌≡◌, ◌⊎◌, ◌↔◌, ◌+◌, ◌<◌, ◌≤◌, ℕ, IfErr, IfOk, IsErrOf, OnErr};
 ghost use Rattle.std.specs.Prelude.{OnOk, false, string_bytes, true, vec_len};
 ghost use Rattle.std.specs.Io.KnownBytes.{Appends};
@@ -12,7 +12,7 @@ use dots::Memory;
 use std::alloc::Global;
 use std::net::{IpAddr, Net, SocketAddr, TcpListener, TcpStream};
 
-// Listens for `sites` sites, at this port and those behind it. Faults: `CannotListen`, with the first port that can't be listened on and
+// Listens for `sites` sites, at this port and those after it. Errors: `CannotListen`, with the first port that can't be listened on and
 // the system's reason; `Memory`.
 pub(crate) fn listen<R: Net<Listener = TcpListener, Stream = TcpStream>>(
     rt: &R,
@@ -51,8 +51,8 @@ fn line_of(alloc: Global, address: IpAddr, port: u16) -> Result<String, Memory>
     Ok(line)
 }
 
-// Tells of `sites` sites, which all listen at this port and those behind it. Faults: `Write`, `Memory`.
-pub(crate) fn tell_listening<W: Sink>(
+// Writes a line for each of `sites` sites, which all listen, at this port and those after it. Errors: `Write`, `Memory`.
+pub(crate) fn write_listening<W: Sink>(
     alloc: Global,
     log: &mut W,
     address: IpAddr,
@@ -61,7 +61,7 @@ pub(crate) fn tell_listening<W: Sink>(
 ) -> Result<(), ServeSitesFault>
     requires ports { port + sites ≤ 65536 }
     requires log { W.failed log.old ≡ false }
-    ensures told { OnOk result (Appends (W.taken log.old) (W.taken log.new)
+    ensures written { OnOk result (Appends (W.taken log.old) (W.taken log.new)
         (listening_lines address port sites)) }
     ensures begun { OnErr result (HasTaken (W.taken log.old) (W.taken log.new)
         (listening_lines address port sites)) }

@@ -1,29 +1,24 @@
-//! The threads of a site that send what it did, and that take what another site sends. A fault ends their
-//! pumps, which are then called again on the same links.
-ghost use Rattle.std.specs.Prelude.{◌≡◌, ◌≢◌, ◌⊎◌, ◌↔◌, ◌++◌, ◌∷◌, [], IsTrue, List, None, OnOk};
-ghost use Rattle.std.specs.Prelude.{ℕ, false, true};
-ghost use Rattle.std.specs.Option.{option_map_or};
-ghost use Rattle.site_desk.specs.Ports.{HasDoneAll};
-ghost use Rattle.site_pumps.specs.Broadcasts.{frames_in};
-ghost use Rattle.site_pumps.specs.Carried.{EachLink};
-ghost use Rattle.site_pumps.specs.Deeds.{AreTakes};
-ghost use Rattle.site_pumps.specs.Outlets.{OutletBegins, OutletRun, SenderGiven};
+//! The threads of a site that send its frames, and that take those of its peers. A fault ends a pump, which is then called again.
+ghost use Rattle.std.specs.Prelude.{◌≡◌, ◌⊎◌, ◌↔◌, IfErr, IfNone, IsTrue, OnOk, false, true};
+ghost use Rattle.site_pumps.specs.Calls.{HasCalled};
 
 use crate::keeping_bell::KeepingBell;
+use crate::peer_link::{PeerLink, mark_whole};
 use crate::site::Site;
+use crate::upkeep::Upkeep;
 use dots::Memory;
-use site_desk::{DeskPort, Pass, SiteDesk, SiteLedger};
-use site_journal::{DeskFault, Receipt};
-use site_links::{LinkReceiver, LinkSender};
-use site_pumps::{NoReceipts, PumpedIn, ReceiptSink, broadcast, pump_in};
+use site_journal::{DeskFault, Port, Receipt};
+use site_links::LinkSender;
+use site_pumps::{NoReceipts, PumpedIn, ReceiptSink, broadcast, broadcast_whole, pump_in};
+use std::alloc::Global;
 use std::sync::Wait;
 use std::thread;
 use std::time::{Clock, Duration};
 
-// How long a pump is left alone that a fault has ended, in milliseconds.
+// How long the thread that sends waits after a fault, in milliseconds.
 const PAUSE_MILLIS: u64 = 20;
 
-// A sink that drops receipts, and tells whether it was handed one.
+// A sink that drops receipts, and notes whether there was one.
 #[derive(Drop)]
 struct StepFlag {
     has_step: bool,
@@ -46,45 +41,6 @@ impl ReceiptSink for StepFlag {
     }
 }
 
-// Cuts by this pass at each ring of a bell, and sends each frame on all links, until the bell has ended or a fault comes.
-fn send_by<L: SiteLedger, R: Wait>(
-    rt: &R,
-    desk: &SiteDesk<L>,
-    pass: &mut Pass<L>,
-    links: &mut [LinkSender],
-    bell: &mut KeepingBell<'_, L>,
-    steps: &mut StepFlag,
-) -> Result<(), DeskFault>
-    ensures ordinal { pass.new.ordinal ≡ pass.old.ordinal }
-    ensures sent { (receipts : List Receipt)
-        × HasDoneAll L.site L.names pass.old receipts pass.new
-        × OnOk result (EachLink (OutletRun SenderGiven (frames_in receipts)) links.old links.new)
-        × EachLink (OutletBegins SenderGiven (frames_in receipts)) links.old links.new }
-    ensures ended { OnOk result (bell.new.ear.ended ≡ true) }
-{
-    let mut port = DeskPort::new(desk, pass);
-    broadcast(rt, &mut port, links, bell, steps)
-}
-
-// Takes the items of a link by this pass, until the link ends or a take fails. Keeps no receipts.
-fn take_by<L: SiteLedger, R: Wait>(
-    rt: &R,
-    desk: &SiteDesk<L>,
-    pass: &mut Pass<L>,
-    link: &mut LinkReceiver,
-) -> PumpedIn
-    ensures ordinal { pass.new.ordinal ≡ pass.old.ordinal }
-    ensures takes { (receipts : List Receipt) × (items : List (List ℕ)) × AreTakes items receipts
-        × HasDoneAll L.site L.names pass.old receipts pass.new
-        × (link.new.received ≡ link.old.received
-        ++ (items ++ option_map_or (λ bytes. bytes.items ∷ []) result.refused [])) }
-    ensures ended { result.fault ≡ None → link.new.ended ≡ true }
-{
-    let mut port = DeskPort::new(desk, pass);
-    let mut sink = NoReceipts;
-    pump_in(rt, &mut port, link, &mut sink)
-}
-
 // Whether a pump that sends finds its journal full when a fault has stopped it. One that was full just before, and is again before a step
 // was made, isn't found so.
 fn finds_full(fault: DeskFault, again: bool, made: bool) -> bool
@@ -94,118 +50,199 @@ fn finds_full(fault: DeskFault, again: bool, made: bool) -> bool
     fault == DeskFault::JournalFull && (!again || made)
 }
 
-// Whether a pump that sends is to cut at once when it goes on behind a fault. A site that has used up its frame numbers waits for a ring.
-fn cuts_at_once(fault: DeskFault) -> bool
-    ensures { IsTrue result ↔ (fault ≢ DeskFault.Exhausted) }
-{
-    fault != DeskFault::Exhausted
-}
-
-// Sends on these links by this pass what its site did, until the site's bell has ended. Where the journal is full its steps are dropped,
-// and the pump goes on at once; it does so too after another fault, or where the journal is full again, if the bell hasn't ended, but then
-// after a pause. What it was told to send when it stopped is sent with the next cut: so the bell rings once for that.
-fn send_to_the_end<L: SiteLedger, R: Wait + Clock>(
+// Prepares what a pump does next after a fault. After `Memory` a whole is due: a frame may have been made that was not sent on every link. A
+// whole that was due before stays so. The bell rings, so that what a refused cut had to send is cut again. A site that has used up its frame
+// numbers neither makes a whole nor cuts before the next ring.
+fn note_fault<R: Wait + Clock, U>(
     rt: &R,
     site: &Site,
-    desk: &SiteDesk<L>,
-    pass: &mut Pass<L>,
-    links: &mut [LinkSender],
-    bell: &mut KeepingBell<'_, L>,
+    bell: &mut KeepingBell<'_, U>,
+    fault: DeskFault,
 )
-    ensures ordinal { pass.new.ordinal ≡ pass.old.ordinal }
-    ensures ended { bell.new.ear.ended ≡ true }
+    ensures { bell.new.ear.closed ≡ bell.old.ear.closed }
+{
+    match fault {
+        DeskFault::Exhausted => bell.begin_round(rt),
+        DeskFault::Memory => {
+            bell.end_round();
+            site.bell.ring(rt);
+        }
+        _ => site.bell.ring(rt),
+    }
+}
+
+// Recovers a pump that sends from a fault: at once if the journal was full and its steps are dropped, and else after a pause. Returns whether
+// the journal was full. `None`: its steps weren't dropped, and the site's bell has ended.
+fn recover<R: Wait + Clock, U: Upkeep<R>>(
+    rt: &R,
+    site: &Site,
+    upkeep: &U,
+    bell: &mut KeepingBell<'_, U>,
+    fault: DeskFault,
+    again: bool,
+    made: bool,
+) -> Option<bool>
+    ensures { IfNone result (bell.new.ear.closed ≡ true) }
+{
+    let is_full = finds_full(fault, again, made) && upkeep.drop_steps(rt).is_ok();
+    if !is_full {
+        if bell.has_bell_ended() {
+            return None;
+        }
+        thread::sleep(rt, Duration::from_millis(PAUSE_MILLIS));
+    }
+    note_fault(rt, site, bell, fault);
+    Some(is_full)
+}
+
+// Sends on these links by this port what the site does, until the site's bell has ended. When a whole is due, it sends one.
+//
+// After a fault it goes on, unless the bell has ended. What it had to send when a cut was refused is sent with the next cut. A whole that was
+// not sent on every link is made again. Error: `Unsaved`, if the site's store has failed.
+fn send_to_the_end<R: Wait + Clock, P: Port<R>, U: Upkeep<R>>(
+    rt: &R,
+    alloc: Global,
+    site: &Site,
+    upkeep: &U,
+    port: &mut P,
+    links: &mut [LinkSender],
+    bell: &mut KeepingBell<'_, U>,
+) -> Result<(), DeskFault>
+    ensures calls { HasCalled P.makes P.refuses port.old port.new }
+    ensures ended { OnOk result (bell.new.ear.closed ≡ true) }
+    ensures fault { IfErr result (λ fault. fault ≡ DeskFault.Unsaved) }
 {
     // Whether the journal was full just before.
     let mut again = false;
     for _ in rt.forever() {
         let mut steps = StepFlag { has_step: false };
-        let Err(fault) = send_by(rt, desk, pass, links, bell, &mut steps) else {
-            return;
-        };
-        again = finds_full(fault, again, steps.has_step) && desk.checkpoint(rt).is_ok();
-        if !again {
-            if bell.has_ended() {
-                return;
+        match broadcast(rt, port, links, bell, &mut steps) {
+            Ok(()) => {
+                if bell.has_bell_ended() {
+                    return Ok(());
+                }
+                mark_whole(rt, alloc, links);
+                bell.begin_round(rt);
+                again = false;
             }
-            thread::sleep(rt, Duration::from_millis(PAUSE_MILLIS));
-        }
-        if cuts_at_once(fault) {
-            site.bell.ring(rt);
+            Err(DeskFault::Unsaved) => return Err(DeskFault::Unsaved),
+            Err(fault) => {
+                match recover(rt, site, upkeep, bell, fault, again, steps.has_step) {
+                    Some(is_full) => again = is_full,
+                    None => return Ok(()),
+                }
+            }
         }
     }
     unreachable!()
 }
 
-// Sends on these links by this pass what its site did, and gives up the links once the site's bell has ended.
-pub(crate) fn send_news<L: SiteLedger, R: Wait + Clock>(
+// Sends a whole on these links by this port. If that fails it is still due.
+fn send_first_whole<R: Wait + Clock, P: Port<R>, U>(
     rt: &R,
+    port: &mut P,
+    links: &mut [LinkSender],
+    bell: &mut KeepingBell<'_, U>,
+)
+    ensures { HasCalled P.makes P.refuses port.old port.new }
+{
+    let mut sink = NoReceipts;
+    match broadcast_whole(rt, port, links, &mut sink) {
+        Ok(()) => bell.begin_round(rt),
+        Err(_) => bell.end_round(),
+    }
+}
+
+// Sends on these links by this port what the site does, and drops the links once the site's bell has ended. If the site `is_restored`, it
+// sends a whole first: frames of before may not have been sent. Error: `Unsaved`, if the site's store has failed.
+pub(crate) fn send_news<R: Wait + Clock, P: Port<R>, U: Upkeep<R>>(
+    rt: &R,
+    alloc: Global,
     site: &Site,
-    desk: &SiteDesk<L>,
-    pass: Pass<L>,
+    upkeep: &U,
+    port: &mut P,
     links: Vec<LinkSender>,
-) -> Pass<L>
-    ensures { result.ordinal ≡ pass.ordinal }
+    is_restored: bool,
+) -> Result<(), DeskFault>
+    ensures { HasCalled P.makes P.refuses port.old port.new }
 {
-    let mut pass = pass;
     let mut links = links;
-    let mut bell = KeepingBell::new(&site.bell, desk);
-    send_to_the_end(rt, site, desk, &mut pass, links.as_mut_slice(), &mut bell);
+    let mut bell = KeepingBell::new(site, upkeep);
+    if is_restored {
+        send_first_whole(rt, port, links.as_mut_slice(), &mut bell);
+    }
+    let ended = send_to_the_end(
+        rt,
+        alloc,
+        site,
+        upkeep,
+        port,
+        links.as_mut_slice(),
+        &mut bell,
+    );
+    drop(bell);
     drop(links);
-    pass
+    ended
 }
 
-// Drops the steps of a full journal, and takes the bytes for which there was no room. Where there is none again they are lost.
-fn take_again<L: SiteLedger, R: Wait>(
+// Takes bytes that a port has refused for this fault once more, where that was a full journal whose steps can be dropped. Returns the fault
+// for which they were not taken.
+fn take_again<R, P: Port<R>, U: Upkeep<R>>(
     rt: &R,
-    desk: &SiteDesk<L>,
-    pass: &mut Pass<L>,
-    bytes: Option<Vec<u8>>,
-)
-    ensures { pass.new.ordinal ≡ pass.old.ordinal }
+    upkeep: &U,
+    port: &mut P,
+    fault: DeskFault,
+    refused: Option<Vec<u8>>,
+) -> Result<(), DeskFault>
+    ensures { HasCalled P.makes P.refuses port.old port.new }
 {
-    let _ = desk.checkpoint(rt);
-    if let Some(bytes) = bytes {
-        drop(desk.take(rt, pass, bytes));
+    if fault != DeskFault::JournalFull {
+        drop(refused);
+        return Err(fault);
+    }
+    let Some(bytes) = refused else {
+        return Err(fault);
+    };
+    if let Err(fault) = upkeep.drop_steps(rt) {
+        drop(bytes);
+        return Err(fault);
+    }
+    match port.take(rt, bytes) {
+        Ok(receipt) => {
+            drop(receipt);
+            Ok(())
+        }
+        Err((fault, bytes)) => {
+            drop(bytes);
+            Err(fault)
+        }
     }
 }
 
-// Takes by this pass what comes on a link, until the link has ended. Where the journal is full its steps are dropped, and the bytes that
-// were refused are taken first. After another fault they are lost.
-fn take_to_the_end<L: SiteLedger, R: Wait>(
+// Takes by this port the frames of a peer, until the link has ended. If the journal is full its steps are dropped, and the frame that was
+// refused is taken again. After another fault the site is behind the peer. Error: `Unsaved`, if the site's store has failed.
+pub(crate) fn take_news<R: Wait, P: Port<R>, U: Upkeep<R>>(
     rt: &R,
-    desk: &SiteDesk<L>,
-    pass: &mut Pass<L>,
-    link: &mut LinkReceiver,
-)
-    ensures ordinal { pass.new.ordinal ≡ pass.old.ordinal }
-    ensures ended { link.new.ended ≡ true }
+    upkeep: &U,
+    port: &mut P,
+    link: &mut PeerLink<'_, U>,
+) -> Result<(), DeskFault>
+    ensures calls { HasCalled P.makes P.refuses port.old port.new }
+    ensures ended { OnOk result (link.new.link.ended ≡ true) }
+    ensures fault { IfErr result (λ fault. fault ≡ DeskFault.Unsaved) }
 {
+    let mut sink = NoReceipts;
     for _ in rt.forever() {
-        let PumpedIn { fault, refused } = take_by(rt, desk, pass, link);
-        match fault {
-            None => {
-                drop(refused);
-                return;
-            }
-            Some(DeskFault::JournalFull) => take_again(rt, desk, pass, refused),
-            Some(_) => drop(refused),
+        let PumpedIn { fault, refused } = pump_in(rt, port, link, &mut sink);
+        let Some(fault) = fault else {
+            drop(refused);
+            return Ok(());
+        };
+        match take_again(rt, upkeep, port, fault, refused) {
+            Ok(()) => {}
+            Err(DeskFault::Unsaved) => return Err(DeskFault::Unsaved),
+            Err(fault) => link.refuse(rt, fault),
         }
     }
     unreachable!()
-}
-
-// Takes by this pass what comes on a link until that has ended, and gives up the link.
-pub(crate) fn take_news<L: SiteLedger, R: Wait>(
-    rt: &R,
-    desk: &SiteDesk<L>,
-    pass: Pass<L>,
-    link: LinkReceiver,
-) -> Pass<L>
-    ensures { result.ordinal ≡ pass.ordinal }
-{
-    let mut pass = pass;
-    let mut link = link;
-    take_to_the_end(rt, desk, &mut pass, &mut link);
-    drop(link);
-    pass
 }

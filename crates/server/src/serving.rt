@@ -1,19 +1,20 @@
 //! All sites: what each has to do, and the journals that they end with.
 ghost use Rattle.std.specs.List.{All};
 ghost use Rattle.std.specs.Prelude.{◌≡◌, ◌↔◌, ◌+◌, ◌<◌, ◌≤◌, ℕ, IfOk, IsErrOf, List, OnErr};
-ghost use Rattle.std.specs.Prelude.{OnOk, false, insert, true, vec_capacity, vec_len};
+ghost use Rattle.std.specs.Prelude.{OnOk, false, insert, length, true, vec_capacity, vec_len};
 ghost use Rattle.std.specs.Io.KnownBytes.{Appends};
 ghost use Rattle.std.specs.declared.io.Error.{Error};
 ghost use Rattle.ami_text.specs.Devices.{HasTaken};
 ghost use Rattle.replica.specs.Deeds.{IsNew};
 ghost use Rattle.site_links.specs.Linking.{AreLinksOf};
+ghost use Rattle.site_links.specs.declared.linking.SiteLinks.{SiteLinks};
 ghost use Rattle.site_threads.specs.Places.{AtEach};
 ghost use Rattle.server.specs.Listening.{listening_lines};
 ghost use Rattle.server.specs.ServedJournals.{IsServedJournal};
 ghost use Rattle.server.specs.Tasks.{HasItsTasks, tasks_for};
 
 use crate::ServeSitesFault;
-use crate::listening::{listen, tell_listening};
+use crate::listening::{listen, write_listening};
 use crate::sessions::Sessions;
 use crate::site::{JOURNAL_STEPS, Site};
 use crate::working::{MOST_PLACES, SiteTask, tasks_of};
@@ -50,31 +51,111 @@ fn insert_first<T: Drop>(list: &mut Vec<T>, element: T)
     }
 }
 
+// Copies of the handles of these bells.
+fn copies_of(
+    alloc: Global,
+    bells: &[Arc<SiteBell, Global>],
+) -> Result<Vec<Arc<SiteBell, Global>>, Memory> {
+    let mut copies = Vec::with_capacity(alloc, bells.len())?;
+    for bell in bells {
+        copies.push(Arc::try_clone(bell)?)?;
+    }
+    Ok(copies)
+}
+
+// A bell for each of `sites` sites.
+fn bells_of(alloc: Global, sites: usize) -> Result<Vec<Arc<SiteBell, Global>>, Memory>
+    ensures { IfOk result (λ bells. vec_len bells ≡ sites) }
+{
+    let mut bells = Vec::new(alloc);
+    for _i in 0..sites {
+        match Arc::new(alloc, SiteBell::new()) {
+            Ok(bell) => bells.push(bell)?,
+            Err(_) => return Err(Memory),
+        }
+    }
+    Ok(bells)
+}
+
+// How the clients of each site of a server are served.
+#[derive(Clone, Copy)]
+struct Clients<'s, 'e> {
+    settings: &'s SessionSettings,
+    places: u16,
+    events: &'e Arc<EventLog, Global>,
+    // How many connections a site takes, if it isn't any number.
+    number: Option<u32>,
+}
+
+// How many threads of a site with this number of places answer clients. There is one more than places: it waits with the next client.
+fn answering(places: u16) -> u32
+    ensures { result ≡ places + 1 }
+{
+    u32::from(places) + 1
+}
+
+// What the threads of the site of this number share.
+fn shared_by(
+    alloc: Global,
+    number: SiteId,
+    clients: &Clients<'_, '_>,
+    bells: &[Arc<SiteBell, Global>],
+    listener: TcpListener,
+) -> Result<Site, Memory>
+    requires { number < length bells.now }
+    ensures { IfOk result (λ shared. shared.number ≡ number) }
+{
+    let Ok(bell) = Arc::try_clone(&bells[usize::from(number.number())]) else {
+        drop(listener);
+        return Err(Memory);
+    };
+    let Ok(bells) = copies_of(alloc, bells) else {
+        drop(bell);
+        drop(listener);
+        return Err(Memory);
+    };
+    let Ok(events) = Arc::try_clone(clients.events) else {
+        drop(bells);
+        drop(bell);
+        drop(listener);
+        return Err(Memory);
+    };
+    Ok(Site {
+        number,
+        listener,
+        bell,
+        bells,
+        tickets: Tickets::new(clients.number),
+        places: Places::new(u32::from(clients.places)),
+        sessions: Sessions::new(answering(clients.places)),
+        settings: clients.settings.copy(),
+        events,
+    })
+}
+
 // What the site of this number is launched with: it knows nothing, has the queues of `list`, and its
 // threads have this listener and these ends of links.
 fn launch_of(
     alloc: Global,
     number: SiteId,
     list: &QueueList,
-    settings: &SessionSettings,
-    places: u16,
-    events: &Arc<EventLog, Global>,
-    clients: Option<u32>,
+    clients: &Clients<'_, '_>,
+    bells: &[Arc<SiteBell, Global>],
     listener: TcpListener,
     links: LinkEnds,
 ) -> Result<SiteTasks<Site, SiteTask>, Memory>
-    requires places { places ≤ MOST_PLACES }
+    requires bells { number < length bells.now }
+    requires links { vec_len links.from ≤ 63 }
     ensures site { IfOk result (λ site. site.replica.site ≡ number) }
     ensures names { IfOk result (λ site. site.replica.names ≡ list.now) }
     ensures new { IfOk result (λ site. IsNew site.replica) }
     ensures number { IfOk result (λ site. site.shared.number ≡ number) }
-    ensures tasks { IfOk result (λ site. site.tasks.items ≡ tasks_for (places + 1) links) }
+    ensures tasks { IfOk result (λ site.
+        site.tasks.items ≡ tasks_for number (clients.now.places + 1) links) }
     ensures len { IfOk result (λ site.
-        vec_len site.tasks ≡ vec_len links.from + (places + 2)) }
+        vec_len site.tasks ≡ vec_len links.from + (clients.now.places + 2)) }
 {
-    // One more thread than there are places: it waits with the next client.
-    let answering = u32::from(places) + 1;
-    let Ok(tasks) = tasks_of(alloc, answering, links) else {
+    let Ok(tasks) = tasks_of(alloc, number, answering(clients.places), links) else {
         drop(listener);
         return Err(Memory);
     };
@@ -83,21 +164,10 @@ fn launch_of(
         drop(listener);
         return Err(Memory);
     };
-    let Ok(events) = Arc::try_clone(events) else {
+    let Ok(shared) = shared_by(alloc, number, clients, bells, listener) else {
         drop(queues);
         drop(tasks);
-        drop(listener);
         return Err(Memory);
-    };
-    let shared = Site {
-        number,
-        listener,
-        bell: SiteBell::new(),
-        tickets: Tickets::new(clients),
-        places: Places::new(u32::from(places)),
-        sessions: Sessions::new(answering),
-        settings: settings.copy(),
-        events,
     };
     Ok(SiteTasks {
         replica: Replica::new(alloc, number, queues),
@@ -110,22 +180,20 @@ fn launch_of(
 fn sites_of(
     alloc: Global,
     list: &QueueList,
-    settings: &SessionSettings,
-    places: u16,
-    events: &Arc<EventLog, Global>,
-    clients: Option<u32>,
+    clients: &Clients<'_, '_>,
+    bells: &[Arc<SiteBell, Global>],
     listeners: Vec<TcpListener>,
     links: SiteLinks,
 ) -> Result<Vec<SiteTasks<Site, SiteTask>>, Memory>
     requires few { vec_len listeners ≤ MOST_SERVED_SITES }
-    requires places { places ≤ MOST_PLACES }
+    requires bells { length bells.now ≡ vec_len listeners }
     requires links { AreLinksOf (vec_len listeners) links }
     ensures number { IfOk result (λ sites. vec_len sites ≡ vec_len listeners) }
     ensures each { IfOk result (λ sites.
-        AtEach (λ place site. HasItsTasks list.now (places + 1) links place site)
+        AtEach (λ place site. HasItsTasks list.now (clients.now.places + 1) links place site)
         sites.items) }
-    ensures tasks { IfOk result (λ sites.
-        All (λ site. vec_len site.tasks ≡ vec_len listeners + (places + 1)) sites.items) }
+    ensures tasks { IfOk result (λ sites. All (λ site.
+        vec_len site.tasks ≡ vec_len listeners + (clients.now.places + 1)) sites.items) }
 {
     let mut listeners = listeners;
     let mut links = links;
@@ -144,9 +212,7 @@ fn sites_of(
         let Some(number) = SiteId::new(listeners.len() as u16) else {
             unreachable!();
         };
-        match launch_of(
-            alloc, number, list, settings, places, events, clients, listener, ends,
-        ) {
+        match launch_of(alloc, number, list, clients, bells, listener, ends) {
             Ok(site) => insert_first(&mut sites, site),
             Err(_) => {
                 drop(listeners);
@@ -159,6 +225,47 @@ fn sites_of(
     drop(listeners);
     drop(links);
     Ok(sites)
+}
+
+// What the sites of a server are launched with: new bells, and a new link from each to each other.
+fn launches_of(
+    alloc: Global,
+    list: &QueueList,
+    clients: &Clients<'_, '_>,
+    listeners: Vec<TcpListener>,
+) -> Result<Vec<SiteTasks<Site, SiteTask>>, Memory>
+    requires few { vec_len listeners ≤ MOST_SERVED_SITES }
+    ensures number { IfOk result (λ sites. vec_len sites ≡ vec_len listeners) }
+    ensures each { IfOk result (λ sites. (links : SiteLinks) × AtEach (λ place site.
+        HasItsTasks list.now (clients.now.places + 1) links place site) sites.items) }
+    ensures tasks { IfOk result (λ sites. All (λ site.
+        vec_len site.tasks ≡ vec_len listeners + (clients.now.places + 1)) sites.items) }
+{
+    let bells = match bells_of(alloc, listeners.len()) {
+        Ok(bells) => bells,
+        Err(_) => {
+            drop(listeners);
+            return Err(Memory);
+        }
+    };
+    let links = match link_all(alloc, listeners.len()) {
+        Ok(links) => links,
+        Err(_) => {
+            drop(bells);
+            drop(listeners);
+            return Err(Memory);
+        }
+    };
+    match sites_of(alloc, list, clients, bells.as_slice(), listeners, links) {
+        Ok(sites) => {
+            drop(bells);
+            Ok(sites)
+        }
+        Err(_) => {
+            drop(bells);
+            Err(Memory)
+        }
+    }
 }
 
 // The journals of sites that have ended, put into this room.
@@ -186,14 +293,11 @@ fn serve_listeners<R: Threads + Wait + Clock + Sync>(
     rt: &R,
     alloc: Global,
     list: &QueueList,
-    settings: &SessionSettings,
-    places: u16,
-    events: &Arc<EventLog, Global>,
-    clients: Option<u32>,
+    clients: &Clients<'_, '_>,
     listeners: Vec<TcpListener>,
 ) -> Result<Vec<Journaled>, LaunchFault>
     requires few { vec_len listeners ≤ MOST_SERVED_SITES }
-    requires places { places ≤ MOST_PLACES }
+    requires places { clients.now.places ≤ MOST_PLACES }
     ensures number { IfOk result (λ journals. vec_len journals ≡ vec_len listeners) }
     ensures each { IfOk result (λ journals.
         AtEach (λ site journal. IsServedJournal site list.now journal) journals.items) }
@@ -205,17 +309,7 @@ fn serve_listeners<R: Threads + Wait + Clock + Sync>(
             return Err(LaunchFault::Memory);
         }
     };
-    let links = match link_all(alloc, listeners.len()) {
-        Ok(links) => links,
-        Err(_) => {
-            drop(room);
-            drop(listeners);
-            return Err(LaunchFault::Memory);
-        }
-    };
-    let sites = match sites_of(
-        alloc, list, settings, places, events, clients, listeners, links,
-    ) {
+    let sites = match launches_of(alloc, list, clients, listeners) {
         Ok(sites) => sites,
         Err(_) => {
             drop(room);
@@ -233,13 +327,15 @@ fn serve_listeners<R: Threads + Wait + Clock + Sync>(
 
 /// Serves sites at once, as many as `settings` says, with the numbers 0, 1 and so on and the queues of
 /// `list`, each at its own port. A site answers as many clients at once as it has places; further ones
-/// wait. Each answer rings the site's bell, and the site then sends what it did to the others. A journal has
-/// 1,000 steps at most, and they keep 64 MiB at most but for what the last of them keeps: then its
-/// steps are dropped. With a number of `sessions` each site takes that many connections, answers them,
-/// and gives its journal. Without it the call runs until the program is stopped.
+/// wait, in order. Each answer rings the site's bell, and the site then sends its changes to the others. A
+/// site that can't take a frame of another one takes a whole of it later. The steps of a site's journal are
+/// dropped when there are 1,000, and when they keep more than 64 MiB: that is looked at before each cut and
+/// each take. With a number of `sessions` each site takes that many connections, answers them, and gives
+/// its journal. Without it the call runs until the program is stopped.
 ///
 /// Once all sites listen the log has a line for each in their order, as `listening 127.0.0.1:5038`, and
-/// nothing more. What happens to clients is added to `events`.
+/// nothing more. What happens to clients is added to `events`; and a line when a site falls behind another
+/// one, or has caught up with it.
 ///
 /// Errors, in order: 1 `CannotListen`, with the first port that a site can't listen on and the system's
 /// reason, and the log as it was;
@@ -260,6 +356,7 @@ pub fn serve_sites<
 ) -> Result<Vec<Journaled>, ServeSitesFault>
     requires some { 1 ≤ settings.now.sites }
     requires most { settings.now.sites ≤ MOST_SERVED_SITES }
+    requires answered { 1 ≤ settings.now.places }
     requires places { settings.now.places ≤ MOST_PLACES }
     requires first { 1 ≤ settings.now.port }
     requires last { settings.now.port ≤ LAST_PORT }
@@ -284,17 +381,15 @@ pub fn serve_sites<
     ensures write { IsErrOf result ServeSitesFault.Write ↔ (W.failed log.new ≡ true) }
     ensures works { OnOk result (W.failed log.new ≡ false) }
 {
-    let ServerSettings {
-        sites,
-        places,
-        address,
-        port,
-        session,
-    } = settings;
-    let listeners = listen(rt, alloc, *address, *port, *sites)?;
-    tell_listening(alloc, log, *address, *port, *sites)?;
-    let journals = serve_listeners(
-        rt, alloc, list, session, *places, events, sessions, listeners,
-    )?;
+    let (address, port, sites) = (settings.address, settings.port, settings.sites);
+    let clients = Clients {
+        settings: &settings.session,
+        places: settings.places,
+        events,
+        number: sessions,
+    };
+    let listeners = listen(rt, alloc, address, port, sites)?;
+    write_listening(alloc, log, address, port, sites)?;
+    let journals = serve_listeners(rt, alloc, list, &clients, listeners)?;
     Ok(journals)
 }

@@ -3,6 +3,7 @@ ghost use Rattle.std.specs.Prelude.{◌≡◌};
 ghost use Rattle.site_journal.specs.Journals.{IsOfSite};
 
 use crate::shared::{replica, whole_status};
+use dots::SiteId;
 use pass_desk::{Ear, PassDesk, RingingDesk, SiteBell};
 use replica::Refusal;
 use serve::{Desk, DeskDown};
@@ -14,6 +15,7 @@ use std::marker::Brand;
 use std::process::Abort;
 use std::sync::Wait;
 use std::sync::ledger::Blank;
+use std::time::Clock;
 
 // The journal of site 0 that knows nothing, in which `limit` steps may stand.
 fn journal(rt: &impl Abort, alloc: Global, limit: u32) -> Journaled
@@ -139,7 +141,7 @@ impl<R> Desk<R> for ShortDesk {
 }
 
 // Asks twice at a desk that rings. Whether that is heard, which it is once at most.
-fn hears(rt: &(impl Abort + Wait), alloc: Global, refusals: u32, deeds: u32) -> bool {
+fn hears(rt: &(impl Abort + Wait + Clock), alloc: Global, refusals: u32, deeds: u32) -> bool {
     let bell = SiteBell::new();
     let mut desk = RingingDesk::new(ShortDesk { refusals, deeds }, &bell);
     for _ in 0..2u32 {
@@ -148,7 +150,7 @@ fn hears(rt: &(impl Abort + Wait), alloc: Global, refusals: u32, deeds: u32) -> 
     bell.end(rt);
     let mut ear = Ear::new(&bell);
     let heard = ear.wait(rt);
-    assert!(rt; !ear.wait(rt) && ear.has_ended());
+    assert!(rt; !ear.wait(rt) && ear.has_bell_ended());
     heard
 }
 
@@ -157,4 +159,27 @@ fn a_desk_rings_at_each_answer_alone(rt: HostRuntime) {
     for (refusals, deeds, heard) in [(0, 0, false), (1, 0, true), (0, 1, true), (1, 1, true)] {
         assert!(&rt; hears(&rt, rt.alloc(), refusals, deeds) == heard);
     }
+}
+
+#[test]
+fn a_whole_is_due_while_a_peer_is_behind(rt: HostRuntime) {
+    let peer = SiteId::new(3).expect(&rt, "a number");
+    let bell = SiteBell::new();
+    let mut ear = Ear::new(&bell);
+    bell.ring(&rt);
+    assert!(&rt; ear.wait(&rt));
+    // A peer that is not behind needs no whole.
+    bell.hurry(&rt, peer);
+    bell.fall_behind(&rt, peer);
+    assert!(&rt; ear.wait(&rt));
+    assert!(&rt; !ear.wait(&rt) && !ear.has_bell_ended());
+    ear.begin_round(&rt);
+    bell.ring(&rt);
+    assert!(&rt; ear.wait(&rt));
+    bell.hurry(&rt, peer);
+    assert!(&rt; !ear.wait(&rt) && !ear.has_bell_ended());
+    ear.begin_round(&rt);
+    bell.catch_up(&rt, peer);
+    bell.end(&rt);
+    assert!(&rt; !ear.wait(&rt) && ear.has_bell_ended());
 }

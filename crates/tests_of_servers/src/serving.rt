@@ -119,7 +119,7 @@ where
     let (sites, port) = (settings.sites, settings.port);
     assert!(rt; 0 < sites && sites <= MOST_SERVED_SITES);
     assert!(rt; 0 < port && port <= LAST_PORT);
-    assert!(rt; settings.places <= MOST_PLACES);
+    assert!(rt; 0 < settings.places && settings.places <= MOST_PLACES);
     let mut log = MemorySink::failing(alloc, 700, writes);
     let list = list(rt, alloc, &["sales"]);
     let events = events(rt, alloc);

@@ -1,19 +1,19 @@
 use Rattle.std.proofs.Common.{Result, Ok, Err, OnErr, rules, arith, ◌≡◌, ◌+◌}
 use Rattle.server.specs.Listening.{listening_line}
-use Rattle.server.proofs.ListeningLemmas.{next_begun, some_told}
-use Rattle.server.proofs.listening.tell_listening.Goals as goal
+use Rattle.server.proofs.ListeningLemmas.{next_begun, some_written}
+use Rattle.server.proofs.listening.write_listening.Goals as goal
 
 -- whatever the result is
 at_err : {T E : Type 0} (r : Result T E) (P : Type 0) → P → OnErr r P
 at_err (Ok x) P holds = tt
 at_err (Err e) P holds = holds
 
--- the lines of the sites so far are told
+-- the lines of the sites so far are written
 pub returns-in_err-line-clause-begun : goal.returns-in_err-line-clause-begun
 returns-in_err-line-clause-begun g c = at_err c.from_residual.result _
-    (some_told c.args.address c.args.port c.args.sites c.loop-site.site _ _ (omega (arith, c.loop-site-test.true)) c.loop-site.invariant.1)
+    (some_written c.args.address c.args.port c.args.sites c.loop-site.site _ _ (omega (arith, c.loop-site-test.true)) c.loop-site.invariant.1)
 
--- and a front of the next one
+-- and a prefix of the next one
 pub returns-in-Err-clause-begun : goal.returns-in-Err-clause-begun
 returns-in-Err-clause-begun g c =
     let line : c.as_bytes.result.now ≡ listening_line c.args.address (c.args.port + c.loop-site.site) = search rules in

@@ -1,9 +1,9 @@
 use Rattle.std.specs.List.{All}
-use Rattle.std.proofs.Common.{rules, ◌≡◌, ◌∙◌, ◌+◌, Some, arith, length, slice_get, subst, sym, vec_len}
+use Rattle.std.proofs.Common.{rules, ◌≡◌, ◌∙◌, ◌+◌, Some, ap, arith, length, slice_get, subst, sym, vec_len}
 use Rattle.std.proofs.lemmas.List.Elements.{All-cons}
 use Rattle.site_threads.specs.Places.{AtEach}
 use Rattle.site_threads.specs.declared.site_tasks.SiteTasks.{SiteTasks}
-use Rattle.server.specs.Tasks.{HasItsTasks}
+use Rattle.server.specs.Tasks.{HasItsTasks, tasks_for}
 use Rattle.server.specs.declared.site.Site.{Site}
 use Rattle.server.specs.declared.working.SiteTask.{SiteTask}
 use Rattle.server.proofs.PlaceLemmas.{each_from, each_front, each_itself, each_none, each_pop}
@@ -19,7 +19,7 @@ loop-listener-init c = (
   c.requires.links.from_others,
   each_itself c.args.links.to.items,
   each_itself c.args.links.from.items,
-  each_none (λ k (site : SiteTasks Site SiteTask). HasItsTasks c.args.list.now (c.args.places + 1) c.args.links (vec_len c.args.listeners + k) site) c.in-Ok.sites.items (omega (arith, c.in-Ok.ensures.len, c.in-Ok.sites.ok.0)),
+  each_none (λ k (site : SiteTasks Site SiteTask). HasItsTasks c.args.list.now (c.args.clients.now.places + 1) c.args.links (vec_len c.args.listeners + k) site) c.in-Ok.sites.items (omega (arith, c.in-Ok.ensures.len, c.in-Ok.sites.ok.0)),
   (λ k none low. absurd (omega (arith, low, c.in-Ok.ensures.len, c.in-Ok.sites.ok.0))),
 )
 
@@ -44,8 +44,8 @@ loop-listener-preserved c =
       others.0,
       to.0,
       from.0,
-      each_front (λ at (one : SiteTasks Site SiteTask). HasItsTasks c.args.list.now (c.args.places + 1) c.args.links at one) c.loop-listener.sites.items c.insert_first.new.list.items _ place c.insert_first.ensures.items
-          (subst (λ n. AtEach (λ k (one : SiteTasks Site SiteTask). HasItsTasks c.args.list.now (c.args.places + 1) c.args.links (n + k) one) c.loop-listener.sites.items) (omega (arith, less)) was.7)
+      each_front (λ at (one : SiteTasks Site SiteTask). HasItsTasks c.args.list.now (c.args.clients.now.places + 1) c.args.links at one) c.loop-listener.sites.items c.insert_first.new.list.items _ place c.insert_first.ensures.items
+          (subst (λ n. AtEach (λ k (one : SiteTasks Site SiteTask). HasItsTasks c.args.list.now (c.args.clients.now.places + 1) c.args.links (n + k) one) c.loop-listener.sites.items) (omega (arith, less)) was.7)
           (record {
             site_is = made.site ∙ number;
             names_are = made.names;
@@ -54,12 +54,12 @@ loop-listener-preserved c =
             ends = c.in-Some-pop.ends;
             to = subst (λ n. slice_get c.args.links.to.items n ≡ Some c.in-Some-pop.ends.to) at_to to.1;
             from = subst (λ n. slice_get c.args.links.from.items n ≡ Some c.in-Some-pop.ends.from) at_from from.1;
-            tasks_are = made.tasks;
+            tasks_are = made.tasks ∙ ap (λ n. tasks_for n (c.args.clients.now.places + 1) c.in-Some-pop.ends) number;
           }),
-      subst (All (λ (one : SiteTasks Site SiteTask). vec_len one.tasks ≡ vec_len c.args.listeners + (c.args.places + 1))) (sym c.insert_first.ensures.items)
-          (All-cons (λ (one : SiteTasks Site SiteTask). vec_len one.tasks ≡ vec_len c.args.listeners + (c.args.places + 1)) _ c.loop-listener.sites.items (omega (arith, made.len, others.1)) was.8),
+      subst (All (λ (one : SiteTasks Site SiteTask). vec_len one.tasks ≡ vec_len c.args.listeners + (c.args.clients.now.places + 1))) (sym c.insert_first.ensures.items)
+          (All-cons (λ (one : SiteTasks Site SiteTask). vec_len one.tasks ≡ vec_len c.args.listeners + (c.args.clients.now.places + 1)) _ c.loop-listener.sites.items (omega (arith, made.len, others.1)) was.8),
     )
 
 pub returns-clause-each : goal.returns-clause-each
 returns-clause-each c = let none : vec_len c.loop-listener.listeners ≡ 0 = search rules in
-    each_from (λ at (one : SiteTasks Site SiteTask). HasItsTasks c.args.list.now (c.args.places + 1) c.args.links at one) c.loop-listener.sites.items (vec_len c.loop-listener.listeners) none c.loop-listener.invariant.7
+    each_from (λ at (one : SiteTasks Site SiteTask). HasItsTasks c.args.list.now (c.args.clients.now.places + 1) c.args.links at one) c.loop-listener.sites.items (vec_len c.loop-listener.listeners) none c.loop-listener.invariant.7

@@ -13,8 +13,8 @@ invariant-loop-listener l = (vec_len l.sites + vec_len l.listeners ≡ vec_len l
     × All (λ from. vec_len from + 1 ≡ vec_len l.fn.listeners) l.links.from.items
     × AtEach (λ place to. slice_get l.fn.links.to.items place ≡ Some to) l.links.to.items
     × AtEach (λ place from. slice_get l.fn.links.from.items place ≡ Some from) l.links.from.items
-    × AtEach (λ k site. HasItsTasks l.list (l.places + 1) l.fn.links (vec_len l.listeners + k) site) l.sites.items
-    × All (λ site. vec_len site.tasks ≡ vec_len l.fn.listeners + (l.places + 1)) l.sites.items
+    × AtEach (λ k site. HasItsTasks l.list (l.clients.places + 1) l.fn.links (vec_len l.listeners + k) site) l.sites.items
+    × All (λ site. vec_len site.tasks ≡ vec_len l.fn.listeners + (l.clients.places + 1)) l.sites.items
 
 abbrev pub decreases-loop-listener : goal.decreases-loop-listener
 decreases-loop-listener l = vec_len l.listeners

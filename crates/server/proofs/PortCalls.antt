@@ -1,0 +1,35 @@
+-- The pass of a port after calls.
+use Rattle.std.specs.Borrow.{MutBor}
+use Rattle.std.proofs.Common.{◌≡◌, ◌∙◌, ℕ, List, ap, refl}
+use Rattle.site_journal.specs.declared.desk_fault.DeskFault.{DeskFault}
+use Rattle.site_journal.specs.declared.receipt.Receipt.{Receipt}
+use Rattle.site_desk.specs.Passes.{PassState}
+use Rattle.site_desk.specs.Ports.{MakesByPass, RefusesByPass}
+use Rattle.site_desk.specs.declared.desk_port.DeskPort.{DeskPort}
+use Rattle.site_pumps.specs.Calls.{EachCallKeeps, HasCalled}
+use Rattle.site_pumps.proofs.Calling.{calls_keep}
+
+-- a port has the same borrow of a pass, and the pass has its number
+pub record HasSamePass (old new : MutBor PassState) : Type 0 where
+  pub ordinal : new.now.ordinal ≡ old.now.ordinal
+  pub same : new.ghost_name ≡ old.ghost_name
+
+-- calls of a port keep that which each of them keeps
+pub pass_kept : {P : Type 0} (lent : P → MutBor PassState) (Makes : P → Receipt → P → Type 0) (Refuses : P → DeskFault → P → Type 0)
+    → EachCallKeeps Makes Refuses (λ (p q : P). HasSamePass (lent p) (lent q)) → (p q : P) → HasCalled Makes Refuses p q → HasSamePass (lent p) (lent q)
+pass_kept {P} lent Makes Refuses each p q called = calls_keep Makes Refuses (λ (x y : P). HasSamePass (lent x) (lent y))
+    (λ x. record { ordinal = refl; same = refl })
+    (λ x y z first then. record { ordinal = then.ordinal ∙ first.ordinal; same = then.same ∙ first.same })
+    each p q called
+
+-- calls of a port of a desk
+pub desk_port_called : {L : Type 0} (site : ℕ) (names : List (List ℕ)) (p q : DeskPort L)
+    → HasCalled (λ (old : DeskPort L) receipt (new : DeskPort L). MakesByPass site names old.pass receipt new.pass) (λ (old : DeskPort L) cause (new : DeskPort L). RefusesByPass old.pass cause new.pass) p q
+    → HasSamePass p.pass q.pass
+desk_port_called {L} site names p q called = pass_kept (λ (x : DeskPort L). x.pass)
+    (λ (old : DeskPort L) receipt (new : DeskPort L). MakesByPass site names old.pass receipt new.pass)
+    (λ (old : DeskPort L) cause (new : DeskPort L). RefusesByPass old.pass cause new.pass)
+    (record {
+      receipt = λ x y receipt makes. record { ordinal = ap (λ (s : PassState). s.ordinal) makes.done.counted; same = makes.same };
+      fault = λ x y fault refuses. record { ordinal = ap (λ (s : PassState). s.ordinal) refuses.unchanged; same = refuses.same };
+    }) p q called

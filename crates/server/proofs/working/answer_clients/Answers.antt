@@ -1,0 +1,13 @@
+use Rattle.server.proofs.AnsweringLemmas.{answered_more, answered_none}
+use Rattle.server.proofs.working.answer_clients.Goals as goal
+
+-- no client yet
+pub loop-init : goal.loop-init
+loop-init g c = answered_none g.D.Desk.answers g.D.Desk.refuses c.args.desk.now
+
+-- a client more
+pub loop-preserved-then-has_failed : goal.loop-preserved-then-has_failed
+loop-preserved-then-has_failed g c = answered_more g.D.Desk.answers g.D.Desk.refuses _ _ _ c.loop.invariant c.answer_next.ensures
+
+pub loop-preserved : goal.loop-preserved
+loop-preserved g c = answered_more g.D.Desk.answers g.D.Desk.refuses _ _ _ c.loop.invariant c.answer_next.ensures

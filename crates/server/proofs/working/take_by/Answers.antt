@@ -1,0 +1,7 @@
+use Rattle.std.proofs.Common.{rules}
+use Rattle.server.proofs.PortCalls.{desk_port_called}
+use Rattle.server.proofs.working.take_by.Goals as goal
+
+-- the port has called by its pass alone
+pub returns : goal.returns
+returns g c = let kept = desk_port_called g.L.SiteLedger.site g.L.SiteLedger.names _ _ c.take_news.ensures.calls in search rules

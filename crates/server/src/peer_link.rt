@@ -1,0 +1,128 @@
+//! A link from a peer, and whether its site is behind that peer.
+ghost use Rattle.std.specs.Prelude.{◌≡◌, ◌++◌, ◌∷◌, []};
+
+use crate::site::Site;
+use crate::upkeep::Upkeep;
+use dots::SiteId;
+use site_journal::DeskFault;
+use site_links::{LinkReceiver, LinkSender};
+use site_pumps::Inlet;
+use std::alloc::Global;
+use std::sync::Wait;
+
+// Sends a mark on each link, after a whole that was sent on all of them: an item without a byte, which is no frame.
+pub(crate) fn mark_whole<R: Wait>(rt: &R, alloc: Global, links: &mut [LinkSender]) {
+    for link in links {
+        let _ = link.send(rt, Vec::new(alloc));
+    }
+}
+
+// The link that brings the frames of a peer. Before each of them the journal's steps are dropped if they keep more than 64 MiB.
+//
+// If the site refuses a frame it is *behind* the peer, until it has taken a whole of that peer. Each of these changes is logged as one line.
+#[derive(Drop)]
+pub(crate) struct PeerLink<'a, U> {
+    link: LinkReceiver,
+    site: &'a Site,
+    peer: SiteId,
+    upkeep: &'a U,
+    alloc: Global,
+    is_behind: bool,
+    // Whether the site has taken the last frame that the link brought.
+    has_taken: bool,
+}
+
+impl<'a, U> PeerLink<'a, U> {
+    // The link that brings the frames of this peer to the site, which isn't behind the peer.
+    pub fn new(
+        alloc: Global,
+        site: &'a Site,
+        peer: SiteId,
+        upkeep: &'a U,
+        link: LinkReceiver,
+    ) -> PeerLink<'a, U>
+        ensures { result.link ≡ link }
+    {
+        PeerLink {
+            link,
+            site,
+            peer,
+            upkeep,
+            alloc,
+            is_behind: false,
+            has_taken: false,
+        }
+    }
+
+    // Notes that the site has refused the last frame, for this fault.
+    pub fn refuse<R: Wait>(&mut self, rt: &R, fault: DeskFault)
+        ensures { self.new.link ≡ self.old.link }
+    {
+        self.has_taken = false;
+        if self.is_behind {
+            return;
+        }
+        self.is_behind = true;
+        let (site, peer) = (self.site.number.number(), self.peer.number());
+        let line = format!(in self.alloc; "queue_sites: site {site}: behind site {peer}: {fault}");
+        self.site.events.add(rt, line);
+        self.site.fall_behind(rt, self.peer);
+    }
+
+    // Gives up the link: the site asks the peer for no further whole.
+    pub fn give_up<R: Wait>(self, rt: &R) {
+        let PeerLink {
+            link,
+            site,
+            peer,
+            is_behind,
+            ..
+        } = self;
+        drop(link);
+        if is_behind {
+            site.catch_up(rt, peer);
+        }
+    }
+
+    // Notes that the last frame was a whole.
+    fn pass_mark<R: Wait>(&mut self, rt: &R)
+        ensures { self.new.link ≡ self.old.link }
+    {
+        if !self.is_behind || !self.has_taken {
+            return;
+        }
+        self.is_behind = false;
+        let (site, peer) = (self.site.number.number(), self.peer.number());
+        let line = format!(in self.alloc; "queue_sites: site {site}: caught up with site {peer}");
+        self.site.events.add(rt, line);
+        self.site.catch_up(rt, self.peer);
+    }
+}
+
+impl<'a, U: Upkeep<R>, R: Wait> Inlet<R> for PeerLink<'a, U> {
+    ghost use Rattle.std.specs.Prelude.{◌≡◌, ◌++◌, ◌∷◌, [], true};
+    ghost use Rattle.server.specs.PeerLinks.{frames_among};
+
+    ghost gives = { λ old item new. frames_among new.link.received
+        ≡ frames_among old.link.received ++ item ∷ [] };
+
+    ghost ends = { λ old new. (frames_among new.link.received ≡ frames_among old.link.received)
+        × (new.link.ended ≡ true) };
+
+    // Waits for the next frame.
+    fn next(&mut self, rt: &R) -> Option<Vec<u8>> {
+        for _ in rt.forever() {
+            let Some(item) = self.link.recv(rt) else {
+                return None;
+            };
+            if !item.is_empty() {
+                self.upkeep.limit_steps(rt);
+                self.has_taken = true;
+                return Some(item);
+            }
+            drop(item);
+            self.pass_mark(rt);
+        }
+        unreachable!()
+    }
+}
