@@ -7,6 +7,8 @@ mod asks;
 #[cfg(test)]
 mod audits;
 #[cfg(test)]
+mod broadcasts;
+#[cfg(test)]
 mod desk_steps;
 #[cfg(test)]
 mod desks;
