@@ -32,14 +32,16 @@ SHORTER = ["--patience", str(SLOT_SECONDS)]
 SLOTS = 4
 # With how many failed logins a session ends.
 TRIES = 5
-# How long sites may take until they show the same, in seconds.
-SETTLED = 5
+# How long sites may take until they show the same, in seconds; and if one of them is behind.
+SETTLED, CAUGHT_UP = 5, 10
 # How much processor time a server may take while nobody asks, in seconds.
 LITTLE = 0.2
 # What is logged where memory runs out.
 TOLD = re.compile(rb"queue_sites: (\d+ log lines dropped|site \d+: (no connection: .+|client \S+: (connection not prepared: .+|"
                   rb"waits for a place|session ended: (out of memory; its last command may have been done|"
-                  rb"desk down; its last command was not done))))")
+                  rb"desk down; its last command was not done))|behind site \d+: .+|caught up with site \d+))")
+# A line of the log by which a site falls behind a peer, or catches up with it.
+OF_PEER = re.compile(rb"queue_sites: site (\d+): (behind|caught up with) site (\d+)(?:: .+)?")
 # A line of the log that tells of a client.
 OF_CLIENT = re.compile(rb"queue_sites: site (\d+): client (\S+): (.+)")
 
@@ -239,9 +241,9 @@ def shown(server, site=0):
     return report
 
 
-def until_shown(server, site, text):
+def until_shown(server, site, text, seconds=SETTLED):
     """Waits until a site's status has a text."""
-    ends = time.monotonic() + SETTLED
+    ends = time.monotonic() + seconds
     while text not in shown(server, site):
         need(time.monotonic() < ends, f"site {site} doesn't show {text!r}")
 
@@ -464,6 +466,53 @@ def members_of_their_own(sites=8, members=100):
     return f"{SLOTS * sites * members:,} members of {sites} sites, each of which shows all"
 
 
+def change_own(server, site, action, members):
+    """A client of a site adds or removes members that no other site adds. Returns for how many of them that was done."""
+    with server.logged_in(site) as it:
+        done = sum(it.ask(action, Queue="sales", Interface=f"SIP/{site}-{number}").startswith(b"Response: Success\r\n") for number in range(members))
+        it.leave()
+    return done
+
+
+def catches_up(log):
+    """Whether each site of a log that fell behind a peer has caught up with it, in turn; and how often one fell behind."""
+    found = [OF_PEER.fullmatch(line) for line in log.splitlines()]
+    need(all(found), f"the server logged {log!r}")
+    behind, falls = set(), 0
+    for it in found:
+        pair = it[1], it[3]
+        need((it[2] == b"behind") != (pair in behind), f"{it[0]!r} is logged out of turn")
+        behind ^= {pair}
+        falls += it[2] == b"behind"
+    need(not behind, f"{behind} have not caught up")
+    return falls
+
+
+def full_sites(sites, members=9_500, removed=5_000):
+    """Two clients add more members at two of the sites, at once, than a site can know, and then remove some: soon after, all sites show the
+    same."""
+    with Server(sites) as server, concurrent.futures.ThreadPoolExecutor(2) as threads:
+        change = lambda action, number: [it.result() for it in [threads.submit(change_own, server, site, action, number) for site in range(2)]]
+        for site in range(2, sites):
+            change_own(server, site, "QueueAdd", 500)
+        added = change("QueueAdd", members)
+        need(change("QueueRemove", removed) == [removed, removed], "a member that was added isn't removed")
+        left, asked = sum(added) - 2 * removed + 500 * (sites - 2), time.monotonic()
+        for site in range(sites):
+            until_shown(server, site, b"ListItems: %d\r\n" % (left + 1), CAUGHT_UP)
+        seconds = time.monotonic() - asked
+        need(len({shown(server, site) for site in range(sites)}) == 1, "the sites don't show the same")
+        # The line of the last site that has caught up may come late.
+        server.read_log(lambda logged: logged.count(b": behind ") == logged.count(b": caught up "))
+        falls = catches_up(server.stop())
+    return f"{sum(added):,} members added at two of {sites} sites, which fell behind {falls} times: the same {seconds:.1f} seconds after room was made"
+
+
+def sites_that_are_full():
+    """Sites that could not take each other's frames take a whole once they have room."""
+    return "; ".join(full_sites(sites) for sites in (2, 3))
+
+
 def fifth_client():
     """A fifth client of a site waits, and is served when one leaves."""
     with Server(1) as server:
@@ -494,6 +543,26 @@ def places():
             it.leave()
         server.stop_silent()
     return "one place, and 64"
+
+
+def clients_in_line(times=10):
+    """Of a site with one place, a client that waits is served before one that came later, which is not served before the place is free."""
+    with Server(1, options=["--sessions", "1"]) as server:
+        holder, waited = server.logged_in(), []
+        for _ in range(times):
+            second = Client(server.port)
+            need(not select.select([second.socket], [], [], 0.2)[0], "a second client is greeted where there is one place")
+            third = Client(server.port)
+            holder.leave()
+            need(second.line() == f"{GREETING}\r\n".encode(), "a client that waits isn't greeted")
+            need(not select.select([third.socket], [], [], 0.1)[0], "a client is greeted while another has the one place")
+            waited += [(0, it.name, "waits for a place") for it in (second, third)]
+            second.leave()
+            third.line()
+            holder = third
+        holder.leave()
+        server.stop_logged(*waited)
+    return f"{times} times two clients that wait for one place, in line"
 
 
 def verbose_log():
@@ -951,7 +1020,9 @@ def serves_on(server):
         with server.logged_in() as it:
             it.succeed("QueueAdd", Queue="sales", Interface="SIP/2")
             it.leave()
-        until_shown(server, 1, b"Location: SIP/2\r\n")
+        # SIP/1 was added at the first site before, in a session that came to its end.
+        for text in (b"Location: SIP/2\r\n", b"Location: SIP/1\r\n"):
+            until_shown(server, 1, text, CAUGHT_UP)
     except OSError as why:
         raise Failed(f"a server one of whose allocations was refused serves no client: {why}") from None
 
@@ -1021,8 +1092,8 @@ def refused_allocations(room):
 def run_all():
     """Runs all of it. Answers lines that tell what was run."""
     tests = [wrong_words, secrets_of_files, greets_as_it_is_told, listens_where_it_is_told, sessions_of_files, clients_at_once, members_of_their_own,
-             fifth_client, places, verbose_log, failed_logins, replies_before_the_end, clients_that_linger, hostile_streams, hostile_clients,
-             no_connections, idle_clients, long_reports, clients_that_hold_on, four_silent_clients, deaf_standard_error, signals]
+             sites_that_are_full, fifth_client, places, clients_in_line, verbose_log, failed_logins, replies_before_the_end, clients_that_linger,
+             hostile_streams, hostile_clients, no_connections, idle_clients, long_reports, clients_that_hold_on, four_silent_clients, deaf_standard_error, signals]
     with tempfile.TemporaryDirectory() as room:
         return [*(test() for test in tests), refused_allocations(room)]
 
