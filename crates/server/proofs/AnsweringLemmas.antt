@@ -1,5 +1,5 @@
 -- What a desk keeps that works for clients.
-use Rattle.std.proofs.Common.{◌≡◌, ℕ, zero, suc, refl, subst}
+use Rattle.std.proofs.Common.{ℕ, zero, suc, refl, subst}
 use Rattle.serve.proofs.Working.{work_keeps}
 use Rattle.serve.specs.Desks.{EachKeeps, HasWorked}
 use Rattle.status_report.specs.declared.asks.Answer.{Answer}

@@ -1,5 +1,5 @@
 -- What the threads of a site do (this project's own).
-use Rattle.std.specs.Prelude.{ℕ, ◌≡◌, ◌+◌, ◌<◌, List, [], ◌∷◌, ◌++◌, Some, if◌then◌else◌, length, nat_lt, replicate, reverse, slice_get}
+use Rattle.std.specs.Prelude.{ℕ, ◌≡◌, ◌+◌, List, [], ◌∷◌, ◌++◌, Some, if◌then◌else◌, length, nat_lt, replicate, reverse, slice_get}
 use Rattle.replica.specs.Deeds.{IsNew}
 use Rattle.site_links.specs.Links.{Receiving}
 use Rattle.site_links.specs.declared.linking.LinkEnds.{LinkEnds}

@@ -1,4 +1,4 @@
-use Rattle.std.proofs.Common.{rules, refl, sym, subst, ◌≡◌, ◌+◌, ◌++◌, ◌∷◌, [], append_assoc, append-nil, arith, length-append}
+use Rattle.std.proofs.Common.{rules, refl, sym, subst, ◌+◌, ◌++◌, ◌∷◌, [], append_assoc, append-nil, arith, length-append}
 use Rattle.site_pumps.specs.Inlets.{InletRun}
 use Rattle.site_pumps.proofs.InletRuns.{inlet_more}
 use Rattle.site_pumps.proofs.PortRuns.{run_more, work_refused, work_stopped}
