@@ -4,10 +4,8 @@ use Rattle.replica.proofs.SameSites.{site_through}
 use Rattle.replica.specs.Site.{IsSameSite, SiteState}
 use Rattle.site_desk.specs.Passes.{PassState, shares_of}
 use Rattle.site_journal.specs.Journals.{IsOfSite, JournalState}
-use Rattle.site_threads.specs.declared.site_tasks.SiteOutput.{SiteOutput}
-use Rattle.site_threads.specs.declared.site_tasks.SiteTasks.{SiteTasks}
 use Rattle.site_threads.specs.declared.sites.EndPromise.{EndPromise}
-use Rattle.site_threads.specs.Ends.{HasEnded, HaveEnded}
+use Rattle.site_threads.specs.Ends.{HasEnded, HaveAllEnded}
 use Rattle.site_threads.specs.Ledgers.{IsLedgerOf}
 use Rattle.site_threads.specs.Promises.{IsEndPromised}
 use Rattle.site_threads.specs.Tasks.{AreDone}
@@ -34,22 +32,18 @@ pub ended_limit : {T O : Type 0} (Gives : T → ℕ → List (List ℕ) → Pass
 ended_limit Gives replica limit other tasks journal outputs is ended = subst (λ n. HasEnded Gives replica n tasks journal outputs) is ended
 
 -- no site has ended yet
-pub ended_none : {S T O : Type 0} (Gives : T → ℕ → List (List ℕ) → PassState → O → PassState → Type 0) (limit : ℕ) (sites : List (SiteTasks S T)) (ends : List (SiteOutput O)) → ends ≡ [] → HaveEnded Gives limit sites ends
-ended_none Gives limit sites ends nil place site end of at = absurd (none_some end (sym (ap (λ l. slice_get l place) nil) ∙ at))
+pub ended_none : {X O : Type 0} (Ends : X → ℕ → O → Type 0) (limit : ℕ) (sites : List X) (outputs : List O) → outputs ≡ [] → HaveAllEnded Ends limit sites outputs
+ended_none Ends limit sites outputs nil place site output of at = absurd (none_some output (sym (ap (λ l. slice_get l place) nil) ∙ at))
 
 -- one more
-pub ended_push : {S T O : Type 0} (Gives : T → ℕ → List (List ℕ) → PassState → O → PassState → Type 0) (limit : ℕ) (sites : List (SiteTasks S T)) (ends all : List (SiteOutput O)) (end : SiteOutput O) (promise : EndPromise T)
-    → all ≡ ends ++ end ∷ [] → IsEndPromised limit sites (length ends) promise
-    → HasEnded Gives promise.replica.value promise.limit promise.tasks.value.items end.journal end.outputs.items
-    → HaveEnded Gives limit sites ends → HaveEnded Gives limit sites all
-ended_push {S} {T} {O} Gives limit sites ends all end promise more is has was place site e of at =
-    let placed : HasEnded Gives is.site.replica limit is.site.tasks.items end.journal end.outputs.items =
-    subst (λ r. HasEnded Gives r limit is.site.tasks.items end.journal end.outputs.items) is.replica_is
-    (subst (λ m. HasEnded Gives promise.replica.value m is.site.tasks.items end.journal end.outputs.items) is.limit_is
-    (subst (λ t. HasEnded Gives promise.replica.value promise.limit t end.journal end.outputs.items) is.tasks_are has)) in
+pub ended_push : {X O : Type 0} (Ends : X → ℕ → O → Type 0) (limit : ℕ) (sites : List X) (outputs all : List O) (output : O) (promise : EndPromise X)
+    → all ≡ outputs ++ output ∷ [] → IsEndPromised limit sites (length outputs) promise
+    → Ends promise.site.value promise.limit output
+    → HaveAllEnded Ends limit sites outputs → HaveAllEnded Ends limit sites all
+ended_push {X} {O} Ends limit sites outputs all output promise more is has was place site o of at =
+    let placed : Ends promise.site.value limit output = subst (λ m. Ends promise.site.value m output) is.limit_is has in
     ⊎_elim
-    (λ old. was place site e of old)
-    (λ last. let same : is.site ≡ site = one_some is.site site (sym is.there ∙ subst (λ n. slice_get sites n ≡ Some site) last.0 of) in
-    subst (λ (x : SiteOutput O). HasEnded Gives site.replica limit site.tasks.items x.journal x.outputs.items) last.1
-    (subst (λ (s : SiteTasks S T). HasEnded Gives s.replica limit s.tasks.items end.journal end.outputs.items) same placed))
-    (got_push ends end e place (subst (λ l. slice_get l place ≡ Some e) more at))
+    (λ old. was place site o of old)
+    (λ last. let same : promise.site.value ≡ site = one_some promise.site.value site (sym is.site_is ∙ subst (λ n. slice_get sites n ≡ Some site) last.0 of) in
+    subst (λ x. Ends site limit x) last.1 (subst (λ s. Ends s limit output) same placed))
+    (got_push outputs output o place (subst (λ l. slice_get l place ≡ Some o) more at))

@@ -1,6 +1,5 @@
 -- What the threads of sites promise.
 use Rattle.std.specs.Prelude.{ℕ, ◌≡◌, ◌+◌, List, Some, length, slice_get}
-use Rattle.site_threads.specs.declared.site_tasks.SiteTasks.{SiteTasks}
 use Rattle.site_threads.specs.declared.sites.EndPromise.{EndPromise}
 use Rattle.site_threads.specs.declared.tasks.TaskPromise.{TaskPromise}
 
@@ -13,14 +12,11 @@ pub record IsTaskPromised {T : Type 0} (tasks : List T) (place : ℕ) (promise :
 abbrev pub IsTaskPromisedAt : {T : Type 0} → List T → ℕ → TaskPromise T → Type 0
 IsTaskPromisedAt tasks k promise = (place : ℕ) → place + k + 1 ≡ length tasks → IsTaskPromised tasks place promise
 
--- a thread promises the end of the site at this place, with this limit of its journal
-pub record IsEndPromised {S T : Type 0} (limit : ℕ) (sites : List (SiteTasks S T)) (place : ℕ) (promise : EndPromise T) : Type 0 where
+-- a thread promises the end of what was launched at this place, with this limit of its journal
+pub record IsEndPromised {X : Type 0} (limit : ℕ) (sites : List X) (place : ℕ) (promise : EndPromise X) : Type 0 where
   pub limit_is : promise.limit ≡ limit
-  pub site : SiteTasks S T
-  pub there : slice_get sites place ≡ Some site
-  pub replica_is : promise.replica.value ≡ site.replica
-  pub tasks_are : promise.tasks.value.items ≡ site.tasks.items
+  pub site_is : slice_get sites place ≡ Some promise.site.value
 
 -- the thread at place `k` promises the end of its site, where the threads stand from the last site down
-abbrev pub IsEndPromisedAt : {S T : Type 0} → ℕ → List (SiteTasks S T) → ℕ → EndPromise T → Type 0
+abbrev pub IsEndPromisedAt : {X : Type 0} → ℕ → List X → ℕ → EndPromise X → Type 0
 IsEndPromisedAt limit sites k promise = (place : ℕ) → place + k + 1 ≡ length sites → IsEndPromised limit sites place promise

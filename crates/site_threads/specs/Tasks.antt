@@ -14,3 +14,7 @@ pub record HaveGiven {T O : Type 0} (Gives : T → ℕ → List (List ℕ) → P
 pub record AreDone {T O : Type 0} (Gives : T → ℕ → List (List ℕ) → PassState → O → PassState → Type 0) (site : ℕ) (names : List (List ℕ)) (tasks : List T) (passes : List PassState) (outputs : List O) : Type 0 where
   pub all : length passes ≡ length tasks
   pub given : HaveGiven Gives site names tasks passes outputs
+
+-- what a place says by `Does` of a task, the task gives by `Gives`, and its pass keeps its number
+abbrev pub DoesTasks : {T O : Type 0} → (T → PassState → O → PassState → Type 0) → (T → ℕ → List (List ℕ) → PassState → O → PassState → Type 0) → ℕ → List (List ℕ) → Type 0
+DoesTasks {T} {O} Does Gives site names = (task : T) (old : PassState) (output : O) (new : PassState) → Does task old output new → (new.ordinal ≡ old.ordinal) × Gives task site names old output new

@@ -2,8 +2,10 @@
 //!
 //! [`run_sites`] first starts all threads of all sites. If all start, each does its task, and the
 //! caller gets each site's journal and what its tasks gave. If a thread can't start, no task begins.
+//! [`launch_sites`] runs sites of another form in the same way, such as sites whose desk has a store.
 #![tactic(auto)]
 
+mod launch;
 mod launch_fault;
 mod site;
 mod site_fault;
@@ -13,9 +15,14 @@ mod start;
 mod task;
 mod tasks;
 
+pub use launch::Launch;
 pub use launch_fault::LaunchFault;
+pub use site::{close_site, run_threads};
 pub use site_desk::{MOST_PASSES, Pass, SiteDesk, SiteLedger};
+pub use site_fault::SiteFault;
 pub use site_journal::Journaled;
 pub use site_tasks::{SiteOutput, SiteTasks};
-pub use sites::run_sites;
-pub use task::{Task, TaskEnd, TaskOutput};
+pub use sites::{launch_sites, run_sites};
+pub use start::Start;
+pub use task::{Task, TaskEnd, TaskOutput, Workplace};
+pub use tasks::TaskResults;

@@ -7,12 +7,12 @@ ghost use Rattle.site_journal.specs.Journals.{IsOfSite};
 ghost use Rattle.site_journal.specs.declared.journaled.TheConstants.{MOST_STEPS};
 ghost use Rattle.site_threads.specs.Ends.{HasEnded};
 ghost use Rattle.site_threads.specs.Ledgers.{IsLedgerOf};
-ghost use Rattle.site_threads.specs.Tasks.{AreDone};
+ghost use Rattle.site_threads.specs.Tasks.{AreDone, DoesTasks};
 
 use crate::site_fault::SiteFault;
 use crate::start::Start;
 use crate::tasks::{TaskResults, Workers, end_tasks, join_tasks, start_tasks};
-use crate::{SiteOutput, SiteTasks, Task, TaskOutput};
+use crate::{Launch, SiteOutput, SiteTasks, Task, TaskOutput, Workplace};
 use dots::Memory;
 use site_desk::{MOST_PASSES, Pass, SiteDesk, SiteLedger, close};
 use site_journal::{Journaled, MOST_STEPS};
@@ -58,21 +58,23 @@ fn room_for<L: SiteLedger, T: TaskOutput>(
 fn run_tasks<
     's,
     'e: 's,
-    L: SiteLedger + Send + Sync,
+    L: SiteLedger + Send + Sync + 's,
     R: Threads + Wait + Sync,
     S: Sync,
-    T: Task<S, R> + Send + Drop + 's,
+    T: TaskOutput + Send + Drop + 's,
+    W: Workplace<S, R, T, Pass<L>, T::Output> + Sync + 's,
 >(
     scope: &'s Scope<'s, &'e ()>,
     rt: &'s R,
     alloc: Global,
     start: &'s Start,
     shared: &'s S,
-    desk: &'s SiteDesk<L>,
+    place: &'s W,
     passes: Vec<Pass<L>>,
     tasks: Vec<T>,
 ) -> Result<TaskResults<L, T::Output>, SiteFault>
-    requires { AreNewPasses (vec_len tasks) passes.items }
+    requires place { DoesTasks W.does T.gives L.site L.names }
+    requires passes { AreNewPasses (vec_len tasks) passes.items }
     ensures { IfOk result (λ all.
         AreDone T.gives L.site L.names tasks.items all.passes.items all.outputs.items) }
 {
@@ -90,7 +92,7 @@ fn run_tasks<
         alloc,
         start,
         shared,
-        desk,
+        place,
         passes,
         tasks,
         &mut workers,
@@ -105,38 +107,47 @@ fn run_tasks<
     join_tasks(rt, workers, room)
 }
 
-// Runs the threads of a site in a scope of their own.
-fn run_scoped<
+/// Does each of a site's tasks at this place, by the pass of the task's place and in a thread of its
+/// own, and returns when all have ended. No task begins before all threads of all sites run.
+///
+/// Errors, in order: 1 `NoThread`, if the system could not start a thread; 2 `Memory`; 3 `NotBegun`,
+/// if another site can't have its threads. No task of the site is then done, and all are dropped (this
+/// project's own).
+pub fn run_threads<
     L: SiteLedger + Send + Sync,
     R: Threads + Wait + Sync,
     S: Sync,
-    T: Task<S, R> + Send + Drop,
+    T: TaskOutput + Send + Drop,
+    W: Workplace<S, R, T, Pass<L>, T::Output> + Sync,
 >(
     rt: &R,
     alloc: Global,
     start: &Start,
     shared: &S,
-    desk: &SiteDesk<L>,
+    place: &W,
     passes: Vec<Pass<L>>,
     tasks: Vec<T>,
 ) -> Result<TaskResults<L, T::Output>, SiteFault>
-    requires { AreNewPasses (vec_len tasks) passes.items }
-    ensures { IfOk result (λ all.
+    requires place { DoesTasks W.does T.gives L.site L.names }
+    requires passes { AreNewPasses (vec_len tasks) passes.items }
+    ensures done { IfOk result (λ all.
         AreDone T.gives L.site L.names tasks.items all.passes.items all.outputs.items) }
 {
     thread::scope(
         thread::scope_env(),
         rt,
         move |scope| -> Result<TaskResults<L, T::Output>, SiteFault>
-            requires { AreNewPasses (vec_len tasks) passes.items }
+            requires place { DoesTasks W.does T.gives L.site L.names }
+            requires passes { AreNewPasses (vec_len tasks) passes.items }
             ensures { IfOk result (λ all.
                 AreDone T.gives L.site L.names tasks.items all.passes.items all.outputs.items) }
-        { run_tasks(scope, rt, alloc, start, shared, desk, passes, tasks) },
+        { run_tasks(scope, rt, alloc, start, shared, place, passes, tasks) },
     )
 }
 
-// Closes the desk of a site whose tasks are all done.
-fn ended<L: SiteLedger, T: TaskOutput>(
+/// Closes the desk of a site whose tasks are all done, by the passes that they were done by (this
+/// project's own).
+pub fn close_site<L: SiteLedger, T: TaskOutput>(
     desk: SiteDesk<L>,
     all: TaskResults<L, T::Output>,
 ) -> SiteOutput<T::Output>
@@ -175,10 +186,10 @@ fn run_desk<
         → IsLedgerOf L.site L.names L.base replica
         → HasEnded T.gives replica L.limit tasks.items end.journal end.outputs.items) }
 {
-    let run = run_scoped(rt, alloc, start, &shared, &desk, passes, tasks);
+    let run = run_threads(rt, alloc, start, &shared, &desk, passes, tasks);
     drop(shared);
     match run {
-        Ok(all) => Ok(ended::<L, T>(desk, all)),
+        Ok(all) => Ok(close_site::<L, T>(desk, all)),
         Err(fault) => {
             drop(desk);
             Err(fault)
@@ -227,7 +238,7 @@ fn run_site<
 }
 
 // Runs a site from its replica on, under a ledger that this call names.
-fn run_replica<R: Threads + Wait + Sync, S: Sync + Drop, T: Task<S, R> + Send + Drop>(
+pub(crate) fn run_replica<R: Threads + Wait + Sync, S: Sync + Drop, T: Task<S, R> + Send + Drop>(
     rt: &R,
     alloc: Global,
     start: &Start,
@@ -260,24 +271,17 @@ fn run_replica<R: Threads + Wait + Sync, S: Sync + Drop, T: Task<S, R> + Send + 
     }
 }
 
-// Runs a site. If it can't begin, no site begins.
-pub(crate) fn run_or_fail<R: Threads + Wait + Sync, S: Sync + Drop, T: Task<S, R> + Send + Drop>(
-    rt: &R,
-    alloc: Global,
-    start: &Start,
-    limit: u32,
-    site: SiteTasks<S, T>,
-) -> Result<SiteOutput<T::Output>, SiteFault>
-    requires least { 1 ≤ limit }
-    requires most { limit ≤ MOST_STEPS }
-    requires some { 1 ≤ vec_len site.tasks }
-    requires few { vec_len site.tasks ≤ MOST_PASSES }
-    ensures { IfOk result (λ end. HasEnded T.gives site.replica limit site.tasks.items
-        end.journal end.outputs.items) }
-{
-    let run = run_replica(rt, alloc, start, limit, site);
-    if run.is_err() {
-        start.fail(rt);
-    }
-    run
+impl<S: Drop, T: TaskOutput + Drop> Launch for SiteTasks<S, T> {
+    ghost use Rattle.std.specs.Prelude.{◌≤◌, vec_len};
+    ghost use Rattle.site_desk.specs.declared.desk.TheConstants.{MOST_PASSES};
+    ghost use Rattle.site_journal.specs.declared.journaled.TheConstants.{MOST_STEPS};
+    ghost use Rattle.site_threads.specs.Ends.{HasEnded};
+
+    type Output = SiteOutput<T::Output>;
+
+    ghost is_ready = { λ site limit. (1 ≤ limit) × (limit ≤ MOST_STEPS)
+        × (1 ≤ vec_len site.tasks) × (vec_len site.tasks ≤ MOST_PASSES) };
+
+    ghost ends = { λ site limit end. HasEnded T.gives site.replica limit site.tasks.items
+        end.journal end.outputs.items };
 }

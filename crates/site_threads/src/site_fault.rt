@@ -2,20 +2,20 @@ ghost use Rattle.std.specs.Prelude.{◌≡◌, ◌⊎◌, ◌↔◌};
 
 use crate::LaunchFault;
 
-// Why a site did no task, in order.
+/// Why a site did no task, in order (this project's own).
 #[derive(Clone, Copy)]
-pub(crate) enum SiteFault {
-    // The system could not start a thread.
+pub enum SiteFault {
+    /// The system could not start a thread.
     NoThread,
-    // An allocation was refused.
+    /// An allocation was refused.
     Memory,
-    // Another site could not start. That site has one of the other faults.
+    /// Another site could not start. That site has one of the other faults.
     NotBegun,
 }
 
 impl SiteFault {
     // The first of two faults, in order.
-    pub fn first(self, other: SiteFault) -> SiteFault
+    pub(crate) fn first(self, other: SiteFault) -> SiteFault
         ensures no_thread { (result ≡ SiteFault.NoThread)
             ↔ ((self ≡ SiteFault.NoThread) ⊎ (other ≡ SiteFault.NoThread)) }
         ensures not_begun { (result ≡ SiteFault.NotBegun)
@@ -32,7 +32,7 @@ impl SiteFault {
     // The fault of all sites, where this is the first of theirs. It is never `NotBegun`, since a
     // site waits in vain only where another has a fault: that isn't proved, so `NoThread` stands
     // for it.
-    pub fn of_all(self) -> LaunchFault
+    pub(crate) fn of_all(self) -> LaunchFault
         ensures { (result ≡ LaunchFault.Memory) ↔ (self ≡ SiteFault.Memory) }
     {
         match self {

@@ -4,16 +4,15 @@ ghost use Rattle.std.specs.Prelude.{◌≡◌, ◌≤◌, ℕ, IfOk, List, OnOk,
 ghost use Rattle.dots.specs.declared.limits.TheConstants.{SITES};
 ghost use Rattle.site_desk.specs.declared.desk.TheConstants.{MOST_PASSES};
 ghost use Rattle.site_journal.specs.declared.journaled.TheConstants.{MOST_STEPS};
-ghost use Rattle.site_threads.specs.Ends.{HasEnded, HaveEnded};
+ghost use Rattle.site_threads.specs.Ends.{HasEnded, HaveAllEnded, HaveEnded};
 ghost use Rattle.site_threads.specs.Places.{AtEach};
 ghost use Rattle.site_threads.specs.Promises.{IsEndPromisedAt};
 
-use crate::site::run_or_fail;
+use crate::site::run_replica;
 use crate::site_fault::SiteFault;
 use crate::start::Start;
-use crate::{LaunchFault, SiteOutput, SiteTasks, Task, TaskOutput};
+use crate::{Launch, LaunchFault, SiteOutput, SiteTasks, Task};
 use dots::{Memory, SITES};
-use replica::Replica;
 use site_desk::MOST_PASSES;
 use site_journal::MOST_STEPS;
 use std::alloc::Global;
@@ -22,70 +21,82 @@ use std::sync::Wait;
 use std::thread;
 use std::thread::{Promise, PromisedHandle, Scope, Threads};
 
-// A site that begins as this replica ends as its tasks say, with this limit of its journal; or it has
-// a fault.
+// The site that is launched as this one ends as it says, with this limit of its journal; or it has a
+// fault.
 #[derive(Drop)]
-pub(crate) struct EndPromise<T> {
+pub(crate) struct EndPromise<X> {
     limit: u32,
-    replica: Snapshot<Replica>,
-    tasks: Snapshot<Vec<T>>,
+    site: Snapshot<X>,
 }
 
-impl<T: TaskOutput + Drop> Promise<Result<SiteOutput<T::Output>, SiteFault>> for EndPromise<T> {
+impl<X: Launch> Promise<Result<X::Output, SiteFault>> for EndPromise<X> {
     ghost use Rattle.std.specs.Prelude.{IfOk};
-    ghost use Rattle.site_threads.specs.Ends.{HasEnded};
 
     ghost kept_by = { λ promise ended.
-        IfOk ended (λ end. HasEnded T.gives promise.replica.value promise.limit
-        promise.tasks.value.items end.journal end.outputs.items) };
+        IfOk ended (λ output. X.ends promise.site.value promise.limit output) };
 }
 
 // The thread of a site.
-type Site<T> = PromisedHandle<
-    Result<SiteOutput<<T as TaskOutput>::Output>, SiteFault>,
-    EndPromise<T>,
->;
+type Site<X> = PromisedHandle<Result<<X as Launch>::Output, SiteFault>, EndPromise<X>>;
 
 // The threads of sites, the last of which is that of the first site.
-type Sites<T> = Vec<Site<T>>;
+type Sites<X> = Vec<Site<X>>;
+
+// Runs a site. If it can't begin, no site begins.
+fn run_or_fail<R: Wait, X: Launch, F: Fn(X) -> Result<X::Output, SiteFault>>(
+    rt: &R,
+    start: &Start,
+    limit: u32,
+    run: &F,
+    site: X,
+) -> Result<X::Output, SiteFault>
+    requires ready { X.is_ready site limit }
+    requires may { (site : X) → X.is_ready site limit → F.pre run.now site }
+    requires does { (site : X) (ended : _) → F.post run.now site ended
+        → IfOk ended (λ output. X.ends site limit output) }
+    ensures { IfOk result (λ output. X.ends site limit output) }
+{
+    let ended = run(site);
+    if ended.is_err() {
+        start.fail(rt);
+    }
+    ended
+}
 
 // Starts the thread of a site.
 fn start_site<
     's,
     'e: 's,
-    R: Threads + Wait + Sync,
-    S: Send + Sync + Drop + 's,
-    T: Task<S, R> + Send + Drop + 's,
+    R: Wait + Sync,
+    X: Launch + Send + Drop + 's,
+    F: Fn(X) -> Result<X::Output, SiteFault> + Sync + 's,
 >(
     scope: &'s Scope<'s, &'e ()>,
     rt: &'s R,
-    alloc: Global,
     start: &'s Start,
     limit: u32,
-    site: SiteTasks<S, T>,
-) -> Result<Site<T>, SiteFault>
-    requires least { 1 ≤ limit }
-    requires most { limit ≤ MOST_STEPS }
-    requires some { 1 ≤ vec_len site.tasks }
-    requires few { vec_len site.tasks ≤ MOST_PASSES }
+    run: &'s F,
+    site: X,
+) -> Result<Site<X>, SiteFault>
+    requires ready { X.is_ready site limit }
+    requires may { (site : X) → X.is_ready site limit → F.pre run.now site }
+    requires does { (site : X) (ended : _) → F.post run.now site ended
+        → IfOk ended (λ output. X.ends site limit output) }
     ensures limit { IfOk result (λ handle. handle.promise.limit ≡ limit) }
-    ensures replica { IfOk result (λ handle. handle.promise.replica.value ≡ site.replica) }
-    ensures tasks { IfOk result (λ handle. handle.promise.tasks.value.items ≡ site.tasks.items) }
+    ensures site { IfOk result (λ handle. handle.promise.site.value ≡ site) }
 {
     let promise = EndPromise {
         limit,
-        replica: Snapshot::of(&site.replica),
-        tasks: Snapshot::of(&site.tasks),
+        site: Snapshot::of(&site),
     };
-    let run = move || -> Result<SiteOutput<T::Output>, SiteFault>
-        requires least { 1 ≤ limit }
-        requires most { limit ≤ MOST_STEPS }
-        requires some { 1 ≤ vec_len site.tasks }
-        requires few { vec_len site.tasks ≤ MOST_PASSES }
-        ensures { IfOk result (λ end. HasEnded T.gives site.replica limit site.tasks.items
-            end.journal end.outputs.items) }
-    { run_or_fail(rt, alloc, start, limit, site) };
-    match scope.spawn_with(promise, run) {
+    let job = move || -> Result<X::Output, SiteFault>
+        requires ready { X.is_ready site limit }
+        requires may { (site : X) → X.is_ready site limit → F.pre run.now site }
+        requires does { (site : X) (ended : _) → F.post run.now site ended
+            → IfOk ended (λ output. X.ends site limit output) }
+        ensures { IfOk result (λ output. X.ends site limit output) }
+    { run_or_fail(rt, start, limit, run, site) };
+    match scope.spawn_with(promise, job) {
         Ok(handle) => Ok(handle),
         Err(refused) => {
             drop(refused);
@@ -98,22 +109,22 @@ fn start_site<
 fn start_sites<
     's,
     'e: 's,
-    R: Threads + Wait + Sync,
-    S: Send + Sync + Drop + 's,
-    T: Task<S, R> + Send + Drop + 's,
+    R: Wait + Sync,
+    X: Launch + Send + Drop + 's,
+    F: Fn(X) -> Result<X::Output, SiteFault> + Sync + 's,
 >(
     scope: &'s Scope<'s, &'e ()>,
     rt: &'s R,
-    alloc: Global,
     start: &'s Start,
     limit: u32,
-    all: Vec<SiteTasks<S, T>>,
-    sites: &mut Sites<T>,
+    run: &'s F,
+    all: Vec<X>,
+    sites: &mut Sites<X>,
 ) -> Result<(), SiteFault>
-    requires least { 1 ≤ limit }
-    requires most { limit ≤ MOST_STEPS }
-    requires some { All (λ site. 1 ≤ vec_len site.tasks) all.items }
-    requires few { All (λ site. vec_len site.tasks ≤ MOST_PASSES) all.items }
+    requires ready { All (λ site. X.is_ready site limit) all.items }
+    requires may { (site : X) → X.is_ready site limit → F.pre run.now site }
+    requires does { (site : X) (ended : _) → F.post run.now site ended
+        → IfOk ended (λ output. X.ends site limit output) }
     requires none { vec_len sites.old ≡ 0 }
     requires room { vec_len all ≤ vec_capacity sites.old }
     ensures number { OnOk result (vec_len sites.new ≡ vec_len all) }
@@ -122,7 +133,7 @@ fn start_sites<
 {
     let mut all = all;
     while let Some(site) = all.pop() {
-        match start_site(scope, rt, alloc, start, limit, site) {
+        match start_site(scope, rt, start, limit, run, site) {
             Ok(handle) => sites.push_reserved(handle),
             Err(fault) => {
                 drop(all);
@@ -135,11 +146,7 @@ fn start_sites<
 }
 
 // Joins sites that can't begin. Gives the first in order of this fault and theirs.
-fn end_sites<R: Threads, T: TaskOutput + Drop>(
-    rt: &R,
-    sites: Sites<T>,
-    fault: SiteFault,
-) -> LaunchFault {
+fn end_sites<R: Threads, X: Launch>(rt: &R, sites: Sites<X>, fault: SiteFault) -> LaunchFault {
     let mut first = fault;
     for site in sites {
         match site.join(rt) {
@@ -151,18 +158,18 @@ fn end_sites<R: Threads, T: TaskOutput + Drop>(
 }
 
 // Joins sites in their order, and adds their ends to `ends`.
-fn join_sites<R: Threads, S: Drop, T: TaskOutput + Drop>(
+fn join_sites<R: Threads, X: Launch>(
     rt: &R,
-    sites: Sites<T>,
-    ends: Vec<SiteOutput<T::Output>>,
-) -> Result<Vec<SiteOutput<T::Output>>, LaunchFault>
+    sites: Sites<X>,
+    ends: Vec<X::Output>,
+) -> Result<Vec<X::Output>, LaunchFault>
     requires none { vec_len ends ≡ 0 }
     requires room { vec_len sites ≤ vec_capacity ends }
     ensures number { IfOk result (λ ends. vec_len ends ≡ vec_len sites) }
-    ensures ends { IfOk result (λ ends. (limit : ℕ) (all : List (SiteTasks S T))
+    ensures ends { IfOk result (λ ends. (limit : ℕ) (all : List X)
         → length all ≡ vec_len sites
         → AtEach (λ k site. IsEndPromisedAt limit all k site.promise) sites.items
-        → HaveEnded T.gives limit all ends.items) }
+        → HaveAllEnded X.ends limit all ends.items) }
 {
     let mut sites = sites;
     let mut ends = ends;
@@ -180,10 +187,7 @@ fn join_sites<R: Threads, S: Drop, T: TaskOutput + Drop>(
 }
 
 // Room for the threads of `number` sites, and for their ends.
-fn room_for<T: TaskOutput + Drop>(
-    alloc: Global,
-    number: usize,
-) -> Result<(Vec<SiteOutput<T::Output>>, Sites<T>), Memory>
+fn room_for<X: Launch>(alloc: Global, number: usize) -> Result<(Vec<X::Output>, Sites<X>), Memory>
     ensures no_ends { IfOk result (λ room. vec_len room.0 ≡ 0) }
     ensures ends { IfOk result (λ room. number ≤ vec_capacity room.0) }
     ensures none { IfOk result (λ room. vec_len room.1 ≡ 0) }
@@ -205,22 +209,23 @@ fn run_all<
     's,
     'e: 's,
     R: Threads + Wait + Sync,
-    S: Send + Sync + Drop + 's,
-    T: Task<S, R> + Send + Drop + 's,
+    X: Launch + Send + Drop + 's,
+    F: Fn(X) -> Result<X::Output, SiteFault> + Sync + 's,
 >(
     scope: &'s Scope<'s, &'e ()>,
     rt: &'s R,
     alloc: Global,
     start: &'s Start,
     limit: u32,
-    all: Vec<SiteTasks<S, T>>,
-) -> Result<Vec<SiteOutput<T::Output>>, LaunchFault>
-    requires least { 1 ≤ limit }
-    requires most { limit ≤ MOST_STEPS }
-    requires some { All (λ site. 1 ≤ vec_len site.tasks) all.items }
-    requires few { All (λ site. vec_len site.tasks ≤ MOST_PASSES) all.items }
+    run: &'s F,
+    all: Vec<X>,
+) -> Result<Vec<X::Output>, LaunchFault>
+    requires ready { All (λ site. X.is_ready site limit) all.items }
+    requires may { (site : X) → X.is_ready site limit → F.pre run.now site }
+    requires does { (site : X) (ended : _) → F.post run.now site ended
+        → IfOk ended (λ output. X.ends site limit output) }
     ensures number { IfOk result (λ ends. vec_len ends ≡ vec_len all) }
-    ensures ends { IfOk result (λ ends. HaveEnded T.gives limit all.items ends.items) }
+    ensures ends { IfOk result (λ ends. HaveAllEnded X.ends limit all.items ends.items) }
 {
     let (ends, mut sites) = match room_for(alloc, all.len()) {
         Ok(room) => room,
@@ -229,12 +234,54 @@ fn run_all<
             return Err(LaunchFault::Memory);
         }
     };
-    if let Err(fault) = start_sites(scope, rt, alloc, start, limit, all, &mut sites) {
+    if let Err(fault) = start_sites(scope, rt, start, limit, run, all, &mut sites) {
         start.fail(rt);
         drop(ends);
         return Err(end_sites(rt, sites, fault));
     }
-    join_sites::<R, S, T>(rt, sites, ends)
+    join_sites::<R, X>(rt, sites, ends)
+}
+
+/// Runs at most 64 sites at once, each by a call of `run` in a thread of its own, and returns when all
+/// have ended: what each gives, in order. `start` is new, of as many sites, and `run` hands it to
+/// `run_threads`: so no task of a site begins before all threads of all sites run. If a site can't
+/// begin, none does, and all are dropped.
+///
+/// Errors, in order: 1 `NoThread`, if the system could not start a thread; 2 `Memory` (this
+/// project's own).
+pub fn launch_sites<
+    R: Threads + Wait + Sync,
+    X: Launch + Send + Drop,
+    F: Fn(X) -> Result<X::Output, SiteFault> + Sync,
+>(
+    rt: &R,
+    alloc: Global,
+    start: &Start,
+    limit: u32,
+    run: &F,
+    all: Vec<X>,
+) -> Result<Vec<X::Output>, LaunchFault>
+    requires sites { vec_len all ≤ SITES }
+    requires ready { All (λ site. X.is_ready site limit) all.items }
+    requires may { (site : X) → X.is_ready site limit → F.pre run.now site }
+    requires does { (site : X) (ended : _) → F.post run.now site ended
+        → IfOk ended (λ output. X.ends site limit output) }
+    ensures number { IfOk result (λ outputs. vec_len outputs ≡ vec_len all) }
+    ensures ends { IfOk result (λ outputs. HaveAllEnded X.ends limit all.items outputs.items) }
+{
+    thread::scope(
+        thread::scope_env(),
+        rt,
+        move |scope| -> Result<Vec<X::Output>, LaunchFault>
+            requires ready { All (λ site. X.is_ready site limit) all.items }
+            requires may { (site : X) → X.is_ready site limit → F.pre run.now site }
+            requires does { (site : X) (ended : _) → F.post run.now site ended
+                → IfOk ended (λ output. X.ends site limit output) }
+            ensures number { IfOk result (λ outputs. vec_len outputs ≡ vec_len all) }
+            ensures ends { IfOk result (λ outputs.
+                HaveAllEnded X.ends limit all.items outputs.items) }
+        { run_all(scope, rt, alloc, start, limit, run, all) },
+    )
 }
 
 /// Runs at most 64 sites at once, and returns when all their tasks have ended: each site's journal and what its
@@ -263,17 +310,14 @@ pub fn run_sites<R: Threads + Wait + Sync, S: Send + Sync + Drop, T: Task<S, R> 
     ensures ends { IfOk result (λ ends. HaveEnded T.gives limit all.items ends.items) }
 {
     let start = Start::new(all.len() as u32);
-    let start = &start;
-    thread::scope(
-        thread::scope_env(),
-        rt,
-        move |scope| -> Result<Vec<SiteOutput<T::Output>>, LaunchFault>
-            requires least { 1 ≤ limit }
-            requires most { limit ≤ MOST_STEPS }
-            requires some { All (λ site. 1 ≤ vec_len site.tasks) all.items }
-            requires few { All (λ site. vec_len site.tasks ≤ MOST_PASSES) all.items }
-            ensures number { IfOk result (λ ends. vec_len ends ≡ vec_len all) }
-            ensures ends { IfOk result (λ ends. HaveEnded T.gives limit all.items ends.items) }
-        { run_all(scope, rt, alloc, start, limit, all) },
-    )
+    let lent = &start;
+    let run = |site: SiteTasks<S, T>| -> Result<SiteOutput<T::Output>, SiteFault>
+        requires least { 1 ≤ limit }
+        requires most { limit ≤ MOST_STEPS }
+        requires some { 1 ≤ vec_len site.tasks }
+        requires few { vec_len site.tasks ≤ MOST_PASSES }
+        ensures { IfOk result (λ end. HasEnded T.gives site.replica limit site.tasks.items
+            end.journal end.outputs.items) }
+    { run_replica(rt, alloc, lent, limit, site) };
+    launch_sites(rt, alloc, lent, limit, &run, all)
 }

@@ -39,16 +39,16 @@ impl Ready {
     }
 }
 
-// What the threads of all sites wait for before they do their tasks: a thread in a task may wait for
-// something that nobody else can end, so no task begins before all threads run.
+/// What the threads of all sites wait for before they do their tasks: a thread in a task may wait for
+/// something that nobody else can end, so no task begins before all threads run (this project's own).
 #[derive(Drop)]
-pub(crate) struct Start {
+pub struct Start {
     ready: Mutex<Ready>,
     changed: Condvar,
 }
 
 impl Start {
-    // The start of `sites` sites. It takes no memory.
+    /// The start of `sites` sites. It takes no memory.
     pub fn new(sites: u32) -> Start {
         Start {
             ready: Mutex::new(Ready {
@@ -60,19 +60,19 @@ impl Start {
     }
 
     // Reports that a site has all its threads.
-    pub fn one_ready<R: Wait>(&self, rt: &R) {
+    pub(crate) fn one_ready<R: Wait>(&self, rt: &R) {
         self.ready.lock(rt).one_ready();
         self.changed.notify_all();
     }
 
     // Reports that a site can't have all its threads, so that no site begins.
-    pub fn fail<R: Wait>(&self, rt: &R) {
+    pub(crate) fn fail<R: Wait>(&self, rt: &R) {
         self.ready.lock(rt).fail();
         self.changed.notify_all();
     }
 
     // Waits until all sites have their threads or one can't. Returns whether they begin.
-    pub fn wait<R: Wait>(&self, rt: &R) -> bool {
+    pub(crate) fn wait<R: Wait>(&self, rt: &R) -> bool {
         let ready = self.ready.lock(rt);
         let ready = self.changed.wait_while(rt, ready, |ready| ready.waits());
         ready.begins()

@@ -42,3 +42,34 @@ pub trait Task<S, R>: TaskOutput {
         ensures ordinal { result.pass.ordinal ≡ pass.ordinal }
         ensures gives { Self.gives self L.site L.names pass result.output result.pass };
 }
+
+/// Where the tasks of a site are done: its desk, in whatever form. `S` is what the tasks of a site
+/// share, `R` the handle, `T` the tasks, `P` their passes, `O` what they give.
+pub trait Workplace<S, R, T, P, O> {
+    /// `does task old output new`: here the task gives `output`, and leads its pass from `old` to
+    /// `new`.
+    ghost does: { T → P → O → P → Type 0 };
+
+    /// Does the task by this pass, and gives the pass back.
+    fn do_task(&self, rt: &R, alloc: Global, shared: &S, task: T, pass: P) -> (P, O)
+        ensures { does task pass result.1 result.0 };
+}
+
+impl<L: SiteLedger, S, R, T: Task<S, R>> Workplace<S, R, T, Pass<L>, T::Output> for SiteDesk<L> {
+    ghost use Rattle.std.specs.Prelude.{◌≡◌};
+
+    ghost does = { λ task old output new.
+        (new.ordinal ≡ old.ordinal) × T.gives task L.site L.names old output new };
+
+    fn do_task(
+        &self,
+        rt: &R,
+        alloc: Global,
+        shared: &S,
+        task: T,
+        pass: Pass<L>,
+    ) -> (Pass<L>, T::Output) {
+        let TaskEnd { pass, output } = task.run(rt, alloc, shared, self, pass);
+        (pass, output)
+    }
+}

@@ -1,14 +1,15 @@
 //! The threads of one site: how they are started, and how they are joined.
-ghost use Rattle.std.specs.Prelude.{◌≡◌, ◌≤◌, IfOk, IfSome, List, OnOk, length, vec_capacity, vec_len};
-ghost use Rattle.site_desk.specs.Passes.{AreNewPasses, new_pass};
+ghost use Rattle.std.specs.Prelude.{◌≡◌, ◌≤◌, IfOk, List, MatchOption, OnOk, length, vec_capacity};
+ghost use Rattle.std.specs.Prelude.{vec_len};
+ghost use Rattle.site_desk.specs.Passes.{AreNewPasses};
 ghost use Rattle.site_threads.specs.Places.{AtEach};
 ghost use Rattle.site_threads.specs.Promises.{IsTaskPromisedAt};
-ghost use Rattle.site_threads.specs.Tasks.{AreDone};
+ghost use Rattle.site_threads.specs.Tasks.{AreDone, DoesTasks};
 
 use crate::site_fault::SiteFault;
 use crate::start::Start;
-use crate::{Task, TaskEnd, TaskOutput};
-use site_desk::{Pass, SiteDesk, SiteLedger};
+use crate::{TaskEnd, TaskOutput, Workplace};
+use site_desk::{Pass, SiteLedger};
 use std::alloc::Global;
 use std::snapshot::Snapshot;
 use std::sync::Wait;
@@ -35,26 +36,31 @@ pub(crate) type Workers<L, T> = Vec<
     PromisedHandle<TaskEnd<L, Option<<T as TaskOutput>::Output>>, TaskPromise<T>>,
 >;
 
-// Waits until all threads of all sites run, and does a task by this pass. Gives no output if a
-// thread can't be started.
-fn do_task<L: SiteLedger, R: Wait, S, T: Task<S, R> + Drop>(
+// Waits until all threads of all sites run, and does a task at this place by this pass. Gives no
+// output if a thread can't be started.
+fn do_task<
+    L: SiteLedger,
+    R: Wait,
+    S,
+    T: TaskOutput + Drop,
+    W: Workplace<S, R, T, Pass<L>, T::Output>,
+>(
     rt: &R,
     alloc: Global,
     start: &Start,
     shared: &S,
-    desk: &SiteDesk<L>,
+    place: &W,
     task: T,
     pass: Pass<L>,
 ) -> TaskEnd<L, Option<T::Output>>
-    ensures ordinal { result.pass.ordinal ≡ pass.ordinal }
-    ensures gives { IfSome result.output (λ output.
-        T.gives task L.site L.names pass output result.pass) }
+    ensures { MatchOption result.output (result.pass ≡ pass)
+        (λ output. W.does task pass output result.pass) }
 {
     if !start.wait(rt) {
         drop(task);
         return TaskEnd { pass, output: None };
     }
-    let TaskEnd { pass, output } = task.run(rt, alloc, shared, desk, pass);
+    let (pass, output) = place.do_task(rt, alloc, shared, task, pass);
     TaskEnd {
         pass,
         output: Some(output),
@@ -66,21 +72,23 @@ fn do_task<L: SiteLedger, R: Wait, S, T: Task<S, R> + Drop>(
 pub(crate) fn start_tasks<
     's,
     'e: 's,
-    L: SiteLedger + Send + Sync,
+    L: SiteLedger + Send + Sync + 's,
     R: Wait + Sync,
     S: Sync,
-    T: Task<S, R> + Send + Drop + 's,
+    T: TaskOutput + Send + Drop + 's,
+    W: Workplace<S, R, T, Pass<L>, T::Output> + Sync + 's,
 >(
     scope: &'s Scope<'s, &'e ()>,
     rt: &'s R,
     alloc: Global,
     start: &'s Start,
     shared: &'s S,
-    desk: &'s SiteDesk<L>,
+    place: &'s W,
     passes: Vec<Pass<L>>,
     tasks: Vec<T>,
     workers: &mut Workers<L, T>,
 ) -> Result<(), SiteFault>
+    requires place { DoesTasks W.does T.gives L.site L.names }
     requires passes { AreNewPasses (vec_len tasks) passes.items }
     requires none { vec_len workers.old ≡ 0 }
     requires room { vec_len tasks ≤ vec_capacity workers.old }
@@ -99,10 +107,9 @@ pub(crate) fn start_tasks<
             task: Snapshot::of(&task),
         };
         let job = move || -> TaskEnd<L, Option<T::Output>>
-            ensures ordinal { result.pass.ordinal ≡ pass.ordinal }
-            ensures gives { IfSome result.output (λ output.
-                T.gives task L.site L.names pass output result.pass) }
-        { do_task(rt, alloc, start, shared, desk, task, pass) };
+            ensures { MatchOption result.output (result.pass ≡ pass)
+                (λ output. W.does task pass output result.pass) }
+        { do_task(rt, alloc, start, shared, place, task, pass) };
         match scope.spawn_with(promise, job) {
             Ok(worker) => workers.push_reserved(worker),
             Err(refused) => {
@@ -125,10 +132,12 @@ pub(crate) fn end_tasks<L: SiteLedger, R: Threads, T: TaskOutput>(rt: &R, worker
     }
 }
 
-// The passes of a site's threads and what its tasks gave, in the order of the tasks.
+/// What the threads of a site give back (this project's own).
 #[derive(Drop)]
-pub(crate) struct TaskResults<L: SiteLedger, O: Drop> {
+pub struct TaskResults<L: SiteLedger, O: Drop> {
+    /// The passes that the tasks were done by, in the order of the tasks.
     pub passes: Vec<Pass<L>>,
+    /// What the tasks gave, in their order.
     pub outputs: Vec<O>,
 }
 

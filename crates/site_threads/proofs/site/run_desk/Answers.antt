@@ -1,4 +1,4 @@
 use Rattle.site_threads.proofs.site.run_desk.Goals as goal
 
 pub returns-in-Ok : goal.returns-in-Ok
-returns-in-Ok g c = λ replica is. c.ended.ensures c.args.tasks.items replica is c.in-Ok.ensures
+returns-in-Ok g c = λ replica is. c.close_site.ensures c.args.tasks.items replica is c.in-Ok.ensures.done

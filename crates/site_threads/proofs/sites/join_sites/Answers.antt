@@ -15,7 +15,7 @@ loop-site-preserved g c =
           let left = each_pop (λ k site. IsEndPromisedAt limit all k site.promise) c.loop-site.sites.items c.pop.new.self.items c.in-Some.site c.in-Some.ensures.items before.0 in
           let here : length c.loop-site.ends.items + length c.pop.new.self.items + 1 ≡ length all = omega (arith, was.0, less, long, c.loop-site.ends.ok.0, c.pop.new.self.ok.0) in (
             left.0,
-            ended_push g.T.TaskOutput.gives limit all c.loop-site.ends.items c.push_reserved.new.self.items c.in-Ok.end c.in-Some.site.promise c.push_reserved.ensures.items
+            ended_push g.X.Launch.ends limit all c.loop-site.ends.items c.push_reserved.new.self.items c.in-Ok.end c.in-Some.site.promise c.push_reserved.ensures.items
                 (left.1 (length c.loop-site.ends.items) here) c.in-Ok.ensures before.1,
           ),
     )

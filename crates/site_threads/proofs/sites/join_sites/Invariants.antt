@@ -1,17 +1,16 @@
 use Rattle.std.proofs.Common.{◌≡◌, ◌+◌, ◌≤◌, ℕ, List, length, vec_capacity, vec_len}
-use Rattle.site_threads.specs.Ends.{HaveEnded}
+use Rattle.site_threads.specs.Ends.{HaveAllEnded}
 use Rattle.site_threads.specs.Places.{AtEach}
 use Rattle.site_threads.specs.Promises.{IsEndPromisedAt}
-use Rattle.site_threads.specs.declared.site_tasks.SiteTasks.{SiteTasks}
 use Rattle.site_threads.proofs.sites.join_sites.Given as goal
 
 -- the ends so far are as they were promised, and the threads that are left promise the others
 abbrev pub invariant-loop-site : goal.invariant-loop-site
 invariant-loop-site g l = (vec_len l.ends + vec_len l.sites ≡ vec_len l.fn.sites)
     × (vec_len l.fn.sites ≤ vec_capacity l.ends)
-    × ((limit : ℕ) (all : List (SiteTasks g.row.S.Denot g.row.T.Denot)) → length all ≡ vec_len l.fn.sites → AtEach (λ k site. IsEndPromisedAt limit all k site.promise) l.fn.sites.items
+    × ((limit : ℕ) (all : List g.row.X.Denot) → length all ≡ vec_len l.fn.sites → AtEach (λ k site. IsEndPromisedAt limit all k site.promise) l.fn.sites.items
     → AtEach (λ k site. IsEndPromisedAt limit all k site.promise) l.sites.items
-    × HaveEnded g.T.TaskOutput.gives limit all l.ends.items)
+    × HaveAllEnded g.X.Launch.ends limit all l.ends.items)
 
 abbrev pub decreases-loop-site : goal.decreases-loop-site
 decreases-loop-site g l = vec_len l.sites

@@ -1,5 +1,4 @@
-use Rattle.std.proofs.Common.{◌≡◌, ◌∙◌, ◌+◌, ◌≤◌, Some, ap, arith, slice_get, sym, vec_len}
-use Rattle.site_desk.specs.declared.desk.TheConstants.{MOST_PASSES}
+use Rattle.std.proofs.Common.{◌≡◌, ◌∙◌, ◌+◌, Some, ap, arith, slice_get, sym, vec_len}
 use Rattle.site_threads.specs.Promises.{IsEndPromisedAt}
 use Rattle.site_threads.proofs.PlaceLemmas.{each_itself, each_pop, each_push}
 use Rattle.site_threads.proofs.sites.start_sites.Goals as goal
@@ -9,8 +8,7 @@ pub loop-site-init : goal.loop-site-init
 loop-site-init g c = (
   omega (arith, c.requires.none),
   c.requires.room,
-  c.requires.some,
-  c.requires.few,
+  c.requires.ready,
   (λ k none low. absurd (omega (arith, low, c.requires.none, c.args.sites.now.ok.0))),
   each_itself c.args.all.items,
 )
@@ -20,31 +18,21 @@ pub loop-site-preserved : goal.loop-site-preserved
 loop-site-preserved g c =
     let was = c.loop-site.invariant in
     let less = c.in-Some.ensures.cases in
-    let some = each_pop (λ k site. 1 ≤ vec_len site.tasks) c.loop-site.all.items c.pop.new.self.items c.in-Some.site c.in-Some.ensures.items was.2 in
-    let few = each_pop (λ k site. vec_len site.tasks ≤ MOST_PASSES) c.loop-site.all.items c.pop.new.self.items c.in-Some.site c.in-Some.ensures.items was.3 in
-    let kept = each_pop (λ place site. slice_get c.args.all.items place ≡ Some site) c.loop-site.all.items c.pop.new.self.items c.in-Some.site c.in-Some.ensures.items was.5 in
+    let ready = each_pop (λ k site. g.X.Launch.is_ready site c.args.limit) c.loop-site.all.items c.pop.new.self.items c.in-Some.site c.in-Some.ensures.items was.2 in
+    let kept = each_pop (λ place site. slice_get c.args.all.items place ≡ Some site) c.loop-site.all.items c.pop.new.self.items c.in-Some.site c.in-Some.ensures.items was.4 in
     let made = c.in-Ok.ensures in (
       omega (arith, c.push_reserved.ensures.len, was.0, less),
       (let e = c.push_reserved.ensures.capacity in omega (arith, e, was.1)),
-      some.0,
-      few.0,
-      each_push (λ k site. IsEndPromisedAt c.args.limit c.args.all.items k site.promise) c.loop-site.sites.items c.push_reserved.new.self.items c.in-Ok.handle c.push_reserved.ensures.items was.4
+      ready.0,
+      each_push (λ k site. IsEndPromisedAt c.args.limit c.args.all.items k site.promise) c.loop-site.sites.items c.push_reserved.new.self.items c.in-Ok.handle c.push_reserved.ensures.items was.3
           (λ place at. let here : vec_len c.pop.new.self ≡ place = omega (arith, at, was.0, less, c.loop-site.sites.ok.0, c.args.all.ok.0) in record {
             limit_is = made.limit;
-            site = c.in-Some.site;
-            there = ap (slice_get c.args.all.items) (sym here ∙ c.pop.new.self.ok.0) ∙ kept.1;
-            replica_is = made.replica;
-            tasks_are = made.tasks;
+            site_is = ap (slice_get c.args.all.items) (sym here ∙ c.pop.new.self.ok.0) ∙ (kept.1 ∙ ap Some (sym made.site));
           }),
       kept.0,
     )
 
--- a site that is left has some tasks
-pub start_site-requires-clause-some : goal.start_site-requires-clause-some
-start_site-requires-clause-some g c = λ _ _.
-    (each_pop (λ k site. 1 ≤ vec_len site.tasks) c.loop-site.all.items c.pop.new.self.items c.in-Some.site c.in-Some.ensures.items c.loop-site.invariant.2).1
-
--- and no more than its desk has passes
-pub start_site-requires-clause-few : goal.start_site-requires-clause-few
-start_site-requires-clause-few g c = λ _ _.
-    (each_pop (λ k site. vec_len site.tasks ≤ MOST_PASSES) c.loop-site.all.items c.pop.new.self.items c.in-Some.site c.in-Some.ensures.items c.loop-site.invariant.3).1
+-- a site that is left can be launched
+pub start_site-requires-clause-ready : goal.start_site-requires-clause-ready
+start_site-requires-clause-ready g c = λ _ _.
+    (each_pop (λ k site. g.X.Launch.is_ready site c.args.limit) c.loop-site.all.items c.pop.new.self.items c.in-Some.site c.in-Some.ensures.items c.loop-site.invariant.2).1

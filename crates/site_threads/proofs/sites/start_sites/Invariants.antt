@@ -1,6 +1,5 @@
 use Rattle.std.specs.List.{All}
 use Rattle.std.proofs.Common.{◌≡◌, ◌+◌, ◌≤◌, Some, slice_get, vec_capacity, vec_len}
-use Rattle.site_desk.specs.declared.desk.TheConstants.{MOST_PASSES}
 use Rattle.site_threads.specs.Places.{AtEach}
 use Rattle.site_threads.specs.Promises.{IsEndPromisedAt}
 use Rattle.site_threads.proofs.sites.start_sites.Given as goal
@@ -9,8 +8,7 @@ use Rattle.site_threads.proofs.sites.start_sites.Given as goal
 abbrev pub invariant-loop-site : goal.invariant-loop-site
 invariant-loop-site g l = (vec_len l.sites + vec_len l.all ≡ vec_len l.fn.all)
     × (vec_len l.fn.all ≤ vec_capacity l.sites)
-    × All (λ site. 1 ≤ vec_len site.tasks) l.all.items
-    × All (λ site. vec_len site.tasks ≤ MOST_PASSES) l.all.items
+    × All (λ site. g.X.Launch.is_ready site l.fn.limit) l.all.items
     × AtEach (λ k site. IsEndPromisedAt l.fn.limit l.fn.all.items k site.promise) l.sites.items
     × AtEach (λ place site. slice_get l.fn.all.items place ≡ Some site) l.all.items
 

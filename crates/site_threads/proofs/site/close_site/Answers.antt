@@ -1,7 +1,7 @@
 use Rattle.std.proofs.Common.{◌∙◌, sym}
 use Rattle.site_threads.proofs.SiteLemmas.{ended_as}
 use Rattle.site_threads.proofs.TaskLemmas.{order_all}
-use Rattle.site_threads.proofs.site.ended.Goals as goal
+use Rattle.site_threads.proofs.site.close_site.Goals as goal
 
 -- the passes are all passes of the desk
 pub unreachable-requires : goal.unreachable-requires

@@ -1,0 +1,16 @@
+//! What is launched: a site, with whatever desk.
+
+/// What one site is launched with, and what it then ends with (this project's own).
+pub trait Launch {
+    ghost use Rattle.std.specs.Prelude.{ℕ};
+
+    /// What the site ends with.
+    type Output: Drop + Send;
+
+    /// `is_ready site limit`: the site can be launched with a journal of at most `limit` steps.
+    ghost is_ready: { Self → ℕ → Type 0 };
+
+    /// `ends site limit output`: the site that was launched as `site`, with that limit, gives
+    /// `output`.
+    ghost ends: { Self → ℕ → Self.Output → Type 0 };
+}
