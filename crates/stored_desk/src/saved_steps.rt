@@ -1,10 +1,11 @@
-ghost use Rattle.std.specs.Prelude.{◌≡◌, Some, slice_get};
+ghost use Rattle.std.specs.Prelude.{◌≡◌, None, Some, slice_get};
+ghost use Rattle.replica.specs.Site.{IsSameSite};
 ghost use Rattle.site_desk.specs.Passes.{step_of};
 ghost use Rattle.stored_desk.specs.Recorded.{IsLegalHistory};
 
 use crate::mark::Mark;
 use crate::vault::Vault;
-use crate::{Settled, StepStore, StoredLedger};
+use crate::{CommitFault, Settled, StepStore, StoredLedger};
 use site_journal::Receipt;
 use std::marker::Model;
 use std::sync::Wait;
@@ -39,10 +40,19 @@ impl<S: StepStore, L: StoredLedger> SavedSteps<S, L> {
         vault.find(rt, mark, settled)
     }
 
-    /// Gives up the steps for the store, which keeps them.
+    /// Why a commit of the store has failed, if one has. Otherwise the store has just these steps, and can take more.
+    pub fn fault(&self) -> Option<CommitFault>
+        ensures { result ≡ None → S.holds self.now.store self.now.list }
+    {
+        self.vault.fault()
+    }
+
+    /// Gives up the steps for the store, which keeps them. A site that began as the store does can do them, one after another.
     pub fn into_store(self) -> S
         ensures store { result ≡ self.store }
         ensures keeps { S.keeps result self.list }
+        ensures legal { IsLegalHistory L.base self.list }
+        ensures begun { IsSameSite (S.begun result) L.base }
     {
         let SavedSteps { vault, .. } = self;
         vault.into_store()

@@ -1,6 +1,6 @@
 //! The store, by whom it is held who commits.
-ghost use Rattle.std.specs.Prelude.{◌≡◌, ◌⊎◌, [], Err, IfErr, OnErr, OnOk, Some, false, length};
-ghost use Rattle.std.specs.Prelude.{slice_get, true};
+ghost use Rattle.std.specs.Prelude.{◌≡◌, ◌⊎◌, [], Err, IfErr, None, OnErr, OnOk, Some, false};
+ghost use Rattle.std.specs.Prelude.{length, slice_get, true};
 ghost use mathlib.Core.List.{IsPrefix};
 ghost use Rattle.replica.specs.Site.{IsSameSite};
 ghost use Rattle.site_journal.specs.Legal.{LeadAll};
@@ -76,14 +76,22 @@ impl<S: StepStore, L: StoredLedger> Vault<S, L> {
     pub fn into_store(self) -> S
         ensures store { result ≡ self.store }
         ensures keeps { S.keeps result self.list }
+        ensures legal { IsLegalHistory L.base self.list }
+        ensures begun { IsSameSite (S.begun result) L.base }
     {
         let Vault { store, .. } = self;
         store
     }
 
     // Why a commit has failed, if one has.
-    pub fn fault(&self) -> Option<CommitFault> {
-        self.fault
+    pub fn fault(&self) -> Option<CommitFault>
+        ensures { result ≡ None → S.holds self.now.store self.now.list }
+    {
+        if self.is_broken {
+            Some(self.fault.unwrap_or(CommitFault::Other))
+        } else {
+            None
+        }
     }
 
     // How much its store has stored since its base.
