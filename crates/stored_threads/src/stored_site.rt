@@ -1,0 +1,297 @@
+//! One site with a store: its desk, its threads, and how its store comes back.
+ghost use Rattle.std.specs.Prelude.{◌≡◌, ◌≤◌, ℕ, [], IfOk, IfSome, List, Some, slice_get, vec_len};
+ghost use Rattle.replica.specs.Site.{IsSameSite, SiteState};
+ghost use Rattle.site_desk.specs.Passes.{AreNewPasses};
+ghost use Rattle.site_desk.specs.declared.desk.TheConstants.{MOST_PASSES};
+ghost use Rattle.site_journal.specs.Journals.{IsOfSite};
+ghost use Rattle.site_journal.specs.declared.journaled.TheConstants.{MOST_STEPS};
+ghost use Rattle.site_threads.specs.Ledgers.{IsLedgerOf};
+ghost use Rattle.site_threads.specs.Tasks.{AreDone};
+ghost use Rattle.stored_threads.specs.StoredEnds.{HasStoredEnd, IsStoreOf};
+
+use crate::stored_task::StoredWorkplace;
+use crate::{StoredSiteOutput, StoredSiteTasks, StoredTask};
+use site_desk::{MOST_PASSES, Pass, SiteDesk};
+use site_journal::{DeskFault, Journaled, MOST_STEPS};
+use site_threads::{
+    Launch, SiteFault, SiteOutput, Start, TaskOutput, TaskResults, close_site, run_threads,
+};
+use std::alloc::Global;
+use std::marker::Brand;
+use std::sync::Wait;
+use std::sync::ledger::Blank;
+use std::thread;
+use std::thread::Threads;
+use stored_desk::{
+    CommitFault, NewHistory, NewMark, SavedSteps, StepStore, StoredDesk, StoredLedger,
+};
+
+// Saves all steps that the site has done, and tries again while it is out of memory. Where a commit of the store has failed, it saves none.
+fn settle<D: StepStore, L: StoredLedger, R: Wait>(rt: &R, desk: &StoredDesk<D, L>) {
+    for _ in rt.forever() {
+        match desk.settle_all(rt) {
+            Err(DeskFault::Memory) => thread::yield_now(),
+            _ => return,
+        }
+    }
+    unreachable!()
+}
+
+// The store of what was saved, and why a commit of it has failed, if one has.
+fn store_of<D: StepStore, L: StoredLedger>(
+    saved: Option<SavedSteps<D, L>>,
+) -> (Option<D>, Option<CommitFault>)
+    ensures { IfSome result.0 (λ store.
+        IsStoreOf D.holds D.keeps D.begun L.base result.1 store) }
+{
+    match saved {
+        Some(saved) => {
+            let fault = saved.fault();
+            (Some(saved.into_store()), fault)
+        }
+        None => (None, None),
+    }
+}
+
+// Saves all steps of a site whose tasks are all done, and closes its desk.
+fn close_stored_site<D: StepStore, L: StoredLedger, R: Wait, T: TaskOutput>(
+    rt: &R,
+    desk: StoredDesk<D, L>,
+    all: TaskResults<L, T::Output>,
+) -> StoredSiteOutput<D, T::Output>
+    requires all { vec_len all.passes ≡ desk.passes }
+    requires order { (place : ℕ) (pass : _) → slice_get all.passes.items place ≡ Some pass
+        → pass.ordinal ≡ place }
+    ensures { (tasks : List T) (replica : SiteState) → IsLedgerOf L.site L.names L.base replica
+        → AreDone T.gives L.site L.names tasks all.passes.items all.outputs.items
+        → HasStoredEnd T.gives D.holds D.keeps D.begun replica L.limit tasks result }
+{
+    settle(rt, &desk);
+    let (desk, saved) = desk.into_parts();
+    let SiteOutput { journal, outputs } = close_site::<L, T>(desk, all);
+    let (store, fault) = store_of(saved);
+    StoredSiteOutput {
+        journal,
+        outputs,
+        store,
+        fault,
+    }
+}
+
+// Runs the threads of a site at its desk, and closes the desk.
+fn run_desk<
+    L: StoredLedger + Send + Sync,
+    R: Threads + Wait + Sync,
+    D: StepStore + Send,
+    S: Sync + Drop,
+    T: StoredTask<S, R> + Send + Drop,
+>(
+    rt: &R,
+    alloc: Global,
+    start: &Start,
+    desk: StoredDesk<D, L>,
+    passes: Vec<Pass<L>>,
+    shared: S,
+    tasks: Vec<T>,
+) -> Result<StoredSiteOutput<D, T::Output>, SiteFault>
+where
+    D::Group: Send,
+    D::Base: Send,
+    requires passes { AreNewPasses (vec_len tasks) passes.items }
+    requires all { desk.passes ≡ vec_len tasks }
+    ensures { IfOk result (λ end. (replica : SiteState)
+        → IsLedgerOf L.site L.names L.base replica
+        → HasStoredEnd T.gives D.holds D.keeps D.begun replica L.limit tasks.items end) }
+{
+    let place = StoredWorkplace { desk };
+    let run = run_threads(rt, alloc, start, &shared, &place, passes, tasks);
+    drop(shared);
+    let StoredWorkplace { desk } = place;
+    match run {
+        Ok(all) => Ok(close_stored_site::<D, L, R, T>(rt, desk, all)),
+        Err(fault) => {
+            drop(desk);
+            Err(fault)
+        }
+    }
+}
+
+// Makes the desk of a site over its store under a ledger, runs its threads, and closes the desk.
+fn run_site<
+    L: StoredLedger + Send + Sync,
+    R: Threads + Wait + Sync,
+    D: StepStore + Send,
+    S: Sync + Drop,
+    T: StoredTask<S, R> + Send + Drop,
+>(
+    rt: &R,
+    alloc: Global,
+    start: &Start,
+    desk: SiteDesk<L>,
+    passes: Vec<Pass<L>>,
+    history: NewHistory,
+    mark: NewMark,
+    store: D,
+    shared: S,
+    tasks: Vec<T>,
+) -> Result<StoredSiteOutput<D, T::Output>, SiteFault>
+where
+    D::Group: Send,
+    D::Base: Send,
+    requires passes { AreNewPasses (vec_len tasks) passes.items }
+    requires all { desk.passes ≡ vec_len tasks }
+    requires history { history ≡ L.history }
+    requires mark { mark ≡ L.mark }
+    requires holds { D.holds store [] }
+    requires keeps { D.keeps store [] }
+    requires begun { IsSameSite (D.begun store) L.base }
+    ensures { IfOk result (λ end. (replica : SiteState)
+        → IsLedgerOf L.site L.names L.base replica
+        → HasStoredEnd T.gives D.holds D.keeps D.begun replica L.limit tasks.items end) }
+{
+    match StoredDesk::new(desk, store, history, mark) {
+        Ok(desk) => run_desk(rt, alloc, start, desk, passes, shared, tasks),
+        // A new desk has done no step, and is never refused. That isn't proved.
+        Err((desk, store)) => {
+            drop(desk);
+            drop(store);
+            drop(passes);
+            drop(shared);
+            drop(tasks);
+            Err(SiteFault::Memory)
+        }
+    }
+}
+
+// Makes the desk of a site under a ledger, and runs the site over its store.
+fn run_journal<
+    L: StoredLedger + Send + Sync,
+    R: Threads + Wait + Sync,
+    D: StepStore + Send,
+    S: Sync + Drop,
+    T: StoredTask<S, R> + Send + Drop,
+>(
+    rt: &R,
+    alloc: Global,
+    start: &Start,
+    blank: Blank,
+    journal: Journaled,
+    history: NewHistory,
+    mark: NewMark,
+    store: D,
+    shared: S,
+    tasks: Vec<T>,
+) -> Result<StoredSiteOutput<D, T::Output>, SiteFault>
+where
+    D::Group: Send,
+    D::Base: Send,
+    requires name { blank.name ≡ L.name }
+    requires ledger { blank.parts ≡ L.parts }
+    requires parts { blank.parts ≡ vec_len tasks }
+    requires some { 1 ≤ vec_len tasks }
+    requires few { vec_len tasks ≤ MOST_PASSES }
+    requires new { journal.count ≡ 0 }
+    requires site { IsOfSite L.site L.names journal }
+    requires limit { journal.limit ≡ L.limit }
+    requires base { journal.base ≡ L.base }
+    requires history { history ≡ L.history }
+    requires mark { mark ≡ L.mark }
+    requires holds { D.holds store [] }
+    requires keeps { D.keeps store [] }
+    requires begun { IsSameSite (D.begun store) L.base }
+    ensures { IfOk result (λ end. (replica : SiteState)
+        → IsLedgerOf L.site L.names L.base replica
+        → HasStoredEnd T.gives D.holds D.keeps D.begun replica L.limit tasks.items end) }
+{
+    let number = tasks.len() as u32;
+    match SiteDesk::<L>::new(alloc, blank, journal, number) {
+        Ok((desk, passes)) => run_site(
+            rt, alloc, start, desk, passes, history, mark, store, shared, tasks,
+        ),
+        Err((_, journal)) => {
+            drop(journal);
+            drop(history);
+            drop(mark);
+            drop(store);
+            drop(shared);
+            drop(tasks);
+            Err(SiteFault::Memory)
+        }
+    }
+}
+
+// Runs a site from its replica on, under a ledger that this call names.
+pub(crate) fn run_replica<
+    R: Threads + Wait + Sync,
+    D: StepStore + Send,
+    S: Sync + Drop,
+    T: StoredTask<S, R> + Send + Drop,
+>(
+    rt: &R,
+    alloc: Global,
+    start: &Start,
+    limit: u32,
+    site: StoredSiteTasks<D, S, T>,
+) -> Result<StoredSiteOutput<D, T::Output>, SiteFault>
+where
+    D::Group: Send,
+    D::Base: Send,
+    requires least { 1 ≤ limit }
+    requires most { limit ≤ MOST_STEPS }
+    requires some { 1 ≤ vec_len site.tasks }
+    requires few { vec_len site.tasks ≤ MOST_PASSES }
+    requires holds { D.holds site.store [] }
+    requires keeps { D.keeps site.store [] }
+    requires begun { IsSameSite (D.begun site.store) site.replica }
+    ensures { IfOk result (λ end. HasStoredEnd T.gives D.holds D.keeps D.begun site.replica limit
+        site.tasks.items end) }
+{
+    let StoredSiteTasks {
+        replica,
+        store,
+        shared,
+        tasks,
+    } = site;
+    let Ok(mark) = NewMark::new(alloc) else {
+        drop(replica);
+        drop(store);
+        drop(shared);
+        drop(tasks);
+        return Err(SiteFault::Memory);
+    };
+    match Journaled::new(alloc, replica, limit) {
+        Ok(journal) => {
+            let blank = Blank::new(tasks.len() as u64);
+            let history = NewHistory::new();
+            run_journal::<Brand, R, D, S, T>(
+                rt, alloc, start, blank, journal, history, mark, store, shared, tasks,
+            )
+        }
+        Err((_, replica)) => {
+            drop(replica);
+            drop(mark);
+            drop(store);
+            drop(shared);
+            drop(tasks);
+            Err(SiteFault::Memory)
+        }
+    }
+}
+
+impl<D: StepStore + Send, S: Drop, T: TaskOutput + Drop> Launch for StoredSiteTasks<D, S, T> {
+    ghost use Rattle.std.specs.Prelude.{◌≤◌, [], vec_len};
+    ghost use Rattle.replica.specs.Site.{IsSameSite};
+    ghost use Rattle.site_desk.specs.declared.desk.TheConstants.{MOST_PASSES};
+    ghost use Rattle.site_journal.specs.declared.journaled.TheConstants.{MOST_STEPS};
+    ghost use Rattle.stored_threads.specs.StoredEnds.{HasStoredEnd};
+
+    type Output = StoredSiteOutput<D, T::Output>;
+
+    ghost is_ready = { λ site limit. (1 ≤ limit) × (limit ≤ MOST_STEPS)
+        × (1 ≤ vec_len site.tasks) × (vec_len site.tasks ≤ MOST_PASSES)
+        × D.holds site.store [] × D.keeps site.store []
+        × IsSameSite (D.begun site.store) site.replica };
+
+    ghost ends = { λ site limit end. HasStoredEnd T.gives D.holds D.keeps D.begun site.replica limit
+        site.tasks.items end };
+}

@@ -1,0 +1,29 @@
+use replica::Replica;
+use site_journal::Journaled;
+use stored_desk::CommitFault;
+
+/// What one site with a store is launched with (this project's own).
+#[derive(Drop)]
+pub struct StoredSiteTasks<D: Drop, S: Drop, T: Drop> {
+    /// The site before its first step.
+    pub replica: Replica,
+    /// The store of the site's steps, which has none yet.
+    pub store: D,
+    /// What the site's threads share.
+    pub shared: S,
+    /// The site's tasks, 1 to 256. Each is done by a thread of its own, with the pass of its place.
+    pub tasks: Vec<T>,
+}
+
+/// What one site with a store ends with (this project's own).
+#[derive(Drop)]
+pub struct StoredSiteOutput<D: Drop, O: Drop> {
+    /// The journal of the site's steps.
+    pub journal: Journaled,
+    /// What the site's tasks gave, in the order of the tasks.
+    pub outputs: Vec<O>,
+    /// The store, unless a thread was cut off in a commit.
+    pub store: Option<D>,
+    /// Why a commit of the store has failed, if one has. The journal may then have steps that the store hasn't.
+    pub fault: Option<CommitFault>,
+}
