@@ -37,14 +37,19 @@ pub(crate) fn status(alloc: Global) -> Ask {
     })
 }
 
+// Site 0, of the queue `sales`, which knows nothing.
+pub(crate) fn site_0(rt: &impl Abort, alloc: Global) -> Replica {
+    let site = SiteId::new(0).expect(rt, "a site");
+    let list = QueueList::new(alloc, &[sales(rt)]).expect(rt, "a list");
+    Replica::new(alloc, site, list)
+}
+
 // The journal of site 0, of the queue `sales`, which knows nothing. Its limit is `limit` steps.
 pub(crate) fn journal_of(rt: &impl Abort, alloc: Global, limit: u32) -> Journaled
     ensures begun { result.count ≡ 0 }
     ensures site { IsOfSite result.base.site result.base.names result }
 {
-    let site = SiteId::new(0).expect(rt, "a site");
-    let list = QueueList::new(alloc, &[sales(rt)]).expect(rt, "a list");
-    match Journaled::new(alloc, Replica::new(alloc, site, list), limit.clamp(1, 100)) {
+    match Journaled::new(alloc, site_0(rt, alloc), limit.clamp(1, 100)) {
         Ok(journal) => journal,
         Err(_) => rt.panic("memory"),
     }
@@ -56,6 +61,16 @@ pub(crate) fn base_of(rt: &impl Abort, journal: &Journaled) -> Replica
 {
     match journal.base().copy() {
         Ok(base) => base,
+        Err(_) => rt.panic("memory"),
+    }
+}
+
+// A copy of a site.
+pub(crate) fn copied(rt: &impl Abort, site: &Replica) -> Replica
+    ensures { IsSameSite result site.now }
+{
+    match site.copy() {
+        Ok(copy) => copy,
         Err(_) => rt.panic("memory"),
     }
 }

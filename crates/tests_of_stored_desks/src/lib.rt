@@ -6,6 +6,8 @@ mod asks;
 #[cfg(test)]
 mod desks;
 #[cfg(test)]
+mod launches;
+#[cfg(test)]
 mod memory_store;
 #[cfg(test)]
 mod trials;

@@ -1,0 +1,111 @@
+//! A site with a store that is launched with two tasks.
+ghost use Rattle.std.specs.Prelude.{◌≡◌};
+
+use crate::asks::{add, copied, site_0};
+use crate::memory_store::MemoryStore;
+use site_desk::Pass;
+use status_report::Ask;
+use std::alloc::Global;
+use std::process::Abort;
+use std::sync::Wait;
+use std::thread::Threads;
+use stored_desk::{CommitFault, StepStore, StoredDesk, StoredLedger};
+use stored_threads::{
+    StoredSiteOutput, StoredSiteTasks, StoredTask, TaskEnd, TaskOutput, run_stored_sites,
+};
+
+// A task that asks its site once. Its output is whether the site's answer is durable.
+#[derive(Drop)]
+struct AskOnce {
+    asked: Ask,
+}
+
+impl TaskOutput for AskOnce {
+    ghost use Rattle.std.specs.Prelude.{⊤};
+
+    type Output = bool;
+
+    ghost gives = { λ task site names old output new. ⊤ };
+}
+
+// Asks a desk once by this pass. Returns whether the answer is durable.
+fn asks_once<D: StepStore, L: StoredLedger, R: Wait>(
+    rt: &R,
+    desk: &StoredDesk<D, L>,
+    pass: &mut Pass<L>,
+    asked: &Ask,
+) -> bool
+    ensures { pass.new.ordinal ≡ pass.old.ordinal }
+{
+    match desk.call(rt, pass, asked) {
+        Ok(settled) => {
+            drop(settled);
+            true
+        }
+        Err(_) => false,
+    }
+}
+
+impl<S, R: Wait> StoredTask<S, R> for AskOnce {
+    fn run<D: StepStore, L: StoredLedger>(
+        self,
+        rt: &R,
+        _alloc: Global,
+        _shared: &S,
+        desk: &StoredDesk<D, L>,
+        pass: Pass<L>,
+    ) -> TaskEnd<L, bool> {
+        let mut pass = pass;
+        let AskOnce { asked } = self;
+        let output = asks_once(rt, desk, &mut pass, &asked);
+        drop(asked);
+        TaskEnd { pass, output }
+    }
+}
+
+// What site 0 ends with whose two tasks add a member each, over a store that takes a number of commits.
+fn launched<R: Abort + Threads + Wait + Sync>(
+    rt: &R,
+    alloc: Global,
+    commits: u32,
+) -> StoredSiteOutput<MemoryStore, bool> {
+    let mut tasks = Vec::new(alloc);
+    let first = add(rt, b"SIP/1");
+    tasks.push(AskOnce { asked: first }).expect(rt, "memory");
+    let second = add(rt, b"SIP/2");
+    tasks.push(AskOnce { asked: second }).expect(rt, "memory");
+    let replica = site_0(rt, alloc);
+    let store = MemoryStore::new(alloc, copied(rt, &replica), commits, true);
+    let mut sites = Vec::new(alloc);
+    let site = StoredSiteTasks {
+        replica,
+        store,
+        shared: (),
+        tasks,
+    };
+    sites.push(site).expect(rt, "memory");
+    let mut ends = run_stored_sites(rt, alloc, 10, sites).expect(rt, "ends");
+    let end = ends.pop().expect(rt, "an end");
+    drop(ends);
+    end
+}
+
+#[test]
+fn both_tasks_of_a_launched_site_are_saved(rt: HostRuntime) {
+    let end = launched(&rt, rt.alloc(), 2);
+    assert!(rt; end.outputs.as_slice() == [true, true].as_slice());
+    assert!(rt; end.journal.count() == 2 && end.fault.is_none());
+    let store = end.store.as_ref().expect(&rt, "a store");
+    assert!(rt; store.steps.len() == 2);
+    drop(end);
+}
+
+#[test]
+fn a_launched_site_gives_the_fault_of_its_store(rt: HostRuntime) {
+    let end = launched(&rt, rt.alloc(), 0);
+    assert!(rt; end.outputs.as_slice() == [false, false].as_slice());
+    assert!(rt; end.fault == Some(CommitFault::Full));
+    let store = end.store.as_ref().expect(&rt, "a store");
+    assert!(rt; store.steps.is_empty());
+    drop(end);
+}
