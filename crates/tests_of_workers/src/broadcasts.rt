@@ -221,8 +221,8 @@ fn a_whole_is_given_to_each_outlet(rt: HostRuntime) {
     assert!(&rt; broadcast_whole(&rt, &mut port, &mut outlets, &mut sink).is_ok());
     let again = broadcast_whole(&rt, &mut port, &mut outlets, &mut sink);
     assert!(&rt; again == Err(DeskFault::Memory));
-    assert!(&rt; outlets[0].given.as_slice() == [7, 8]);
-    assert!(&rt; outlets[1].given.as_slice() == [7]);
+    assert!(&rt; outlets[0].given.as_slice() == [7, 8].as_slice());
+    assert!(&rt; outlets[1].given.as_slice() == [7].as_slice());
     drop(outlets);
     drop(port);
 }
