@@ -172,6 +172,20 @@ impl PeerBox {
         }
     }
 
+    /// True if its peer is connected.
+    pub fn is_open(&self) -> bool
+        ensures { result ≡ self.now.is_open }
+    {
+        self.is_open
+    }
+
+    /// True if a whole is due.
+    pub fn is_whole_due(&self) -> bool
+        ensures { result ≡ self.now.whole_due }
+    {
+        self.whole_due
+    }
+
     /// True if nothing is due and no frame waits.
     pub fn is_idle(&self) -> bool
         ensures { IsTrue result ↔ ((self.now.whole_due ≡ false) × (self.now.frames ≡ [])) }

@@ -1,0 +1,51 @@
+-- The frames among the items that a link has received.
+use Rattle.std.proofs.Common.{◌≡◌, ◌∙◌, ◌+◌, ◌<◌, ℕ, List, [], ◌∷◌, ◌++◌, None, Option, Some, length, refl, replicate, suc, zero, ap, subst, arith}
+use Rattle.std.specs.Prelude.{nat_lt, true}
+use Rattle.std.specs.List.{filter}
+use Rattle.std.proofs.lemmas.Bool.{lt-ltb}
+use Rattle.std.proofs.lemmas.List.Elements.{filter-append}
+use Rattle.link_stream.specs.Items.{IsFrame, beat}
+use Rattle.link_stream.specs.Tagged.{TaggedState}
+use Rattle.site_pumps.specs.Inlets.{InletRun, InletWork}
+use Rattle.site_peers.specs.Received.{HasGivenFrame, HasGivenFrames, HasReceived, without_beats}
+use Rattle.site_peers.proofs.ReceivedItems.{received_more, received_none}
+
+no_beats : (n : ℕ) → without_beats (replicate n beat) ≡ []
+no_beats zero = refl
+no_beats (suc n) = no_beats n
+
+-- a frame is none of the beats
+one_frame : (frame : List ℕ) → nat_lt 4 (length frame) ≡ true → without_beats (frame ∷ []) ≡ frame ∷ []
+one_frame frame counts = simp counts
+
+-- beats, a frame and more items have this frame and the frames of the others
+frame_first : (n : ℕ) (frame : List ℕ) (items : List (List ℕ)) → IsFrame frame → without_beats ((replicate n beat ++ frame ∷ []) ++ items) ≡ frame ∷ without_beats items
+frame_first n frame items is =
+    let long : 4 < length frame = omega (arith, is.1.0, is.2) in
+    let counts : nat_lt 4 (length frame) ≡ true = lt-ltb 4 (length frame) long in
+    let front : without_beats (replicate n beat ++ frame ∷ []) ≡ frame ∷ [] =
+    filter-append (λ item. nat_lt 4 (length item)) (replicate n beat) (frame ∷ []) ∙ ap (λ l. l ++ without_beats (frame ∷ [])) (no_beats n) ∙ one_frame frame counts in
+    filter-append (λ item. nat_lt 4 (length item)) (replicate n beat ++ frame ∷ []) items ∙ ap (λ l. l ++ without_beats items) front
+
+-- an inlet that gives frames has received items with these frames
+pub frames_of_run : {I : Type 0} (p q : I) (left : I → Option (List ℕ)) (stream : I → TaggedState) (frames : List (List ℕ))
+    → InletRun (λ old item new. HasGivenFrame (left old) (left new) (stream old) item (stream new)) p frames q → HasGivenFrames (left p) (left q) (stream p) frames (stream q)
+frames_of_run {I} p q left stream [] run = record {
+  items = [];
+  received = subst (λ (x : I). HasReceived (left p) (left x) (stream p) [] (stream x)) run (received_none (left p) (stream p));
+  frames_are = refl;
+}
+frames_of_run p q left stream (frame ∷ frames) run =
+    let rest = frames_of_run run.0 q left stream frames run.2 in
+    let first = run.1 in record {
+      items = (replicate first.beats beat ++ frame ∷ []) ++ rest.items;
+      received = received_more (left p) (left run.0) (left q) (stream p) (stream run.0) (stream q) (replicate first.beats beat ++ frame ∷ []) rest.items first.received rest.received;
+      frames_are = frame_first first.beats frame rest.items first.is_frame ∙ ap (λ l. frame ∷ l) rest.frames_are;
+    }
+
+-- the same, whether the inlet has ended or a fault has stopped its caller
+pub frames_of_work : {I F : Type 0} (p q : I) (left : I → Option (List ℕ)) (stream : I → TaggedState) (Ends : I → I → Type 0) (frames : List (List ℕ)) (fault : Option F)
+    → InletWork (λ old item new. HasGivenFrame (left old) (left new) (stream old) item (stream new)) Ends p frames fault q
+    → (after : Option (List ℕ)) × (last : TaggedState) × HasGivenFrames (left p) after (stream p) frames last
+frames_of_work p q left stream Ends frames (Some fault) work = (left q, stream q, frames_of_run p q left stream frames work)
+frames_of_work p q left stream Ends frames None work = (left work.0, stream work.0, frames_of_run p work.0 left stream frames work.1)

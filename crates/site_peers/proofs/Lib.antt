@@ -1,0 +1,4 @@
+pub mod Frames
+pub mod Items
+pub mod ReceivedItems
+pub mod Spreads

@@ -1,0 +1,5 @@
+use Rattle.site_pumps.specs.Carried.{SoFar}
+use Rattle.site_peers.proofs.spreading.hand_to_each.Given as goal
+
+abbrev pub invariant-loop-i : goal.invariant-loop-i
+invariant-loop-i g l = SoFar (λ old new. g.O.Outbox.handed old l.receipt new) l.initial.outboxes l.outboxes l.i

@@ -1,0 +1,7 @@
+pub mod Queues
+pub mod Meetings
+pub mod Outboxes
+pub mod Received
+pub mod Links
+pub mod Sent
+pub mod Windows

@@ -1,0 +1,48 @@
+-- What a link has received (this project's own).
+use Rattle.std.specs.Prelude.{ℕ, ◌≡◌, ◌+◌, Bool, List, Option, [], ◌∷◌, ◌++◌, length, nat_lt, replicate}
+use Rattle.std.specs.List.{filter}
+use Rattle.std.specs.Io.KnownBytes.{Consumes}
+use Rattle.link_stream.specs.Items.{IsFrame, beat}
+use Rattle.link_stream.specs.Receiving.{IsCause}
+use Rattle.link_stream.specs.Sequences.{all_tagged}
+use Rattle.link_stream.specs.Tagged.{TaggedState}
+use Rattle.site_peers.specs.declared.link_inlet.InletFault.{InletFault}
+use Rattle.site_peers.specs.declared.link_inlet.InletFault.TheVariants.{Acknowledge, Receive}
+
+-- a source had `before` left and has `after` left now: the bytes that were held and those that came are these items, each with the tag of
+-- its counter, and the bytes that are held now
+pub record HasReceived (before after : Option (List ℕ)) (old : TaggedState) (items : List (List ℕ)) (new : TaggedState) : Type 0 where
+  pub bytes : List ℕ
+  pub came : Consumes before after bytes
+  pub held : old.held ++ bytes ≡ all_tagged old.key old.taken items ++ new.held
+  pub taken : new.taken ≡ old.taken + length items
+  pub key : new.key ≡ old.key
+
+-- beats were received, and then this frame
+pub record HasGivenFrame (before after : Option (List ℕ)) (old : TaggedState) (frame : List ℕ) (new : TaggedState) : Type 0 where
+  pub beats : ℕ
+  pub received : HasReceived before after old (replicate beats beat ++ frame ∷ []) new
+  pub is_frame : IsFrame frame
+
+-- why a link gives nothing more: the receiver's cause, or that nothing can be acknowledged
+abbrev pub IsInletCause : InletFault → TaggedState → Bool → Bool → Type 0
+IsInletCause (Receive fault) stream ended failed = IsCause fault stream ended failed
+IsInletCause (Acknowledge fault) stream ended failed = Unit {0}
+
+-- beats were received, and what is held then gives nothing more, for this fault
+pub record HasStopped (before : Option (List ℕ)) (old : TaggedState) (fault : InletFault) (ended failed : Bool) : Type 0 where
+  pub beats : ℕ
+  pub left : Option (List ℕ)
+  pub stream : TaggedState
+  pub received : HasReceived before left old (replicate beats beat) stream
+  pub cause : IsInletCause fault stream ended failed
+
+-- a beat has four bytes, and a frame more
+abbrev pub without_beats : List (List ℕ) → List (List ℕ)
+without_beats items = filter (λ item. nat_lt 4 (length item)) items
+
+-- a source had `before` left and has `after` left now: items were received, of which those that aren't beats are these frames
+pub record HasGivenFrames (before after : Option (List ℕ)) (old : TaggedState) (frames : List (List ℕ)) (new : TaggedState) : Type 0 where
+  pub items : List (List ℕ)
+  pub received : HasReceived before after old items new
+  pub frames_are : without_beats items ≡ frames

@@ -1,0 +1,13 @@
+-- What was written and read of a link, and what of it was acknowledged (this project's own).
+use Rattle.std.specs.Prelude.{ℕ}
+
+-- how many bytes were written, and how many of them the peer has acknowledged
+pub record WindowState : Type 0 where
+  pub written : ℕ
+  pub acknowledged : ℕ
+
+-- how many bytes were read, how many of them were acknowledged, and when that was last done, in milliseconds
+pub record ReadState : Type 0 where
+  pub read : ℕ
+  pub acknowledged : ℕ
+  pub last : ℕ

@@ -1,0 +1,264 @@
+//! The thread of a site that dials a peer, sends over the link what waits for it, and dials again.
+use crate::clock::{millis, random};
+use crate::link_queue::LinkQueue;
+use crate::peer_links::Peer;
+use crate::stream_ends::{StreamAcknowledgements, WRITE_WAITS, close_gently, prepare};
+use crate::window_sink::WindowSink;
+use crate::{
+    BackOff, DialEnd, EndReason, LinkLog, Meeting, OutletFault, PeerLinks, Ring, end_links,
+    meet_acceptor, send_items,
+};
+use ami_text::{StdSink, StdSource};
+use link_hello::{HelloFault, LinkKeys, Refusal};
+use link_stream::{ItemSender, SendFault};
+use std::alloc::Global;
+use std::net::{Net, TcpListener, TcpStream, ToSocketAddrs};
+use std::random::RandomSource;
+use std::sync::Wait;
+use std::sync::atomic::Ordering;
+use std::time::{Clock, Duration};
+use thiserror::Error;
+
+// How long a connection may take, in milliseconds, and how many addresses of a name are tried.
+const CONNECT_MILLIS: u64 = 2_000;
+
+const MOST_ADDRESSES: usize = 4;
+
+// A link that was up for this long, in milliseconds, begins the pauses anew.
+const LONG_MILLIS: u64 = 3_000;
+
+/// Why there is no link to a peer.
+#[derive(Clone, Copy, Debug, PartialEq, Eq, Error)]
+pub enum DialFault {
+    /// The address has no number.
+    #[error("no such address")]
+    NoAddress,
+    /// The peer doesn't accept a connection.
+    #[error("cannot connect")]
+    CannotConnect,
+    /// The system gives no random bytes, no clock, or no time limit for the stream.
+    #[error("not prepared")]
+    NotPrepared,
+    /// There was no hello.
+    #[error("hello: {0}")]
+    Hello(HelloFault),
+    /// The link has fallen.
+    #[error(transparent)]
+    Outlet(OutletFault),
+    /// An item could not be sent.
+    #[error(transparent)]
+    Send(SendFault),
+    /// The site ends.
+    #[error("the site ends")]
+    Ending,
+}
+
+// Connects to a host and a port.
+fn connect<R: Net<Listener = TcpListener, Stream = TcpStream>>(
+    rt: &R,
+    address: &str,
+) -> Result<TcpStream, DialFault> {
+    let Ok(addresses) = address.to_socket_addrs(rt) else {
+        return Err(DialFault::NoAddress);
+    };
+    let wait = Duration::from_millis(CONNECT_MILLIS);
+    let mut tried: usize = 0;
+    for address in addresses {
+        if tried >= MOST_ADDRESSES {
+            break;
+        }
+        tried = tried.saturating_add(1);
+        if let Ok(stream) = TcpStream::connect_timeout(rt, &address, wait) {
+            return Ok(stream);
+        }
+    }
+    Err(DialFault::CannotConnect)
+}
+
+// Runs the hello over a stream that was dialed.
+fn meet<R: Wait + RandomSource, G: Drop>(
+    rt: &R,
+    links: &PeerLinks<G>,
+    stream: &TcpStream,
+) -> Result<Meeting, DialFault> {
+    let mut nonce = [0u8; 32];
+    if prepare(stream).is_err() || rt.fill_bytes(&mut nonce).is_err() {
+        return Err(DialFault::NotPrepared);
+    }
+    let mut source = StdSource::new(stream);
+    let mut sink = StdSink::new(stream).with_waits(WRITE_WAITS);
+    let met = meet_acceptor(
+        rt,
+        &mut source,
+        &mut sink,
+        &links.roll,
+        &links.key,
+        &nonce,
+        &links.card,
+    );
+    match met {
+        Ok(meeting) => Ok(meeting),
+        Err(fault) => Err(DialFault::Hello(fault)),
+    }
+}
+
+// Sends over a link what waits for its peer, until it falls or the site ends.
+fn send<R: Wait + Clock + RandomSource, G: Ring<R> + Drop>(
+    rt: &R,
+    alloc: Global,
+    links: &PeerLinks<G>,
+    peer: &Peer,
+    stream: &TcpStream,
+    keys: LinkKeys,
+) -> DialFault {
+    let LinkKeys {
+        items,
+        acknowledgements,
+    } = keys;
+    let Some(now) = millis(rt) else {
+        drop(items);
+        drop(acknowledgements);
+        return DialFault::NotPrepared;
+    };
+    let reader = StreamAcknowledgements::new(rt, alloc, stream, acknowledgements, now);
+    let mut sink = WindowSink::new(rt, stream, reader);
+    let mut sender = ItemSender::new(items);
+    let mut queue = LinkQueue::new(links, peer, now);
+    let sent = send_items(rt, &mut queue, &mut sender, &mut sink);
+    let fault = sink.fault();
+    drop(queue);
+    drop(sender);
+    drop(sink);
+    match (sent, fault) {
+        (Ok(()), _) => DialFault::Ending,
+        (Err(_), Some(fault)) => DialFault::Outlet(fault),
+        (Err(fault), None) => DialFault::Send(fault),
+    }
+}
+
+// Opens the queue of a peer whose link is up, sends, and closes it.
+fn send_from_queue<R: Wait + Clock + RandomSource, G: Ring<R> + Drop>(
+    rt: &R,
+    alloc: Global,
+    links: &PeerLinks<G>,
+    peer: &Peer,
+    stream: &TcpStream,
+    keys: LinkKeys,
+) -> DialFault {
+    peer.queue.open(rt);
+    links.up.fetch_add(1, Ordering::SeqCst);
+    links.bell.ring(rt);
+    let fault = send(rt, alloc, links, peer, stream, keys);
+    links.up.fetch_sub(1, Ordering::SeqCst);
+    peer.queue.close(rt);
+    fault
+}
+
+// One link, from its dialing to its fall, and whether it was up.
+fn dial_once<
+    R: Net<Listener = TcpListener, Stream = TcpStream> + Wait + Clock + RandomSource,
+    G: Ring<R> + Drop,
+>(rt: &R, alloc: Global, links: &PeerLinks<G>, log: LinkLog<'_>, peer: &Peer) -> (bool, DialFault) {
+    let stream = match connect(rt, peer.address.as_str()) {
+        Ok(stream) => stream,
+        Err(fault) => return (false, fault),
+    };
+    let Meeting { site, keys } = match meet(rt, links, &stream) {
+        Ok(meeting) => meeting,
+        Err(fault) => {
+            close_gently(&stream);
+            drop(stream);
+            return (false, fault);
+        }
+    };
+    log.log_up(rt, site, peer.address.as_str());
+    let fault = send_from_queue(rt, alloc, links, peer, &stream, keys);
+    drop(stream);
+    (true, fault)
+}
+
+// Why the site ends where a peer refuses it so.
+fn reason_of(fault: DialFault) -> Option<EndReason> {
+    match fault {
+        DialFault::Hello(HelloFault::IsRefused(Refusal::TakenNumber)) => {
+            Some(EndReason::TakenNumber)
+        }
+        DialFault::Hello(HelloFault::IsRefused(Refusal::OlderCopy)) => Some(EndReason::OlderCopy),
+        _ => None,
+    }
+}
+
+// How a connection that has ended by this fault counts for the next one.
+fn end_of(fault: DialFault, was_long: bool) -> DialEnd {
+    match fault {
+        DialFault::Hello(HelloFault::Refuses(Refusal::Itself)) => DialEnd::Itself,
+        DialFault::Hello(
+            HelloFault::Refuses(_) | HelloFault::IsRefused(_) | HelloFault::WrongSecret,
+        )
+        | DialFault::Outlet(OutletFault::FrameRefused) => DialEnd::Refused,
+        _ if was_long => DialEnd::WasUp,
+        _ => DialEnd::Failed,
+    }
+}
+
+// Whether at least this time has passed, in milliseconds.
+fn has_passed<R: Clock>(rt: &R, since: Option<u64>, time: u64) -> bool {
+    match (since, millis(rt)) {
+        (Some(since), Some(now)) => now >= since.saturating_add(time),
+        _ => false,
+    }
+}
+
+// Logs why a link is down, unless it is down for the same cause as before.
+fn log_fault<R: Wait>(
+    rt: &R,
+    log: LinkLog<'_>,
+    peer: &Peer,
+    fault: DialFault,
+    last: Option<DialFault>,
+) {
+    if last != Some(fault) {
+        log.log_down(rt, peer.address.as_str(), fault);
+    }
+}
+
+// Dials a peer again and again, until the site ends.
+fn dial_until_end<
+    R: Net<Listener = TcpListener, Stream = TcpStream> + Wait + Clock + RandomSource,
+    G: Ring<R> + Drop,
+>(rt: &R, alloc: Global, links: &PeerLinks<G>, log: LinkLog<'_>, peer: &Peer) {
+    let mut back_off = BackOff::new();
+    let mut last = None;
+    for _ in rt.forever() {
+        let begun = millis(rt);
+        let (was_up, fault) = dial_once(rt, alloc, links, log, peer);
+        if fault == DialFault::Ending {
+            return;
+        }
+        if was_up {
+            last = None;
+        }
+        log_fault(rt, log, peer, fault, last);
+        last = Some(fault);
+        if let Some(reason) = reason_of(fault) {
+            end_links(rt, links, reason);
+        }
+        let was_long = was_up && has_passed(rt, begun, LONG_MILLIS);
+        let pause = back_off.pause(end_of(fault, was_long), random(rt));
+        if links.ending().wait_within(rt, Duration::from_millis(pause)) {
+            return;
+        }
+    }
+}
+
+/// Dials the peer at this place of the list, sends over the link what waits for it, and dials again when the link falls, until the site
+/// ends. Returns at once where there is no such place. A line is logged when a link is up, and when it is down for another cause than
+/// before. A peer that refuses the site as `TakenNumber` or `OlderCopy` ends it.
+pub fn dial_peer<
+    R: Net<Listener = TcpListener, Stream = TcpStream> + Wait + Clock + RandomSource,
+    G: Ring<R> + Drop,
+>(rt: &R, alloc: Global, links: &PeerLinks<G>, log: LinkLog<'_>, place: usize) {
+    if let Some(peer) = links.peers.get(place) {
+        dial_until_end(rt, alloc, links, log, peer);
+    }
+}

@@ -1,0 +1,72 @@
+ghost use Rattle.std.specs.Prelude.{◌≡◌, None, Some};
+ghost use Rattle.site_peers.specs.declared.ending.EndReason.{EndReason};
+
+use std::sync::{Condvar, CondvarTimeouts, Mutex, Wait};
+use std::time::{Clock, Duration};
+use thiserror::Error;
+
+/// Why a site ends (this project's own).
+#[derive(Clone, Copy, Debug, PartialEq, Eq, Error)]
+pub enum EndReason {
+    /// It was asked to.
+    #[error("asked to end")]
+    Asked,
+    /// Another site says of this site's number what this site has not made: the number was used before, or its store is an older copy.
+    #[error("another site has frames under this site's number that this site has not made")]
+    NotMine,
+    /// A peer knows another store with this site's number.
+    #[error("the site number belongs to another store")]
+    TakenNumber,
+    /// A peer has seen a later start of this site's store.
+    #[error("the store is an older copy")]
+    OlderCopy,
+}
+
+// Gives a reason, where none was given before.
+fn give_first(reason: &mut Option<EndReason>, given: EndReason)
+    ensures first { reason.old ≡ None → reason.new ≡ Some given }
+    ensures kept { (was : EndReason) → reason.old ≡ Some was → reason.new ≡ reason.old }
+{
+    if reason.is_none() {
+        *reason = Some(given);
+    }
+}
+
+/// Whether a site ends, and why: the first reason that a thread of it gave. All threads of its links look at it.
+#[derive(Drop)]
+pub struct Ending {
+    reason: Mutex<Option<EndReason>>,
+    changed: Condvar,
+}
+
+impl Ending {
+    /// No reason was given.
+    pub fn new() -> Ending {
+        Ending {
+            reason: Mutex::new(None),
+            changed: Condvar::new(),
+        }
+    }
+
+    /// Ends the site for this reason, if it doesn't end yet.
+    pub fn end<R: Wait>(&self, rt: &R, reason: EndReason) {
+        let mut held = self.reason.lock(rt);
+        give_first(&mut held, reason);
+        drop(held);
+        self.changed.notify_all();
+    }
+
+    /// Why the site ends. `None`: it doesn't.
+    pub fn reason<R: Wait>(&self, rt: &R) -> Option<EndReason> {
+        *self.reason.lock(rt)
+    }
+
+    /// Waits for this time, or until the site ends. Returns whether it ends.
+    pub fn wait_within<R: Wait + Clock>(&self, rt: &R, time: Duration) -> bool {
+        let held = self.reason.lock(rt);
+        let (held, _) = self
+            .changed
+            .wait_timeout_while(rt, held, time, |reason| reason.is_none());
+        held.is_some()
+    }
+}

@@ -1,0 +1,76 @@
+//! The lines that are logged of a site's links.
+use crate::dialing::DialFault;
+use crate::hearing::HearFault;
+use dots::SiteId;
+use event_log::EventLog;
+use std::alloc::Global;
+use std::io;
+use std::sync::Wait;
+
+/// Where the events of a site's links are logged.
+#[derive(Clone, Copy)]
+pub struct LinkLog<'a> {
+    events: &'a EventLog,
+    alloc: Global,
+    // The site's number.
+    site: u16,
+}
+
+impl<'a> LinkLog<'a> {
+    /// The log of this site's links.
+    pub fn new(alloc: Global, events: &'a EventLog, site: SiteId) -> LinkLog<'a> {
+        LinkLog {
+            events,
+            alloc,
+            site: site.number(),
+        }
+    }
+
+    // A link to a peer is up.
+    pub(crate) fn log_up<R: Wait>(&self, rt: &R, peer: SiteId, address: &str) {
+        let (site, peer) = (self.site, peer.number());
+        let line = format!(in self.alloc;
+            "queue_sites: site {site}: link to site {peer} at {address}: up"
+        );
+        self.events.add(rt, line);
+    }
+
+    // There is no link to this address, or it has fallen.
+    pub(crate) fn log_down<R: Wait>(&self, rt: &R, address: &str, fault: DialFault) {
+        let site = self.site;
+        let line = format!(in self.alloc;
+            "queue_sites: site {site}: link to {address}: down: {fault}"
+        );
+        self.events.add(rt, line);
+    }
+
+    // A link from a peer is up.
+    pub(crate) fn log_heard<R: Wait>(&self, rt: &R, peer: SiteId) {
+        let (site, peer) = (self.site, peer.number());
+        let line = format!(in self.alloc; "queue_sites: site {site}: link from site {peer}: up");
+        self.events.add(rt, line);
+    }
+
+    // A link from a peer has fallen.
+    pub(crate) fn log_lost<R: Wait>(&self, rt: &R, peer: SiteId, fault: HearFault) {
+        let (site, peer) = (self.site, peer.number());
+        let line = format!(in self.alloc;
+            "queue_sites: site {site}: link from site {peer}: down: {fault}"
+        );
+        self.events.add(rt, line);
+    }
+
+    // A connection has led to no link.
+    pub(crate) fn log_refused<R: Wait>(&self, rt: &R, fault: HearFault) {
+        let site = self.site;
+        let line = format!(in self.alloc; "queue_sites: site {site}: a link was refused: {fault}");
+        self.events.add(rt, line);
+    }
+
+    // The system fails to accept.
+    pub(crate) fn log_no_connection<R: Wait>(&self, rt: &R, error: &io::Error) {
+        let site = self.site;
+        let line = format!(in self.alloc; "queue_sites: site {site}: no link: {error}");
+        self.events.add(rt, line);
+    }
+}

@@ -1,0 +1,97 @@
+//! What a link over TCP has to send: a beat each second, and what waits for its peer.
+use crate::clock::{millis, random};
+use crate::peer_links::Peer;
+use crate::{ItemQueue, PeerLinks, Ring};
+use link_stream::Item;
+use std::random::RandomSource;
+use std::sync::Wait;
+use std::sync::atomic::Ordering;
+use std::time::{Clock, Duration};
+
+// The time between two beats, in milliseconds.
+const BEAT_MILLIS: u64 = 1_000;
+
+// How many links are counted at most, for the time between wholes.
+const MOST_LINKS: u64 = 64;
+
+// What a link has to send: a beat each second, and what waits for its peer. Each n/2 to 3n/2 seconds, where n links of the site are up, it
+// asks for a whole if frames of others were taken since it last did.
+pub(crate) struct LinkQueue<'a, G: Drop> {
+    links: &'a PeerLinks<G>,
+    peer: &'a Peer,
+    // When the next beat is due, and when a whole may be asked for.
+    beat: u64,
+    whole: u64,
+    // How many frames of others had been taken when a whole was last asked for.
+    taken: u64,
+}
+
+impl<'a, G: Drop> Drop for LinkQueue<'a, G> {
+    fn drop(self) {
+        let LinkQueue {
+            links: _,
+            peer: _,
+            beat: _,
+            whole: _,
+            taken: _,
+        } = self;
+    }
+}
+
+impl<'a, G: Drop> LinkQueue<'a, G> {
+    // The queue of a link that is up since this time.
+    pub fn new(links: &'a PeerLinks<G>, peer: &'a Peer, now: u64) -> LinkQueue<'a, G> {
+        LinkQueue {
+            links,
+            peer,
+            beat: now,
+            whole: now.saturating_add(BEAT_MILLIS),
+            taken: links.taken.load(Ordering::SeqCst),
+        }
+    }
+}
+
+// Asks for a whole if it is time and there is something new.
+fn ask_whole<R: Wait + RandomSource, G: Ring<R> + Drop>(
+    rt: &R,
+    queue: &mut LinkQueue<'_, G>,
+    now: u64,
+) {
+    let taken = queue.links.taken.load(Ordering::SeqCst);
+    if now < queue.whole || taken == queue.taken {
+        return;
+    }
+    let links = queue.links.up.load(Ordering::SeqCst).max(2).min(MOST_LINKS);
+    let wait = links * 500 + random(rt) % (links * 1_000 + 1);
+    queue.taken = taken;
+    queue.whole = now.saturating_add(wait);
+    queue.peer.queue.ask_whole(rt);
+    queue.links.bell.ring(rt);
+}
+
+impl<'a, R: Wait + Clock + RandomSource, G: Ring<R> + Drop> ItemQueue<R> for LinkQueue<'a, G> {
+    ghost use Rattle.std.specs.Prelude.{⊤};
+
+    ghost gives = { λ old item new. ⊤ };
+
+    ghost ends = { λ old new. ⊤ };
+
+    fn next_item(&mut self, rt: &R) -> Option<Item> {
+        for _ in rt.forever() {
+            if self.links.ending.reason(rt).is_some() {
+                return None;
+            }
+            let now = millis(rt)?;
+            if now >= self.beat {
+                self.beat = now.saturating_add(BEAT_MILLIS);
+                ask_whole(rt, self, now);
+                return Some(Item::Beat);
+            }
+            let wait = Duration::from_millis(self.beat - now);
+            if let Some(frame) = self.peer.queue.take_within(rt, wait) {
+                return Some(Item::Frame(frame));
+            }
+        }
+        unreachable!()
+    }
+}

@@ -1,0 +1,87 @@
+//! The hello of a link over any source and sink: both sites' cards are judged by this site's roll.
+ghost use Rattle.std.specs.Prelude.{◌≡◌, IfOk, OnOk, false};
+ghost use Rattle.site_peers.specs.Meetings.{HasBeenDialed, HasDialed};
+
+use crate::SharedRoll;
+use ami_text::{Sink, Source};
+use dots::SiteId;
+use link_hello::{Card, HelloFault, LinkKeys, accept_hello, begin_hello, end_hello, give_verdict};
+use link_keys::Key;
+use std::sync::Wait;
+
+/// What a hello leads to where both sites welcome each other.
+#[derive(Drop)]
+pub struct Meeting {
+    /// The peer.
+    pub site: SiteId,
+    /// The keys of the link.
+    pub keys: LinkKeys,
+}
+
+/// Runs the hello of the site that dials. At Ok the peer's card came with the code of the secret and was admitted by the roll, the peer has
+/// welcomed this site, and both have the same keys. `nonce` is 32 random bytes that no other hello has.
+///
+/// Errors are those of `begin_hello`, and then those of `end_hello`.
+pub fn meet_acceptor<R: Wait, S: Source, W: Sink>(
+    rt: &R,
+    source: &mut S,
+    sink: &mut W,
+    roll: &SharedRoll,
+    key: &Key,
+    nonce: &[u8; 32],
+    own: &Card,
+) -> Result<Meeting, HelloFault>
+    requires source { S.failed source.old ≡ false }
+    requires sink { W.failed sink.old ≡ false }
+    ensures met { IfOk result (λ meeting. HasDialed (S.left source.old) (S.left source.new)
+        (W.taken sink.old) (W.taken sink.new) key.now nonce.now own.now meeting) }
+    ensures source { OnOk result (S.failed source.new ≡ false) }
+    ensures sink { OnOk result (W.failed sink.new ≡ false) }
+{
+    let transcript = begin_hello(source, sink, key, nonce, own)?;
+    let site = match roll.admit(rt, own, &transcript.acceptor) {
+        Ok(site) => site,
+        Err(refusal) => {
+            return match end_hello(source, sink, key, &transcript, Some(refusal)) {
+                Ok(_) => Err(HelloFault::Refuses(refusal)),
+                Err(fault) => Err(fault),
+            };
+        }
+    };
+    let keys = end_hello(source, sink, key, &transcript, None)?;
+    Ok(Meeting { site, keys })
+}
+
+/// Runs the hello of the site that accepts. At Ok the peer's card came with a welcome and the code of the secret and was admitted by the
+/// roll, and both have the same keys. `nonce` is 32 random bytes that no other hello has.
+///
+/// Errors are those of `accept_hello`, and then those of `give_verdict`.
+pub fn meet_dialer<R: Wait, S: Source, W: Sink>(
+    rt: &R,
+    source: &mut S,
+    sink: &mut W,
+    roll: &SharedRoll,
+    key: &Key,
+    nonce: &[u8; 32],
+    own: &Card,
+) -> Result<Meeting, HelloFault>
+    requires source { S.failed source.old ≡ false }
+    requires sink { W.failed sink.old ≡ false }
+    ensures met { IfOk result (λ meeting. HasBeenDialed (S.left source.old) (S.left source.new)
+        (W.taken sink.old) (W.taken sink.new) key.now nonce.now own.now meeting) }
+    ensures source { OnOk result (S.failed source.new ≡ false) }
+    ensures sink { OnOk result (W.failed sink.new ≡ false) }
+{
+    let transcript = accept_hello(source, sink, key, nonce, own)?;
+    let site = match roll.admit(rt, own, &transcript.dialer) {
+        Ok(site) => site,
+        Err(refusal) => {
+            return match give_verdict(sink, key, &transcript, Some(refusal)) {
+                Ok(_) => Err(HelloFault::Refuses(refusal)),
+                Err(fault) => Err(fault),
+            };
+        }
+    };
+    let keys = give_verdict(sink, key, &transcript, None)?;
+    Ok(Meeting { site, keys })
+}

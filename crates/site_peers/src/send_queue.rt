@@ -1,0 +1,181 @@
+ghost use Rattle.std.specs.Prelude.{◌≡◌, ◌⊎◌, ◌+◌, ◌<◌, ◌≤◌, ◌↔◌, ◌∷◌, ◌++◌, [], IfNone, IfSome, IsTrue};
+ghost use Rattle.std.specs.Prelude.{None, OnErr, OnOk, Ok, Some, false, length, true};
+ghost use Rattle.peer_box.specs.Boxes.{bytes_waiting};
+ghost use Rattle.site_peers.specs.Queues.{IsTakenFrom, closed, content_digest, new_queue};
+ghost use Rattle.site_peers.specs.Queues.{opened, waiting, wants_whole, with_frame, with_whole};
+ghost use Rattle.site_peers.specs.Queues.{without_frames};
+
+use peer_box::{Due, PeerBox};
+use sha2::{Digest, Sha256};
+use std::alloc::{AllocError, Global};
+use std::marker::Model;
+
+// How many bytes of a frame stand before what it says: its length, letters, version, maker and number.
+const HEADING: usize = 16;
+
+// The SHA-256 digest of what a frame says, whoever made it and under whichever number.
+fn digest_of(frame: &[u8]) -> [u8; 32]
+    ensures { result ≡ content_digest frame.now }
+{
+    let start = HEADING.min(frame.len());
+    Sha256::digest(&frame[start..])
+}
+
+/// What waits for one peer, in the order in which its link sends it: a whole that was made for it, and the frames after that whole. A
+/// whole is due when the peer connects, and when frames are given up because they have no room. Frames that are put while a whole is due
+/// are ignored, since the whole is made later.
+#[derive(Drop)]
+pub struct SendQueue {
+    alloc: Global,
+    frames: PeerBox,
+    // The whole that waits, before all frames.
+    whole: Option<Vec<u8>>,
+    // Whether a whole is asked for that waits only if it says something else than the last one.
+    is_asked: bool,
+    // The digest of what the last whole says that was given since the peer connected.
+    last: Option<[u8; 32]>,
+}
+
+impl Model for SendQueue {
+    ghost use Rattle.std.specs.Option.{option_map};
+    ghost use Rattle.site_peers.specs.Queues.{QueueState};
+
+    ghost Value = { QueueState };
+
+    ghost view = { λ q. record {
+      box = q.frames;
+      whole = option_map (λ whole. whole.items) q.whole;
+      asked = q.is_asked;
+      last = q.last;
+    } };
+}
+
+impl SendQueue {
+    /// The queue of a peer that isn't connected. At most `limit` bytes of frames wait in it, beside a whole. It takes no memory.
+    pub fn new(alloc: Global, limit: usize) -> SendQueue
+        ensures { result ≡ new_queue limit }
+    {
+        SendQueue {
+            alloc,
+            frames: PeerBox::new(alloc, limit),
+            whole: None,
+            is_asked: false,
+            last: None,
+        }
+    }
+
+    /// The peer has connected: nothing waits, and a whole is due.
+    pub fn open(&mut self)
+        ensures { self.new ≡ opened self.old }
+    {
+        self.frames.open();
+        self.whole = None;
+        self.is_asked = false;
+        self.last = None;
+    }
+
+    /// The peer isn't connected any more: nothing waits and nothing is due.
+    pub fn close(&mut self)
+        ensures { self.new ≡ closed self.old }
+    {
+        self.frames.close();
+        self.whole = None;
+        self.is_asked = false;
+        self.last = None;
+    }
+
+    /// Asks for a whole, which is to wait if it says something else than the last one that was given.
+    pub fn ask_whole(&mut self)
+        ensures { self.new ≡ record self.old { asked = true } }
+    {
+        self.is_asked = true;
+    }
+
+    /// True if a whole is to be made for the peer: it is connected, and a whole is due or asked for.
+    pub fn wants_whole(&self) -> bool
+        ensures { IsTrue result ↔ ((self.now.box.is_open ≡ true)
+            × ((self.now.box.whole_due ≡ true) ⊎ (self.now.asked ≡ true))) }
+    {
+        self.frames.is_open() && (self.frames.is_whole_due() || self.is_asked)
+    }
+
+    /// Puts a frame after what waits. Where the peer isn't connected or a whole is due the queue stays as it is. Where the frame has no
+    /// room all frames are given up, and a whole is due.
+    ///
+    /// `AllocError`: there was room, but an allocation was refused. All frames are given up, and a whole is due.
+    pub fn put(&mut self, frame: &[u8]) -> Result<(), AllocError>
+        ensures ignored { (self.old.box.is_open ≡ false) ⊎ (self.old.box.whole_due ≡ true)
+            → (result ≡ Ok tt) × (self.new ≡ self.old) }
+        ensures full { self.old.box.is_open ≡ true → self.old.box.whole_due ≡ false
+            → self.old.box.limit < bytes_waiting self.old.box.frames + length frame.now
+            → (result ≡ Ok tt) × (self.new ≡ without_frames self.old) }
+        ensures kept { self.old.box.is_open ≡ true → self.old.box.whole_due ≡ false
+            → bytes_waiting self.old.box.frames + length frame.now ≤ self.old.box.limit
+            → OnOk result (self.new ≡ with_frame self.old frame.now) }
+        ensures memory { OnErr result (self.new ≡ without_frames self.old) }
+    {
+        self.frames.put(frame)
+    }
+
+    // Whether a whole with this digest is to wait.
+    fn is_wanted(&self, digest: &[u8; 32]) -> bool
+        ensures { IsTrue result ↔ wants_whole self.now digest.now }
+    {
+        if !self.frames.is_open() {
+            return false;
+        }
+        self.frames.is_whole_due() || self.is_asked && self.last != Some(*digest)
+    }
+
+    /// Gives the queue a whole that was made after every frame that was put. If the peer is connected, and the whole is due, or asked for
+    /// and not the same as the last one but for its heading, it waits in the place of all that waited, and is due no more.
+    ///
+    /// `AllocError`: an allocation was refused. The queue stays as it is.
+    pub fn give_whole(&mut self, whole: &[u8]) -> Result<(), AllocError>
+        ensures unwanted { (wants_whole self.old (content_digest whole.now) → ⊥)
+            → (result ≡ Ok tt) × (self.new ≡ record self.old { asked = false }) }
+        ensures given { wants_whole self.old (content_digest whole.now)
+            → OnOk result (self.new ≡ with_whole self.old whole.now) }
+        ensures memory { OnErr result (self.new ≡ self.old) }
+    {
+        let digest = digest_of(whole);
+        if !self.is_wanted(&digest) {
+            self.is_asked = false;
+            return Ok(());
+        }
+        let copy = Vec::from_slice(self.alloc, whole)?;
+        self.frames.require_whole();
+        drop(self.frames.take());
+        self.whole = Some(copy);
+        self.is_asked = false;
+        self.last = Some(digest);
+        Ok(())
+    }
+
+    /// Takes what has waited longest. `None` exactly if nothing waits, or a whole is due that isn't made yet.
+    pub fn take(&mut self) -> Option<Vec<u8>>
+        ensures item { IfSome result (λ item. IsTakenFrom self.old item.items self.new) }
+        ensures none { IfNone result ((self.old.whole ≡ None)
+            × ((self.old.box.whole_due ≡ true) ⊎ (self.old.box.frames ≡ []))) }
+        ensures same { IfNone result (self.new ≡ self.old) }
+    {
+        if let Some(whole) = self.whole.take() {
+            return Some(whole);
+        }
+        if self.frames.is_whole_due() {
+            return None;
+        }
+        match self.frames.take() {
+            Due::Frame(frame) => Some(frame),
+            Due::Nothing | Due::Whole => None,
+        }
+    }
+
+    /// True if the link has nothing to take.
+    pub fn is_idle(&self) -> bool
+        ensures { IsTrue result ↔ ((self.now.whole ≡ None)
+            × ((self.now.box.whole_due ≡ true) ⊎ (self.now.box.frames ≡ []))) }
+    {
+        self.whole.is_none() && (self.frames.is_whole_due() || self.frames.is_idle())
+    }
+}

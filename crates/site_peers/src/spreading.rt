@@ -1,0 +1,131 @@
+//! The thread of a site that makes its frames and hands them to the outboxes of all peers.
+ghost use Rattle.std.specs.Prelude.{◌≡◌, ◌⊎◌, ◌+◌, ◌∷◌, [], ℕ, IfErr, List, OnErr, OnOk, Some, false, true};
+ghost use Rattle.site_journal.specs.Receipts.{IsOfCut, IsOfWhole};
+ghost use Rattle.std.specs.List.{All};
+ghost use Rattle.std.specs.Result.{result_err};
+ghost use Rattle.site_pumps.specs.Carried.{EachLink};
+ghost use Rattle.site_peers.specs.Outboxes.{HasSpread, IsSettled, cut_count};
+
+use crate::Outbox;
+use site_journal::{Bell, DeskFault, Port, Receipt};
+use std::sync::Wait;
+
+// Hands a receipt to each outbox.
+fn hand_to_each<R, O: Outbox<R>>(rt: &R, outboxes: &mut [O], receipt: &Receipt)
+    ensures { EachLink (λ old new. O.handed old receipt.now new) outboxes.old outboxes.new }
+{
+    for i in 0..outboxes.len() {
+        outboxes[i].hand(rt, receipt);
+    }
+}
+
+// Whether an outbox wants a whole.
+fn any_wants_whole<R, O: Outbox<R>>(rt: &R, outboxes: &[O]) -> bool
+    ensures { result ≡ false → All (λ outbox. O.says outbox false) outboxes.now }
+{
+    for outbox in outboxes {
+        if outbox.wants_whole(rt) {
+            return true;
+        }
+    }
+    false
+}
+
+// Cuts, and hands the receipt to each outbox.
+fn cut_to_each<R, P: Port<R>, O: Outbox<R>>(
+    rt: &R,
+    port: &mut P,
+    outboxes: &mut [O],
+) -> Result<(), DeskFault>
+    ensures spread { (receipts : List Receipt)
+        × HasSpread P.makes P.refuses O.handed port.old port.new outboxes.old outboxes.new
+        receipts (result_err result)
+        × OnOk result ((receipt : Receipt) × IsOfCut receipt × (receipts ≡ receipt ∷ []))
+        × OnErr result (receipts ≡ []) }
+    ensures fault { IfErr result (λ cause. P.fault port.new ≡ Some cause) }
+    ensures ordinal { P.ordinal port.new ≡ P.ordinal port.old }
+{
+    let receipt = match port.cut(rt) {
+        Ok(receipt) => receipt,
+        Err(fault) => return Err(fault),
+    };
+    hand_to_each(rt, outboxes, &receipt);
+    drop(receipt);
+    Ok(())
+}
+
+// Makes a whole, and hands the receipt to each outbox.
+fn whole_to_each<R, P: Port<R>, O: Outbox<R>>(
+    rt: &R,
+    port: &mut P,
+    outboxes: &mut [O],
+) -> Result<(), DeskFault>
+    ensures spread { (receipts : List Receipt)
+        × HasSpread P.makes P.refuses O.handed port.old port.new outboxes.old outboxes.new
+        receipts (result_err result)
+        × OnOk result ((receipt : Receipt) × IsOfWhole receipt × (receipts ≡ receipt ∷ []))
+        × OnErr result (receipts ≡ []) }
+    ensures fault { IfErr result (λ cause. P.fault port.new ≡ Some cause) }
+    ensures ordinal { P.ordinal port.new ≡ P.ordinal port.old }
+{
+    let receipt = match port.whole(rt) {
+        Ok(receipt) => receipt,
+        Err(fault) => return Err(fault),
+    };
+    hand_to_each(rt, outboxes, &receipt);
+    drop(receipt);
+    Ok(())
+}
+
+/// Cuts, and hands the receipt to each outbox. If an outbox then wants a whole, makes one, and hands its receipt to each outbox. Errors are
+/// the port's: none is handed a receipt of a call that failed.
+pub fn spread_once<R, P: Port<R>, O: Outbox<R>>(
+    rt: &R,
+    port: &mut P,
+    outboxes: &mut [O],
+) -> Result<(), DeskFault>
+    ensures spread { (receipts : List Receipt)
+        × HasSpread P.makes P.refuses O.handed port.old port.new outboxes.old outboxes.new
+        receipts (result_err result)
+        × OnOk result ((cut_count receipts ≡ 1) × IsSettled O.says receipts outboxes.new)
+        × OnErr result ((cut_count receipts ≡ 0) ⊎ (cut_count receipts ≡ 1)) }
+    ensures fault { IfErr result (λ cause. P.fault port.new ≡ Some cause) }
+    ensures ordinal { P.ordinal port.new ≡ P.ordinal port.old }
+{
+    if let Err(fault) = cut_to_each(rt, port, outboxes) {
+        return Err(fault);
+    }
+    if !any_wants_whole(rt, outboxes) {
+        return Ok(());
+    }
+    whole_to_each(rt, port, outboxes)
+}
+
+/// Calls `spread_once` at each ring of the bell, until the bell has ended or a call of the port fails. It waits where the bell or the port
+/// does. Errors are the port's.
+pub fn spread<R: Wait, P: Port<R>, O: Outbox<R>, B: Bell<R>>(
+    rt: &R,
+    port: &mut P,
+    outboxes: &mut [O],
+    bell: &mut B,
+) -> Result<(), DeskFault>
+    ensures spread { (rung : ℕ) × (receipts : List Receipt)
+        × (B.rings bell.new ≡ B.rings bell.old + rung)
+        × HasSpread P.makes P.refuses O.handed port.old port.new outboxes.old outboxes.new
+        receipts (result_err result)
+        × OnOk result (cut_count receipts ≡ rung)
+        × OnErr result ((cut_count receipts ≡ rung) ⊎ (cut_count receipts + 1 ≡ rung)) }
+    ensures ended { OnOk result (B.ended bell.new ≡ true) }
+    ensures fault { IfErr result (λ cause. P.fault port.new ≡ Some cause) }
+    ensures ordinal { P.ordinal port.new ≡ P.ordinal port.old }
+{
+    for _ in rt.forever() {
+        if !bell.wait(rt) {
+            break;
+        }
+        if let Err(fault) = spread_once(rt, port, outboxes) {
+            return Err(fault);
+        }
+    }
+    Ok(())
+}

@@ -1,0 +1,93 @@
+//! What waits for a peer.
+use peer_box::BOX_BYTES;
+use site_peers::SendQueue;
+use std::alloc::Global;
+use std::process::Abort;
+
+// A whole that says `text`, under a heading of 16 bytes that begins with this one.
+fn whole(rt: &impl Abort, alloc: Global, first: u8, text: &str) -> Vec<u8> {
+    let mut bytes = Vec::from_slice(alloc, &[first; 16]).expect(rt, "memory");
+    bytes
+        .extend_from_slice(text.as_bytes())
+        .expect(rt, "memory");
+    bytes
+}
+
+// Asserts that the first bytes after the heading of what is taken are this text. An empty text: nothing is taken.
+fn assert_taken(rt: &impl Abort, queue: &mut SendQueue, text: &str) {
+    match queue.take() {
+        None => assert!(rt; text.is_empty()),
+        Some(bytes) => {
+            let skipped = if bytes.len() > 16 { 16 } else { 0 };
+            assert!(rt; &bytes[skipped..] == text.as_bytes());
+            drop(bytes);
+        }
+    }
+}
+
+// Gives a whole that says this text.
+fn give(rt: &impl Abort, alloc: Global, queue: &mut SendQueue, first: u8, text: &str) {
+    let bytes = whole(rt, alloc, first, text);
+    queue.give_whole(&bytes).expect(rt, "memory");
+    drop(bytes);
+}
+
+#[test]
+fn frames_wait_after_a_whole(rt: HostRuntime) {
+    let alloc = rt.alloc();
+    let mut queue = SendQueue::new(alloc, BOX_BYTES);
+    queue.put(b"ignored").expect(&rt, "memory");
+    assert!(rt; queue.is_idle() && !queue.wants_whole());
+    queue.open();
+    queue.put(b"ignored").expect(&rt, "memory");
+    assert!(rt; queue.is_idle() && queue.wants_whole());
+    give(&rt, alloc, &mut queue, 1, "all");
+    queue.put(b"one").expect(&rt, "memory");
+    queue.put(b"two").expect(&rt, "memory");
+    assert!(rt; !queue.is_idle() && !queue.wants_whole());
+    for text in ["all", "one", "two", ""] {
+        assert_taken(&rt, &mut queue, text);
+    }
+    queue.close();
+    assert!(rt; queue.is_idle() && !queue.wants_whole());
+    drop(queue);
+}
+
+#[test]
+fn a_whole_that_says_the_same_does_not_wait_again(rt: HostRuntime) {
+    let alloc = rt.alloc();
+    let mut queue = SendQueue::new(alloc, BOX_BYTES);
+    queue.open();
+    give(&rt, alloc, &mut queue, 1, "all");
+    assert_taken(&rt, &mut queue, "all");
+    queue.ask_whole();
+    assert!(rt; queue.wants_whole());
+    queue.put(b"one").expect(&rt, "memory");
+    give(&rt, alloc, &mut queue, 2, "all");
+    assert!(rt; !queue.wants_whole());
+    assert_taken(&rt, &mut queue, "one");
+    assert_taken(&rt, &mut queue, "");
+    queue.ask_whole();
+    queue.put(b"two").expect(&rt, "memory");
+    give(&rt, alloc, &mut queue, 3, "more");
+    assert_taken(&rt, &mut queue, "more");
+    assert_taken(&rt, &mut queue, "");
+    drop(queue);
+}
+
+#[test]
+fn a_full_queue_waits_for_a_whole(rt: HostRuntime) {
+    let alloc = rt.alloc();
+    let mut queue = SendQueue::new(alloc, 8);
+    queue.open();
+    give(&rt, alloc, &mut queue, 1, "all");
+    assert_taken(&rt, &mut queue, "all");
+    queue.put(b"12345").expect(&rt, "memory");
+    queue.put(b"6789").expect(&rt, "memory");
+    assert!(rt; queue.is_idle() && queue.wants_whole());
+    give(&rt, alloc, &mut queue, 1, "all");
+    queue.put(b"last").expect(&rt, "memory");
+    assert_taken(&rt, &mut queue, "all");
+    assert_taken(&rt, &mut queue, "last");
+    drop(queue);
+}

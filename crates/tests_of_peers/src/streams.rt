@@ -1,0 +1,110 @@
+//! What is sent and received over devices in memory.
+ghost use Rattle.std.specs.Prelude.{◌≡◌, false};
+
+use ami_text::{MemorySink, MemorySource};
+use link_keys::Key;
+use link_stream::{Item, ItemSender, ReceiveFault, SendFault};
+use site_peers::{Acknowledge, InletFault, ItemQueue, LinkInlet, send_items};
+use site_pumps::Inlet;
+use std::alloc::Global;
+use std::process::Abort;
+use std::sync::Wait;
+
+// A frame of site 0 that says nothing.
+const FRAME: [u8; 28] = [
+    0, 0, 0, 24, 0x51, 0x44, 2, 0, 0, 0, 0, 0, 0, 0, 0, 1, 0, 0, 0, 0, 0, 0, 0, 0, 0, 0, 0, 0,
+];
+
+// A queue that gives beats, and after each of them that frame.
+struct Turns {
+    alloc: Global,
+    left: u32,
+}
+
+impl Drop for Turns {
+    fn drop(self) {
+        let Turns { alloc: _, left: _ } = self;
+    }
+}
+
+impl<R> ItemQueue<R> for Turns {
+    ghost use Rattle.std.specs.Prelude.{⊤};
+
+    ghost gives = { λ old item new. ⊤ };
+
+    ghost ends = { λ old new. ⊤ };
+
+    fn next_item(&mut self, _rt: &R) -> Option<Item> {
+        if self.left == 0 {
+            return None;
+        }
+        self.left -= 1;
+        if self.left % 2 == 1 {
+            return Some(Item::Beat);
+        }
+        match Vec::from_slice(self.alloc, &FRAME) {
+            Ok(frame) => Some(Item::Frame(frame)),
+            Err(_) => None,
+        }
+    }
+}
+
+// Counts the bytes that were read.
+struct Count {
+    bytes: usize,
+}
+
+impl Drop for Count {
+    fn drop(self) {
+        let Count { bytes: _ } = self;
+    }
+}
+
+impl<R> Acknowledge<R> for Count {
+    fn after_read(&mut self, _rt: &R, count: usize) -> Result<(), SendFault> {
+        self.bytes = self.bytes.saturating_add(count);
+        Ok(())
+    }
+}
+
+fn key() -> Key {
+    Key::new([7; 32])
+}
+
+#[test]
+fn what_is_sent_is_received(rt: HostRuntime) {
+    let alloc = rt.alloc();
+    let mut sink = MemorySink::new(alloc, 5);
+    let mut sender = ItemSender::new(key());
+    let mut turns = Turns { alloc, left: 6 };
+    assert!(rt; send_items(&rt, &mut turns, &mut sender, &mut sink) == Ok(()));
+    assert!(rt; sink.as_slice().len() == 3 * (20 + 44));
+    let source = MemorySource::new(sink.as_slice(), 7);
+    let mut inlet = LinkInlet::new(alloc, key(), source, Count { bytes: 0 });
+    for _ in 0..3u32 {
+        let frame = inlet.next(&rt).expect(&rt, "a frame");
+        assert!(rt; frame.as_slice() == &FRAME[..]);
+        drop(frame);
+    }
+    assert!(rt; inlet.next(&rt).is_none() && inlet.next(&rt).is_none());
+    assert!(rt; inlet.fault() == Some(InletFault::Receive(ReceiveFault::Ended)));
+    let count = inlet.into_acknowledger();
+    assert!(rt; count.bytes == 3 * (20 + 44));
+    drop(count);
+    drop(turns);
+    drop(sender);
+    drop(sink);
+}
+
+#[test]
+fn a_sink_that_fails_ends_a_link(rt: HostRuntime) {
+    let alloc = rt.alloc();
+    let mut sink = MemorySink::failing(alloc, 16, 3);
+    let mut sender = ItemSender::new(key());
+    let mut turns = Turns { alloc, left: 6 };
+    assert!(rt; send_items(&rt, &mut turns, &mut sender, &mut sink) == Err(SendFault::Failed));
+    assert!(rt; sink.as_slice().len() == 4 + 16 + 16);
+    drop(turns);
+    drop(sender);
+    drop(sink);
+}
