@@ -1,5 +1,5 @@
 -- The site that is restored of a table.
-use Rattle.std.proofs.Common.{◌≡◌, ◌≢◌, ◌+◌, ◌-◌, ◌^◌, ◌∙◌, min, inl, inr, ℕ, List, [], ◌∷◌, ◌++◌, sym, ap, ap₂, subst}
+use Rattle.std.proofs.Common.{◌≡◌, ◌≢◌, ◌+◌, ◌-◌, ◌^◌, ◌∙◌, min, inl, inr, ℕ, List, [], ◌∷◌, ◌++◌, sym, ap₂, subst}
 use Rattle.std.specs.Prelude.{count_by}
 use Rattle.sqlite.specs.Order.{Row}
 use Rattle.site_journal.specs.declared.step.Step.{Step}

@@ -3,7 +3,7 @@ use Rattle.std.proofs.Common.{◌≡◌, ◌+◌, ◌-◌, ◌<◌, ◌^◌, ◌
 use Rattle.std.specs.Prelude.{count_by}
 use Rattle.std.specs.List.{All}
 use Rattle.std.proofs.lemmas.List.Elements.{All-append, All-nil}
-use Rattle.replica.specs.Site.{IsSameSite, SiteState}
+use Rattle.replica.specs.Site.{SiteState}
 use Rattle.replica.proofs.SameSites.{site_itself}
 use Rattle.site_journal.specs.Legal.{LeadAll}
 use Rattle.site_journal.specs.declared.step.Step.{Step}
